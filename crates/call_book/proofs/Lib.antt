@@ -1,0 +1,6 @@
+mod TableLaws
+mod RangeLaws
+mod BookLaws
+mod FreeLaws
+mod NameLaws
+pub mod Changes

@@ -1,0 +1,5 @@
+pub mod Ranges
+pub mod Table
+pub mod TableInside
+pub mod Book
+pub mod Inside

@@ -1,0 +1,198 @@
+//! The book of calls.
+ghost use Rattle.std.specs.Option.{ForSome};
+ghost use Rattle.std.specs.Prelude.{◌≡◌, ◌<◌, ◌≤◌, ◌+◌, ◌^◌, ◌↔◌, All, length, Some, None, Ok, Err, IsTrue, IsErr, OnOk, OnErr, IfOk, IfErr, IfSome, true, false};
+ghost use Rattle.call_book.specs.Book.{unbridged};
+
+use crate::errors::{BridgeError, ReserveError, Stale};
+use crate::lease::Lease;
+use crate::leg_name::LegName;
+use crate::name_table::NameTable;
+use crate::ranges::numbers_from;
+use std::alloc::{AllocError, Global};
+use std::collections::VecDeque;
+use std::marker::Model;
+
+/// Which leg has each number, which legs are bridged, and which numbers are free.
+///
+/// All of its memory is taken by `new`; each other call makes a fixed number of look-ups.
+/// Every number of a peer's range is either free or has one name, which `reserve` gave out and no `release` took back.
+#[derive(Drop)]
+pub struct CallBook {
+    counts: Vec<u16>,
+    // By number.
+    names: NameTable,
+    partners: NameTable,
+    // By peer. Each has room for all numbers of its peer.
+    free: Vec<VecDeque<u16>>,
+    next: u64,
+}
+
+impl Model for CallBook {
+    ghost use Rattle.call_book.specs.Book.{Book, book_code};
+
+    ghost Value = { Book };
+
+    ghost coded = { book_code };
+
+    ghost use Rattle.call_book.specs.Inside.{book_of, IsSound};
+
+    ghost view = { book_of };
+
+    ghost invariant = { IsSound };
+}
+
+impl CallBook {
+    ghost use Rattle.std.specs.FinMap.{get};
+    ghost use Rattle.call_book.specs.Book.{IsBook, IsNumberOf, IsCount, fresh_book, has_name, is_same, reserve_answer, after_reserve, bridge_answer, bridged, partner_of, released};
+
+    /// A book of as many peers as there are counts (1 to 32), in which the peer at place i has the next `counts[i]`
+    /// numbers (1 to 512), from 1 on. All of them are free. The first name has the serial `first_serial`.
+    pub fn new(alloc: Global, counts: &[u16], first_serial: u64) -> Result<CallBook, AllocError>
+        requires some { 1 ≤ length counts.now }
+        requires peers { length counts.now ≤ 32 }
+        requires counts { All IsCount counts.now }
+        ensures fresh { IfOk result (λ book. book ≡ fresh_book counts.now first_serial) }
+        ensures sound { IfOk result IsBook }
+    {
+        let mut free = Vec::with_capacity(alloc, counts.len())?;
+        let mut first = 1;
+        for &count in counts {
+            free.push(numbers_from(alloc, first, count)?)?;
+            first += count;
+        }
+        let places = usize::from(first);
+        Ok(CallBook {
+            counts: counts.to_vec(alloc)?,
+            names: NameTable::new(alloc, places)?,
+            partners: NameTable::new(alloc, places)?,
+            free,
+            next: first_serial,
+        })
+    }
+
+    /// Gives out the peer's number that was freed longest ago, at first in ascending order, under the next serial.
+    ///
+    /// `SerialsSpent` is tested first.
+    pub fn reserve(&mut self, peer: u16) -> Result<Lease, ReserveError>
+        ensures answer { result ≡ reserve_answer self.old peer }
+        ensures book { self.new ≡ after_reserve self.old peer }
+
+        // The name is one of the peer's, and its number served no other.
+        ensures range { IfOk result (λ lease. (lease.peer ≡ peer) × IsNumberOf self.old.counts peer lease.number) }
+        ensures unused { IfOk result (λ lease. get self.old.names lease.number ≡ None) }
+        ensures counts { self.new.counts ≡ self.old.counts }
+        ensures sound { IsBook self.new }
+    {
+        if self.next == u64::MAX {
+            return Err(ReserveError::SerialsSpent);
+        }
+        let place = usize::from(peer);
+        if place >= self.free.len() || self.free[place].is_empty() {
+            return Err(ReserveError::NoNumber);
+        }
+        let queue = &mut self.free[place];
+        let number = queue.pop_front().unwrap();
+        let name = LegName {
+            peer,
+            number,
+            serial: self.next,
+        };
+        self.names.put(number, name);
+        self.next += 1;
+        Ok(Lease::on(name))
+    }
+
+    /// Whether the book has this very name.
+    pub fn contains(&self, name: LegName) -> bool
+        ensures found { result ≡ has_name self.now name }
+        ensures sound { IsBook self.now }
+    {
+        match self.names.get(name.number) {
+            Some(found) => found == name,
+            None => false,
+        }
+    }
+
+    /// The partner of a name, if the book has the name and it is bridged.
+    pub fn partner(&self, name: LegName) -> Option<LegName>
+        ensures partner { result ≡ partner_of self.now name }
+        ensures mutual { IfSome result (λ partner. partner_of self.now partner ≡ Some name) }
+        ensures sound { IsBook self.now }
+    {
+        if self.contains(name) {
+            self.partners.get(name.number)
+        } else {
+            None
+        }
+    }
+
+    /// Makes two names partners of each other.
+    ///
+    /// The refusals are tested in the order `Same`, `Stale`, `Bridged`.
+    pub fn bridge(&mut self, a: LegName, b: LegName) -> Result<(), BridgeError>
+        ensures answer { result ≡ bridge_answer self.old a b }
+        ensures ok { OnOk result (self.new ≡ bridged self.old a b) }
+        ensures err { OnErr result (self.new ≡ self.old) }
+        ensures mutual { OnOk result ((partner_of self.new a ≡ Some b) × (partner_of self.new b ≡ Some a)) }
+        ensures sound { OnOk result (IsBook self.new) }
+    {
+        if a == b {
+            return Err(BridgeError::Same);
+        }
+        if !self.contains(a) {
+            return Err(BridgeError::Stale);
+        }
+        if !self.contains(b) {
+            return Err(BridgeError::Stale);
+        }
+        if self.partners.get(a.number).is_some() {
+            return Err(BridgeError::Bridged);
+        }
+        if self.partners.get(b.number).is_some() {
+            return Err(BridgeError::Bridged);
+        }
+        self.partners.put(a.number, b);
+        self.partners.put(b.number, a);
+        Ok(())
+    }
+
+    /// Takes a name back: its number is free again, behind the peer's other free numbers, and its bridge ends on both
+    /// sides. Gives the former partner.
+    ///
+    /// `Stale` exactly where the book hasn't the name; the lease comes back.
+    pub fn release(&mut self, lease: Lease) -> Result<Option<LegName>, (Lease, Stale)>
+        ensures stale { IsErr result ↔ (has_name self.old lease ≡ false) }
+        ensures partner { IfOk result (λ partner. partner ≡ partner_of self.old lease) }
+        ensures ok { OnOk result (self.new ≡ released self.old lease) }
+
+        // The name is gone, and its former partner has none.
+        ensures gone { OnOk result (has_name self.new lease ≡ false) }
+        ensures parted { IfOk result (λ former. IfSome former (λ partner. partner_of self.new partner ≡ None)) }
+
+        ensures lease { IfErr result (λ back. back.0 ≡ lease) }
+        ensures err { OnErr result (self.new ≡ self.old) }
+        ensures sound { IsBook self.new }
+    {
+        let name = lease.name();
+        if !self.contains(name) {
+            return Err((lease, Stale));
+        }
+        let former = self.partners.get(name.number);
+        unbridge(&mut self.partners, name.number, former);
+        self.names.clear(name.number);
+        self.free[usize::from(name.peer)].push_back_reserved(name.number);
+        Ok(former)
+    }
+}
+
+// Ends the bridge between the leg of a number and its partner, if it has one.
+fn unbridge(partners: &mut NameTable, number: u16, partner: Option<LegName>)
+    requires number { number < partners.old.places }
+    requires partner { ForSome partner (λ partner. partner.number < partners.old.places) }
+    ensures { partners.new ≡ record partners.old { names = unbridged partners.old.names number partner } }
+{
+    if let Some(partner) = partner {
+        partners.clear(number);
+        partners.clear(partner.number);
+    }
+}

@@ -1,0 +1,12 @@
+//! Names of call legs.
+
+/// The name of a leg: a call number that is used again, under a serial that never is.
+#[derive(Clone, Copy, Debug, PartialEq, Eq)]
+pub struct LegName {
+    /// The place of the leg's peer in the plan, from 0 on.
+    pub peer: u16,
+    /// The call number on our side, one of its peer's range.
+    pub number: u16,
+    /// How many names were given out before, plus the first serial.
+    pub serial: u64,
+}

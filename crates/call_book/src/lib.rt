@@ -1,0 +1,17 @@
+//! The book of calls: the numbers of call legs, the leases on them, and the bridges between them.
+#![tactic(auto)]
+
+mod book;
+mod errors;
+mod lease;
+mod leg_name;
+mod name_table;
+mod ranges;
+
+pub use book::CallBook;
+pub use errors::{BridgeError, ReserveError, Stale};
+pub use lease::Lease;
+pub use leg_name::LegName;
+
+#[cfg(test)]
+mod tests;

@@ -1,0 +1,62 @@
+//! Names by number, in an array.
+ghost use Rattle.std.specs.Prelude.{◌≡◌, ◌<◌, Some, None, IfOk};
+ghost use Rattle.std.specs.FinMap.{empty, get, insert, remove};
+
+use crate::leg_name::LegName;
+use std::alloc::{AllocError, Global};
+use std::marker::Model;
+
+// Names by number: an array, which contracts see as a map and how many places there are.
+#[derive(Drop)]
+pub(crate) struct NameTable {
+    places: Vec<Option<LegName>>,
+}
+
+impl Model for NameTable {
+    ghost use Rattle.call_book.specs.Table.{Table, table_code};
+
+    ghost Value = { Table };
+
+    ghost coded = { table_code };
+
+    ghost use Rattle.call_book.specs.TableInside.{table_inside};
+
+    ghost view = { table_inside };
+}
+
+impl NameTable {
+    // So many places without a name.
+    pub(crate) fn new(alloc: Global, places: usize) -> Result<NameTable, AllocError>
+        ensures { IfOk result (λ table. table ≡ record { names = empty; places = places }) }
+    {
+        Ok(NameTable {
+            places: vec![in alloc; None; places]?,
+        })
+    }
+
+    // The name at a number.
+    pub(crate) fn get(&self, number: u16) -> Option<LegName>
+        ensures { result ≡ get self.now.names number }
+    {
+        let place = usize::from(number);
+        if place < self.places.len() {
+            self.places[place]
+        } else {
+            None
+        }
+    }
+
+    pub(crate) fn put(&mut self, number: u16, name: LegName)
+        requires { number < self.old.places }
+        ensures { self.new ≡ record self.old { names = insert self.old.names number name } }
+    {
+        self.places[usize::from(number)] = Some(name);
+    }
+
+    pub(crate) fn clear(&mut self, number: u16)
+        requires { number < self.old.places }
+        ensures { self.new ≡ record self.old { names = remove self.old.names number } }
+    {
+        self.places[usize::from(number)] = None;
+    }
+}

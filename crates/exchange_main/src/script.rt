@@ -1,0 +1,52 @@
+//! The lines of a script.
+
+/// What a line asks for.
+#[derive(Clone, Copy, Debug, PartialEq, Eq)]
+pub enum Line<'a> {
+    /// An empty line or a comment.
+    Nothing,
+    /// `at <ms>`: the moment, in milliseconds.
+    At(u64),
+    /// `rx <peer> <hex>`: a datagram comes from a peer.
+    Rx(&'a [u8], &'a [u8]),
+    /// `tick`.
+    Tick,
+}
+
+// A number in decimal digits that fits 64 bits.
+fn decimal(digits: &[u8]) -> Option<u64> {
+    if digits.is_empty() {
+        return None;
+    }
+    let mut number: u64 = 0;
+    for digit in digits {
+        if !digit.is_ascii_digit() {
+            return None;
+        }
+        number = number
+            .checked_mul(10)?
+            .checked_add(u64::from(*digit - b'0'))?;
+    }
+    Some(number)
+}
+
+// The words of a line, parted by one space: at most four, since no line has more.
+fn words(line: &[u8]) -> [Option<&[u8]>; 4] {
+    let mut parts = line.split(|octet| *octet == b' ');
+    [parts.next(), parts.next(), parts.next(), parts.next()]
+}
+
+/// What a line says; `None` where it isn't of these forms.
+pub fn line_of(line: &[u8]) -> Option<Line<'_>> {
+    if line.is_empty() || line.starts_with(b"#") {
+        return Some(Line::Nothing);
+    }
+    match words(line) {
+        [Some(b"tick"), None, None, None] => Some(Line::Tick),
+        [Some(b"at"), Some(digits), None, None] => Some(Line::At(decimal(digits)?)),
+        [Some(b"rx"), Some(peer), Some(octets), None] if !octets.is_empty() => {
+            Some(Line::Rx(peer, octets))
+        }
+        _ => None,
+    }
+}

@@ -1,0 +1,10 @@
+pub mod OctetLaws
+pub mod FullLaws
+pub mod ItemLaws
+pub mod EntryLaws
+pub mod ShortLaws
+pub mod TrunkLaws
+pub mod DatagramLaws
+pub mod WritingLaws
+pub mod RefusalLaws
+pub mod LooseItems

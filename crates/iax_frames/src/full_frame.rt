@@ -1,0 +1,132 @@
+//! Full frames ("Full Frames").
+ghost use Rattle.std.specs.Prelude.{◌≡◌};
+ghost use Rattle.iax_frames.specs.FullFrame.{subclass_meaning};
+
+use crate::call_number::CallNumber;
+use std::marker::Model;
+
+/// The head of a full frame.
+#[derive(Clone, Copy, Debug, PartialEq, Eq)]
+pub struct FullHead {
+    /// The sender's number of the call.
+    pub source: CallNumber,
+    /// R: the frame is sent again.
+    pub retransmitted: bool,
+    /// The receiver's number of the call, 0 where the sender doesn't know it yet.
+    pub destination: CallNumber,
+    /// Milliseconds since the sender's side of the call began, modulo 2^32.
+    pub timestamp: u32,
+    pub oseqno: u8,
+    pub iseqno: u8,
+    pub frame_type: u8,
+    /// The octet of C and subclass.
+    pub subclass: u8,
+}
+
+/// A full frame in the octets of a datagram.
+#[derive(Debug, Drop)]
+pub struct Full<'a> {
+    head: FullHead,
+    payload: &'a [u8],
+}
+
+impl<'a> Model for Full<'a> {
+    ghost use Rattle.iax_frames.specs.FullFrame.{FullFrame};
+
+    ghost Value = { FullFrame };
+
+    ghost view = { λ f. record { head = f.head; payload = f.payload.now } };
+}
+
+impl<'a> Full<'a> {
+    pub(crate) fn new(head: FullHead, payload: &'a [u8]) -> Self
+        ensures { result ≡ record { head = head; payload = payload.now } }
+    {
+        Full { head, payload }
+    }
+
+    /// The twelve octets in front of the data.
+    pub fn head(&self) -> FullHead
+        ensures { result ≡ self.now.head }
+    {
+        let Full { head, .. } = self;
+        *head
+    }
+
+    /// The sender's number of the call.
+    pub fn source(&self) -> CallNumber
+        ensures { result ≡ self.now.head.source }
+    {
+        self.head.source
+    }
+
+    /// R: the frame was sent before.
+    pub fn retransmitted(&self) -> bool
+        ensures { result ≡ self.now.head.retransmitted }
+    {
+        self.head.retransmitted
+    }
+
+    /// The receiver's number of the call, 0 where the sender doesn't know it yet.
+    pub fn destination(&self) -> CallNumber
+        ensures { result ≡ self.now.head.destination }
+    {
+        self.head.destination
+    }
+
+    /// Milliseconds since the sender's side of the call began, modulo 2^32.
+    pub fn timestamp(&self) -> u32
+        ensures { result ≡ self.now.head.timestamp }
+    {
+        self.head.timestamp
+    }
+
+    /// OSeqno: the frame's sequence number ("Message Transport").
+    pub fn oseqno(&self) -> u8
+        ensures { result ≡ self.now.head.oseqno }
+    {
+        self.head.oseqno
+    }
+
+    /// ISeqno: the sequence number that the sender expects next ("Message Transport").
+    pub fn iseqno(&self) -> u8
+        ensures { result ≡ self.now.head.iseqno }
+    {
+        self.head.iseqno
+    }
+
+    /// The type ("Frame Types").
+    pub fn frame_type(&self) -> u8
+        ensures { result ≡ self.now.head.frame_type }
+    {
+        self.head.frame_type
+    }
+
+    /// The octet of C and subclass.
+    pub fn subclass(&self) -> u8
+        ensures { result ≡ self.now.head.subclass }
+    {
+        self.head.subclass
+    }
+
+    /// What the octet of C and subclass means, if that is below 2^64.
+    pub fn meaning(&self) -> Option<u64>
+        ensures { result ≡ subclass_meaning self.now.head.subclass }
+    {
+        let octet = self.head.subclass;
+        if octet < 128 {
+            Some(octet as u64)
+        } else if octet < 192 {
+            Some(1 << (octet - 128))
+        } else {
+            None
+        }
+    }
+
+    /// The data behind the head.
+    pub fn payload(&self) -> &'a [u8]
+        ensures { result.now ≡ self.now.payload }
+    {
+        self.payload
+    }
+}

@@ -1,0 +1,26 @@
+//! The frames of IAX2 (RFC 5456), both ways: what the octets of a datagram spell, and the octets that spell a frame.
+#![tactic(auto)]
+
+mod call_number;
+mod datagram;
+mod full_frame;
+mod mini_frame;
+mod octets;
+mod output;
+mod reading;
+mod stored_frame;
+mod trunk_frame;
+mod video_frame;
+
+pub use call_number::CallNumber;
+pub use datagram::{Datagram, FrameError};
+pub use full_frame::{Full, FullHead};
+pub use mini_frame::Mini;
+pub use output::{Out, TooLong, append_entry, write_full, write_mini, write_trunk};
+pub use reading::read;
+pub use stored_frame::{Frame, Payload};
+pub use trunk_frame::{Entries, Trunk};
+pub use video_frame::Video;
+
+#[cfg(test)]
+mod tests;

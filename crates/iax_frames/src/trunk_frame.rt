@@ -1,0 +1,201 @@
+//! Trunk meta frames ("Meta Frames").
+ghost use Rattle.std.specs.Prelude.{◌≡◌, ◌≤◌, ◌<◌, true, false, List, [], ◌∷◌, drop, length, map, slice_index, IfSome, IfNone, Some, None};
+ghost use Rattle.iax_frames.specs.TrunkFrame.{TrunkEntry, TrunkFrame, is_timed, first_entry, entries_of, entry, entry_item, IsEntry, trunk_at};
+ghost use Rattle.std.specs.Iterator.{YieldsFirstBy, item_count};
+ghost use Rattle.iax_frames.specs.Items.{SpellsItems, IsCutAt};
+
+use crate::call_number::CallNumber;
+use crate::octets::{flagged_at, u16_at, u32_at};
+use std::marker::Model;
+
+/// An entry of a trunk frame.
+#[derive(Debug, Drop)]
+pub(crate) struct Entry<'a> {
+    high_bit: bool,
+    number: CallNumber,
+    timestamp: Option<u16>,
+    media: &'a [u8],
+}
+
+impl<'a> Model for Entry<'a> {
+    ghost use Rattle.iax_frames.specs.TrunkFrame.{TrunkEntry};
+
+    ghost Value = { TrunkEntry };
+
+    ghost view = { λ e. record { high_bit = e.high_bit; number = e.number; timestamp = e.timestamp; media = e.media.now } };
+}
+
+/// A trunk frame in the octets of a datagram.
+#[derive(Debug, Drop)]
+pub struct Trunk<'a> {
+    command_data: u8,
+    timestamp: u32,
+    entries: &'a [u8],
+}
+
+impl<'a> Model for Trunk<'a> {
+    ghost use Rattle.iax_frames.specs.TrunkFrame.{TrunkFrame, is_timed, entry, IsEntry, entries_of};
+    ghost use Rattle.iax_frames.specs.Items.{SpellsItems};
+
+    ghost Value = { TrunkFrame };
+
+    ghost view = { λ t. record { command_data = t.command_data; timestamp = t.timestamp; entries = entries_of (is_timed t.command_data) t.entries.now } };
+
+    ghost invariant = { λ t. SpellsItems entry (IsEntry (is_timed t.command_data)) t.entries.now
+        (entries_of (is_timed t.command_data) t.entries.now) };
+}
+
+impl<'a> Trunk<'a> {
+    // The trunk frame that the octets spell, where they begin as one and no entry is cut.
+    pub(crate) fn new(octets: &'a [u8]) -> Self
+        requires long { 8 ≤ length octets.now }
+        requires entries { SpellsItems entry (IsEntry (is_timed (slice_index octets.now 3))) (drop 8 octets.now)
+            (entries_of (is_timed (slice_index octets.now 3)) (drop 8 octets.now)) }
+        ensures { result ≡ trunk_at octets.now }
+    {
+        Trunk {
+            command_data: octets[3],
+            timestamp: u32_at(octets, 4),
+            entries: octets.split_at(8).1,
+        }
+    }
+
+    /// The octet whose lowest bit says that the entries have timestamps.
+    pub fn command_data(&self) -> u8
+        ensures { result ≡ self.now.command_data }
+    {
+        self.command_data
+    }
+
+    /// The timestamp of the whole frame, in milliseconds modulo 2^32.
+    pub fn timestamp(&self) -> u32
+        ensures { result ≡ self.now.timestamp }
+    {
+        self.timestamp
+    }
+
+    /// The entries in order.
+    pub fn entries(&self) -> Entries<'a>
+        ensures { result ≡ self.now.entries }
+    {
+        Entries {
+            timed: self.command_data % 2 == 1,
+            octets: self.entries,
+        }
+    }
+}
+
+/// The entries that are left of a trunk frame, as number, timestamp and media. Contracts see their list.
+#[derive(Debug, Drop)]
+pub struct Entries<'a> {
+    timed: bool,
+    octets: &'a [u8],
+}
+
+impl<'a> Model for Entries<'a> {
+    ghost use Rattle.std.specs.Prelude.{List};
+    ghost use Rattle.iax_frames.specs.TrunkFrame.{TrunkEntry, entry, IsEntry, entries_of};
+    ghost use Rattle.iax_frames.specs.Items.{SpellsItems};
+
+    ghost Value = { List TrunkEntry };
+
+    ghost view = { λ left. entries_of left.timed left.octets.now };
+
+    ghost invariant = { λ left. SpellsItems entry (IsEntry left.timed) left.octets.now (entries_of left.timed left.octets.now) };
+}
+
+impl<'a> Iterator for Entries<'a> {
+    type Item = (CallNumber, Option<u16>, &'a [u8]);
+
+    ghost next_gives = { YieldsFirstBy (λ item. (item.0, item.1, item.2.now)) (map entry_item) };
+
+    ghost remaining = { item_count (λ left. left) };
+
+    fn next(&mut self) -> Option<(CallNumber, Option<u16>, &'a [u8])> {
+        match split_entry(self.timed, self.octets) {
+            Some((entry, after)) => {
+                self.octets = after;
+                Some((entry.number, entry.timestamp, entry.media))
+            }
+            None => None,
+        }
+    }
+}
+
+// The entry at the front, and what follows it.
+fn split_entry(timed: bool, octets: &[u8]) -> Option<(Entry<'_>, &[u8])>
+    ensures none { IfNone result (first_entry timed octets.now ≡ None) }
+    ensures some { IfSome result (λ found. first_entry timed octets.now ≡ Some (found.0, found.1.now)) }
+{
+    if timed {
+        split_timed(octets)
+    } else {
+        split_untimed(octets)
+    }
+}
+
+fn split_timed(octets: &[u8]) -> Option<(Entry<'_>, &[u8])>
+    ensures none { IfNone result (first_entry true octets.now ≡ None) }
+    ensures some { IfSome result (λ found. first_entry true octets.now ≡ Some (found.0, found.1.now)) }
+{
+    if octets.len() < 6 {
+        return None;
+    }
+    let len = u16_at(octets, 0) as usize;
+    let (high_bit, number) = flagged_at(octets, 2);
+    let timestamp = u16_at(octets, 4);
+    let (_, rest) = octets.split_at(6);
+    if rest.len() < len {
+        return None;
+    }
+    let (media, rest) = rest.split_at(len);
+    Some((
+        Entry {
+            high_bit,
+            number,
+            timestamp: Some(timestamp),
+            media,
+        },
+        rest,
+    ))
+}
+
+fn split_untimed(octets: &[u8]) -> Option<(Entry<'_>, &[u8])>
+    ensures none { IfNone result (first_entry false octets.now ≡ None) }
+    ensures some { IfSome result (λ found. first_entry false octets.now ≡ Some (found.0, found.1.now)) }
+{
+    if octets.len() < 4 {
+        return None;
+    }
+    let (high_bit, number) = flagged_at(octets, 0);
+    let len = u16_at(octets, 2) as usize;
+    let (_, rest) = octets.split_at(4);
+    if rest.len() < len {
+        return None;
+    }
+    let (media, rest) = rest.split_at(len);
+    Some((
+        Entry {
+            high_bit,
+            number,
+            timestamp: None,
+            media,
+        },
+        rest,
+    ))
+}
+
+// Where the first entry stands that passes the end.
+pub(crate) fn cut_place(timed: bool, octets: &[u8]) -> Option<usize>
+    ensures whole { IfNone result (SpellsItems entry (IsEntry timed) octets.now (entries_of timed octets.now)) }
+    ensures cut { IfSome result (IsCutAt entry (IsEntry timed) octets.now) }
+{
+    let mut rest = octets;
+    while !rest.is_empty() {
+        match split_entry(timed, rest) {
+            Some((_, after)) => rest = after,
+            None => return Some(octets.len() - rest.len()),
+        }
+    }
+    None
+}

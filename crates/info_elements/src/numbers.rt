@@ -1,0 +1,26 @@
+//! The numbers of information elements ("Information Elements").
+
+/// The number that is called: a text.
+pub const CALLED_NUMBER: u8 = 0x01;
+/// The number that calls: a text.
+pub const CALLING_NUMBER: u8 = 0x02;
+/// A user's name: a text.
+pub const USERNAME: u8 = 0x06;
+/// All formats that can be used: the bits of formats in 4 octets.
+pub const CAPABILITY: u8 = 0x08;
+/// The format that is wanted: its bit in 4 octets.
+pub const FORMAT: u8 = 0x09;
+/// The version of the protocol: 2, in 2 octets.
+pub const VERSION: u8 = 0x0b;
+/// The methods of authentication: 2 octets, where bit 0x0002 is MD5.
+pub const AUTHMETHODS: u8 = 0x0e;
+/// The text that is to be answered.
+pub const CHALLENGE: u8 = 0x0f;
+/// The answer: 32 hexadecimal digits.
+pub const MD5_RESULT: u8 = 0x10;
+/// Why a call ends: a text.
+pub const CAUSE: u8 = 0x16;
+/// The subclass that isn't known: 1 octet.
+pub const IAX_UNKNOWN: u8 = 0x17;
+/// Why a call ends: 1 octet.
+pub const CAUSECODE: u8 = 0x2a;

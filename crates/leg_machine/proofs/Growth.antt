@@ -1,0 +1,105 @@
+-- What a tick skipped tells whether it had memory.
+use Rattle.std.specs.Prelude.{map}
+use Rattle.std.proofs.Common.{◌≡◌, ℕ, ◌+◌, ◌<◌, Bool, true, false, cond, eqb, List, ◌++◌, ◌⊎◌, inl, inr, refl, sym, ap, subst, ◌∙◌, arith}
+use Rattle.iax_frames.specs.FullFrame.{spelling}
+use Rattle.std.proofs.lemmas.Bool.Decides.{nat_tests}
+use Rattle.seq_window.specs.Window.{held_count}
+use Rattle.leg_machine.specs.Legs.{LegState, entered, is_short_of_entries}
+use Rattle.leg_machine.specs.Stages.{is_ended}
+use Rattle.leg_machine.specs.Ticks.{Tick, quiet, sends_if, must_hang_up, must_ping, pinged, ping_step, last_step, due_frames, tick_step}
+use Rattle.leg_machine.specs.Tries.{tries}
+use Rattle.leg_machine.specs.declared.causes.Cause.TheVariants.{NormalClearing}
+use Rattle.leg_machine.specs.declared.replies.Reply.TheVariants as replies
+use Rattle.leg_machine.specs.declared.stages.Stage.TheVariants as stages
+use Rattle.leg_machine.specs.Tie.{SendsAtMostOne}
+use Rattle.leg_machine.proofs.Tied.{either}
+use Rattle.leg_machine.proofs.TiedSends.{tick-sends}
+
+-- two cases of one test
+both : {A : Type 0} (R : A → A → Type 0) (b : Bool) (x y x' y' : A) → R x x' → R y y' → R (cond b x y) (cond b x' y')
+both R true x y x' y' p q = p
+both R false x y x' y' p q = q
+
+-- with memory nothing is skipped; without it nothing differs, or something is skipped
+abbrev Tells : Tick → Tick → Type 0
+Tells with without = (with.skipped ≡ 0) × ((without ≡ with) ⊎ (0 < without.skipped))
+
+test_of : (n : ℕ) → 0 < n → eqb n 0 ≡ false
+test_of n h = grind (arith, nat_tests)
+
+agrees : (f : Bool → Tick) → Tells (f true) (f false) → (g : Bool) → f (eqb (f g).skipped 0) ≡ f g
+agrees f (zero_with, other) true = ap (λ (n : ℕ). f (eqb n 0)) zero_with
+agrees f (zero_with, inl same) false = ap (λ (n : ℕ). f (eqb n 0)) (ap (λ (t : Tick). t.skipped) same ∙ zero_with) ∙ sym same
+agrees f (zero_with, inr more) false = ap f (test_of (f false).skipped more)
+
+last-true : (spent : Bool) (leg : LegState) (now : ℕ) → (last_step true spent leg now).skipped ≡ 0
+last-true true leg now = refl
+last-true false leg now =
+    either (λ (t : Tick). t.skipped ≡ 0) (must_ping leg now) (sends_if true leg (pinged leg now) now replies.Ping) (quiet leg) refl refl
+
+-- the parts of a tick joined
+abbrev joined : (hung last : Tick) (leg : LegState) (now : ℕ) → Tick
+joined hung last leg now = record {
+  leg = last.leg;
+  replies = hung.replies ++ (tries (held_count leg.window) hung.leg now).replies ++ last.replies;
+  skipped = hung.skipped + last.skipped;
+}
+
+-- the frames after the doomed leg's HANGUP, with memory and without
+last-tells : (hung : Tick) (spent : Bool) (mid leg : LegState) (now : ℕ) → hung.skipped ≡ 0
+    → Tells (joined hung (last_step true spent mid now) leg now) (joined hung (last_step false spent mid now) leg now)
+last-tells hung true mid leg now e = (omega (arith, e), inl refl)
+last-tells hung false mid leg now e =
+    both (λ (a b : Tick). Tells (joined hung a leg now) (joined hung b leg now)) (must_ping mid now)
+    (sends_if true mid (pinged mid now) now replies.Ping) (quiet mid) (sends_if false mid (pinged mid now) now replies.Ping) (quiet mid)
+    (omega (arith, e), inr (omega (arith, e))) (omega (arith, e), inl refl)
+
+abbrev finish : Bool → LegState → ℕ → Tick → Tick
+finish grown leg now hung =
+    let tried = tries (held_count leg.window) hung.leg now in
+    joined hung (last_step grown tried.spent tried.leg now) leg now
+
+due-tells : (leg : LegState) (now : ℕ) → Tells (due_frames true leg now) (due_frames false leg now)
+due-tells leg now =
+    let closing = entered leg stages.Closing in
+    let bye = replies.Hangup NormalClearing in
+    let after_hung = tries (held_count leg.window) (sends_if true leg closing now bye).leg now in
+    let after = tries (held_count leg.window) leg now in
+    both (λ (a b : Tick). Tells (finish true leg now a) (finish false leg now b)) (must_hang_up leg)
+    (sends_if true leg closing now bye) (quiet leg) (sends_if false leg closing now bye) (quiet leg)
+    (omega (arith, last-true after_hung.spent after_hung.leg now), inr (omega arith)) (last-tells (quiet leg) after.spent after.leg leg now refl)
+
+-- the step of a tick is that with memory where nothing was skipped, and that without where something was
+pub tick-told : (leg : LegState) (now : ℕ) (grown : Bool) → tick_step (eqb (tick_step grown leg now).skipped 0) leg now ≡ tick_step grown leg now
+tick-told leg now grown =
+    agrees (λ (g : Bool). tick_step g leg now)
+    (both Tells (is_ended leg.stage) (quiet leg) _ (quiet leg) _ (refl, inl refl)
+    (both Tells (is_short_of_entries leg) (quiet (entered leg stages.Ended)) (due_frames true leg now) (quiet (entered leg stages.Ended)) (due_frames false leg now)
+    (refl, inl refl) (due-tells leg now)))
+    grown
+
+-- what the step of a tick says, by what was skipped
+pub record Told (old : LegState) (now skipped : ℕ) (new : LegState) (outs : List (List ℕ)) : Type 0 where
+  pub leg : new ≡ (tick_step (eqb skipped 0) old now).leg
+  pub replies : outs ≡ map spelling (tick_step (eqb skipped 0) old now).replies
+  pub count : skipped ≡ (tick_step (eqb skipped 0) old now).skipped
+  pub tied : SendsAtMostOne old new
+
+told_by : (old new : LegState) (outs : List (List ℕ)) (now skipped : ℕ) (t : Tick) → tick_step (eqb t.skipped 0) old now ≡ t → SendsAtMostOne old t.leg
+    → new ≡ t.leg → outs ≡ map spelling t.replies → skipped ≡ t.skipped → Told old now skipped new outs
+told_by old new outs now skipped t step sends leg replies count =
+    let same : tick_step (eqb skipped 0) old now ≡ t = ap (λ (n : ℕ). tick_step (eqb n 0) old now) count ∙ step in
+    record {
+      leg = leg ∙ ap (λ (u : Tick). u.leg) (sym same);
+      replies = replies ∙ ap (λ (u : Tick). map spelling u.replies) (sym same);
+      count = count ∙ ap (λ (u : Tick). u.skipped) (sym same);
+      tied = subst (SendsAtMostOne old) (sym leg) sends;
+    }
+
+pub told : (old mid new : LegState) (outs : List (List ℕ)) (now skipped : ℕ) (grown : Bool) → mid ≡ old
+    → new ≡ (tick_step grown mid now).leg → outs ≡ map spelling (tick_step grown mid now).replies → skipped ≡ (tick_step grown mid now).skipped
+    → Told old now skipped new outs
+told old mid new outs now skipped grown e leg replies count =
+    let moved : tick_step grown mid now ≡ tick_step grown old now = ap (λ (l : LegState). tick_step grown l now) e in
+    told_by old new outs now skipped (tick_step grown old now) (tick-told old now grown) (tick-sends grown old now)
+    (leg ∙ ap (λ (t : Tick). t.leg) moved) (replies ∙ ap (λ (t : Tick). map spelling t.replies) moved) (count ∙ ap (λ (t : Tick). t.skipped) moved)

@@ -1,0 +1,145 @@
+-- What each step adds to the record.
+use Rattle.std.proofs.Common.{◌≡◌, ℕ, Bool, true, false, cond, List, [], ◌∷◌, ◌++◌, length, Option, None, Some, refl, sym, ap, ◌∙◌, append_assoc}
+use Rattle.std.proofs.lemmas.List.{append-nil}
+use Rattle.iax_frames.specs.FullFrame.{FullFrame}
+use Rattle.iax_frames.specs.declared.stored_frame.Frame.{Frame}
+use Rattle.seq_window.specs.Entry.{Entry, Sent, Acked, Taken}
+use Rattle.seq_window.specs.declared.judgements.Acknowledged.{Acknowledged as Judgement}
+use Rattle.seq_window.specs.declared.judgements.Received.{Received}
+use Rattle.seq_window.specs.declared.judgements.Received.TheVariants as received
+use Rattle.seq_window.specs.History.{taken}
+use Rattle.seq_window.specs.Sequence.{number_byte_judged}
+use Rattle.seq_window.specs.Turn.{entries_for_reply, entries_for_acknowledgement, entries_for_frame}
+use Rattle.seq_window.specs.Window.{WindowState, after_receiving, judged_number, entries_for_number, entries_for_count, judged_acknowledgement, count_of}
+use Rattle.leg_machine.specs.Effects.{is_reply, marked}
+use Rattle.leg_machine.specs.LegTable.{effect_of}
+use Rattle.leg_machine.specs.Legs.{LegState, entered}
+use Rattle.leg_machine.specs.Messages.{message_of, is_numbered, is_inval, is_vnak}
+use Rattle.leg_machine.specs.Replies.{reply_frame}
+use Rattle.leg_machine.specs.Steps.{Step, full_step, inval_step, vnak_step, resend_step, nothing_sent, numbered_step, judged_step, taken_step, taken as taken_leg, replied, answered, no_room, prepared}
+use Rattle.leg_machine.specs.Tie.{TakesTurn, numbered_frame}
+use Rattle.leg_machine.specs.Working.{stored, settled, acknowledged, learnt, counts}
+use Rattle.leg_machine.specs.declared.effects.Answering.{Answering}
+use Rattle.leg_machine.specs.declared.effects.Answering.TheVariants.{Acknowledged, Answered, Silent}
+use Rattle.leg_machine.specs.declared.effects.Effect.{Effect}
+use Rattle.leg_machine.specs.declared.effects.Mark.{Mark}
+use Rattle.leg_machine.specs.declared.effects.Mark.TheVariants as marks
+use Rattle.leg_machine.specs.declared.messages.Message.{Message}
+
+pub either : {A : Type 0} (P : A → Type 0) (b : Bool) (x y : A) → P x → P y → P (cond b x y)
+either P true x y p q = p
+either P false x y p q = q
+
+-- an acknowledgement takes nothing
+taken-acks : (h : List Entry) (n : ℕ) → taken (h ++ entries_for_count n) ≡ taken h
+taken-acks [] n = either (λ (entries : List Entry). taken entries ≡ []) _ [] (Acked n ∷ []) refl refl
+taken-acks (Sent f ∷ h) n = taken-acks h n
+taken-acks (Acked count ∷ h) n = taken-acks h n
+taken-acks (Taken f ∷ h) n = ap (λ (fs : List Frame). f ∷ fs) (taken-acks h n)
+
+settled-history : (leg : LegState) → (settled leg).window.history ≡ leg.window.history
+settled-history leg = either (λ (l : LegState). l.window.history ≡ leg.window.history) _ _ _ refl refl
+
+-- the record with the acknowledgement of a frame
+prepared-history : (leg : LegState) (frame : FullFrame) → (prepared leg frame).window.history ≡ leg.window.history ++ entries_for_acknowledgement leg.window.history frame.head.iseqno
+prepared-history leg frame = settled-history (acknowledged (learnt leg frame.head.source) frame.head.iseqno)
+
+marked-window : (leg : LegState) (m : Mark) → (marked leg m).window ≡ leg.window
+marked-window leg marks.Nothing = refl
+marked-window leg marks.Quelches = refl
+marked-window leg marks.Unquelches = refl
+marked-window leg marks.Authenticates = refl
+
+-- the record with a frame taken
+taken-history : (effect : Effect) (leg : LegState) (frame : FullFrame) (message : Message) → (taken_leg effect leg frame message).window.history ≡ leg.window.history ++ entries_for_number (judged_number leg.window.history frame.head.oseqno) (stored frame)
+taken-history effect leg frame message =
+    ap (λ (w : WindowState). (after_receiving w frame.head.oseqno (stored frame)).history) (marked-window (entered leg effect.stage) effect.mark)
+
+replied-adds : (leg : LegState) (now : ℕ) (answer : Answering) → (reply : Option Frame) × ((replied leg now answer).window.history ≡ leg.window.history ++ entries_for_reply reply)
+replied-adds leg now (Answered reply) = (Some (reply_frame leg now reply), refl)
+replied-adds leg now Acknowledged = (None, sym (append-nil leg.window.history))
+replied-adds leg now Silent = (None, sym (append-nil leg.window.history))
+
+-- a step that adds nothing
+same : (leg : LegState) (frame : FullFrame) (new : LegState) → new.window.history ≡ leg.window.history → TakesTurn leg frame new
+same leg frame new e =
+    (record { acknowledges = false; receives = false; reply = None }, e ∙ sym (append-nil leg.window.history))
+
+-- a step that adds an acknowledgement at most
+acknowledges : (leg : LegState) (frame : FullFrame) (new : LegState) → new.window.history ≡ leg.window.history ++ entries_for_acknowledgement leg.window.history frame.head.iseqno → TakesTurn leg frame new
+acknowledges leg frame new e =
+    let acks = entries_for_acknowledgement leg.window.history frame.head.iseqno in (
+      record { acknowledges = true; receives = false; reply = None },
+      e ∙ ap (λ (entries : List Entry). leg.window.history ++ entries) (sym (append-nil (acks ++ []) ∙ append-nil acks)),
+    )
+
+-- the judgement is the same before and after the acknowledgement
+judged-later : (leg : LegState) (frame : FullFrame) → judged_number (prepared leg frame).window.history frame.head.oseqno ≡ judged_number leg.window.history frame.head.oseqno
+judged-later leg frame =
+    ap (λ (h : List Entry). judged_number h frame.head.oseqno) (prepared-history leg frame)
+    ∙ ap (λ (fs : List Frame). number_byte_judged (length fs) frame.head.oseqno)
+    (taken-acks leg.window.history (count_of (judged_acknowledgement leg.window.history frame.head.iseqno)))
+
+answered-turn : (leg : LegState) (frame : FullFrame) (effect : Effect) (message : Message) (now : ℕ) → is_numbered (message_of frame.head) ≡ true
+    → TakesTurn leg frame (replied (taken_leg effect (prepared leg frame) frame message) now effect.answer)
+answered-turn leg frame effect message now numbered =
+    let h = leg.window.history in
+    let acks = entries_for_acknowledgement h frame.head.iseqno in
+    let judged = judged_number h frame.head.oseqno in
+    let takes = entries_for_number judged (stored frame) in
+    let one = replied-adds (taken_leg effect (prepared leg frame) frame message) now effect.answer in
+    let sends = entries_for_reply one.0 in
+    let before : (taken_leg effect (prepared leg frame) frame message).window.history ≡ (h ++ acks) ++ takes =
+    taken-history effect (prepared leg frame) frame message
+    ∙ (λ i. prepared-history leg frame i ++ entries_for_number (judged-later leg frame i) (stored frame)) in
+    let as_frame : takes ≡ entries_for_frame judged (numbered_frame frame) =
+    ap (λ (b : Bool). entries_for_frame judged (cond b (Some (stored frame)) None)) (sym numbered) in (
+      record { acknowledges = true; receives = true; reply = one.0 },
+      one.1 ∙ ap (λ (entries : List Entry). entries ++ sends) before
+          ∙ append_assoc (h ++ acks) takes sends ∙ append_assoc h acks (takes ++ sends)
+          ∙ ap (λ (entries : List Entry). h ++ entries) (sym (append_assoc acks takes sends))
+          ∙ ap (λ (entries : List Entry). h ++ ((acks ++ entries) ++ sends)) as_frame,
+    )
+
+taken-turn : (leg : LegState) (frame : FullFrame) (effect : Effect) (message : Message) (now : ℕ) → is_numbered (message_of frame.head) ≡ true
+    → TakesTurn leg frame (taken_step effect (prepared leg frame) frame message now).leg
+taken-turn leg frame effect message now numbered =
+    let mid = prepared leg frame in
+    either (λ (s : Step). TakesTurn leg frame s.leg) _ (no_room mid) (answered effect.answer (taken_leg effect mid frame message) frame now effect.signal)
+    (acknowledges leg frame mid (prepared-history leg frame)) (answered-turn leg frame effect message now numbered)
+
+judged-turn : (r : Received) (leg : LegState) (frame : FullFrame) (message : Message) (now : ℕ) → is_numbered (message_of frame.head) ≡ true
+    → TakesTurn leg frame (judged_step r (prepared leg frame) frame message now).leg
+judged-turn received.Taken leg frame message now numbered = taken-turn leg frame (effect_of (prepared leg frame) frame message) message now numbered
+judged-turn received.Repeat leg frame message now numbered = acknowledges leg frame (prepared leg frame) (prepared-history leg frame)
+judged-turn received.Gap leg frame message now numbered = acknowledges leg frame (prepared leg frame) (prepared-history leg frame)
+
+either_by : {A : Type 0} (P : A → Type 0) (b : Bool) (x y : A) → (b ≡ true → P x) → (b ≡ false → P y) → P (cond b x y)
+either_by P true x y p q = p refl
+either_by P false x y p q = q refl
+
+numbered-turn : (leg : LegState) (frame : FullFrame) (now : ℕ) → TakesTurn leg frame (numbered_step (prepared leg frame) frame (message_of frame.head) now).leg
+numbered-turn leg frame now =
+    let mid = prepared leg frame in
+    let message = message_of frame.head in
+    either_by (λ (s : Step). TakesTurn leg frame s.leg) (is_numbered message)
+    (judged_step (judged_number mid.window.history frame.head.oseqno) mid frame message now) (nothing_sent mid)
+    (λ numbered. judged-turn (judged_number mid.window.history frame.head.oseqno) leg frame message now numbered)
+    (λ _. acknowledges leg frame mid (prepared-history leg frame))
+
+vnak-turn : (leg : LegState) (frame : FullFrame) (j : Judgement) (now : ℕ) → TakesTurn leg frame (vnak_step j (prepared leg frame) now).leg
+vnak-turn leg frame j now =
+    let mid = prepared leg frame in
+    either (λ (s : Step). TakesTurn leg frame s.leg) (counts j) (resend_step mid now) (nothing_sent mid)
+    (acknowledges leg frame (resend_step mid now).leg (prepared-history leg frame)) (acknowledges leg frame mid (prepared-history leg frame))
+
+pub full-turn : (leg : LegState) (frame : FullFrame) (now : ℕ) → TakesTurn leg frame (full_step leg frame now).leg
+full-turn leg frame now =
+    let message = message_of frame.head in
+    let mid = prepared leg frame in
+    let vnak = vnak_step (judged_acknowledgement leg.window.history frame.head.iseqno) mid now in
+    let numbered = numbered_step mid frame message now in
+    either (λ (s : Step). TakesTurn leg frame s.leg) (is_inval message) (inval_step leg) (cond (is_vnak message) vnak numbered)
+    (same leg frame (inval_step leg).leg refl)
+    (either (λ (s : Step). TakesTurn leg frame s.leg) (is_vnak message) vnak numbered
+    (vnak-turn leg frame (judged_acknowledgement leg.window.history frame.head.iseqno) now) (numbered-turn leg frame now))

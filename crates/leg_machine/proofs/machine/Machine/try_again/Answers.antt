@@ -1,0 +1,37 @@
+use Rattle.std.proofs.Common.{◌≡◌, suc, ◌+◌, ◌-◌, ◌++◌, arith, sym, ap, ◌∙◌, append_assoc}
+use Rattle.std.proofs.lemmas.List.{map-append}
+use Rattle.std.specs.Prelude.{map}
+use Rattle.iax_frames.specs.FullFrame.{spelling}
+use Rattle.seq_window.specs.Window.{resent, after_resent}
+use Rattle.seq_window.specs.declared.judgements.Resent.TheVariants as resents
+use Rattle.leg_machine.specs.Legs.{leg_of, with_window}
+use Rattle.leg_machine.specs.Tries.{Tried, tries, after_try, frames_again}
+use Rattle.leg_machine.proofs.OneTry.{tries-again, room_kept}
+use Rattle.leg_machine.proofs.machine.Machine.try_again.Goals as goal
+
+pub loop-turn-preserved : goal.loop-turn-preserved
+loop-turn-preserved c =
+    let now = c.args.now in
+    let place = c.in-Again.place in
+    let leg = leg_of c.loop-turn.self in
+    let turns = c.args.turns - c.loop-turn.turn in
+    let more = c.args.turns - (c.loop-turn.turn + 1) in
+    let one_more : turns ≡ suc more = omega arith in
+    let again : resent leg.window now leg.rules.retry_ms leg.rules.max_retries ≡ resents.Again place = sym c.in-Again.ensures.resent in
+    let step = ap (λ n. tries n leg now) one_more ∙ tries-again more leg now place again in
+    let later = with_window leg c.resend.new.self.state in
+    let next : later ≡ after_try leg place now =
+    ap (λ w. with_window leg w) (c.in-Again.ensures.state ∙ ap (λ r. after_resent r leg.window now) again) in
+    let rest = (tries more later now).replies in
+    let here = map spelling (frames_again later place) in
+    let inner : here ++ map spelling rest ≡ map spelling (tries turns leg now).replies =
+    sym (map-append spelling (frames_again later place) rest)
+    ∙ ap (λ l. map spelling (frames_again l place ++ (tries more l now).replies)) next
+    ∙ sym (ap (λ (t : Tried). map spelling t.replies) step) in (
+      ap (λ l. (tries more l now).leg) next ∙ sym (ap (λ (t : Tried). t.leg) step) ∙ c.loop-turn.invariant.0,
+      ap (λ l. (tries more l now).spent) next ∙ sym (ap (λ (t : Tried). t.spent) step) ∙ c.loop-turn.invariant.1,
+      ap (λ xs. xs ++ map spelling rest) c.again.ensures.replies ∙ append_assoc c.loop-turn.outs here (map spelling rest)
+          ∙ ap (λ ys. c.loop-turn.outs ++ ys) inner ∙ c.loop-turn.invariant.2,
+      omega (arith, c.loop-turn.invariant.3, c.again.ensures.one),
+      λ room. room_kept c.loop-turn.self (record c.loop-turn.self { window = c.resend.new.self }) (resent leg.window now leg.rules.retry_ms leg.rules.max_retries) now c.resend.ensures.state c.resend.ensures.spare (c.loop-turn.invariant.4 room),
+    )

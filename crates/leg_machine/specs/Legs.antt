@@ -1,0 +1,79 @@
+-- A leg of a call, as its steps see it ("IAX Frames", "Message Transport").
+use Rattle.std.specs.Prelude.{ℕ, ◌+◌, ◌-◌, ◌/◌, ◌≤◌, Bool, ◌||◌, ◌&&◌, not, nat_lt, List, Option}
+use Rattle.seq_window.specs.Window.{WindowState, entry_count, held_count}
+use Rattle.leg_machine.specs.declared.formats.Format.{Format}
+use Rattle.leg_machine.specs.declared.rules.PeerRules.{PeerRules}
+use Rattle.leg_machine.specs.declared.stages.Stage.{Stage}
+use Rattle.leg_machine.specs.declared.machine.Machine.{Machine}
+use Rattle.leg_machine.specs.Stages.{is_over}
+
+pub record LegState : Type 0 where
+  pub rules : PeerRules
+  -- the local number, and the moment of the opening
+  pub number : ℕ
+  pub opened : ℕ
+  pub stage : Stage
+  pub format : Format
+  -- the other side's number, once it is known
+  pub remote : Option ℕ
+  -- the layer above isn't done with the end of the call
+  pub owes : Bool
+  -- to be hung up by a tick
+  pub doomed : Bool
+  -- the other side wants no media
+  pub quelched : Bool
+  -- the challenge that was sent
+  pub challenge : Option (List ℕ)
+  -- an AUTHREQ was answered
+  pub authenticated : Bool
+  -- a voice frame of the format was taken
+  pub voice_taken : Bool
+  -- the timestamp of the last voice frame that was sent
+  pub voice_sent : Option ℕ
+  -- the moment of the last PING, or of the opening
+  pub pinged : ℕ
+  -- the record, and when each held frame was last sent
+  pub window : WindowState
+
+-- the leg without the memory that its record has left
+abbrev pub leg_of : Machine → LegState
+leg_of m = record {
+  rules = m.rules;
+  number = m.number;
+  opened = m.opened;
+  stage = m.stage;
+  format = m.format;
+  remote = m.remote;
+  owes = m.owes;
+  doomed = m.doomed;
+  quelched = m.quelched;
+  challenge = m.challenge;
+  authenticated = m.authenticated;
+  voice_taken = m.voice_taken;
+  voice_sent = m.voice_sent;
+  pinged = m.pinged;
+  window = m.window.state;
+}
+
+-- A leg enters a stage. From the first that is Closing or Ended on it owes.
+abbrev pub entered : LegState → Stage → LegState
+entered leg stage = record leg {
+  stage = stage;
+  owes = leg.owes || (is_over stage && not (is_over leg.stage));
+}
+
+abbrev pub with_window : LegState → WindowState → LegState
+with_window leg window = record leg { window = window }
+
+-- While fewer frames than this are held, frames go out that no frame of the other side asks for.
+abbrev pub local_room : ℕ → ℕ
+local_room width = width - width / 4
+
+-- fewer than four entries are free
+abbrev pub is_short_of_entries : LegState → Bool
+is_short_of_entries leg = nat_lt leg.window.limit (entry_count leg.window + 4)
+
+-- so many entries fit, with no further memory
+pub record HasRoom (entries : ℕ) (m : Machine) : Type 0 where
+  pub limit : entry_count m.window.state + entries ≤ m.window.state.limit
+  pub spare : entries ≤ m.window.spare

@@ -1,0 +1,43 @@
+-- Media at a leg ("Mini Frames", "Voice Frames").
+use Rattle.std.specs.Prelude.{ℕ, ◌/◌, ◌%◌, ◌^◌, ◌==◌, ◌&&◌, not, Bool, true, false, List, [], ◌∷◌, Option, None, Some, if◌then◌else◌}
+use Rattle.iax_frames.specs.FullFrame.{FullFrame}
+use Rattle.leg_machine.specs.LegTable.{is_media}
+use Rattle.leg_machine.specs.Legs.{LegState}
+use Rattle.leg_machine.specs.Replies.{present_of, voice_frame, outgoing, next_byte}
+use Rattle.leg_machine.specs.Signals.{span_len}
+use Rattle.leg_machine.specs.Stages.{is_talking}
+use Rattle.leg_machine.specs.Working.{sent}
+use Rattle.leg_machine.specs.declared.media.MediaSent.{MediaSent}
+use Rattle.leg_machine.specs.declared.media.MediaSent.TheVariants.{Quelched, Voice, Mini}
+use Rattle.leg_machine.specs.declared.signals.MediaSpan.{MediaSpan}
+
+-- media of the other side counts in a talking leg that took voice of its format
+abbrev pub accepts_media : LegState → MediaSpan → Bool
+accepts_media leg span = is_talking leg.stage && leg.voice_taken && is_media (span_len span)
+
+-- the high halves of two timestamps differ, or there is no last one
+abbrev pub is_other_half : Option ℕ → ℕ → Bool
+is_other_half None present = true
+is_other_half (Some last) present = not (present / 2 ^ 16 == last / 2 ^ 16)
+
+-- the first media, and the first of each 2 ^ 16 milliseconds, goes out as a full frame
+abbrev pub is_voice_due : LegState → ℕ → Bool
+is_voice_due leg now = is_other_half leg.voice_sent (present_of leg now)
+
+-- how media goes out
+abbrev pub media_sent : LegState → ℕ → MediaSent
+media_sent leg now =
+    if leg.quelched then Quelched
+    else if is_voice_due leg now then Voice
+    else Mini (present_of leg now % 2 ^ 16)
+
+abbrev pub after_media : MediaSent → LegState → List ℕ → ℕ → LegState
+after_media Quelched leg media now = leg
+after_media Voice leg media now = record (sent leg (voice_frame leg now media) now) { voice_sent = Some (present_of leg now) }
+after_media (Mini timestamp) leg media now = leg
+
+-- the full frames that go out
+abbrev pub media_frames : MediaSent → LegState → List ℕ → ℕ → List FullFrame
+media_frames Quelched leg media now = []
+media_frames Voice leg media now = outgoing leg false (next_byte leg) (voice_frame leg now media) ∷ []
+media_frames (Mini timestamp) leg media now = []

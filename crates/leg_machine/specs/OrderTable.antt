@@ -1,0 +1,127 @@
+-- The table of orders: what the layer above lets a leg do, row by row ("Call Setup", "Control Frames").
+use Rattle.std.specs.Prelude.{◌≡◌, ◌≤◌, ℕ, not, ◌&&◌, ◌||◌, nat_le, length, Bool, true, false, List, [], ◌∷◌, ◌++◌, map, Option, None, Some, if◌then◌else◌}
+use Rattle.iax_frames.specs.FullFrame.{FullFrame, spelling}
+use Rattle.iax_frames.specs.MiniFrame.{mini_spelling}
+use Rattle.seq_window.specs.Window.{held_count}
+use Rattle.leg_machine.specs.Legs.{LegState, entered, local_room, is_short_of_entries}
+use Rattle.leg_machine.specs.Media.{media_sent, after_media, media_frames}
+use Rattle.leg_machine.specs.Replies.{reply_frame, outgoing, next_byte}
+use Rattle.leg_machine.specs.Stages.{is_offered, is_linked, is_talking, is_over}
+use Rattle.leg_machine.specs.Working.{sent}
+use Rattle.leg_machine.specs.declared.causes.Cause.TheVariants.{NormalClearing}
+use Rattle.leg_machine.specs.declared.media.MediaSent.{MediaSent}
+use Rattle.leg_machine.specs.declared.media.MediaSent.TheVariants.{Quelched, Voice, Mini}
+use Rattle.leg_machine.specs.declared.orders.Order.{Order}
+use Rattle.leg_machine.specs.declared.orders.Order.TheVariants.{Accept, Reject, Indicate, Answer, Dtmf, Media, Hangup, Doom, Paid}
+use Rattle.leg_machine.specs.declared.orders.OrderError.{OrderError}
+use Rattle.leg_machine.specs.declared.orders.OrderError.TheVariants as errors
+use Rattle.leg_machine.specs.declared.orders.Ordered.{Ordered}
+use Rattle.leg_machine.specs.declared.replies.Reply.{Reply}
+use Rattle.leg_machine.specs.declared.replies.Reply.TheVariants as replies
+use Rattle.leg_machine.specs.declared.stages.Stage.{Stage}
+use Rattle.leg_machine.specs.declared.stages.Stage.TheVariants as stages
+
+-- this frame goes out while fewer than so many are held, and the leg enters this stage
+abbrev pub ordered : Reply → Stage → ℕ → Ordered
+ordered reply stage most = record { reply = reply; stage = stage; most = most }
+
+abbrev pub when : Bool → Ordered → Option Ordered
+when holds row = if holds then Some row else None
+
+-- The rows in which a numbered frame goes out; none: the stage is a wrong one.
+abbrev pub order_row : LegState → Order → Option Ordered
+order_row leg Accept = when (is_offered leg.stage) (ordered (replies.Accept leg.format) stages.Linked leg.window.width)
+order_row leg (Reject cause) = when (is_offered leg.stage) (ordered (replies.Reject cause) stages.Closing leg.window.width)
+order_row leg (Indicate i) = when (is_linked leg.stage) (ordered (replies.Indicate i) stages.Linked (local_room leg.window.width))
+order_row leg Answer = when (is_linked leg.stage) (ordered replies.Answer stages.Up (local_room leg.window.width))
+order_row leg (Dtmf digit) = when (is_talking leg.stage) (ordered (replies.Dtmf digit) leg.stage (local_room leg.window.width))
+order_row leg Hangup = when (not (is_over leg.stage)) (ordered (replies.Hangup NormalClearing) stages.Closing leg.window.width)
+order_row leg (Media media) = None
+order_row leg Doom = None
+order_row leg Paid = None
+
+-- ---- refusals
+
+-- why a numbered frame can't go out now: its window, then its record
+abbrev pub sending_refused : LegState → ℕ → Option OrderError
+sending_refused leg most =
+    if nat_le most (held_count leg.window) then Some errors.WindowFull
+    else if is_short_of_entries leg then Some errors.RecordFull
+    else None
+
+abbrev pub row_refused : LegState → Option Ordered → Option OrderError
+row_refused leg None = Some errors.WrongStage
+row_refused leg (Some row) = sending_refused leg row.most
+
+abbrev pub media_refused_as : MediaSent → LegState → Option OrderError
+media_refused_as Quelched leg = None
+media_refused_as Voice leg = sending_refused leg (local_room leg.window.width)
+media_refused_as (Mini timestamp) leg = None
+
+-- only media that goes out as a full frame has to find room
+abbrev pub media_refused : LegState → ℕ → Option OrderError
+media_refused leg now =
+    if is_talking leg.stage then media_refused_as (media_sent leg now) leg else Some errors.WrongStage
+
+-- why an order is refused, memory aside
+abbrev pub order_refused : LegState → Order → ℕ → Option OrderError
+order_refused leg (Media media) now = media_refused leg now
+order_refused leg Doom now = None
+order_refused leg Paid now = None
+order_refused leg Accept now = row_refused leg (order_row leg Accept)
+order_refused leg (Reject cause) now = row_refused leg (order_row leg (Reject cause))
+order_refused leg (Indicate i) now = row_refused leg (order_row leg (Indicate i))
+order_refused leg Answer now = row_refused leg (order_row leg Answer)
+order_refused leg (Dtmf digit) now = row_refused leg (order_row leg (Dtmf digit))
+order_refused leg Hangup now = row_refused leg (order_row leg Hangup)
+
+-- a refusal is the one that is due; where none is, memory was refused
+abbrev pub IsRefusal : Option OrderError → OrderError → Type 0
+IsRefusal (Some due) e = e ≡ due
+IsRefusal None e = e ≡ errors.Memory
+
+-- media of an order is 1 to 1,380 octets
+abbrev pub IsShortMedia : Order → Type 0
+IsShortMedia (Media media) = (1 ≤ length media.now) × (length media.now ≤ 1380)
+IsShortMedia _ = Unit {0}
+
+-- ---- effects
+
+-- the leg after an order, and the datagrams that go out
+pub record Carried : Type 0 where
+  pub leg : LegState
+  pub datagrams : List (List ℕ)
+
+abbrev pub row_carried : LegState → Option Ordered → ℕ → Carried
+row_carried leg None now = record { leg = leg; datagrams = [] }
+row_carried leg (Some row) now =
+    let leg_in = entered leg row.stage in
+    let frame = reply_frame leg_in now row.reply in
+    record { leg = sent leg_in frame now; datagrams = spelling (outgoing leg_in false (next_byte leg_in) frame) ∷ [] }
+
+-- media that isn't quelched goes out as a full frame or as a mini frame
+abbrev pub media_datagrams : MediaSent → LegState → List ℕ → ℕ → List (List ℕ)
+media_datagrams Quelched leg media now = []
+media_datagrams Voice leg media now = map spelling (media_frames Voice leg media now)
+media_datagrams (Mini timestamp) leg media now =
+    mini_spelling (record { source = leg.number; timestamp = timestamp; media = media }) ∷ []
+
+-- the leg is doomed, unless it is over
+abbrev pub doomed : LegState → LegState
+doomed leg = record leg { doomed = leg.doomed || not (is_over leg.stage) }
+
+-- a leg that is over owes nothing any more
+abbrev pub paid : LegState → LegState
+paid leg = record leg { owes = leg.owes && not (is_over leg.stage) }
+
+abbrev pub order_carried : LegState → Order → ℕ → Carried
+order_carried leg (Media media) now =
+    record { leg = after_media (media_sent leg now) leg media.now now; datagrams = media_datagrams (media_sent leg now) leg media.now now }
+order_carried leg Doom now = record { leg = doomed leg; datagrams = [] }
+order_carried leg Paid now = record { leg = paid leg; datagrams = [] }
+order_carried leg Accept now = row_carried leg (order_row leg Accept) now
+order_carried leg (Reject cause) now = row_carried leg (order_row leg (Reject cause)) now
+order_carried leg (Indicate i) now = row_carried leg (order_row leg (Indicate i)) now
+order_carried leg Answer now = row_carried leg (order_row leg Answer) now
+order_carried leg (Dtmf digit) now = row_carried leg (order_row leg (Dtmf digit)) now
+order_carried leg Hangup now = row_carried leg (order_row leg Hangup) now

@@ -1,0 +1,122 @@
+-- The steps of a leg: what a full frame does, in its working order ("Message Transport").
+use Rattle.std.specs.Prelude.{ℕ, ◌&&◌, Bool, true, false, List, [], ◌∷◌, map, Option, None, Some, if◌then◌else◌}
+use Rattle.iax_frames.specs.FullFrame.{FullFrame}
+use Rattle.iax_frames.specs.declared.stored_frame.Frame.{Frame}
+use Rattle.seq_window.specs.declared.judgements.Acknowledged.{Acknowledged as Judgement}
+use Rattle.seq_window.specs.declared.judgements.Received.{Received}
+use Rattle.seq_window.specs.declared.judgements.Received.TheVariants as received
+use Rattle.seq_window.specs.Window.{held_frames, is_full, judged_number, judged_acknowledgement, after_touching_all}
+use Rattle.leg_machine.specs.Effects.{marked, unless_over, is_reply}
+use Rattle.leg_machine.specs.LegTable.{effect_of}
+use Rattle.leg_machine.specs.Legs.{LegState, entered, with_window}
+use Rattle.leg_machine.specs.Messages.{message_of, is_numbered, is_inval, is_vnak}
+use Rattle.leg_machine.specs.Replies.{reply_frame, outgoing, next_byte, ack, vnak, sent_again}
+use Rattle.leg_machine.specs.Working.{learnt, acknowledged, counts, settled, recorded, heard, sent}
+use Rattle.leg_machine.specs.declared.effects.Answering.{Answering}
+use Rattle.leg_machine.specs.declared.effects.Answering.TheVariants.{Acknowledged, Answered, Silent}
+use Rattle.leg_machine.specs.declared.effects.Effect.{Effect}
+use Rattle.leg_machine.specs.declared.messages.Message.{Message}
+use Rattle.leg_machine.specs.declared.outcomes.Heard.{Heard}
+use Rattle.leg_machine.specs.declared.outcomes.Judged.{Judged}
+use Rattle.leg_machine.specs.declared.outcomes.Judged.TheVariants as judged
+use Rattle.leg_machine.specs.declared.signals.Signal.{Signal}
+use Rattle.leg_machine.specs.declared.signals.Signal.TheVariants as signals
+use Rattle.leg_machine.specs.declared.stages.Stage.TheVariants as stages
+
+-- the leg after a step, the frames that it sends, how the frame was judged, and what is handed up
+pub record Step : Type 0 where
+  pub leg : LegState
+  pub replies : List FullFrame
+  pub judged : Judged
+  pub signal : Option Signal
+
+-- what a call answers of it
+abbrev pub heard_of : Step → Heard
+heard_of s = record { judged = s.judged; signal = s.signal }
+
+abbrev pub nothing_sent : LegState → Step
+nothing_sent leg = record { leg = leg; replies = []; judged = judged.Unnumbered; signal = None }
+
+-- ---- VNAK
+
+-- all held frames go out again, oldest first; that is no try
+abbrev pub resend_step : LegState → ℕ → Step
+resend_step leg now = record {
+  leg = with_window leg (after_touching_all leg.window now);
+  replies = map (sent_again leg) (held_frames leg.window);
+  judged = judged.Unnumbered;
+  signal = None;
+}
+
+-- a VNAK has an effect where its acknowledgement counts
+abbrev pub vnak_step : Judgement → LegState → ℕ → Step
+vnak_step acknowledgement leg now = if counts acknowledgement then resend_step leg now else nothing_sent leg
+
+-- ---- a taken frame
+
+-- the leg with the frame taken: its row's stage and mark, and the frame recorded
+abbrev pub taken : Effect → LegState → FullFrame → Message → LegState
+taken effect leg frame message = recorded (heard (marked (entered leg effect.stage) effect.mark) message) frame
+
+-- a numbered reply goes out
+abbrev pub replied : LegState → ℕ → Answering → LegState
+replied leg now (Answered reply) = sent leg (reply_frame leg now reply) now
+replied leg now Acknowledged = leg
+replied leg now Silent = leg
+
+-- the answer to a frame that is recorded
+abbrev pub answers : LegState → FullFrame → ℕ → Answering → List FullFrame
+answers leg frame now (Answered reply) = outgoing leg false (next_byte leg) (reply_frame leg now reply) ∷ []
+answers leg frame now Acknowledged = ack leg frame ∷ []
+answers leg frame now Silent = []
+
+abbrev pub answered : Answering → LegState → FullFrame → ℕ → Option Signal → Step
+answered answer leg frame now signal =
+    record { leg = replied leg now answer; replies = answers leg frame now answer; judged = judged.Taken; signal = signal }
+
+-- where a numbered reply finds no room, the frame isn't taken and not answered
+abbrev pub no_room : LegState → Step
+no_room leg = record { leg = leg; replies = []; judged = judged.NoRoom; signal = None }
+
+abbrev pub taken_step : Effect → LegState → FullFrame → Message → ℕ → Step
+taken_step effect leg frame message now =
+    if is_reply effect.answer && is_full leg.window
+    then no_room leg
+    else answered effect.answer (taken effect leg frame message) frame now effect.signal
+
+-- ---- the judgement
+
+abbrev pub judged_step : Received → LegState → FullFrame → Message → ℕ → Step
+judged_step received.Taken leg frame message now = taken_step (effect_of leg frame message) leg frame message now
+judged_step received.Repeat leg frame message now =
+    record { leg = leg; replies = ack leg frame ∷ []; judged = judged.Repeat; signal = None }
+judged_step received.Gap leg frame message now =
+    record { leg = leg; replies = vnak leg frame ∷ []; judged = judged.Gap; signal = None }
+
+abbrev pub numbered_step : LegState → FullFrame → Message → ℕ → Step
+numbered_step leg frame message now =
+    if is_numbered message
+    then judged_step (judged_number leg.window.history frame.head.oseqno) leg frame message now
+    else nothing_sent leg
+
+-- ---- the working order
+
+-- The other side's number is learnt, the acknowledgement judged, and a closing leg that holds nothing has ended.
+abbrev pub prepared : LegState → FullFrame → LegState
+prepared leg frame = settled (acknowledged (learnt leg frame.head.source) frame.head.iseqno)
+
+-- an INVAL ends the leg; it neither acknowledges nor teaches
+abbrev pub inval_step : LegState → Step
+inval_step leg =
+    record { leg = entered leg stages.Ended; replies = []; judged = judged.Unnumbered; signal = unless_over leg.stage signals.Hangup }
+
+abbrev pub message_step : Message → LegState → FullFrame → ℕ → Step
+message_step message leg frame now =
+    if is_inval message then inval_step leg
+    else if is_vnak message
+    then vnak_step (judged_acknowledgement leg.window.history frame.head.iseqno) (prepared leg frame) now
+    else numbered_step (prepared leg frame) frame message now
+
+-- a full frame comes
+abbrev pub full_step : LegState → FullFrame → ℕ → Step
+full_step leg frame now = message_step (message_of frame.head) leg frame now

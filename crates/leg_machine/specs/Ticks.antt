@@ -1,0 +1,80 @@
+-- What a tick does to a leg ("Message Transport": retransmission; "PING").
+use Rattle.std.specs.Prelude.{ℕ, ◌+◌, not, nat_lt, nat_le, ◌==◌, ◌&&◌, Bool, true, false, List, [], ◌∷◌, ◌++◌, if◌then◌else◌}
+use Rattle.iax_frames.specs.FullFrame.{FullFrame}
+use Rattle.seq_window.specs.Window.{held_count, is_full}
+use Rattle.leg_machine.specs.Legs.{LegState, entered, local_room, is_short_of_entries}
+use Rattle.leg_machine.specs.Replies.{reply_frame, outgoing, next_byte}
+use Rattle.leg_machine.specs.Stages.{is_over, is_talking, is_ended}
+use Rattle.leg_machine.specs.Tries.{tries}
+use Rattle.leg_machine.specs.Working.{sent}
+use Rattle.leg_machine.specs.declared.causes.Cause.TheVariants.{NormalClearing}
+use Rattle.leg_machine.specs.declared.replies.Reply.{Reply}
+use Rattle.leg_machine.specs.declared.replies.Reply.TheVariants.{Hangup, Ping}
+use Rattle.leg_machine.specs.declared.stages.Stage.TheVariants as stages
+
+-- what a tick gives; skipped: so many frames were due and had no memory
+pub record Tick : Type 0 where
+  pub leg : LegState
+  pub replies : List FullFrame
+  pub skipped : ℕ
+
+abbrev pub quiet : LegState → Tick
+quiet leg = record { leg = leg; replies = []; skipped = 0 }
+
+-- the leg, changed, sends a frame where memory was had; else nothing changes
+abbrev pub sends_if : Bool → LegState → LegState → ℕ → Reply → Tick
+sends_if grown leg changed now reply =
+    if grown
+    then record {
+      leg = sent changed (reply_frame changed now reply) now;
+      replies = outgoing changed false (next_byte changed) (reply_frame changed now reply) ∷ [];
+      skipped = 0;
+    }
+    else record { leg = leg; replies = []; skipped = 1 }
+
+-- ---- a doomed leg
+
+abbrev pub must_hang_up : LegState → Bool
+must_hang_up leg = leg.doomed && not (is_over leg.stage) && not (is_full leg.window)
+
+abbrev pub hang_up_step : Bool → LegState → ℕ → Tick
+hang_up_step grown leg now =
+    if must_hang_up leg then sends_if grown leg (entered leg stages.Closing) now (Hangup NormalClearing) else quiet leg
+
+-- ---- PING
+
+-- so long ago was the last PING, or the opening
+abbrev pub is_ping_time : LegState → ℕ → Bool
+is_ping_time leg now = not (leg.rules.ping_ms == 0) && nat_le (leg.pinged + leg.rules.ping_ms) now
+
+abbrev pub must_ping : LegState → ℕ → Bool
+must_ping leg now =
+    is_talking leg.stage && nat_lt (held_count leg.window) (local_room leg.window.width) && is_ping_time leg now
+
+abbrev pub pinged : LegState → ℕ → LegState
+pinged leg now = record leg { pinged = now }
+
+abbrev pub ping_step : Bool → LegState → ℕ → Tick
+ping_step grown leg now = if must_ping leg now then sends_if grown leg (pinged leg now) now Ping else quiet leg
+
+-- ---- the tick
+
+-- after the tries: a spent frame ends the leg and stops the tick
+abbrev pub last_step : Bool → Bool → LegState → ℕ → Tick
+last_step grown spent leg now = if spent then quiet (entered leg stages.Ended) else ping_step grown leg now
+
+-- The doomed leg hangs up, then held frames that are due go out again, then a PING that is due.
+-- grown: there was memory for one frame more.
+abbrev pub due_frames : Bool → LegState → ℕ → Tick
+due_frames grown leg now =
+    let hung = hang_up_step grown leg now in
+    let tried = tries (held_count leg.window) hung.leg now in
+    let last = last_step grown tried.spent tried.leg now in
+    record { leg = last.leg; replies = hung.replies ++ tried.replies ++ last.replies; skipped = hung.skipped + last.skipped }
+
+-- an ended leg does nothing, and one whose record is nearly full ends
+abbrev pub tick_step : Bool → LegState → ℕ → Tick
+tick_step grown leg now =
+    if is_ended leg.stage then quiet leg
+    else if is_short_of_entries leg then quiet (entered leg stages.Ended)
+    else due_frames grown leg now

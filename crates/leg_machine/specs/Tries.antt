@@ -1,0 +1,38 @@
+-- The tries of a tick ("Message Transport": retransmission).
+use Rattle.std.specs.Prelude.{ℕ, zero, suc, ◌++◌, option_map, Bool, true, false, List, []}
+use Rattle.std.specs.Option.{option_to_list}
+use Rattle.iax_frames.specs.FullFrame.{FullFrame}
+use Rattle.seq_window.specs.declared.judgements.Resent.{Resent}
+use Rattle.seq_window.specs.declared.judgements.Resent.TheVariants as resents
+use Rattle.seq_window.specs.Window.{held_at, resent, after_marking}
+use Rattle.leg_machine.specs.Legs.{LegState, with_window}
+use Rattle.leg_machine.specs.Replies.{sent_again}
+
+-- what the tries of one tick give; spent: a frame that is due has had all its tries
+pub record Tried : Type 0 where
+  pub leg : LegState
+  pub replies : List FullFrame
+  pub spent : Bool
+
+abbrev pub tried : LegState → Bool → Tried
+tried leg spent = record { leg = leg; replies = []; spent = spent }
+
+abbrev pub after_try : LegState → ℕ → ℕ → LegState
+after_try leg place now = with_window leg (after_marking leg.window place now)
+
+-- the held frame at a place as it goes out again
+abbrev pub frames_again : LegState → ℕ → List FullFrame
+frames_again leg place = option_to_list (option_map (sent_again leg) (held_at leg.window place))
+
+abbrev pub one_try : Resent → LegState → ℕ → (LegState → Tried) → Tried
+one_try resents.Nothing leg now rest = tried leg false
+one_try resents.Spent leg now rest = tried leg true
+one_try (resents.Again place) leg now rest =
+    let later = rest (after_try leg place now) in
+    record { leg = later.leg; replies = frames_again (after_try leg place now) place ++ later.replies; spent = later.spent }
+
+-- The first held frame that is due goes out again, until none is due or one is spent, in at most so many turns.
+abbrev pub tries : ℕ → LegState → ℕ → Tried
+tries zero leg now = tried leg false
+tries (suc turns) leg now =
+    one_try (resent leg.window now leg.rules.retry_ms leg.rules.max_retries) leg now (λ l. tries turns l now)

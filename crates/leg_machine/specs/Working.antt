@@ -1,0 +1,42 @@
+-- The small changes of which a leg's steps are made.
+use Rattle.std.specs.Prelude.{ℕ, ◌&&◌, ◌||◌, ◌==◌, Bool, true, false, Some, unwrap_or, if◌then◌else◌}
+use Rattle.iax_frames.specs.FullFrame.{FullFrame}
+use Rattle.iax_frames.specs.declared.stored_frame.Frame.{Frame}
+use Rattle.seq_window.specs.declared.judgements.Acknowledged.{Acknowledged}
+use Rattle.seq_window.specs.declared.judgements.Acknowledged.TheVariants.{Acked, Ignored}
+use Rattle.seq_window.specs.Window.{held_count, after_acknowledgement, after_receiving, after_sending}
+use Rattle.leg_machine.specs.Legs.{LegState, entered, with_window}
+use Rattle.leg_machine.specs.Messages.{is_voice_in}
+use Rattle.leg_machine.specs.Stages.{is_closing}
+use Rattle.leg_machine.specs.declared.messages.Message.{Message}
+use Rattle.leg_machine.specs.declared.stages.Stage.TheVariants.{Ended}
+
+-- the other side's number is learnt from the first frame
+abbrev pub learnt : LegState → ℕ → LegState
+learnt leg source = record leg { remote = Some (unwrap_or leg.remote source) }
+
+abbrev pub acknowledged : LegState → ℕ → LegState
+acknowledged leg byte = with_window leg (after_acknowledgement leg.window byte)
+
+abbrev pub counts : Acknowledged → Bool
+counts (Acked count) = true
+counts Ignored = false
+
+-- a closing leg that holds nothing has ended
+abbrev pub settled : LegState → LegState
+settled leg = if is_closing leg.stage && (held_count leg.window == 0) then entered leg Ended else leg
+
+-- a frame as the record keeps it
+abbrev pub stored : FullFrame → Frame
+stored f = record { ts = f.head.timestamp; kind = f.head.frame_type; subclass = f.head.subclass; payload = f.payload }
+
+abbrev pub recorded : LegState → FullFrame → LegState
+recorded leg frame = with_window leg (after_receiving leg.window frame.head.oseqno (stored frame))
+
+-- in whatever stage voice of the format is taken
+abbrev pub heard : LegState → Message → LegState
+heard leg message = record leg { voice_taken = leg.voice_taken || is_voice_in leg.format message }
+
+-- a numbered frame goes out
+abbrev pub sent : LegState → Frame → ℕ → LegState
+sent leg frame now = with_window leg (after_sending leg.window frame now)

@@ -1,0 +1,167 @@
+//! What a leg tells without a change.
+ghost use Rattle.std.specs.Prelude.{◌≡◌, ◌≤◌, length, option_copied, if◌then◌else◌, IfSome};
+ghost use Rattle.std.specs.Option.{ForSome};
+ghost use Rattle.seq_window.specs.History.{IsLegal};
+ghost use Rattle.leg_machine.specs.Media.{accepts_media};
+ghost use Rattle.leg_machine.specs.Onward.{onward_of};
+ghost use Rattle.leg_machine.specs.Openings.{opening_data, called_of, calling_of};
+
+use crate::formats::Format;
+use crate::legs::Leg;
+use crate::machine::Machine;
+use crate::outcomes::MediaIn;
+use crate::signals::{ElementText, Indication, MediaSpan, Onward, Signal};
+use crate::stages::Stage;
+use iax_frames::CallNumber;
+use info_elements::{CALLED_NUMBER, CALLING_NUMBER, last_in};
+use seq_window::{EntryView, Record, Window};
+
+impl Leg {
+    /// Whether media of the other side counts now: `Accepted` in a talking leg that took voice of its format.
+    pub fn media_in(&self, span: MediaSpan) -> MediaIn
+        ensures { result ≡ (if accepts_media self.now span then MediaIn.Accepted else MediaIn.NotYet) }
+    {
+        if self.machine.accepts_media(span) {
+            MediaIn::Accepted
+        } else {
+            MediaIn::NotYet
+        }
+    }
+
+    /// Where the leg stands.
+    pub fn stage(&self) -> Stage
+        ensures { result ≡ self.now.stage }
+    {
+        self.machine.stage
+    }
+
+    /// Whether the layer above isn't done with the end of the call.
+    pub fn owes(&self) -> bool
+        ensures { result ≡ self.now.owes }
+    {
+        self.machine.owes
+    }
+
+    /// Whether the leg hangs up as soon as a tick can.
+    pub fn doomed(&self) -> bool
+        ensures { result ≡ self.now.doomed }
+    {
+        self.machine.doomed
+    }
+
+    /// The format of the call.
+    pub fn format(&self) -> Format
+        ensures { result ≡ self.now.format }
+    {
+        self.machine.format
+    }
+
+    /// The other side's number, once it is known.
+    pub fn remote(&self) -> Option<CallNumber>
+        ensures { result ≡ self.now.remote }
+    {
+        self.machine.remote
+    }
+
+    /// The local number, 1 ..= 32,767.
+    pub fn number(&self) -> CallNumber
+        ensures value { result ≡ self.now.number }
+        ensures some { 1 ≤ result }
+    {
+        self.machine.number.get()
+    }
+
+    /// The window and its record. Its held frames are those that the record has as sent and not acknowledged.
+    pub fn window(&self) -> &Window
+        ensures { result.now.state ≡ self.now.window }
+    {
+        &self.machine.window
+    }
+
+    /// The record, whole.
+    pub fn into_record(self) -> Record
+        ensures entries { result.entries ≡ self.window.history }
+        ensures legal { IsLegal self.window.width self.window.limit self.window.history }
+    {
+        let Leg { machine } = self;
+        let Machine {
+            rules: _,
+            number: _,
+            opened: _,
+            stage: _,
+            format: _,
+            remote: _,
+            owes: _,
+            doomed: _,
+            quelched: _,
+            challenge: _,
+            authenticated: _,
+            voice_taken: _,
+            voice_sent: _,
+            pinged: _,
+            window,
+        } = machine;
+        window.into_record()
+    }
+
+    // The data of the NEW that opened the leg.
+    fn opening_data(&self) -> &[u8]
+        ensures { result.now ≡ opening_data self.now.window.history }
+    {
+        match self.machine.window.record().entry(0) {
+            Some(EntryView::Taken(frame)) => frame.payload,
+            Some(EntryView::Sent(_)) => &[],
+            Some(EntryView::Acked(_)) => &[],
+            None => &[],
+        }
+    }
+
+    /// The number that an offered call wants, at most 255 octets; absent, it is empty.
+    pub fn called(&self) -> &[u8]
+        ensures value { result.now ≡ called_of self.now }
+        ensures short { length result.now ≤ 255 }
+    {
+        match last_in(self.opening_data(), CALLED_NUMBER) {
+            Some(called) => called,
+            None => &[],
+        }
+    }
+
+    /// The number from which an offered call comes, at most 255 octets.
+    pub fn calling(&self) -> Option<&[u8]>
+        ensures value { option_copied result ≡ calling_of self.now }
+        ensures short { IfSome result (λ text. length text.now ≤ 255) }
+    {
+        last_in(self.opening_data(), CALLING_NUMBER)
+    }
+
+    /// A signal with what it speaks of.
+    pub fn onward(&self, signal: Signal) -> Onward
+        ensures { result ≡ onward_of self.now signal }
+    {
+        match &signal {
+            Signal::Offered => Onward::Offered {
+                called: ElementText::new(self.called()),
+                calling: text_of(self.calling()),
+                format: self.machine.format,
+            },
+            Signal::Indicated(Indication::Ringing) => Onward::Ringing,
+            Signal::Indicated(Indication::Progress) => Onward::Progress,
+            Signal::Indicated(Indication::Proceeding) => Onward::Proceeding,
+            Signal::Answered => Onward::Answered,
+            Signal::Dtmf(digit) => Onward::Dtmf(*digit),
+            Signal::Media(span) => Onward::Media(*span),
+            Signal::Hangup => Onward::Hangup,
+        }
+    }
+}
+
+fn text_of(text: Option<&[u8]>) -> Option<ElementText>
+    requires { ForSome text (λ octets. length octets.now ≤ 255) }
+    ensures { result ≡ option_copied text.entry }
+{
+    match text {
+        Some(text) => Some(ElementText::new(text)),
+        None => None,
+    }
+}

@@ -1,0 +1,314 @@
+//! A leg, by the calls of the layer above.
+ghost use Rattle.std.specs.Prelude.{◌≡◌, ◌==◌, ℕ, ◌+◌, ◌≤◌, ◌<◌, ◌↔◌, true, None, Some, [], length, map, option_copied, IfOk, IfErr, OnOk, OnErr};
+ghost use Rattle.std.specs.Option.{ForSome};
+ghost use Rattle.iax_frames.specs.FullFrame.{spelling};
+ghost use Rattle.leg_machine.specs.Legs.{is_short_of_entries};
+ghost use Rattle.leg_machine.specs.Media.{media_sent, after_media, media_frames};
+ghost use Rattle.leg_machine.specs.Openings.{open_in_step, open_out_step};
+ghost use Rattle.leg_machine.specs.OrderTable.{order_row, row_refused, row_carried, order_refused, media_refused, media_datagrams, IsRefusal, IsShortMedia, order_carried};
+ghost use Rattle.leg_machine.specs.PeerRules.{IsPeerRules};
+ghost use Rattle.leg_machine.specs.Steps.{full_step, heard_of};
+ghost use Rattle.leg_machine.specs.Ticks.{tick_step};
+ghost use Rattle.leg_machine.specs.Tie.{TakesTurn, SendsAtMostOne};
+
+use crate::formats::Format;
+use crate::local_number::LocalNumber;
+use crate::machine::Machine;
+use crate::media::MediaSent;
+use crate::messages::Message;
+use crate::openings::{call_format, opening_of};
+use crate::orders::{Order, OrderError};
+use crate::outcomes::{Heard, StepError};
+use crate::replies::Replies;
+use crate::rules::PeerRules;
+use crate::stages::Stage;
+use call_auth::Challenge;
+use iax_frames::{CallNumber, Full, write_mini};
+use seq_window::Window;
+use std::alloc::{AllocError, Global};
+use std::marker::Model;
+
+/// One end of a call with one peer.
+///
+/// Events come by `full` and `tick`, orders by `order` and `media`; `accepts_media` and the readers only look. Each call
+/// that can send has a form that writes its datagrams to a list that the caller lends, empty, and one that gives them in
+/// what it answers. No call waits or looks at a clock: moments are milliseconds that are handed in.
+#[derive(Drop)]
+pub struct Leg {
+    pub(crate) machine: Machine,
+}
+
+impl Model for Leg {
+    ghost use Rattle.leg_machine.specs.Legs.{LegState, leg_of};
+
+    ghost Value = { LegState };
+
+    ghost view = { λ l. leg_of l.machine };
+}
+
+impl Leg {
+    /// A leg for a NEW that came, under this local number, 1 ..= 32,767. What is sent is written to the empty list.
+    ///
+    /// The NEW has OSeqno 0 and at most 1,388 octets of data. The challenge goes out where the peer has a secret.
+    /// `Err` comes only where memory was refused.
+    pub fn open_in_into(
+        alloc: Global,
+        rules: &PeerRules,
+        number: CallNumber,
+        frame: &Full,
+        now: u64,
+        challenge: &Challenge,
+        replies: &mut Replies,
+    ) -> Result<(Leg, Heard), AllocError>
+        requires rules { IsPeerRules rules.now }
+        requires number { 1 ≤ number }
+        requires first { frame.now.head.oseqno ≡ 0 }
+        requires short { length frame.now.payload ≤ 1388 }
+        requires empty { replies.old ≡ [] }
+        ensures leg { IfOk result (λ opened. opened.0 ≡ (open_in_step rules.now number frame.now now challenge.now).leg) }
+        ensures replies { OnOk result (replies.new ≡ map spelling (open_in_step rules.now number frame.now now challenge.now).replies) }
+        ensures heard { IfOk result (λ opened. opened.1 ≡ heard_of (open_in_step rules.now number frame.now now challenge.now)) }
+        ensures none_sent { OnErr result (replies.new ≡ replies.old) }
+    {
+        let mut window = Window::new(alloc, rules.window, rules.record_limit)?;
+        window.reserve(4)?;
+        let opening = opening_of(rules, frame);
+        let mut machine = Machine {
+            rules: rules.copied(),
+            number: LocalNumber::new(number),
+            opened: now,
+            stage: Stage::Offered,
+            format: call_format(rules.formats, frame).unwrap_or(Format::Gsm),
+            remote: Some(frame.source()),
+            owes: false,
+            doomed: false,
+            quelched: false,
+            challenge: opening.challenge(challenge),
+            authenticated: false,
+            voice_taken: false,
+            voice_sent: None,
+            pinged: now,
+            window,
+        };
+        let effect = opening.effect();
+        let heard = machine.take(&effect, frame, &Message::New, now, replies);
+        Ok((Leg { machine }, heard))
+    }
+
+    /// A leg for a NEW that goes out, under this local number, 1 ..= 32,767. What is sent is written to the empty list.
+    ///
+    /// `Err` comes only where memory was refused.
+    pub fn open_out_into(
+        alloc: Global,
+        rules: &PeerRules,
+        number: CallNumber,
+        called: &[u8],
+        calling: Option<&[u8]>,
+        format: Format,
+        now: u64,
+        replies: &mut Replies,
+    ) -> Result<Leg, AllocError>
+        requires rules { IsPeerRules rules.now }
+        requires number { 1 ≤ number }
+        requires called { length called.now ≤ 255 }
+        requires calling { ForSome calling (λ text. length text.now ≤ 255) }
+        requires empty { replies.old ≡ [] }
+        ensures leg { IfOk result (λ leg. leg ≡ (open_out_step rules.now number called.now (option_copied calling.entry) format now).leg) }
+        ensures replies { OnOk result (replies.new ≡
+            map spelling (open_out_step rules.now number called.now (option_copied calling.entry) format now).replies) }
+        ensures none_sent { OnErr result (replies.new ≡ replies.old) }
+    {
+        let mut window = Window::new(alloc, rules.window, rules.record_limit)?;
+        window.reserve(4)?;
+        let mut machine = Machine {
+            rules: rules.copied(),
+            number: LocalNumber::new(number),
+            opened: now,
+            stage: Stage::Waiting,
+            format,
+            remote: None,
+            owes: false,
+            doomed: false,
+            quelched: false,
+            challenge: None,
+            authenticated: false,
+            voice_taken: false,
+            voice_sent: None,
+            pinged: now,
+            window,
+        };
+        let frame = machine.new_frame(called, calling, now);
+        machine.send_frame(frame, now, replies);
+        Ok(Leg { machine })
+    }
+
+    /// A full frame comes, with at most 1,388 octets of data. What is sent is written to the empty list.
+    ///
+    /// `RecordFull` comes where fewer than four entries of the record are free, whatever the frame is.
+    pub fn full_into(
+        &mut self,
+        frame: &Full,
+        now: u64,
+        replies: &mut Replies,
+    ) -> Result<Heard, StepError>
+        requires short { length frame.now.payload ≤ 1388 }
+        requires empty { replies.old ≡ [] }
+        ensures leg { OnOk result (self.new ≡ (full_step self.old frame.now now).leg) }
+        ensures replies { OnOk result (replies.new ≡ map spelling (full_step self.old frame.now now).replies) }
+        ensures heard { IfOk result (λ heard. heard ≡ heard_of (full_step self.old frame.now now)) }
+        // The record grows as one side of a network lets it.
+        ensures tied { OnOk result (TakesTurn self.old frame.now self.new) }
+        ensures record_full { (result ≡ Err StepError.RecordFull) ↔ (is_short_of_entries self.old ≡ true) }
+        ensures err { OnErr result (self.new ≡ self.old) }
+        ensures none_sent { OnErr result (replies.new ≡ replies.old) }
+    {
+        if self.machine.window.free_entries() < 4 {
+            return Err(StepError::RecordFull);
+        }
+        self.machine.window.reserve(4)?;
+        Ok(self.machine.full(frame, now, replies))
+    }
+
+    /// An order but media is carried out. What is sent is written to the empty list.
+    ///
+    /// Refusals are looked for in the order of `OrderError`; `Memory` comes only where memory was refused.
+    fn row_into(&mut self, order: &Order, now: u64, replies: &mut Replies) -> Result<(), OrderError>
+        requires empty { replies.old ≡ [] }
+        ensures leg { OnOk result (self.new ≡ (row_carried self.old (order_row self.old order.now) now).leg) }
+        ensures replies { OnOk result (replies.new ≡ (row_carried self.old (order_row self.old order.now) now).datagrams) }
+        ensures tied { OnOk result (SendsAtMostOne self.old self.new) }
+        ensures unrefused { OnOk result (row_refused self.old (order_row self.old order.now) ≡ None) }
+        ensures refused { IfErr result (IsRefusal (row_refused self.old (order_row self.old order.now))) }
+        ensures err { OnErr result (self.new ≡ self.old) }
+        ensures none_sent { OnErr result (replies.new ≡ replies.old) }
+    {
+        let Some(row) = self.machine.order_row(order) else {
+            return Err(OrderError::WrongStage);
+        };
+        if let Some(refusal) = self.machine.sending_refused(row.most) {
+            return Err(refusal);
+        }
+        self.machine.window.reserve(1)?;
+        self.machine.carry_out(&row, now, replies);
+        Ok(())
+    }
+
+    /// Media of 1 to 1,380 octets goes out. A full frame is written to the empty list; of later media the caller writes
+    /// the mini frame or the trunk entry. Quelched media goes nowhere.
+    ///
+    /// Refusals are looked for in the order of `OrderError`; only a full frame can meet others than `WrongStage`.
+    pub fn media_into(
+        &mut self,
+        media: &[u8],
+        now: u64,
+        replies: &mut Replies,
+    ) -> Result<MediaSent, OrderError>
+        requires short { length media.now ≤ 1380 }
+        requires empty { replies.old ≡ [] }
+        ensures sent { IfOk result (λ sent. sent ≡ media_sent self.old now) }
+        ensures leg { OnOk result (self.new ≡ after_media (media_sent self.old now) self.old media.now now) }
+        ensures replies { OnOk result (replies.new ≡ map spelling (media_frames (media_sent self.old now) self.old media.now now)) }
+        ensures tied { OnOk result (SendsAtMostOne self.old self.new) }
+        ensures unrefused { OnOk result (media_refused self.old now ≡ None) }
+        ensures refused { IfErr result (IsRefusal (media_refused self.old now)) }
+        ensures err { OnErr result (self.new ≡ self.old) }
+        ensures none_sent { OnErr result (replies.new ≡ replies.old) }
+    {
+        if !self.machine.stage.is_talking() {
+            return Err(OrderError::WrongStage);
+        }
+        match self.machine.media_sent(now) {
+            MediaSent::Quelched => Ok(MediaSent::Quelched),
+            MediaSent::Mini(timestamp) => Ok(MediaSent::Mini(timestamp)),
+            MediaSent::Voice => {
+                if let Some(refusal) = self.machine.sending_refused(self.machine.local_room()) {
+                    return Err(refusal);
+                }
+                self.machine.window.reserve(1)?;
+                self.machine.send_voice(media, now, replies);
+                Ok(MediaSent::Voice)
+            }
+        }
+    }
+
+    // Media goes out, as a full frame or as a mini frame.
+    fn media_order(
+        &mut self,
+        media: &[u8],
+        now: u64,
+        replies: &mut Replies,
+    ) -> Result<(), OrderError>
+        requires short { length media.now ≤ 1380 }
+        requires empty { replies.old ≡ [] }
+        ensures leg { OnOk result (self.new ≡ after_media (media_sent self.old now) self.old media.now now) }
+        ensures replies { OnOk result (replies.new ≡ media_datagrams (media_sent self.old now) self.old media.now now) }
+        ensures tied { OnOk result (SendsAtMostOne self.old self.new) }
+        ensures unrefused { OnOk result (media_refused self.old now ≡ None) }
+        ensures refused { IfErr result (IsRefusal (media_refused self.old now)) }
+        ensures err { OnErr result (self.new ≡ self.old) }
+        ensures none_sent { OnErr result (replies.new ≡ replies.old) }
+    {
+        match self.media_into(media, now, replies)? {
+            MediaSent::Quelched => {}
+            MediaSent::Voice => {}
+            MediaSent::Mini(timestamp) => {
+                match write_mini(self.machine.number.get(), timestamp, media) {
+                    Ok(out) => replies.push(out),
+                    Err(_) => unreachable!(),
+                }
+            }
+        }
+        Ok(())
+    }
+
+    /// An order is carried out; media has 1 to 1,380 octets. What is sent is written to the empty list.
+    ///
+    /// Refusals are looked for in the order of `OrderError`. Doom and Paid are never refused.
+    pub fn order_into(
+        &mut self,
+        order: &Order,
+        now: u64,
+        replies: &mut Replies,
+    ) -> Result<(), OrderError>
+        requires media { IsShortMedia order.now }
+        requires empty { replies.old ≡ [] }
+        ensures leg { OnOk result (self.new ≡ (order_carried self.old order.now now).leg) }
+        ensures replies { OnOk result (replies.new ≡ (order_carried self.old order.now now).datagrams) }
+        ensures tied { OnOk result (SendsAtMostOne self.old self.new) }
+        ensures unrefused { OnOk result (order_refused self.old order.now now ≡ None) }
+        ensures refused { IfErr result (IsRefusal (order_refused self.old order.now now)) }
+        ensures err { OnErr result (self.new ≡ self.old) }
+        ensures none_sent { OnErr result (replies.new ≡ replies.old) }
+    {
+        match order {
+            Order::Accept => self.row_into(order, now, replies),
+            Order::Reject(_) => self.row_into(order, now, replies),
+            Order::Indicate(_) => self.row_into(order, now, replies),
+            Order::Answer => self.row_into(order, now, replies),
+            Order::Dtmf(_) => self.row_into(order, now, replies),
+            Order::Media(media) => self.media_order(media, now, replies),
+            Order::Hangup => self.row_into(order, now, replies),
+            Order::Doom => {
+                self.machine.doom();
+                Ok(())
+            }
+            Order::Paid => {
+                self.machine.pay();
+                Ok(())
+            }
+        }
+    }
+
+    /// Time goes on. What is sent is written to the empty list. The answer is how many frames were due and had no memory;
+    /// they stay due.
+    pub fn tick_into(&mut self, now: u64, replies: &mut Replies) -> u32
+        requires { replies.old ≡ [] }
+        ensures leg { self.new ≡ (tick_step (result == 0) self.old now).leg }
+        ensures replies { replies.new ≡ map spelling (tick_step (result == 0) self.old now).replies }
+        ensures skipped { result ≡ (tick_step (result == 0) self.old now).skipped }
+        ensures tied { SendsAtMostOne self.old self.new }
+    {
+        let grown = self.machine.grow(now);
+        self.machine.tick(grown, now, replies)
+    }
+}

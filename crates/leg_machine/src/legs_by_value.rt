@@ -1,0 +1,159 @@
+//! The calls of a leg that give their datagrams in what they answer. Each is made of its form over a lent list.
+ghost use Rattle.std.specs.Prelude.{◌≡◌, ◌==◌, ◌≤◌, ◌↔◌, true, None, length, map, option_copied, IfOk, IfErr, OnOk, OnErr};
+ghost use Rattle.std.specs.Option.{ForSome};
+ghost use Rattle.iax_frames.specs.FullFrame.{spelling};
+ghost use Rattle.leg_machine.specs.Legs.{is_short_of_entries};
+ghost use Rattle.leg_machine.specs.Onward.{outcome_of, order_outcome};
+ghost use Rattle.leg_machine.specs.Openings.{open_in_step, open_out_step};
+ghost use Rattle.leg_machine.specs.OrderTable.{order_refused, IsRefusal, IsShortMedia, order_carried};
+ghost use Rattle.leg_machine.specs.PeerRules.{IsPeerRules};
+ghost use Rattle.leg_machine.specs.Steps.{full_step};
+ghost use Rattle.leg_machine.specs.Ticks.{tick_step};
+
+use crate::formats::Format;
+use crate::legs::Leg;
+use crate::orders::{Order, OrderError};
+use crate::outcomes::{Heard, Judged, Outcome, StepError, TickOutcome};
+use crate::replies::Replies;
+use crate::rules::PeerRules;
+use crate::signals::{Onward, Signal};
+use call_auth::Challenge;
+use iax_frames::{CallNumber, Full};
+use std::alloc::{AllocError, Global};
+
+impl Leg {
+    ghost use Rattle.leg_machine.specs.Onward.{onward_if};
+
+    // A signal, if there is one, with what it speaks of.
+    fn onward_if(&self, signal: Option<Signal>) -> Option<Onward>
+        ensures { result ≡ onward_if self.now signal }
+    {
+        match signal {
+            Some(signal) => Some(self.onward(signal)),
+            None => None,
+        }
+    }
+
+    /// A leg for a NEW that came: `open_in_into` with its datagrams in the outcome.
+    pub fn open_in(
+        alloc: Global,
+        rules: &PeerRules,
+        number: CallNumber,
+        frame: &Full,
+        now: u64,
+        challenge: &Challenge,
+    ) -> Result<(Leg, Outcome), AllocError>
+        requires rules { IsPeerRules rules.now }
+        requires number { 1 ≤ number }
+        requires first { frame.now.head.oseqno ≡ 0 }
+        requires short { length frame.now.payload ≤ 1388 }
+        ensures leg { IfOk result (λ opened. opened.0 ≡ (open_in_step rules.now number frame.now now challenge.now).leg) }
+        ensures outcome { IfOk result (λ opened. opened.1 ≡ outcome_of (open_in_step rules.now number frame.now now challenge.now)) }
+    {
+        let mut replies = Replies::new();
+        let (leg, heard) = Leg::open_in_into(
+            alloc,
+            rules,
+            number,
+            frame,
+            now,
+            challenge,
+            &mut replies,
+        )?;
+        let onward = leg.onward_if(heard.signal);
+        Ok((
+            leg,
+            Outcome {
+                judged: heard.judged,
+                replies,
+                onward,
+            },
+        ))
+    }
+
+    /// A leg for a NEW that goes out: `open_out_into` with its datagrams in the outcome.
+    pub fn open_out(
+        alloc: Global,
+        rules: &PeerRules,
+        number: CallNumber,
+        called: &[u8],
+        calling: Option<&[u8]>,
+        format: Format,
+        now: u64,
+    ) -> Result<(Leg, Outcome), AllocError>
+        requires rules { IsPeerRules rules.now }
+        requires number { 1 ≤ number }
+        requires called { length called.now ≤ 255 }
+        requires calling { ForSome calling (λ text. length text.now ≤ 255) }
+        ensures leg { IfOk result (λ opened. opened.0 ≡ (open_out_step rules.now number called.now (option_copied calling.entry) format now).leg) }
+        ensures outcome { IfOk result (λ opened. opened.1 ≡
+            outcome_of (open_out_step rules.now number called.now (option_copied calling.entry) format now)) }
+    {
+        let mut replies = Replies::new();
+        let leg = Leg::open_out_into(
+            alloc,
+            rules,
+            number,
+            called,
+            calling,
+            format,
+            now,
+            &mut replies,
+        )?;
+        Ok((
+            leg,
+            Outcome {
+                judged: Judged::Unnumbered,
+                replies,
+                onward: None,
+            },
+        ))
+    }
+
+    /// A full frame comes: `full_into` with its datagrams in the outcome.
+    pub fn full(&mut self, frame: &Full, now: u64) -> Result<Outcome, StepError>
+        requires { length frame.now.payload ≤ 1388 }
+        ensures leg { OnOk result (self.new ≡ (full_step self.old frame.now now).leg) }
+        ensures outcome { IfOk result (λ outcome. outcome ≡ outcome_of (full_step self.old frame.now now)) }
+        ensures record_full { (result ≡ Err StepError.RecordFull) ↔ (is_short_of_entries self.old ≡ true) }
+        ensures err { OnErr result (self.new ≡ self.old) }
+    {
+        let mut replies = Replies::new();
+        let heard = self.full_into(frame, now, &mut replies)?;
+        let onward = self.onward_if(heard.signal);
+        Ok(Outcome {
+            judged: heard.judged,
+            replies,
+            onward,
+        })
+    }
+
+    /// An order is carried out: `order_into` with its datagrams in the outcome.
+    pub fn order(&mut self, order: &Order, now: u64) -> Result<Outcome, OrderError>
+        requires { IsShortMedia order.now }
+        ensures leg { OnOk result (self.new ≡ (order_carried self.old order.now now).leg) }
+        ensures outcome { IfOk result (λ outcome. outcome ≡ order_outcome (order_carried self.old order.now now)) }
+        ensures unrefused { OnOk result (order_refused self.old order.now now ≡ None) }
+        ensures refused { IfErr result (IsRefusal (order_refused self.old order.now now)) }
+        ensures err { OnErr result (self.new ≡ self.old) }
+    {
+        let mut replies = Replies::new();
+        self.order_into(order, now, &mut replies)?;
+        Ok(Outcome {
+            judged: Judged::Unnumbered,
+            replies,
+            onward: None,
+        })
+    }
+
+    /// Time goes on: `tick_into` with its datagrams in the outcome.
+    pub fn tick(&mut self, now: u64) -> TickOutcome
+        ensures leg { self.new ≡ (tick_step (result.skipped == 0) self.old now).leg }
+        ensures replies { result.replies ≡ map spelling (tick_step (result.skipped == 0) self.old now).replies }
+        ensures skipped { result.skipped ≡ (tick_step (result.skipped == 0) self.old now).skipped }
+    {
+        let mut replies = Replies::new();
+        let skipped = self.tick_into(now, &mut replies);
+        TickOutcome { replies, skipped }
+    }
+}

@@ -1,0 +1,208 @@
+//! A leg's own state, and the small changes of which its steps are made.
+ghost use Rattle.std.specs.Prelude.{◌≡◌, ◌+◌, ◌<◌, ◌≤◌, ◌^◌, ◌∷◌, ◌++◌, [], false, length};
+ghost use Rattle.iax_frames.specs.FullFrame.{spelling};
+ghost use Rattle.seq_window.specs.Window.{held_count, judged_acknowledgement};
+ghost use Rattle.leg_machine.specs.Legs.{local_room};
+ghost use Rattle.leg_machine.specs.Replies as replies;
+ghost use Rattle.leg_machine.specs.Working as steps;
+
+use crate::formats::Format;
+use crate::local_number::LocalNumber;
+use crate::messages::Message;
+use crate::replies::{Replies, Reply};
+use crate::rules::PeerRules;
+use crate::stages::Stage;
+use call_auth::Challenge;
+use iax_frames::{CallNumber, Frame, Full, FullHead, Payload};
+use seq_window::{Acknowledged, Window};
+
+/// A leg's fields. Its steps never fail: who calls one has made room for its entries before.
+#[derive(Drop)]
+pub struct Machine {
+    pub rules: PeerRules,
+    pub number: LocalNumber,
+    pub opened: u64,
+    pub stage: Stage,
+    pub format: Format,
+    pub remote: Option<CallNumber>,
+    pub owes: bool,
+    pub doomed: bool,
+    pub quelched: bool,
+    pub challenge: Option<Challenge>,
+    pub authenticated: bool,
+    pub voice_taken: bool,
+    pub voice_sent: Option<u32>,
+    pub pinged: u64,
+    pub window: Window,
+}
+
+/// The frame as the record keeps it.
+pub fn stored(frame: &Full) -> Frame
+    requires { length frame.now.payload ≤ 1388 }
+    ensures { result ≡ steps.stored frame.now }
+{
+    Frame {
+        ts: frame.timestamp(),
+        kind: frame.frame_type(),
+        subclass: frame.subclass(),
+        payload: Payload::new(frame.payload()),
+    }
+}
+
+impl Machine {
+    ghost use Rattle.leg_machine.specs.Legs.{leg_of, entered, HasRoom};
+
+    /// The other side's number is learnt from the first frame.
+    pub fn learn(&mut self, source: CallNumber)
+        ensures leg { leg_of self.new ≡ steps.learnt (leg_of self.old) source }
+        ensures window { self.new.window ≡ self.old.window }
+    {
+        self.remote = Some(self.remote.unwrap_or(source));
+    }
+
+    /// Enters a stage. From the first that is Closing or Ended on the leg owes.
+    pub fn enter(&mut self, stage: Stage)
+        ensures leg { leg_of self.new ≡ entered (leg_of self.old) stage }
+        ensures window { self.new.window ≡ self.old.window }
+    {
+        self.owes = self.owes || (stage.is_over() && !self.stage.is_over());
+        self.stage = stage;
+    }
+
+    /// A closing leg that holds nothing has ended.
+    pub fn settle(&mut self)
+        ensures leg { leg_of self.new ≡ steps.settled (leg_of self.old) }
+        ensures window { self.new.window ≡ self.old.window }
+    {
+        if self.stage.is_closing() && self.window.held_len() == 0 {
+            self.enter(Stage::Ended);
+        }
+    }
+
+    /// Judges the acknowledgement of a frame, and answers whether it counts.
+    pub fn acknowledge(&mut self, iseqno: u8) -> bool
+        requires { HasRoom 4 self.old }
+        ensures leg { leg_of self.new ≡ steps.acknowledged (leg_of self.old) iseqno }
+        ensures room { HasRoom 3 self.new }
+        ensures counts { result ≡ steps.counts (judged_acknowledgement self.old.window.state.history iseqno) }
+    {
+        matches!(self.window.acknowledge(iseqno), Ok(Acknowledged::Acked(_)))
+    }
+
+    /// Records the next frame.
+    pub fn record(&mut self, frame: &Full)
+        requires room { HasRoom 3 self.old }
+        requires short { length frame.now.payload ≤ 1388 }
+        ensures leg { leg_of self.new ≡ steps.recorded (leg_of self.old) frame.now }
+        ensures room { HasRoom 2 self.new }
+    {
+        let _ = self.window.receive(frame.oseqno(), stored(frame));
+    }
+
+    /// Notes voice of the leg's format.
+    pub fn hear(&mut self, message: &Message)
+        ensures leg { leg_of self.new ≡ steps.heard (leg_of self.old) message.now }
+        ensures window { self.new.window ≡ self.old.window }
+    {
+        self.voice_taken = self.voice_taken || message.is_voice_in(self.format);
+    }
+
+    /// Writes a frame as this leg sends it.
+    pub fn spell(&self, again: bool, oseqno: u8, frame: &Frame, outs: &mut Replies)
+        requires { length outs.old < 128 }
+        ensures { outs.new ≡ outs.old ++ spelling (replies.outgoing (leg_of self.now) again oseqno frame.now) ∷ [] }
+    {
+        outs.write(
+            &FullHead {
+                source: self.number.get(),
+                retransmitted: again,
+                destination: self.remote.unwrap_or(CallNumber::new(0)),
+                timestamp: frame.ts,
+                oseqno,
+                iseqno: self.window.expected(),
+                frame_type: frame.kind,
+                subclass: frame.subclass,
+            },
+            frame.payload.as_slice(),
+        );
+    }
+
+    fn unnumbered(&self, subclass: u8, timestamp: u32, outs: &mut Replies)
+        requires { length outs.old < 128 }
+        ensures { outs.new ≡ outs.old ++ spelling (replies.unnumbered (leg_of self.now) subclass timestamp) ∷ [] }
+    {
+        outs.write(
+            &FullHead {
+                source: self.number.get(),
+                retransmitted: false,
+                destination: self.remote.unwrap_or(CallNumber::new(0)),
+                timestamp,
+                oseqno: self.window.next(),
+                iseqno: self.window.expected(),
+                frame_type: 6,
+                subclass,
+            },
+            &[],
+        );
+    }
+
+    /// Writes an ACK of the frame.
+    pub fn ack(&self, frame: &Full, outs: &mut Replies)
+        requires { length outs.old < 128 }
+        ensures { outs.new ≡ outs.old ++ spelling (replies.ack (leg_of self.now) frame.now) ∷ [] }
+    {
+        self.unnumbered(4, frame.timestamp(), outs);
+    }
+
+    /// Writes a VNAK, since a frame before this one is missing.
+    pub fn vnak(&self, frame: &Full, outs: &mut Replies)
+        requires { length outs.old < 128 }
+        ensures { outs.new ≡ outs.old ++ spelling (replies.vnak (leg_of self.now) frame.now) ∷ [] }
+    {
+        self.unnumbered(0x12, frame.timestamp(), outs);
+    }
+
+    /// Milliseconds since the opening, modulo 2^32.
+    pub fn present(&self, now: u64) -> u32
+        ensures { result ≡ replies.present_of (leg_of self.now) now }
+    {
+        (now.saturating_sub(self.opened) % 0x1_0000_0000) as u32
+    }
+
+    /// Sends a numbered frame: it goes out, is recorded, and is held.
+    pub fn send_frame(&mut self, frame: Frame, now: u64, outs: &mut Replies)
+        requires room { HasRoom 1 self.old }
+        requires more { length outs.old < 128 }
+        requires window { held_count self.old.window.state < self.old.window.state.width }
+        ensures leg { leg_of self.new ≡ steps.sent (leg_of self.old) frame now }
+        ensures room { HasRoom 2 self.old → HasRoom 1 self.new }
+        ensures out { outs.new ≡ outs.old ++ spelling (replies.outgoing (leg_of self.old) false
+            (replies.next_byte (leg_of self.old)) frame) ∷ [] }
+    {
+        self.spell(false, self.window.next(), &frame, outs);
+        let _ = self.window.send(frame, now);
+    }
+
+    /// Sends a reply.
+    pub fn send(&mut self, reply: Reply, now: u64, outs: &mut Replies)
+        requires room { HasRoom 1 self.old }
+        requires more { length outs.old < 128 }
+        requires window { held_count self.old.window.state < self.old.window.state.width }
+        ensures leg { leg_of self.new ≡ steps.sent (leg_of self.old) (replies.reply_frame (leg_of self.old) now reply) now }
+        ensures room { HasRoom 2 self.old → HasRoom 1 self.new }
+        ensures out { outs.new ≡ outs.old ++ spelling (replies.outgoing (leg_of self.old) false
+            (replies.next_byte (leg_of self.old)) (replies.reply_frame (leg_of self.old) now reply)) ∷ [] }
+    {
+        let frame = self.reply_frame(reply, now);
+        self.send_frame(frame, now, outs);
+    }
+
+    /// How many frames may be held before a frame goes out that no frame of the other side asks for.
+    pub fn local_room(&self) -> usize
+        ensures room { result ≡ local_room self.now.window.state.width }
+        ensures most { result ≤ self.now.window.state.width }
+    {
+        let width = self.window.width() as usize;
+        width - width / 4
+    }
+}

@@ -1,0 +1,165 @@
+//! The orders of the layer above, row by row ("Call Setup", "Control Frames").
+ghost use Rattle.std.specs.Prelude.{◌≡◌, ◌+◌, ◌<◌, ◌≤◌, [], IfSome, IfNone, Some};
+ghost use Rattle.seq_window.specs.Window.{held_count, entry_count};
+ghost use Rattle.leg_machine.specs.OrderTable as orders;
+
+use crate::causes::Cause;
+use crate::machine::Machine;
+use crate::replies::{Replies, Reply};
+use crate::signals::{Digit, Indication};
+use crate::stages::Stage;
+use std::alloc::AllocError;
+
+/// What the layer above lets a leg do.
+#[derive(Clone, Copy, Debug)]
+pub enum Order<'a> {
+    /// Accepts the offered call.
+    Accept,
+    /// Rejects the offered call.
+    Reject(Cause),
+    /// Tells how the call goes on.
+    Indicate(Indication),
+    /// Answers the call.
+    Answer,
+    /// Sends a digit.
+    Dtmf(Digit),
+    /// Sends 1 to 1,380 octets of media.
+    Media(&'a [u8]),
+    /// Hangs up.
+    Hangup,
+    /// Hangs up as soon as a tick can.
+    Doom,
+    /// The layer above is done with the end of the call.
+    Paid,
+}
+
+/// Why an order is refused, in the order in which causes are looked for.
+#[derive(Clone, Copy, Debug, PartialEq, Eq)]
+pub enum OrderError {
+    /// The leg's stage has no such order.
+    WrongStage,
+    /// Too many frames are held for this one.
+    WindowFull,
+    /// Fewer than four entries of the record are free.
+    RecordFull,
+    /// A request for memory was refused.
+    Memory,
+}
+
+impl From<AllocError> for OrderError {
+    ghost use Rattle.std.specs.Prelude.{◌≡◌};
+    ghost use Rattle.leg_machine.specs.declared.orders.OrderError.TheVariants.{Memory};
+
+    ghost from_gives = { λ _ e. e ≡ Memory };
+
+    fn from(_error: AllocError) -> OrderError {
+        OrderError::Memory
+    }
+}
+
+/// A row in which a numbered frame goes out.
+#[derive(Clone, Copy)]
+pub struct Ordered {
+    pub reply: Reply,
+    pub stage: Stage,
+    /// It goes out while fewer frames than this are held.
+    pub most: usize,
+}
+
+fn when(holds: bool, reply: Reply, stage: Stage, most: usize) -> Option<Ordered>
+    ensures row { result ≡ orders.when holds (orders.ordered reply stage most) }
+    ensures most { IfSome result (λ row. row.most ≡ most) }
+{
+    if holds {
+        Some(Ordered { reply, stage, most })
+    } else {
+        None
+    }
+}
+
+impl Machine {
+    ghost use Rattle.leg_machine.specs.Legs.{leg_of, HasRoom};
+
+    /// The row of an order; `None` where the stage is a wrong one.
+    pub fn order_row(&self, order: &Order) -> Option<Ordered>
+        ensures row { result ≡ orders.order_row (leg_of self.now) order.now }
+        ensures most { IfSome result (λ row. row.most ≤ self.now.window.state.width) }
+    {
+        let stage = self.stage;
+        let width = self.window.width() as usize;
+        let room = self.local_room();
+        match order {
+            Order::Accept => when(
+                stage.is_offered(),
+                Reply::Accept(self.format),
+                Stage::Linked,
+                width,
+            ),
+            Order::Reject(cause) => when(
+                stage.is_offered(),
+                Reply::Reject(*cause),
+                Stage::Closing,
+                width,
+            ),
+            Order::Indicate(indication) => when(
+                stage.is_linked(),
+                Reply::Indicate(*indication),
+                Stage::Linked,
+                room,
+            ),
+            Order::Answer => when(stage.is_linked(), Reply::Answer, Stage::Up, room),
+            Order::Dtmf(digit) => when(stage.is_talking(), Reply::Dtmf(*digit), stage, room),
+            Order::Hangup => when(
+                !stage.is_over(),
+                Reply::Hangup(Cause::NormalClearing),
+                Stage::Closing,
+                width,
+            ),
+            Order::Media(_) => None,
+            Order::Doom => None,
+            Order::Paid => None,
+        }
+    }
+
+    /// Why a numbered frame can't go out now: its window, then its record.
+    pub fn sending_refused(&self, most: usize) -> Option<OrderError>
+        ensures refused { result ≡ orders.sending_refused (leg_of self.now) most }
+        ensures room { IfNone result ((held_count self.now.window.state < most) × (entry_count self.now.window.state + 4 ≤ self.now.window.state.limit)) }
+    {
+        if most <= self.window.held_len() {
+            Some(OrderError::WindowFull)
+        } else if self.window.free_entries() < 4 {
+            Some(OrderError::RecordFull)
+        } else {
+            None
+        }
+    }
+
+    /// A row is carried out.
+    pub fn carry_out(&mut self, row: &Ordered, now: u64, outs: &mut Replies)
+        requires room { HasRoom 1 self.old }
+        requires window { held_count self.old.window.state < self.old.window.state.width }
+        requires empty { outs.old ≡ [] }
+        ensures leg { leg_of self.new ≡ (orders.row_carried (leg_of self.old) (Some row.now) now).leg }
+        ensures replies { outs.new ≡ (orders.row_carried (leg_of self.old) (Some row.now) now).datagrams }
+    {
+        self.enter(row.stage);
+        self.send(row.reply, now, outs);
+    }
+
+    /// The leg is doomed, unless it is over.
+    pub fn doom(&mut self)
+        ensures leg { leg_of self.new ≡ orders.doomed (leg_of self.old) }
+        ensures window { self.new.window ≡ self.old.window }
+    {
+        self.doomed = self.doomed || !self.stage.is_over();
+    }
+
+    /// A leg that is over owes nothing any more.
+    pub fn pay(&mut self)
+        ensures leg { leg_of self.new ≡ orders.paid (leg_of self.old) }
+        ensures window { self.new.window ≡ self.old.window }
+    {
+        self.owes = self.owes && !self.stage.is_over();
+    }
+}

@@ -1,0 +1,75 @@
+//! Frames that go out again ("Message Transport").
+ghost use Rattle.std.specs.Prelude.{◌≡◌, ◌+◌, ◌<◌, ◌≤◌, ◌++◌, [], length, map};
+ghost use Rattle.iax_frames.specs.FullFrame.{spelling};
+ghost use Rattle.seq_window.specs.Window.{held_count, held_frames};
+ghost use Rattle.leg_machine.specs.Replies as replies;
+ghost use Rattle.leg_machine.specs.Steps as steps;
+ghost use Rattle.leg_machine.specs.Tries as tries;
+
+use crate::machine::Machine;
+use crate::outcomes::{Heard, Judged};
+use crate::replies::Replies;
+use seq_window::Resent;
+
+impl Machine {
+    ghost use Rattle.leg_machine.specs.Legs.{leg_of, HasRoom};
+
+    // The held frames as they go out again, oldest first.
+    fn held_again(&self, outs: &mut Replies)
+        requires { outs.old ≡ [] }
+        ensures { outs.new ≡ map (λ held. spelling (replies.sent_again (leg_of self.now) held)) (held_frames self.now.window.state) }
+    {
+        for place in 0..self.window.held_len() {
+            let held = self.window.held_frame(place);
+            self.spell(true, held.number, &held.frame, outs);
+        }
+    }
+
+    // The held frame at a place goes out again.
+    fn again(&self, place: usize, outs: &mut Replies)
+        requires held { place < held_count self.now.window.state }
+        requires more { length outs.old < 128 }
+        ensures replies { outs.new ≡ outs.old ++ map spelling (tries.frames_again (leg_of self.now) place) }
+        ensures one { length outs.new ≡ length outs.old + 1 }
+    {
+        let held = self.window.held_frame(place);
+        self.spell(true, held.number, &held.frame, outs);
+    }
+
+    /// The held frames that are due go out again, in at most so many turns. Answers whether one was spent.
+    pub fn try_again(&mut self, turns: usize, now: u64, outs: &mut Replies) -> bool
+        requires { length outs.old + turns ≤ 127 }
+        ensures leg { leg_of self.new ≡ (tries.tries turns (leg_of self.old) now).leg }
+        ensures replies { outs.new ≡ outs.old ++ map spelling (tries.tries turns (leg_of self.old) now).replies }
+        ensures spent { result ≡ (tries.tries turns (leg_of self.old) now).spent }
+        ensures few { length outs.new ≤ 127 }
+        ensures room { HasRoom 1 self.old → HasRoom 1 self.new }
+    {
+        for turn in 0..turns {
+            match self
+                .window
+                .resend(now, self.rules.retry_ms, self.rules.max_retries)
+            {
+                Resent::Nothing => return false,
+                Resent::Spent => return true,
+                Resent::Again(place) => self.again(place, outs),
+            }
+        }
+        false
+    }
+
+    /// All held frames go out again, which is no try.
+    pub fn resend(&mut self, now: u64, outs: &mut Replies) -> Heard
+        requires { outs.old ≡ [] }
+        ensures leg { leg_of self.new ≡ (steps.resend_step (leg_of self.old) now).leg }
+        ensures replies { outs.new ≡ map spelling (steps.resend_step (leg_of self.old) now).replies }
+        ensures heard { result ≡ steps.heard_of (steps.resend_step (leg_of self.old) now) }
+    {
+        self.held_again(outs);
+        self.window.touch_all(now);
+        Heard {
+            judged: Judged::Unnumbered,
+            signal: None,
+        }
+    }
+}

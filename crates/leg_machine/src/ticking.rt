@@ -1,0 +1,147 @@
+//! What a tick does to a leg ("Message Transport": retransmission; "PING").
+ghost use Rattle.std.specs.Prelude.{◌≡◌, ◌+◌, ◌<◌, ◌≤◌, ◌++◌, [], true, false, length, map};
+ghost use Rattle.iax_frames.specs.FullFrame.{spelling};
+ghost use Rattle.seq_window.specs.Window.{held_count, entry_count};
+ghost use Rattle.leg_machine.specs.Legs.{is_short_of_entries};
+ghost use Rattle.leg_machine.specs.Ticks as ticks;
+
+use crate::causes::Cause;
+use crate::machine::Machine;
+use crate::replies::{Replies, Reply};
+use crate::stages::Stage;
+
+impl Machine {
+    ghost use Rattle.leg_machine.specs.Legs.{leg_of, HasRoom};
+
+    /// A doomed leg that isn't over, and has room for one frame more.
+    pub fn must_hang_up(&self) -> bool
+        ensures due { result ≡ ticks.must_hang_up (leg_of self.now) }
+        ensures room { result ≡ true → held_count self.now.window.state < self.now.window.state.width }
+    {
+        self.doomed && !self.stage.is_over() && !self.window.is_full()
+    }
+
+    fn is_ping_time(&self, now: u64) -> bool
+        ensures { result ≡ ticks.is_ping_time (leg_of self.now) now }
+    {
+        let ping_ms = self.rules.ping_ms;
+        let is_due = self.pinged <= now && ping_ms <= now - self.pinged;
+        ping_ms != 0 && is_due
+    }
+
+    /// A talking leg with local room whose last PING was long ago.
+    pub fn must_ping(&self, now: u64) -> bool
+        ensures { result ≡ ticks.must_ping (leg_of self.now) now }
+    {
+        let is_ping_time = self.is_ping_time(now);
+        let has_room = self.window.held_len() < self.local_room();
+        self.stage.is_talking() && has_room && is_ping_time
+    }
+
+    /// Makes room where a HANGUP or a PING is due. Answers whether it did.
+    pub fn grow(&mut self, now: u64) -> bool
+        ensures leg { leg_of self.new ≡ leg_of self.old }
+        ensures room { result ≡ true → is_short_of_entries (leg_of self.new) ≡ false → HasRoom 2 self.new }
+    {
+        let hangs_up = self.must_hang_up();
+        let pings = self.must_ping(now);
+        if !hangs_up && !pings {
+            return false;
+        }
+        self.window.reserve(2).is_ok()
+    }
+
+    // A doomed leg hangs up. Answers how many frames were skipped.
+    fn hang_up(&mut self, grown: bool, now: u64, outs: &mut Replies) -> u32
+        requires room { grown ≡ true → HasRoom 2 self.old }
+        requires empty { outs.old ≡ [] }
+        ensures room { grown ≡ true → HasRoom 1 self.new }
+        ensures leg { leg_of self.new ≡ (ticks.hang_up_step grown (leg_of self.old) now).leg }
+        ensures replies { outs.new ≡ map spelling (ticks.hang_up_step grown (leg_of self.old) now).replies }
+        ensures skipped { result ≡ (ticks.hang_up_step grown (leg_of self.old) now).skipped }
+        ensures few { length outs.new + held_count self.old.window.state ≤ self.old.window.state.width }
+        ensures once { result ≤ 1 }
+    {
+        let held = self.window.held_len();
+        prove!(held <= 127);
+        if !self.must_hang_up() {
+            return 0;
+        }
+        if !grown {
+            return 1;
+        }
+        self.enter(Stage::Closing);
+        self.send(Reply::Hangup(Cause::NormalClearing), now, outs);
+        0
+    }
+
+    // A PING that is due. Answers how many frames were skipped.
+    fn ping(&mut self, grown: bool, now: u64, outs: &mut Replies) -> u32
+        requires room { grown ≡ true → HasRoom 1 self.old }
+        requires more { length outs.old < 128 }
+        ensures leg { leg_of self.new ≡ (ticks.ping_step grown (leg_of self.old) now).leg }
+        ensures replies { outs.new ≡ outs.old ++ map spelling (ticks.ping_step grown (leg_of self.old) now).replies }
+        ensures skipped { result ≡ (ticks.ping_step grown (leg_of self.old) now).skipped }
+        ensures once { result ≤ 1 }
+    {
+        if !self.must_ping(now) {
+            return 0;
+        }
+        if !grown {
+            return 1;
+        }
+        self.pinged = now;
+        self.send(Reply::Ping, now, outs);
+        0
+    }
+
+    // A spent frame ends the leg and stops the tick; else a PING goes out that is due.
+    fn after_tries(&mut self, grown: bool, spent: bool, now: u64, outs: &mut Replies) -> u32
+        requires room { grown ≡ true → HasRoom 1 self.old }
+        requires more { length outs.old < 128 }
+        ensures leg { leg_of self.new ≡ (ticks.last_step grown spent (leg_of self.old) now).leg }
+        ensures replies { outs.new ≡ outs.old ++ map spelling (ticks.last_step grown spent (leg_of self.old) now).replies }
+        ensures skipped { result ≡ (ticks.last_step grown spent (leg_of self.old) now).skipped }
+        ensures once { result ≤ 1 }
+    {
+        if spent {
+            self.enter(Stage::Ended);
+            return 0;
+        }
+        self.ping(grown, now, outs)
+    }
+
+    // The doomed leg hangs up, then held frames that are due go out again, then a PING that is due.
+    fn due_frames(&mut self, grown: bool, now: u64, outs: &mut Replies) -> u32
+        requires room { grown ≡ true → HasRoom 2 self.old }
+        requires empty { outs.old ≡ [] }
+        ensures leg { leg_of self.new ≡ (ticks.due_frames grown (leg_of self.old) now).leg }
+        ensures replies { outs.new ≡ map spelling (ticks.due_frames grown (leg_of self.old) now).replies }
+        ensures skipped { result ≡ (ticks.due_frames grown (leg_of self.old) now).skipped }
+    {
+        let turns = self.window.held_len();
+        let width = self.window.width();
+        prove!(width <= 127);
+        let unsent = self.hang_up(grown, now, outs);
+        let spent = self.try_again(turns, now, outs);
+        unsent + self.after_tries(grown, spent, now, outs)
+    }
+
+    /// Time goes on. Answers how many frames were due and had no memory.
+    pub fn tick(&mut self, grown: bool, now: u64, outs: &mut Replies) -> u32
+        requires room { grown ≡ true → is_short_of_entries (leg_of self.old) ≡ false → HasRoom 2 self.old }
+        requires empty { outs.old ≡ [] }
+        ensures leg { leg_of self.new ≡ (ticks.tick_step grown (leg_of self.old) now).leg }
+        ensures replies { outs.new ≡ map spelling (ticks.tick_step grown (leg_of self.old) now).replies }
+        ensures skipped { result ≡ (ticks.tick_step grown (leg_of self.old) now).skipped }
+    {
+        if self.stage.is_ended() {
+            return 0;
+        }
+        if self.window.free_entries() < 4 {
+            self.enter(Stage::Ended);
+            return 0;
+        }
+        self.due_frames(grown, now, outs)
+    }
+}

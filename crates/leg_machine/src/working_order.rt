@@ -1,0 +1,165 @@
+//! What a full frame does, in its working order ("Message Transport").
+ghost use Rattle.std.specs.Prelude.{◌≡◌, ◌+◌, ◌<◌, ◌≤◌, ◌++◌, [], true, length, map};
+ghost use Rattle.iax_frames.specs.FullFrame.{spelling};
+ghost use Rattle.seq_window.specs.Window.{held_count, judged_number};
+ghost use Rattle.leg_machine.specs.Effects.{is_reply, marked};
+ghost use Rattle.leg_machine.specs.Steps as steps;
+
+use crate::effects::{Answering, Effect, Mark, unless_over};
+use crate::machine::Machine;
+use crate::messages::Message;
+use crate::outcomes::{Heard, Judged};
+use crate::replies::Replies;
+use crate::signals::Signal;
+use crate::stages::Stage;
+use iax_frames::Full;
+use seq_window::Received;
+
+impl Machine {
+    ghost use Rattle.leg_machine.specs.Legs.{leg_of, HasRoom};
+
+    fn mark(&mut self, mark: Mark)
+        ensures leg { leg_of self.new ≡ marked (leg_of self.old) mark }
+        ensures window { self.new.window ≡ self.old.window }
+    {
+        match mark {
+            Mark::Nothing => {}
+            Mark::Quelches => self.quelched = true,
+            Mark::Unquelches => self.quelched = false,
+            Mark::Authenticates => self.authenticated = true,
+        }
+    }
+
+    // The next frame is taken, with this effect.
+    fn take_frame(&mut self, effect: &Effect, frame: &Full, message: &Message)
+        requires room { HasRoom 3 self.old }
+        requires short { length frame.now.payload ≤ 1388 }
+        ensures leg { leg_of self.new ≡ steps.taken effect.now (leg_of self.old) frame.now message.now }
+        ensures room { HasRoom 2 self.new }
+        ensures held { held_count self.new.window.state ≡ held_count self.old.window.state }
+        ensures width { self.new.window.state.width ≡ self.old.window.state.width }
+    {
+        self.enter(effect.stage);
+        self.mark(effect.mark);
+        self.hear(message);
+        self.record(frame);
+    }
+
+    // The answer to a frame that is recorded.
+    fn answer(&mut self, answer: &Answering, frame: &Full, now: u64, outs: &mut Replies)
+        requires room { HasRoom 2 self.old }
+        requires window { is_reply answer.now ≡ true → held_count self.old.window.state < self.old.window.state.width }
+        requires more { length outs.old < 128 }
+        ensures leg { leg_of self.new ≡ steps.replied (leg_of self.old) now answer.now }
+        ensures replies { outs.new ≡ outs.old ++ map spelling (steps.answers (leg_of self.old) frame.now now answer.now) }
+    {
+        match answer {
+            Answering::Answered(reply) => self.send(*reply, now, outs),
+            Answering::Acknowledged => self.ack(frame, outs),
+            Answering::Silent => {}
+        }
+    }
+
+    /// The next frame comes, with this effect.
+    pub fn take(
+        &mut self,
+        effect: &Effect,
+        frame: &Full,
+        message: &Message,
+        now: u64,
+        outs: &mut Replies,
+    ) -> Heard
+        requires room { HasRoom 3 self.old }
+        requires short { length frame.now.payload ≤ 1388 }
+        requires more { length outs.old < 128 }
+        ensures leg { leg_of self.new ≡ (steps.taken_step effect.now (leg_of self.old) frame.now message.now now).leg }
+        ensures replies { outs.new ≡ outs.old ++ map spelling (steps.taken_step effect.now (leg_of self.old) frame.now message.now now).replies }
+        ensures heard { result ≡ steps.heard_of (steps.taken_step effect.now (leg_of self.old) frame.now message.now now) }
+    {
+        if effect.answer.is_reply() && self.window.is_full() {
+            return Heard {
+                judged: Judged::NoRoom,
+                signal: None,
+            };
+        }
+        self.take_frame(effect, frame, message);
+        self.answer(&effect.answer, frame, now, outs);
+        Heard {
+            judged: Judged::Taken,
+            signal: effect.signal,
+        }
+    }
+
+    // A numbered frame comes.
+    fn judge(&mut self, frame: &Full, message: &Message, now: u64, outs: &mut Replies) -> Heard
+        requires room { HasRoom 3 self.old }
+        requires short { length frame.now.payload ≤ 1388 }
+        requires more { length outs.old < 128 }
+        ensures leg { leg_of self.new ≡ (steps.judged_step (judged_number self.old.window.state.history frame.now.head.oseqno) (leg_of self.old) frame.now message.now now).leg }
+        ensures replies { outs.new ≡ outs.old ++ map spelling (steps.judged_step (judged_number self.old.window.state.history frame.now.head.oseqno) (leg_of self.old) frame.now message.now now).replies }
+        ensures heard { result ≡ steps.heard_of (steps.judged_step (judged_number self.old.window.state.history frame.now.head.oseqno) (leg_of self.old) frame.now message.now now) }
+    {
+        match self.window.judge(frame.oseqno()) {
+            Received::Taken => {
+                let effect = self.effect_of(frame, message);
+                self.take(&effect, frame, message, now, outs)
+            }
+            Received::Repeat => {
+                self.ack(frame, outs);
+                Heard {
+                    judged: Judged::Repeat,
+                    signal: None,
+                }
+            }
+            Received::Gap => {
+                self.vnak(frame, outs);
+                Heard {
+                    judged: Judged::Gap,
+                    signal: None,
+                }
+            }
+        }
+    }
+
+    // An INVAL comes.
+    fn invalidate(&mut self) -> Heard
+        ensures leg { leg_of self.new ≡ (steps.inval_step (leg_of self.old)).leg }
+        ensures heard { result ≡ steps.heard_of (steps.inval_step (leg_of self.old)) }
+    {
+        let signal = unless_over(self.stage, Signal::Hangup);
+        self.enter(Stage::Ended);
+        Heard {
+            judged: Judged::Unnumbered,
+            signal,
+        }
+    }
+
+    /// A full frame comes.
+    pub fn full(&mut self, frame: &Full, now: u64, outs: &mut Replies) -> Heard
+        requires room { HasRoom 4 self.old }
+        requires short { length frame.now.payload ≤ 1388 }
+        requires empty { outs.old ≡ [] }
+        ensures leg { leg_of self.new ≡ (steps.full_step (leg_of self.old) frame.now now).leg }
+        ensures replies { outs.new ≡ map spelling (steps.full_step (leg_of self.old) frame.now now).replies }
+        ensures heard { result ≡ steps.heard_of (steps.full_step (leg_of self.old) frame.now now) }
+    {
+        let message = Message::of(frame);
+        if message.is_inval() {
+            return self.invalidate();
+        }
+        self.learn(frame.source());
+        let counts = self.acknowledge(frame.iseqno());
+        self.settle();
+        if message.is_vnak() && counts {
+            return self.resend(now, outs);
+        }
+        if message.is_numbered() {
+            self.judge(frame, &message, now, outs)
+        } else {
+            Heard {
+                judged: Judged::Unnumbered,
+                signal: None,
+            }
+        }
+    }
+}

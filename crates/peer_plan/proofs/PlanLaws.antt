@@ -1,0 +1,353 @@
+-- What is so of every plan that is read.
+use Rattle.std.proofs.Common.{◌≡◌, ◌≢◌, ℕ, pos, negsuc, zero, suc, ◌+◌, ◌-◌, ◌<◌, ◌≤◌, Bool, true, false, cond, List, [], ◌∷◌, ◌++◌, length, get_or, Option, Some, None, Result, Ok, Err, IsSome, refl, sym, ap, subst, ◌∙◌, arith, nat_le, nat_lt, ◌&&◌, ◌||◌, ◌==◌, is_some}
+use Rattle.std.specs.Prelude.{All, option_map, position, ok_or}
+use Rattle.std.specs.List.{position_or_len}
+use Rattle.std.specs.List.{list_any, AllPairs}
+use Rattle.std.specs.Str.{bytes_eq}
+use Rattle.std.proofs.lemmas.Bool.{true≢false}
+use Rattle.std.proofs.lemmas.Bool.Decides.{nat_tests}
+use Rattle.std.proofs.lemmas.List.{length-map, length-append, get_or_default}
+use Rattle.std.proofs.lemmas.List.Elements.{All-push}
+use Rattle.std.proofs.lemmas.List.Quantifiers.{all_pairs_push}
+use Rattle.std.proofs.lemmas.Slice.Eq.{bytes_eq-Decides}
+use Rattle.toml.specs.Data.{Data, integer, string, table, Items, no_items, item, Members, get_member, as_array, as_bool, as_str}
+use Rattle.leg_machine.specs.PeerRules.{IsWithin}
+use Rattle.leg_machine.specs.Formats.{lowest_format}
+use Rattle.peer_plan.specs.declared.key.Key.{Key}
+use Rattle.peer_plan.specs.declared.key.Key.TheVariants as key
+use Rattle.peer_plan.specs.declared.error.PlanError.{PlanError}
+use Rattle.peer_plan.specs.declared.error.PlanError.TheVariants as error
+use Rattle.peer_plan.specs.declared.endpoint.Endpoint.{Endpoint}
+use Rattle.peer_plan.specs.declared.peer.Peer.{Peer}
+use Rattle.peer_plan.specs.declared.peer.Limits.{Limits}
+use Rattle.peer_plan.specs.declared.peer.Credentials.{Credentials}
+use Rattle.peer_plan.specs.declared.peer.Media.{Media}
+use Rattle.peer_plan.specs.declared.route.Route.{Route}
+use Rattle.peer_plan.specs.Keys.{key_name}
+use Rattle.peer_plan.specs.Fields.{◌>>=◌, number_of, text_of, value, value_at, each, items_len, within, list_in}
+use Rattle.peer_plan.specs.Plan.{IsPlan, IsPeer, IsRoute, is_name, is_prefix, counts_of}
+use Rattle.peer_plan.specs.Reading.{limits_in, address_in, endpoint_in, workers_in, passes_in, is_credential, credential_in, credentials_in, formats_in, media_in, window_in, rules_from, peer_in, has_double, is_named, is_endpoint, has_same_name, has_same_endpoint, told_apart, peers_in, has_prefix, new_route, route_in, routes_in}
+use Rattle.peer_plan.proofs.Ranges.{ranges_apart, total_within}
+use Rattle.peer_plan.proofs.FormatLaws.{formats_some}
+
+-- ---- steps of a reading
+
+bound : {A B : Type 0} (m : Result A PlanError) (f : A → Result B PlanError) (y : B) → (m >>= f) ≡ Ok y → (x : A) × (m ≡ Ok x) × (f x ≡ Ok y)
+bound (Ok x) f y h = (x, refl, h)
+bound (Err e) f y h = absurd (cc)
+
+found_in : {A : Type 0} (o : Option A) (e : PlanError) (x : A) → ok_or o e ≡ Ok x → o ≡ Some x
+found_in None e x h = absurd (cc)
+found_in (Some y) e x h = let same : y ≡ x = cc in ap Some same
+
+-- what a value is, if it is so of each that is read, and of the fallback
+value_is : {A : Type 0} (P : A → Type 0) (k : Key) (fallback : Result A PlanError) (read : Data → Option A) (o : Option Data) (x : A)
+    → ((d : Data) → read d ≡ Some x → P x) → (fallback ≡ Ok x → P x) → value_at k fallback read o ≡ Ok x → P x
+value_is P k fallback read None x each_read else_is h = else_is h
+value_is P k fallback read (Some d) x each_read else_is h = each_read d (found_in (read d) (error.Range k) x h)
+
+number_within : (low high n : ℕ) (d : Data) → number_of low high d ≡ Some n → IsWithin low high n
+number_within low high n (integer (pos m)) h = go (nat_le low m) (nat_le m high) refl refl h
+  where
+    go : (a b : Bool) → nat_le low m ≡ a → nat_le m high ≡ b → cond (a && b) (Some m) None ≡ Some n → IsWithin low high n
+    go true true least most is = let same : m ≡ n = cc in subst (IsWithin low high) same (grind (arith, nat_tests), grind (arith, nat_tests))
+    go true false least most is = absurd (cc)
+    go false b least most is = absurd (cc)
+number_within low high n (integer (negsuc m)) h = absurd (cc)
+number_within low high n _ h = absurd (cc)
+
+text_fits : (fits : List ℕ → Bool) (text : List ℕ) (d : Data) → text_of fits d ≡ Some text → fits text ≡ true
+text_fits fits text (string s) h = go (fits s) refl h
+  where
+    go : (b : Bool) → fits s ≡ b → cond b (Some s) None ≡ Some text → fits text ≡ true
+    go true is h = let same : s ≡ text = cc in subst (λ t. fits t ≡ true) same is
+    go false is h = absurd (cc)
+text_fits fits text _ h = absurd (cc)
+
+default_within : (low high n fallback : ℕ) → low ≤ fallback → fallback ≤ high → ◌≡◌ {A = Result ℕ PlanError} (Ok fallback) (Ok n) → IsWithin low high n
+default_within low high n fallback least most h = let same : fallback ≡ n = cc in subst (IsWithin low high) same (least, most)
+
+missing : {A : Type 0} {P : Type 0} (e : PlanError) (x : A) → Err e ≡ Ok x → P
+missing e x h = absurd (cc)
+
+-- ---- lists of tables
+
+each_keeps : {A : Type 0} (Kept : List A → Type 0) (k : Key) (read : List A → Members → Result A PlanError)
+    → ((before : List A) (ms : Members) (next : A) → Kept before → read before ms ≡ Ok next → Kept (before ++ next ∷ []))
+    → (before : List A) (ds : Items) (all : List A) → Kept before → each k read before ds ≡ Ok all → Kept all
+unfolding each
+each_keeps Kept k read keeps before no_items all kept h = let same : before ≡ all = cc in subst Kept same kept
+each_keeps Kept k read keeps before (item (table ms) ds) all kept h =
+    let one = bound (read before ms) (λ next. each k read (before ++ next ∷ []) ds) all h in
+    each_keeps Kept k read keeps (before ++ one.0 ∷ []) ds all (keeps before ms one.0 kept one.1) one.2
+each_keeps Kept k read keeps before (item _ ds) all kept h = absurd (cc)
+
+each_len : {A : Type 0} (k : Key) (read : List A → Members → Result A PlanError) (before : List A) (ds : Items) (all : List A) → each k read before ds ≡ Ok all → length all ≡ length before + items_len ds
+unfolding each
+each_len k read before no_items all h = let same : before ≡ all = cc in omega (arith, ap length same)
+each_len k read before (item (table ms) ds) all h =
+    let one = bound (read before ms) (λ next. each k read (before ++ next ∷ []) ds) all h in
+    let rest = each_len k read (before ++ one.0 ∷ []) ds all one.2 in
+    omega (arith, simp length-append at rest)
+each_len k read before (item _ ds) all h = absurd (cc)
+
+list_within : (ms : Members) (k : Key) (most : ℕ) (ds : Items) → list_in ms k most ≡ Ok ds → IsWithin 1 most (items_len ds)
+unfolding list_in
+list_within ms k most ds h =
+    let one = bound (value ms k (Err (error.Missing k)) as_array) (within k most) ds h in
+    go one.0 (items_len one.0 == 0) (nat_lt most (items_len one.0)) refl refl one.2
+  where
+    go : (es : Items) (a b : Bool) → (items_len es == 0) ≡ a → nat_lt most (items_len es) ≡ b → cond a (Err (error.Missing k)) (cond b (Err (error.Range k)) (Ok es)) ≡ Ok ds → IsWithin 1 most (items_len ds)
+    go es true b none many is = absurd (cc)
+    go es false true none many is = absurd (cc)
+    go es false false none many is = let same : es ≡ ds = cc in subst (λ x. IsWithin 1 most (items_len x)) same (grind (arith, nat_tests), grind (arith, nat_tests))
+
+-- ---- limits, workers, passes
+
+pub record IsLimits (limits : Limits) : Type 0 where
+  pub retry_ms : IsWithin 1 60000 limits.retry_ms
+  pub max_retries : IsWithin 0 20 limits.max_retries
+  pub ping_ms : IsWithin 0 600000 limits.ping_ms
+  pub record_limit : IsWithin 64 65536 limits.record_limit
+
+number_is : (ms : Members) (k : Key) (low high fallback n : ℕ) → low ≤ fallback → fallback ≤ high → value ms k (Ok fallback) (number_of low high) ≡ Ok n → IsWithin low high n
+number_is ms k low high fallback n least most h =
+    value_is (IsWithin low high) k (Ok fallback) (number_of low high) (get_member (key_name k) ms) n (number_within low high n) (default_within low high n fallback least most) h
+
+number_there : (ms : Members) (k : Key) (low high n : ℕ) → value ms k (Err (error.Missing k)) (number_of low high) ≡ Ok n → IsWithin low high n
+number_there ms k low high n h =
+    value_is (IsWithin low high) k (Err (error.Missing k)) (number_of low high) (get_member (key_name k) ms) n (number_within low high n) (missing (error.Missing k) n) h
+
+pub limits_sound : (ms : Members) (limits : Limits) → limits_in ms ≡ Ok limits → IsLimits limits
+unfolding limits_in
+limits_sound ms limits h =
+    let a = bound (value ms key.RetryMs (Ok 1000) (number_of 1 60000)) _ limits h in
+    let b = bound (value ms key.MaxRetries (Ok 4) (number_of 0 20)) _ limits a.2 in
+    let c = bound (value ms key.PingMs (Ok 20000) (number_of 0 600000)) _ limits b.2 in
+    let d = bound (value ms key.RecordLimit (Ok 4096) (number_of 64 65536)) _ limits c.2 in
+    let is : record { retry_ms = a.0; max_retries = b.0; ping_ms = c.0; record_limit = d.0 } ≡ limits = cc in
+    subst IsLimits is (record {
+      retry_ms = number_is ms key.RetryMs 1 60000 1000 a.0 (omega arith) (omega arith) a.1;
+      max_retries = number_is ms key.MaxRetries 0 20 4 b.0 (omega arith) (omega arith) b.1;
+      ping_ms = number_is ms key.PingMs 0 600000 20000 c.0 (omega arith) (omega arith) c.1;
+      record_limit = number_is ms key.RecordLimit 64 65536 4096 d.0 (omega arith) (omega arith) d.1;
+    })
+
+pub workers_within : (ms : Members) (workers : List Endpoint) → workers_in ms ≡ Ok workers → IsWithin 1 8 (length workers)
+unfolding workers_in
+workers_within ms workers h =
+    let one = bound (list_in ms key.Worker 8) (each key.Worker (λ _. endpoint_in) []) workers h in
+    let some = list_within ms key.Worker 8 one.0 one.1 in
+    let len = each_len key.Worker (λ _. endpoint_in) [] one.0 workers one.2 in
+    (omega (arith, len, some.0), omega (arith, len, some.1))
+
+pub passes_within : (ms : Members) (workers passes : ℕ) → workers ≤ 64 → passes_in workers ms ≡ Ok passes → IsWithin workers 64 passes
+passes_within ms workers passes few h = number_is ms key.Passes workers 64 workers passes (omega arith) few h
+
+-- ---- peers
+
+endpoint_port : (ms : Members) (endpoint : Endpoint) → endpoint_in ms ≡ Ok endpoint → IsWithin 1 65535 endpoint.port
+unfolding endpoint_in
+endpoint_port ms endpoint h =
+    let a = bound (value ms key.Address (Err (error.Missing key.Address)) address_in) _ endpoint h in
+    let b = bound (value ms key.Port (Err (error.Missing key.Port)) (number_of 1 65535)) _ endpoint a.2 in
+    let is : record { address = a.0; port = b.0 } ≡ endpoint = cc in
+    subst (λ e. IsWithin 1 65535 e.port) is (number_there ms key.Port 1 65535 b.0 b.1)
+
+credential_some : (d : Data) (o : Option (List ℕ)) → credential_in d ≡ Some o → IsSome o
+credential_some d o h = go (text_of is_credential d) h
+  where
+    go : (t : Option (List ℕ)) → option_map Some t ≡ Some o → IsSome o
+    go None is = absurd (cc)
+    go (Some t) is = let same : Some t ≡ o = cc in subst IsSome same refl
+
+secret_of_user : (ms : Members) (credentials : Credentials) → credentials_in ms ≡ Ok credentials → IsSome credentials.secret → IsSome credentials.user
+unfolding credentials_in
+secret_of_user ms credentials h =
+    let a = bound (value ms key.User (cond (is_some (get_member (key_name key.Secret) ms)) (Err (error.Missing key.User)) (Ok None)) credential_in) _ credentials h in
+    let b = bound (value ms key.Secret (Ok None) credential_in) _ credentials a.2 in
+    let is : record { user = a.0; secret = b.0 } ≡ credentials = cc in
+    subst (λ c. IsSome c.secret → IsSome c.user) is (go a.0 b.0 (get_member (key_name key.User) ms) (get_member (key_name key.Secret) ms) a.1 b.1)
+  where
+    go : (user secret : Option (List ℕ)) (at_user at_secret : Option Data)
+        → value_at key.User (cond (is_some at_secret) (Err (error.Missing key.User)) (Ok None)) credential_in at_user ≡ Ok user
+        → value_at key.Secret (Ok None) credential_in at_secret ≡ Ok secret → IsSome secret → IsSome user
+    go user secret (Some d) at_secret u s some = credential_some d user (found_in (credential_in d) (error.Range key.User) user u)
+    go user secret None (Some d) u s some = absurd (cc)
+    go user secret None None u s some = let none : None ≡ secret = cc in absurd (true≢false (sym some ∙ ap is_some (sym none)))
+
+media_some : (ms : Members) (media : Media) → media_in ms ≡ Ok media → IsSome (lowest_format media.formats)
+unfolding media_in
+media_some ms media h =
+    let a = bound (value ms key.Formats (Err (error.Missing key.Formats)) formats_in) _ media h in
+    let b = bound (value ms key.Trunk (Ok false) as_bool) _ media a.2 in
+    let c = bound (value ms key.TrunkTimestamps (Ok false) as_bool) _ media b.2 in
+    let is : record { formats = a.0; trunk = b.0; trunk_timestamps = c.0 } ≡ media = cc in
+    subst (λ m. IsSome (lowest_format m.formats)) is
+    (value_is (λ f. IsSome (lowest_format f)) key.Formats (Err (error.Missing key.Formats)) formats_in (get_member (key_name key.Formats) ms) a.0
+    (λ d. formats_some d a.0) (missing (error.Missing key.Formats) a.0) a.1)
+
+window_within : (format n : ℕ) (ms : Members) → window_in format ms ≡ Ok n → IsWithin 1 127 n
+window_within format n ms h = go (format == 2) h
+  where
+    go : (b : Bool) → cond b (value ms key.Window (Ok 64) (number_of 1 127)) (Ok 64) ≡ Ok n → IsWithin 1 127 n
+    go true is = number_is ms key.Window 1 127 64 n (omega arith) (omega arith) is
+    go false is = default_within 1 127 n 64 (omega arith) (omega arith) is
+
+peer_sound : (format workers : ℕ) (limits : Limits) (ms : Members) (peer : Peer) → 1 ≤ workers → IsLimits limits → peer_in format limits workers ms ≡ Ok peer → IsPeer workers peer
+unfolding peer_in
+peer_sound format workers limits ms peer some limited h =
+    let a = bound (value ms key.Name (Err (error.Missing key.Name)) (text_of is_name)) _ peer h in
+    let b = bound (endpoint_in ms) _ peer a.2 in
+    let c = bound (value ms key.Worker (Err (error.Missing key.Worker)) (number_of 0 (workers - 1))) _ peer b.2 in
+    let d = bound (credentials_in ms) _ peer c.2 in
+    let e = bound (media_in ms) _ peer d.2 in
+    let f = bound (value ms key.Numbers (Ok 64) (number_of 1 512)) _ peer e.2 in
+    let g = bound (window_in format ms) _ peer f.2 in
+    let is : record { name = a.0; endpoint = b.0; worker = c.0; rules = rules_from limits d.0 e.0 g.0; numbers = f.0 } ≡ peer = cc in
+    let place = number_there ms key.Worker 0 (workers - 1) c.0 c.1 in
+    subst (IsPeer workers) is (record {
+      name = value_is (λ t. is_name t ≡ true) key.Name (Err (error.Missing key.Name)) (text_of is_name) (get_member (key_name key.Name) ms) a.0 (text_fits is_name a.0) (missing (error.Missing key.Name) a.0) a.1;
+      port = endpoint_port ms b.0 b.1;
+      worker = omega (arith, place.1, some);
+      rules = record {
+        secret_of_user = secret_of_user ms d.0 d.1;
+        some_format = media_some ms e.0 e.1;
+        retry_ms = limited.retry_ms;
+        max_retries = limited.max_retries.1;
+        ping_ms = limited.ping_ms.1;
+        record_limit = limited.record_limit;
+        window = window_within format g.0 ms g.1;
+      };
+      numbers = number_is ms key.Numbers 1 512 64 f.0 (omega arith) (omega arith) f.1;
+    })
+
+none_here : {A : Type 0} (p : A → Bool) (x : A) (xs : List A) → list_any p (x ∷ xs) ≡ false → (p x ≡ false) × (list_any p xs ≡ false)
+none_here p x xs h = go (p x) refl h
+  where
+    go : (b : Bool) → p x ≡ b → (b || list_any p xs) ≡ false → (p x ≡ false) × (list_any p xs ≡ false)
+    go true is h = absurd (true≢false h)
+    go false is h = (is, h)
+
+none_of : {A : Type 0} (p : A → Bool) (xs : List A) (i : ℕ) (d : A) → list_any p xs ≡ false → i < length xs → p (get_or xs i d) ≡ false
+none_of p [] i d h lt = absurd (omega arith)
+none_of p (x ∷ xs) zero d h lt = (none_here p x xs h).0
+none_of p (x ∷ xs) (suc i) d h lt = none_of p xs i d (none_here p x xs h).1 (omega arith)
+
+single_here : {A : Type 0} (same : A → A → Bool) (x : A) (xs : List A) → has_double same (x ∷ xs) ≡ false → (list_any (λ other. same other x) xs ≡ false) × (has_double same xs ≡ false)
+single_here same x xs h = go (list_any (λ other. same other x) xs) refl h
+  where
+    go : (b : Bool) → list_any (λ other. same other x) xs ≡ b → cond b true (has_double same xs) ≡ false → (list_any (λ other. same other x) xs ≡ false) × (has_double same xs ≡ false)
+    go true is h = absurd (true≢false h)
+    go false is h = (is, h)
+
+no_double : {A : Type 0} (same : A → A → Bool) (Apart : A → A → Type 0) → ((x other : A) → same other x ≡ false → Apart x other) → (xs : List A) → has_double same xs ≡ false
+    → (i j : ℕ) (d : A) → i < j → j < length xs → Apart (get_or xs i d) (get_or xs j d)
+no_double same Apart apart [] h i j d lt less = absurd (omega arith)
+no_double same Apart apart (x ∷ xs) h i zero d lt less = absurd (omega arith)
+no_double same Apart apart (x ∷ xs) h zero (suc j) d lt less = apart x (get_or xs j d) (none_of (λ other. same other x) xs j d (single_here same x xs h).0 (omega arith))
+no_double same Apart apart (x ∷ xs) h (suc i) (suc j) d lt less = no_double same Apart apart xs (single_here same x xs h).1 i j d (omega arith) (omega arith)
+
+differ : (a b : List ℕ) → bytes_eq a b ≡ false → b ≢ a
+differ a b h = λ same. grind (arith, nat_tests, bytes_eq-Decides)
+
+differing_endpoints : (a b : Endpoint) → is_endpoint b a ≡ false → a ≢ b
+differing_endpoints a b h = λ same. grind (arith, nat_tests, bytes_eq-Decides)
+
+told_apart_is : (peers all : List Peer) → told_apart peers ≡ Ok all → (peers ≡ all) × (has_same_name peers ≡ false) × (has_same_endpoint peers ≡ false)
+told_apart_is peers all h = go (has_same_name peers) (has_same_endpoint peers) refl refl h
+  where
+    go : (a b : Bool) → has_same_name peers ≡ a → has_same_endpoint peers ≡ b → cond a (Err error.SameName) (cond b (Err error.SameEndpoint) (Ok peers)) ≡ Ok all
+        → (peers ≡ all) × (has_same_name peers ≡ false) × (has_same_endpoint peers ≡ false)
+    go true b name endpoint is = absurd (cc)
+    go false true name endpoint is = absurd (cc)
+    go false false name endpoint is = (cc, name, endpoint)
+
+pub record ArePeers (workers : ℕ) (peers : List Peer) : Type 0 where
+  pub count : IsWithin 1 32 (length peers)
+  pub each : All (IsPeer workers) peers
+  pub names : AllPairs (λ peer other. peer.name ≢ other.name) peers
+  pub endpoints : AllPairs (λ peer other. peer.endpoint ≢ other.endpoint) peers
+
+pub peers_sound : (format workers : ℕ) (limits : Limits) (ms : Members) (peers : List Peer) → 1 ≤ workers → IsLimits limits → peers_in format limits workers ms ≡ Ok peers → ArePeers workers peers
+unfolding peers_in
+peers_sound format workers limits ms peers some limited h =
+    let a = bound (list_in ms key.Peer 32) _ peers h in
+    let b = bound (each key.Peer (λ _. peer_in format limits workers) [] a.0) _ peers a.2 in
+    let c = told_apart_is b.0 peers b.2 in
+    let tables = list_within ms key.Peer 32 a.0 a.1 in
+    let len = each_len key.Peer (λ _. peer_in format limits workers) [] a.0 b.0 b.1 in
+    subst (ArePeers workers) c.0 (record {
+      count = (omega (arith, len, tables.0), omega (arith, len, tables.1));
+      each = each_keeps (All (IsPeer workers)) key.Peer (λ _. peer_in format limits workers)
+          (λ before table next kept is. All-push (IsPeer workers) before next kept (peer_sound format workers limits table next some limited is)) [] a.0 b.0 (λ k d lt. absurd (omega arith)) b.1;
+      names = no_double (λ other peer. is_named peer.name other) (λ peer other. peer.name ≢ other.name) (λ peer other h. differ other.name peer.name h) b.0 c.1;
+      endpoints = no_double (λ other peer. is_endpoint other.endpoint peer.endpoint) (λ peer other. peer.endpoint ≢ other.endpoint) (λ peer other h. differing_endpoints peer.endpoint other.endpoint h) b.0 c.2;
+    })
+
+-- ---- routes
+
+place_within : {A : Type 0} (p : A → Bool) (xs : List A) (i : ℕ) → position p xs ≡ Some i → i < length xs
+place_within p xs i h = go (nat_lt (position_or_len p xs) (length xs)) refl h
+  where
+    go : (b : Bool) → nat_lt (position_or_len p xs) (length xs) ≡ b → cond b (Some (position_or_len p xs)) None ≡ Some i → i < length xs
+    go true less is = let same : position_or_len p xs ≡ i = cc in subst (λ n. n < length xs) same (grind (arith, nat_tests))
+    go false less is = absurd (cc)
+
+pub record AreRoutes (peers : ℕ) (routes : List Route) : Type 0 where
+  pub each : All (IsRoute peers) routes
+  pub prefixes : AllPairs (λ route other. route.prefix ≢ other.prefix) routes
+
+new_is : (before : List Route) (prefix : List ℕ) (peer : ℕ) (route : Route) → new_route before prefix peer ≡ Ok route → (record { prefix = prefix; peer = peer } ≡ route) × (has_prefix prefix before ≡ false)
+new_is before prefix peer route h = go (has_prefix prefix before) refl h
+  where
+    go : (b : Bool) → has_prefix prefix before ≡ b → cond b (Err error.SameRoute) (Ok (record { prefix = prefix; peer = peer })) ≡ Ok route → (record { prefix = prefix; peer = peer } ≡ route) × (has_prefix prefix before ≡ false)
+    go true there is = absurd (cc)
+    go false there is = (cc, there)
+
+route_kept : (peers : List Peer) (before : List Route) (ms : Members) (next : Route) → AreRoutes (length peers) before → route_in peers before ms ≡ Ok next → AreRoutes (length peers) (before ++ next ∷ [])
+unfolding route_in
+route_kept peers before ms next kept h =
+    let a = bound (value ms key.Prefix (Err (error.Missing key.Prefix)) (text_of is_prefix)) _ next h in
+    let b = bound (value ms key.Peer (Err (error.Missing key.Peer)) as_str) _ next a.2 in
+    let c = bound (ok_or (position (is_named b.0) peers) error.UnknownPeer) _ next b.2 in
+    let d = new_is before a.0 c.0 next c.2 in
+    let fits = value_is (λ t. is_prefix t ≡ true) key.Prefix (Err (error.Missing key.Prefix)) (text_of is_prefix) (get_member (key_name key.Prefix) ms) a.0 (text_fits is_prefix a.0) (missing (error.Missing key.Prefix) a.0) a.1 in
+    let place = place_within (is_named b.0) peers c.0 (found_in (position (is_named b.0) peers) error.UnknownPeer c.0 c.1) in
+    subst (λ route. AreRoutes (length peers) (before ++ route ∷ [])) d.0 (record {
+      each = All-push (IsRoute (length peers)) before (record { prefix = a.0; peer = c.0 }) kept.each (record { prefix = fits; peer = place });
+      prefixes = all_pairs_push (λ route other. route.prefix ≢ other.prefix) before (record { prefix = a.0; peer = c.0 }) kept.prefixes
+          (λ k e lt same. differ (get_or before k e).prefix a.0 (none_of (λ route. bytes_eq route.prefix a.0) before k e d.1 lt) (sym same));
+    })
+
+pub routes_sound : (peers : List Peer) (ms : Members) (routes : List Route) → routes_in peers ms ≡ Ok routes → AreRoutes (length peers) routes
+unfolding routes_in
+routes_sound peers ms routes h =
+    let a = bound (value ms key.Route (Ok no_items) as_array) (each key.Route (route_in peers) []) routes h in
+    each_keeps (AreRoutes (length peers)) key.Route (route_in peers) (route_kept peers) [] a.0 routes (record { each = λ k d lt. absurd (omega arith); prefixes = λ i j d lt less. absurd (omega arith) }) a.2
+
+-- ---- the plan
+
+numbers_at : (workers : ℕ) (peers : List Peer) → All (IsPeer workers) peers → (i : ℕ) → i < length (counts_of peers) → IsWithin 1 512 (get_or (counts_of peers) i 0)
+numbers_at workers [] h i lt = absurd (omega arith)
+numbers_at workers (p ∷ ps) h zero lt = (h 0 p (omega arith)).numbers
+numbers_at workers (p ∷ ps) h (suc i) lt = numbers_at workers ps (λ k d less. h (suc k) d (omega arith)) i (omega arith)
+
+pub plan_sound : (workers : List Endpoint) (passes : ℕ) (peers : List Peer) (routes : List Route) → IsWithin 1 8 (length workers) → IsWithin (length workers) 64 passes → ArePeers (length workers) peers → AreRoutes (length peers) routes
+    → IsPlan (record { workers = workers; passes = passes; peers = peers; routes = routes })
+plan_sound workers passes peers routes some enough are lead =
+    record {
+      workers = some;
+      passes = enough;
+      peer_count = are.count;
+      peers = are.each;
+      routes = lead.each;
+      names = are.names;
+      endpoints = are.endpoints;
+      prefixes = lead.prefixes;
+      apart = λ peer other number ne h k. ranges_apart (counts_of peers) peer other number ne h k;
+      total = let most = total_within (counts_of peers) 512 (λ i lt. (numbers_at (length workers) peers are.each i lt).1) in omega (arith, simp length-map at most, are.count.1);
+    }
+
+pub count_at : (workers : ℕ) (peers : List Peer) → All (IsPeer workers) peers → All (IsWithin 1 512) (counts_of peers)
+count_at workers peers h = λ k d lt. let at = numbers_at workers peers h k lt in rw (get_or_default (counts_of peers) k d 0 lt) at

@@ -1,0 +1,11 @@
+use Rattle.std.proofs.Common.{◌≡◌, [], drop}
+use Rattle.toml.specs.View.{items_view}
+use Rattle.peer_plan.specs.declared.key.Key.TheVariants as key
+use Rattle.peer_plan.specs.Fields.{each}
+use Rattle.peer_plan.specs.Reading.{route_in}
+use Rattle.peer_plan.proofs.reading.routes.each_route.Given as goal
+
+-- what is read so far, and what is left
+abbrev pub invariant-loop-item : goal.invariant-loop-item
+invariant-loop-item l =
+    each key.Route (route_in l.peers) l.routes.items (items_view (drop l.item-index l.items)) ≡ each key.Route (route_in l.peers) [] (items_view l.items)

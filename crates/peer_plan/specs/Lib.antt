@@ -1,0 +1,7 @@
+pub mod Keys
+pub mod Errors
+pub mod Address
+pub mod Plan
+pub mod Fields
+pub mod Reading
+pub mod PlanFields

@@ -1,0 +1,99 @@
+-- What a plan is: workers, passes, peers with their numbers, and routes.
+use Rattle.std.specs.Prelude.{◌≡◌, ◌≢◌, ◌≤◌, ◌<◌, ℕ, zero, suc, ◌+◌, ◌*◌, List, [], ◌∷◌, length, map, Bool, true, ◌&&◌, ◌||◌, nat_le, nat_lt, nat_eq, Option, Some, None, ◌==◌, slice_index, All, Contains}
+use Rattle.std.specs.Char.{is_ascii_alphanumeric}
+use Rattle.std.specs.List.{list_all, starts_with, AllPairs}
+use Rattle.leg_machine.specs.PeerRules.{IsPeerRules, IsWithin}
+use Rattle.peer_plan.specs.declared.endpoint.Endpoint.{Endpoint}
+use Rattle.peer_plan.specs.declared.peer.Peer.{Peer}
+use Rattle.peer_plan.specs.declared.route.Route.{Route}
+use Rattle.peer_plan.specs.declared.number_range.NumberRange.{NumberRange}
+
+pub record PlanView : Type 0 where
+  -- the endpoint of each worker
+  pub workers : List Endpoint
+  pub passes : ℕ
+  pub peers : List Peer
+  pub routes : List Route
+
+-- an ASCII letter, a digit or a dash
+abbrev pub is_name_octet : ℕ → Bool
+is_name_octet octet = is_ascii_alphanumeric octet || octet == 45
+
+-- 1 to 32 of them
+abbrev pub is_name : List ℕ → Bool
+is_name text = (nat_le 1 (length text) && nat_le (length text) 32) && list_all is_name_octet text
+
+-- an octet of a prefix: visible ASCII
+abbrev pub is_visible : ℕ → Bool
+is_visible octet = nat_le 0x21 octet && nat_le octet 0x7e
+
+-- at most 32 of them
+abbrev pub is_prefix : List ℕ → Bool
+is_prefix text = nat_le (length text) 32 && list_all is_visible text
+
+-- ---- numbers
+
+-- how many numbers each peer has
+abbrev pub counts_of : List Peer → List ℕ
+counts_of peers = map (λ peer. peer.numbers) peers
+
+-- the first number of a peer: its numbers follow those of the peers before it, from 1 on
+abbrev pub first_number : List ℕ → ℕ → ℕ
+first_number [] peer = 1
+first_number (count ∷ counts) zero = 1
+first_number (count ∷ counts) (suc peer) = count + first_number counts peer
+
+-- how many numbers there are
+abbrev pub total_of : List ℕ → ℕ
+total_of [] = 0
+total_of (count ∷ counts) = count + total_of counts
+
+abbrev pub range_of : List ℕ → ℕ → NumberRange
+range_of counts peer = record { first = first_number counts peer; count = slice_index counts peer }
+
+abbrev pub IsInRange : NumberRange → ℕ → Type 0
+IsInRange range number = (range.first ≤ number) × (number < range.first + range.count)
+
+-- ---- routes
+
+-- a route's prefix begins the text
+abbrev pub begins : List ℕ → Route → Bool
+begins text route = starts_with nat_eq text route.prefix
+
+-- a route's prefix is longer than that of another, if there is one
+abbrev pub is_longer : Route → Option Route → Bool
+is_longer route None = true
+is_longer route (Some other) = nat_lt (length other.prefix) (length route.prefix)
+
+-- of the routes whose prefix begins the text, this is the one with the longest prefix
+pub record IsLongest (routes : List Route) (text : List ℕ) (route : Route) : Type 0 where
+  pub listed : Contains routes route
+  pub starts : begins text route ≡ true
+  pub longest : All (λ other. begins text other ≡ true → length other.prefix ≤ length route.prefix) routes
+
+-- ---- what is so of every plan
+
+pub record IsPeer (workers : ℕ) (peer : Peer) : Type 0 where
+  pub name : is_name peer.name ≡ true
+  pub port : IsWithin 1 65535 peer.endpoint.port
+  pub worker : peer.worker < workers
+  pub rules : IsPeerRules peer.rules
+  pub numbers : IsWithin 1 512 peer.numbers
+
+pub record IsRoute (peers : ℕ) (route : Route) : Type 0 where
+  pub prefix : is_prefix route.prefix ≡ true
+  pub peer : route.peer < peers
+
+pub record IsPlan (plan : PlanView) : Type 0 where
+  pub workers : IsWithin 1 8 (length plan.workers)
+  pub passes : IsWithin (length plan.workers) 64 plan.passes
+  pub peer_count : IsWithin 1 32 (length plan.peers)
+  pub peers : All (IsPeer (length plan.workers)) plan.peers
+  pub routes : All (IsRoute (length plan.peers)) plan.routes
+  -- no two peers have one name or one endpoint, and no two routes one prefix
+  pub names : AllPairs (λ peer other. peer.name ≢ other.name) plan.peers
+  pub endpoints : AllPairs (λ peer other. peer.endpoint ≢ other.endpoint) plan.peers
+  pub prefixes : AllPairs (λ route other. route.prefix ≢ other.prefix) plan.routes
+  -- the ranges lie apart, within 1 ..= 16,384
+  pub apart : (peer other number : ℕ) → peer ≢ other → IsInRange (range_of (counts_of plan.peers) peer) number → IsInRange (range_of (counts_of plan.peers) other) number → ⊥
+  pub total : total_of (counts_of plan.peers) ≤ 32 * 512

@@ -1,0 +1,192 @@
+-- How a plan is read from a document: the keys in their order, with the first fault.
+use Rattle.std.specs.Prelude.{ℕ, ◌-◌, List, [], ◌∷◌, length, Option, Some, None, Result, Ok, Err, Bool, true, false, is_some, nat_le, ◌==◌, ◌&&◌, if◌then◌else◌, ok_or, option_map, option_and_then, position, codes}
+use Rattle.std.specs.List.{list_all, list_any}
+use Rattle.std.specs.Str.{is_utf8, bytes_eq}
+use Rattle.toml.specs.Data.{Data, Items, no_items, item, Members, get_member, as_array, as_bool, as_str}
+use Rattle.toml.specs.Parse.{parse_document}
+use Rattle.leg_machine.specs.Credential.{is_printable}
+use Rattle.leg_machine.specs.declared.formats.Formats.{Formats}
+use Rattle.leg_machine.specs.declared.rules.PeerRules.{PeerRules}
+use Rattle.peer_plan.specs.declared.key.Key.TheVariants as key
+use Rattle.peer_plan.specs.declared.error.PlanError.{PlanError}
+use Rattle.peer_plan.specs.declared.error.PlanError.TheVariants as error
+use Rattle.peer_plan.specs.declared.endpoint.Endpoint.{Endpoint}
+use Rattle.peer_plan.specs.declared.peer.Peer.{Peer}
+use Rattle.peer_plan.specs.declared.peer.Limits.{Limits}
+use Rattle.peer_plan.specs.declared.peer.Credentials.{Credentials}
+use Rattle.peer_plan.specs.declared.peer.Media.{Media}
+use Rattle.peer_plan.specs.declared.route.Route.{Route}
+use Rattle.peer_plan.specs.Address.{address_of}
+use Rattle.peer_plan.specs.Fields.{◌>>=◌, number_of, text_of, value, each, list_in}
+use Rattle.peer_plan.specs.Keys.{key_name}
+use Rattle.peer_plan.specs.Plan.{PlanView, is_name, is_prefix}
+
+-- `retry_ms`, `max_retries`, `ping_ms`, `record_limit`
+unfoldable pub limits_in : Members → Result Limits PlanError
+limits_in ms = do
+  retry_ms ← value ms key.RetryMs (Ok 1000) (number_of 1 60000)
+  max_retries ← value ms key.MaxRetries (Ok 4) (number_of 0 20)
+  ping_ms ← value ms key.PingMs (Ok 20000) (number_of 0 600000)
+  record_limit ← value ms key.RecordLimit (Ok 4096) (number_of 64 65536)
+  Ok (record { retry_ms = retry_ms; max_retries = max_retries; ping_ms = ping_ms; record_limit = record_limit })
+
+-- `address`, `port`
+abbrev pub address_in : Data → Option (List ℕ)
+address_in d = option_and_then address_of (as_str d)
+
+unfoldable pub endpoint_in : Members → Result Endpoint PlanError
+endpoint_in ms = do
+  address ← value ms key.Address (Err (error.Missing key.Address)) address_in
+  port ← value ms key.Port (Err (error.Missing key.Port)) (number_of 1 65535)
+  Ok (record { address = address; port = port })
+
+-- `[[worker]]`
+unfoldable pub workers_in : Members → Result (List Endpoint) PlanError
+workers_in ms = list_in ms key.Worker 8 >>= each key.Worker (λ _. endpoint_in) []
+
+-- `passes`: as many as workers, unless the plan says more
+abbrev pub passes_in : ℕ → Members → Result ℕ PlanError
+passes_in workers ms = value ms key.Passes (Ok workers) (number_of workers 64)
+
+-- `user`, `secret`: a secret needs a user
+abbrev pub is_credential : List ℕ → Bool
+is_credential text = (nat_le 1 (length text) && nat_le (length text) 64) && list_all is_printable text
+
+abbrev pub credential_in : Data → Option (Option (List ℕ))
+credential_in d = option_map Some (text_of is_credential d)
+
+unfoldable pub credentials_in : Members → Result Credentials PlanError
+credentials_in ms = do
+  user ← value ms key.User (if is_some (get_member (key_name key.Secret) ms) then Err (error.Missing key.User) else Ok None) credential_in
+  secret ← value ms key.Secret (Ok None) credential_in
+  Ok (record { user = user; secret = secret })
+
+-- `formats`: names of formats, at least one, in any order
+abbrev pub with_format : Formats → List ℕ → Option Formats
+with_format formats name =
+    if bytes_eq name (codes "gsm") then Some (record formats { gsm = true })
+    else if bytes_eq name (codes "ulaw") then Some (record formats { ulaw = true })
+    else if bytes_eq name (codes "alaw") then Some (record formats { alaw = true })
+    else None
+
+abbrev pub with_format_in : Formats → Data → Option Formats
+with_format_in formats d = option_and_then (with_format formats) (as_str d)
+
+unfoldable pub formats_after : Option Formats → Items → Option Formats
+formats_after formats no_items = formats
+formats_after formats (item d ds) = formats_after (option_and_then (λ found. with_format_in found d) formats) ds
+
+abbrev pub no_formats : Formats
+no_formats = record { gsm = false; ulaw = false; alaw = false }
+
+abbrev pub formats_from : Items → Option Formats
+formats_from no_items = None
+formats_from (item d ds) = formats_after (Some no_formats) (item d ds)
+
+abbrev pub formats_in : Data → Option Formats
+formats_in d = option_and_then formats_from (as_array d)
+
+-- `formats`, `trunk`, `trunk_timestamps`
+unfoldable pub media_in : Members → Result Media PlanError
+media_in ms = do
+  formats ← value ms key.Formats (Err (error.Missing key.Formats)) formats_in
+  trunk ← value ms key.Trunk (Ok false) as_bool
+  trunk_timestamps ← value ms key.TrunkTimestamps (Ok false) as_bool
+  Ok (record { formats = formats; trunk = trunk; trunk_timestamps = trunk_timestamps })
+
+-- `window`, in format 2 alone
+abbrev pub window_in : ℕ → Members → Result ℕ PlanError
+window_in format ms = if format == 2 then value ms key.Window (Ok 64) (number_of 1 127) else Ok 64
+
+abbrev pub rules_from : Limits → Credentials → Media → ℕ → PeerRules
+rules_from limits credentials media window =
+    record {
+      user = credentials.user;
+      secret = credentials.secret;
+      formats = media.formats;
+      trunk = media.trunk;
+      trunk_timestamps = media.trunk_timestamps;
+      retry_ms = limits.retry_ms;
+      max_retries = limits.max_retries;
+      ping_ms = limits.ping_ms;
+      record_limit = limits.record_limit;
+      window = window;
+    }
+
+unfoldable pub peer_in : ℕ → Limits → ℕ → Members → Result Peer PlanError
+peer_in format limits workers ms = do
+  name ← value ms key.Name (Err (error.Missing key.Name)) (text_of is_name)
+  endpoint ← endpoint_in ms
+  worker ← value ms key.Worker (Err (error.Missing key.Worker)) (number_of 0 (workers - 1))
+  credentials ← credentials_in ms
+  media ← media_in ms
+  numbers ← value ms key.Numbers (Ok 64) (number_of 1 512)
+  window ← window_in format ms
+  Ok (record { name = name; endpoint = endpoint; worker = worker; rules = rules_from limits credentials media window; numbers = numbers })
+
+-- whether two of a list are the same by a test
+abbrev pub has_double : {A : Type 0} → (A → A → Bool) → List A → Bool
+has_double same [] = false
+has_double same (x ∷ xs) = if list_any (λ other. same other x) xs then true else has_double same xs
+
+abbrev pub is_named : List ℕ → Peer → Bool
+is_named name peer = bytes_eq peer.name name
+
+abbrev pub is_endpoint : Endpoint → Endpoint → Bool
+is_endpoint a b = bytes_eq a.address b.address && a.port == b.port
+
+abbrev pub has_same_name : List Peer → Bool
+has_same_name peers = has_double (λ other peer. is_named peer.name other) peers
+
+abbrev pub has_same_endpoint : List Peer → Bool
+has_same_endpoint peers = has_double (λ other peer. is_endpoint other.endpoint peer.endpoint) peers
+
+abbrev pub told_apart : List Peer → Result (List Peer) PlanError
+told_apart peers =
+    if has_same_name peers then Err error.SameName
+    else if has_same_endpoint peers then Err error.SameEndpoint
+    else Ok peers
+
+-- `[[peer]]`
+unfoldable pub peers_in : ℕ → Limits → ℕ → Members → Result (List Peer) PlanError
+peers_in format limits workers ms = do
+  tables ← list_in ms key.Peer 32
+  peers ← each key.Peer (λ _. peer_in format limits workers) [] tables
+  told_apart peers
+
+-- whether a route has this prefix
+abbrev pub has_prefix : List ℕ → List Route → Bool
+has_prefix prefix routes = list_any (λ route. bytes_eq route.prefix prefix) routes
+
+abbrev pub new_route : List Route → List ℕ → ℕ → Result Route PlanError
+new_route before prefix peer =
+    if has_prefix prefix before then Err error.SameRoute else Ok (record { prefix = prefix; peer = peer })
+
+unfoldable pub route_in : List Peer → List Route → Members → Result Route PlanError
+route_in peers before ms = do
+  prefix ← value ms key.Prefix (Err (error.Missing key.Prefix)) (text_of is_prefix)
+  name ← value ms key.Peer (Err (error.Missing key.Peer)) as_str
+  peer ← ok_or (position (is_named name) peers) error.UnknownPeer
+  new_route before prefix peer
+
+-- `[[route]]`, which may be absent
+unfoldable pub routes_in : List Peer → Members → Result (List Route) PlanError
+routes_in peers ms = value ms key.Route (Ok no_items) as_array >>= each key.Route (route_in peers) []
+
+unfoldable pub plan_in : Members → Result PlanView PlanError
+plan_in ms = do
+  format ← value ms key.Format (Err (error.Missing key.Format)) (number_of 1 2)
+  limits ← limits_in ms
+  workers ← workers_in ms
+  passes ← passes_in (length workers) ms
+  peers ← peers_in format limits (length workers) ms
+  routes ← routes_in peers ms
+  Ok (record { workers = workers; passes = passes; peers = peers; routes = routes })
+
+-- the table that toml reads from the text, where it reads one
+abbrev pub document_of : List ℕ → Option Members
+document_of text = if is_utf8 text then parse_document text else None
+
+-- the plan of a text, or its first fault
+abbrev pub plan_of : List ℕ → Result PlanView PlanError
+plan_of text = ok_or (document_of text) error.NotToml >>= plan_in

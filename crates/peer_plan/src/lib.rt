@@ -1,0 +1,23 @@
+//! The plan of an exchange, read from a TOML text: its workers, its peers with their numbers and rules, its routes.
+#![tactic(auto)]
+
+mod address;
+mod endpoint;
+mod error;
+mod key;
+mod number_range;
+mod peer;
+mod plan;
+mod reading;
+mod route;
+mod routing;
+mod short_text;
+
+pub use endpoint::Endpoint;
+pub use error::PlanError;
+pub use key::Key;
+pub use number_range::NumberRange;
+pub use plan::Plan;
+
+#[cfg(test)]
+mod tests;

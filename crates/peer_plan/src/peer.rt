@@ -1,0 +1,40 @@
+//! A peer of a plan.
+use crate::endpoint::Endpoint;
+use crate::short_text::ShortText;
+use leg_machine::{Credential, Formats, PeerRules};
+
+// What a plan says of one peer.
+#[derive(Drop)]
+pub(crate) struct Peer {
+    pub(crate) name: ShortText,
+    pub(crate) endpoint: Endpoint,
+    // The place of the worker that serves it.
+    pub(crate) worker: u16,
+    pub(crate) rules: PeerRules,
+    // How many call numbers it has: 1 ..= 512.
+    pub(crate) numbers: u16,
+}
+
+// What the legs of all peers go by.
+#[derive(Clone, Copy)]
+pub(crate) struct Limits {
+    pub(crate) retry_ms: u64,
+    pub(crate) max_retries: u32,
+    pub(crate) ping_ms: u64,
+    pub(crate) record_limit: u32,
+}
+
+// The user's name and secret of a peer.
+#[derive(Drop)]
+pub(crate) struct Credentials {
+    pub(crate) user: Option<Credential>,
+    pub(crate) secret: Option<Credential>,
+}
+
+// How media goes to a peer.
+#[derive(Clone, Copy)]
+pub(crate) struct Media {
+    pub(crate) formats: Formats,
+    pub(crate) trunk: bool,
+    pub(crate) trunk_timestamps: bool,
+}

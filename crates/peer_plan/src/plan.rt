@@ -1,0 +1,231 @@
+//! The plan of an exchange.
+ghost use Rattle.std.specs.Prelude.{◌≡◌, ◌≢◌, ◌<◌, ◌≤◌, ◌+◌, ◌*◌, ◌^◌, length, map, All, false, IfOk, IfSome, IfNone, option_map, position, slice_get};
+ghost use Rattle.leg_machine.specs.PeerRules.{IsPeerRules, IsWithin};
+ghost use Rattle.toml.specs.View.{table_view};
+ghost use Rattle.peer_plan.specs.Fields.{Gives};
+ghost use Rattle.peer_plan.specs.Plan.{IsPlan, IsLongest, begins, range_of, counts_of, total_of};
+ghost use Rattle.peer_plan.specs.Reading.{is_endpoint, plan_in, plan_of};
+
+use crate::endpoint::Endpoint;
+use crate::error::PlanError;
+use crate::number_range::NumberRange;
+use crate::peer::Peer;
+use crate::reading;
+use crate::route::Route;
+use crate::routing::longest;
+use leg_machine::PeerRules;
+use std::alloc::{AllocError, Global};
+use std::marker::Model;
+use toml::Table;
+
+/// A plan: its workers, its peers with their numbers and rules, and its routes.
+///
+/// `read` makes it from a text and takes memory; nothing else does. A peer and a worker are named by their places,
+/// from 0 on.
+#[derive(Drop)]
+pub struct Plan {
+    workers: Vec<Endpoint>,
+    passes: u16,
+    peers: Vec<Peer>,
+    // By peer, side by side for the look through them.
+    endpoints: Vec<Endpoint>,
+    counts: Vec<u16>,
+    routes: Vec<Route>,
+}
+
+impl Model for Plan {
+    ghost use Rattle.peer_plan.specs.Plan.{PlanView};
+
+    ghost Value = { PlanView };
+
+    ghost use Rattle.peer_plan.specs.PlanFields.{plan_view, IsSound};
+
+    ghost view = { plan_view };
+
+    ghost invariant = { IsSound };
+}
+
+impl Plan {
+    ghost use Rattle.peer_plan.specs.declared.route.Route.{Route};
+
+    /// The plan of a text in TOML, of format 1 or 2, or its first fault.
+    ///
+    /// Any octets may come. The keys are judged in the order of `Key`, lists in their order.
+    pub fn read(alloc: Global, text: &[u8]) -> Result<Plan, PlanError>
+        ensures plan { Gives (λ plan. plan) result (plan_of text.now) }
+        ensures sound { IfOk result IsPlan }
+    {
+        let table = reading::document(alloc, text)?;
+        plan_in(alloc, &table)
+    }
+
+    /// The endpoints of the workers, 1 to 8.
+    pub fn workers(&self) -> &[Endpoint]
+        ensures value { result.now ≡ self.now.workers }
+        ensures sound { IsPlan self.now }
+    {
+        &self.workers
+    }
+
+    /// How many passes there are: at least as many as workers, at most 64.
+    pub fn passes(&self) -> u16
+        ensures value { result ≡ self.now.passes }
+        ensures sound { IsPlan self.now }
+    {
+        self.passes
+    }
+
+    /// How many peers there are, 1 to 32.
+    pub fn peer_count(&self) -> u16
+        ensures value { result ≡ length self.now.peers }
+        ensures sound { IsPlan self.now }
+    {
+        self.peers.len() as u16
+    }
+
+    /// How many routes there are.
+    pub fn route_count(&self) -> usize
+        ensures { result ≡ length self.now.routes }
+    {
+        self.routes.len()
+    }
+
+    /// How many numbers each peer has, 1 to 512.
+    pub fn counts(&self) -> &[u16]
+        ensures value { result.now ≡ counts_of self.now.peers }
+        ensures counts { All (IsWithin 1 512) result.now }
+        ensures sound { IsPlan self.now }
+    {
+        &self.counts
+    }
+
+    /// How many numbers all peers have, at most 16,384. Takes the time of a look at each peer.
+    pub fn number_count(&self) -> u16
+        ensures { result ≡ total_of (counts_of self.now.peers) }
+    {
+        total(&self.counts)
+    }
+
+    /// The numbers of a peer, which follow those of the peers before it. Takes the time of a look at each of these.
+    pub fn range(&self, peer: u16) -> NumberRange
+        requires { peer < length self.now.peers }
+        ensures value { result ≡ range_of (counts_of self.now.peers) peer }
+        ensures least { 1 ≤ result.first }
+        ensures most { result.first + result.count ≤ 32 * 512 + 1 }
+    {
+        let (before, rest) = self.counts.split_at(usize::from(peer));
+        NumberRange {
+            first: 1 + total(before),
+            count: rest[0],
+        }
+    }
+
+    /// The name of a peer: 1 to 32 ASCII letters, digits and dashes.
+    pub fn name(&self, peer: u16) -> &str
+        requires { peer < length self.now.peers }
+        ensures { option_map (λ peer. peer.name) (slice_get self.now.peers peer) ≡ Some result.now }
+    {
+        self.peers[usize::from(peer)].name.as_str()
+    }
+
+    /// The endpoint of a peer.
+    pub fn endpoint(&self, peer: u16) -> Endpoint
+        requires { peer < length self.now.peers }
+        ensures { option_map (λ peer. peer.endpoint) (slice_get self.now.peers peer) ≡ Some result }
+    {
+        self.peers[usize::from(peer)].endpoint
+    }
+
+    /// The place of the worker that serves a peer.
+    pub fn worker(&self, peer: u16) -> u16
+        requires { peer < length self.now.peers }
+        ensures value { option_map (λ peer. peer.worker) (slice_get self.now.peers peer) ≡ Some result }
+        ensures place { result < length self.now.workers }
+    {
+        self.peers[usize::from(peer)].worker
+    }
+
+    /// What the legs of a peer go by.
+    pub fn rules(&self, peer: u16) -> &PeerRules
+        requires { peer < length self.now.peers }
+        ensures value { option_map (λ peer. peer.rules) (slice_get self.now.peers peer) ≡ Some result.now }
+        ensures sound { IsPeerRules result.now }
+    {
+        &self.peers[usize::from(peer)].rules
+    }
+
+    /// The peer at an endpoint. Takes the time of a look at the endpoint of each peer.
+    pub fn peer_of(&self, endpoint: Endpoint) -> Option<u16>
+        ensures found { IfSome result (λ peer. option_map (λ peer. peer.endpoint) (slice_get self.now.peers peer) ≡ Some endpoint) }
+        ensures none { IfNone result (All (λ peer. peer.endpoint ≢ endpoint) self.now.peers) }
+        ensures place { IfSome result (λ peer. peer < length self.now.peers) }
+    {
+        let place = place_of(&self.endpoints, endpoint)?;
+        Some(place as u16)
+    }
+
+    /// The peer of the longest prefix that begins a called number. Takes the time of a comparison with each prefix.
+    pub fn route(&self, number: &[u8]) -> Option<u16>
+        ensures found { IfSome result (λ peer. (route : Route) × IsLongest self.now.routes number.now route × (route.peer ≡ peer)) }
+        ensures none { IfNone result (All (λ route. begins number.now route ≡ false) self.now.routes) }
+        ensures place { IfSome result (λ peer. peer < length self.now.peers) }
+    {
+        let route = longest(&self.routes, number)?;
+        Some(route.peer)
+    }
+}
+
+// The plan of a document.
+#[tactic(auto, unfolding(crate::specs::Reading::plan_in))]
+fn plan_in(alloc: Global, table: &Table) -> Result<Plan, PlanError>
+    ensures plan { Gives (λ plan. plan) result (plan_in (table_view table.now)) }
+    ensures sound { IfOk result IsPlan }
+{
+    let format = reading::format(table)?;
+    let limits = reading::limits(table)?;
+    let workers = reading::workers(alloc, table)?;
+    let worker_count = workers.len() as u64;
+    let passes = reading::passes(table, worker_count)?;
+    let peers = reading::peers(alloc, table, format, limits, worker_count)?;
+    let routes = reading::routes(alloc, table, &peers)?;
+    let endpoints = endpoints(alloc, &peers)?;
+    let counts = counts(alloc, &peers)?;
+    Ok(Plan {
+        workers,
+        passes: passes as u16,
+        peers,
+        endpoints,
+        counts,
+        routes,
+    })
+}
+
+fn endpoints(alloc: Global, peers: &[Peer]) -> Result<Vec<Endpoint>, AllocError>
+    ensures { IfOk result (λ endpoints. endpoints.items ≡ map (λ peer. peer.endpoint) peers.now) }
+{
+    peers.iter().map(|peer| peer.endpoint).collect(alloc)
+}
+
+fn counts(alloc: Global, peers: &[Peer]) -> Result<Vec<u16>, AllocError>
+    ensures { IfOk result (λ counts. counts.items ≡ counts_of peers.now) }
+{
+    peers.iter().map(|peer| peer.numbers).collect(alloc)
+}
+
+fn place_of(endpoints: &[Endpoint], endpoint: Endpoint) -> Option<usize>
+    ensures place { result ≡ position (λ other. is_endpoint other endpoint) endpoints.now }
+    ensures within { IfSome result (λ place. place < length endpoints.now) }
+{
+    endpoints.iter().position(|other| *other == endpoint)
+}
+
+fn total(counts: &[u16]) -> u16
+    requires { total_of counts.now < 2 ^ 16 }
+    ensures { result ≡ total_of counts.now }
+{
+    let mut total = 0;
+    for &count in counts {
+        total += count;
+    }
+    total
+}

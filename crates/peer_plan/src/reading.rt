@@ -1,0 +1,75 @@
+//! Reading a plan from the values of a TOML document, key by key in the order of the plan's table.
+ghost use Rattle.std.specs.Prelude.{◌≡◌, ok_or, length};
+ghost use Rattle.toml.specs.View.{table_view};
+ghost use Rattle.peer_plan.specs.Fields.{Gives, number_of, value};
+ghost use Rattle.peer_plan.specs.Reading.{document_of, limits_in, passes_in};
+
+mod fields;
+mod media;
+mod peers;
+mod routes;
+mod texts;
+mod workers;
+
+use crate::error::PlanError;
+use crate::key::Key;
+use crate::peer::Limits;
+use fields::number_at;
+pub(crate) use peers::peers;
+pub(crate) use routes::routes;
+use std::alloc::Global;
+use toml::Table;
+pub(crate) use workers::workers;
+
+// The document of a text.
+pub(crate) fn document(alloc: Global, text: &[u8]) -> Result<Table, PlanError>
+    ensures { Gives (λ table. table_view table) result (ok_or (document_of text.now) PlanError.NotToml) }
+{
+    match toml::table_from_slice(alloc, text) {
+        Ok(table) => Ok(table),
+        Err(e) => {
+            if e.is_memory() {
+                Err(PlanError::Memory)
+            } else {
+                Err(PlanError::NotToml)
+            }
+        }
+    }
+}
+
+// The number of the plan's format: 1 or 2.
+pub(crate) fn format(table: &Table) -> Result<u64, PlanError>
+    ensures { result ≡ value (table_view table.now) Key.Format (Err (PlanError.Missing Key.Format)) (number_of 1 2) }
+{
+    number_at(
+        table,
+        Key::Format,
+        Err(PlanError::Missing(Key::Format)),
+        1,
+        2,
+    )
+}
+
+// What the legs of all peers go by.
+#[tactic(auto, unfolding(crate::specs::Reading::limits_in))]
+pub(crate) fn limits(table: &Table) -> Result<Limits, PlanError>
+    ensures { Gives (λ limits. limits) result (limits_in (table_view table.now)) }
+{
+    let retry_ms = number_at(table, Key::RetryMs, Ok(1000), 1, 60_000)?;
+    let max_retries = number_at(table, Key::MaxRetries, Ok(4), 0, 20)?;
+    let ping_ms = number_at(table, Key::PingMs, Ok(20_000), 0, 600_000)?;
+    let record_limit = number_at(table, Key::RecordLimit, Ok(4096), 64, 65_536)?;
+    Ok(Limits {
+        retry_ms,
+        max_retries: max_retries as u32,
+        ping_ms,
+        record_limit: record_limit as u32,
+    })
+}
+
+// How many passes there are, with so many workers.
+pub(crate) fn passes(table: &Table, workers: u64) -> Result<u64, PlanError>
+    ensures { result ≡ passes_in workers (table_view table.now) }
+{
+    number_at(table, Key::Passes, Ok(workers), workers, 64)
+}

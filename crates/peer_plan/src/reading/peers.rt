@@ -1,0 +1,165 @@
+//! The list of peers.
+ghost use Rattle.std.specs.Prelude.{◌≡◌, ◌≤◌, []};
+ghost use Rattle.std.specs.List.{list_any};
+ghost use Rattle.toml.specs.View.{table_view, items_view};
+ghost use Rattle.peer_plan.specs.Fields.{Gives, each};
+ghost use Rattle.peer_plan.specs.Reading.{window_in, peer_in, is_named, is_endpoint, has_same_name, has_same_endpoint, peers_in};
+
+use crate::endpoint::Endpoint;
+use crate::error::PlanError;
+use crate::key::Key;
+use crate::peer::{Limits, Peer};
+use crate::reading::fields::{list_at, number_at};
+use crate::reading::media::media;
+use crate::reading::texts::{credentials, endpoint, name_at};
+use leg_machine::PeerRules;
+use std::alloc::Global;
+use toml::{Table, Value};
+
+// How many frames a leg holds at most.
+fn window(table: &Table, format: u64) -> Result<u64, PlanError>
+    ensures { result ≡ window_in format (table_view table.now) }
+{
+    if format == 2 {
+        number_at(table, Key::Window, Ok(64), 1, 127)
+    } else {
+        Ok(64)
+    }
+}
+
+#[tactic(auto, unfolding(crate::specs::Reading::peer_in))]
+fn peer(table: &Table, format: u64, limits: Limits, workers: u64) -> Result<Peer, PlanError>
+    requires some { 1 ≤ workers }
+    requires few { workers ≤ 8 }
+    ensures { result ≡ peer_in format limits workers (table_view table.now) }
+{
+    let name = name_at(table, Key::Name)?;
+    let endpoint = endpoint(table)?;
+    let worker = number_at(
+        table,
+        Key::Worker,
+        Err(PlanError::Missing(Key::Worker)),
+        0,
+        workers - 1,
+    )?;
+    let credentials = credentials(table)?;
+    let media = media(table)?;
+    let numbers = number_at(table, Key::Numbers, Ok(64), 1, 512)?;
+    let window = window(table, format)?;
+    Ok(Peer {
+        name,
+        endpoint,
+        worker: worker as u16,
+        rules: PeerRules {
+            user: credentials.user,
+            secret: credentials.secret,
+            formats: media.formats,
+            trunk: media.trunk,
+            trunk_timestamps: media.trunk_timestamps,
+            retry_ms: limits.retry_ms,
+            max_retries: limits.max_retries,
+            ping_ms: limits.ping_ms,
+            record_limit: limits.record_limit,
+            window: window as u8,
+        },
+        numbers: numbers as u16,
+    })
+}
+
+fn each_peer(
+    alloc: Global,
+    items: &[Value],
+    format: u64,
+    limits: Limits,
+    workers: u64,
+) -> Result<Vec<Peer>, PlanError>
+    requires some { 1 ≤ workers }
+    requires few { workers ≤ 8 }
+    ensures { Gives (λ peers. peers.items) result (each Key.Peer (λ _. peer_in format limits workers) [] (items_view items.now)) }
+{
+    let mut peers = Vec::with_capacity(alloc, items.len())?;
+    for item in items {
+        let Some(table) = item.as_table() else {
+            return Err(PlanError::Range(Key::Peer));
+        };
+        let next = peer(table, format, limits, workers)?;
+        peers.push(next)?;
+    }
+    Ok(peers)
+}
+
+fn is_named(peer: &Peer, name: &str) -> bool
+    ensures { result ≡ is_named name.now peer.now }
+{
+    peer.name.as_str() == name
+}
+
+fn has_name(name: &str, peers: &[Peer]) -> bool
+    ensures { result ≡ list_any (is_named name.now) peers.now }
+{
+    peers.iter().any(|peer| is_named(peer, name))
+}
+
+// Whether two peers have one name.
+fn has_same_name(peers: &[Peer]) -> bool
+    ensures { result ≡ has_same_name peers.now }
+{
+    let mut rest = peers;
+    'peers: while let Some((peer, others)) = rest.split_first() {
+        if has_name(peer.name.as_str(), others) {
+            return true;
+        }
+        rest = others;
+    }
+    false
+}
+
+fn is_at(peer: &Peer, endpoint: Endpoint) -> bool
+    ensures { result ≡ is_endpoint peer.now.endpoint endpoint }
+{
+    peer.endpoint == endpoint
+}
+
+fn has_endpoint(endpoint: Endpoint, peers: &[Peer]) -> bool
+    ensures { result ≡ list_any (λ other. is_endpoint other.endpoint endpoint) peers.now }
+{
+    peers.iter().any(|peer| is_at(peer, endpoint))
+}
+
+// Whether two peers have one endpoint.
+fn has_same_endpoint(peers: &[Peer]) -> bool
+    ensures { result ≡ has_same_endpoint peers.now }
+{
+    let mut rest = peers;
+    'peers: while let Some((peer, others)) = rest.split_first() {
+        if has_endpoint(peer.endpoint, others) {
+            return true;
+        }
+        rest = others;
+    }
+    false
+}
+
+// The peers, 1 to 32, with names and endpoints that tell them apart.
+#[tactic(auto, unfolding(crate::specs::Reading::peers_in))]
+pub(crate) fn peers(
+    alloc: Global,
+    table: &Table,
+    format: u64,
+    limits: Limits,
+    workers: u64,
+) -> Result<Vec<Peer>, PlanError>
+    requires some { 1 ≤ workers }
+    requires few { workers ≤ 8 }
+    ensures { Gives (λ peers. peers.items) result (peers_in format limits workers (table_view table.now)) }
+{
+    let items = list_at(table, Key::Peer, 32)?;
+    let peers = each_peer(alloc, items, format, limits, workers)?;
+    if has_same_name(&peers) {
+        return Err(PlanError::SameName);
+    }
+    if has_same_endpoint(&peers) {
+        return Err(PlanError::SameEndpoint);
+    }
+    Ok(peers)
+}

@@ -1,0 +1,187 @@
+//! Texts: names, prefixes, addresses, users and secrets.
+ghost use Rattle.std.specs.Prelude.{◌≡◌, Ok, Err, None, option_map, Bool};
+ghost use Rattle.std.specs.List.{list_all};
+ghost use Rattle.toml.specs.Data.{as_str};
+ghost use Rattle.toml.specs.View.{view, table_view};
+ghost use Rattle.peer_plan.specs.Fields.{Reads, text_of, number_of, value};
+ghost use Rattle.peer_plan.specs.Plan.{is_name_octet, is_name, is_visible, is_prefix};
+ghost use Rattle.peer_plan.specs.Reading.{is_credential, credential_in, credentials_in, address_in, endpoint_in};
+
+use crate::address::address;
+use crate::endpoint::Endpoint;
+use crate::error::PlanError;
+use crate::key::Key;
+use crate::peer::Credentials;
+use crate::reading::fields::{member, number_at};
+use crate::short_text::ShortText;
+use leg_machine::Credential;
+use toml::{Table, Value};
+
+fn is_name_octet(octet: u8) -> bool
+    ensures { result ≡ is_name_octet octet }
+{
+    octet.is_ascii_alphanumeric() || octet == b'-'
+}
+
+fn are_name_octets(text: &[u8]) -> bool
+    ensures { result ≡ list_all is_name_octet text.now }
+{
+    text.iter().all(|octet| is_name_octet(*octet))
+}
+
+// Whether a text is 1 to 32 letters, digits and dashes.
+fn is_name(text: &str) -> bool
+    ensures { result ≡ is_name text.now }
+{
+    1 <= text.len() && text.len() <= 32 && are_name_octets(text.as_bytes())
+}
+
+fn are_visible(text: &[u8]) -> bool
+    ensures { result ≡ list_all is_visible text.now }
+{
+    text.iter().all(|octet| 0x21 <= *octet && *octet <= 0x7e)
+}
+
+// Whether a text is at most 32 octets of visible ASCII.
+fn is_prefix(text: &str) -> bool
+    ensures { result ≡ is_prefix text.now }
+{
+    text.len() <= 32 && are_visible(text.as_bytes())
+}
+
+fn name(found: &Value) -> Option<ShortText>
+    ensures { result ≡ text_of is_name (view found.now) }
+{
+    match found {
+        Value::String(text) => {
+            let text = text.as_str();
+            if is_name(text) {
+                Some(ShortText::new(text))
+            } else {
+                None
+            }
+        }
+        _ => None,
+    }
+}
+
+// The name at a key.
+pub(crate) fn name_at(table: &Table, key: Key) -> Result<ShortText, PlanError>
+    ensures { result ≡ value (table_view table.now) key (Err (PlanError.Missing key)) (text_of is_name) }
+{
+    match member(table, key) {
+        Some(found) => name(found).ok_or(PlanError::Range(key)),
+        None => Err(PlanError::Missing(key)),
+    }
+}
+
+fn prefix(found: &Value) -> Option<ShortText>
+    ensures { result ≡ text_of is_prefix (view found.now) }
+{
+    match found {
+        Value::String(text) => {
+            let text = text.as_str();
+            if is_prefix(text) {
+                Some(ShortText::new(text))
+            } else {
+                None
+            }
+        }
+        _ => None,
+    }
+}
+
+// The prefix at a key.
+pub(crate) fn prefix_at(table: &Table, key: Key) -> Result<ShortText, PlanError>
+    ensures { result ≡ value (table_view table.now) key (Err (PlanError.Missing key)) (text_of is_prefix) }
+{
+    match member(table, key) {
+        Some(found) => prefix(found).ok_or(PlanError::Range(key)),
+        None => Err(PlanError::Missing(key)),
+    }
+}
+
+// Any text at a key.
+pub(crate) fn text_at(table: &Table, key: Key) -> Result<&str, PlanError>
+    ensures { Reads (λ text. text.now) result (value (table_view table.now) key (Err (PlanError.Missing key)) as_str) }
+{
+    match member(table, key) {
+        Some(found) => found.as_str().ok_or(PlanError::Range(key)),
+        None => Err(PlanError::Missing(key)),
+    }
+}
+
+fn address_of(found: &Value) -> Option<[u8; 4]>
+    ensures { result ≡ address_in (view found.now) }
+{
+    address(found.as_str()?.as_bytes())
+}
+
+fn address_at(table: &Table, key: Key) -> Result<[u8; 4], PlanError>
+    ensures { result ≡ value (table_view table.now) key (Err (PlanError.Missing key)) address_in }
+{
+    match member(table, key) {
+        Some(found) => address_of(found).ok_or(PlanError::Range(key)),
+        None => Err(PlanError::Missing(key)),
+    }
+}
+
+// The endpoint that a table has as address and port.
+#[tactic(auto, unfolding(crate::specs::Reading::endpoint_in))]
+pub(crate) fn endpoint(table: &Table) -> Result<Endpoint, PlanError>
+    ensures { result ≡ endpoint_in (table_view table.now) }
+{
+    let address = address_at(table, Key::Address)?;
+    let port = number_at(
+        table,
+        Key::Port,
+        Err(PlanError::Missing(Key::Port)),
+        1,
+        65_535,
+    )?;
+    Ok(Endpoint {
+        address,
+        port: port as u16,
+    })
+}
+
+fn credential(found: &Value) -> Option<Credential>
+    ensures { result ≡ text_of is_credential (view found.now) }
+{
+    match found {
+        Value::String(text) => Credential::new(text.as_str().as_bytes()),
+        _ => None,
+    }
+}
+
+// The credential at a key, or what stands for it where it is absent.
+fn credential_at(
+    table: &Table,
+    key: Key,
+    absent: Result<Option<Credential>, PlanError>,
+) -> Result<Option<Credential>, PlanError>
+    ensures { result ≡ value (table_view table.now) key absent credential_in }
+{
+    match member(table, key) {
+        Some(found) => match credential(found) {
+            Some(credential) => Ok(Some(credential)),
+            None => Err(PlanError::Range(key)),
+        },
+        None => absent,
+    }
+}
+
+// The user and the secret of a peer: a secret needs a user.
+#[tactic(auto, unfolding(crate::specs::Reading::credentials_in))]
+pub(crate) fn credentials(table: &Table) -> Result<Credentials, PlanError>
+    ensures { result ≡ credentials_in (table_view table.now) }
+{
+    let no_user = if member(table, Key::Secret).is_some() {
+        Err(PlanError::Missing(Key::User))
+    } else {
+        Ok(None)
+    };
+    let user = credential_at(table, Key::User, no_user)?;
+    let secret = credential_at(table, Key::Secret, Ok(None))?;
+    Ok(Credentials { user, secret })
+}

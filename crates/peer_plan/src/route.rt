@@ -1,0 +1,12 @@
+//! Routes: which peer a called number leads to.
+
+use crate::short_text::ShortText;
+
+// Called numbers that begin with the prefix lead to the peer.
+#[derive(Drop)]
+pub(crate) struct Route {
+    // At most 32 octets 0x21 ..= 0x7e.
+    pub(crate) prefix: ShortText,
+    // The place of the peer.
+    pub(crate) peer: u16,
+}

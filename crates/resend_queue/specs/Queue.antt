@@ -1,0 +1,9 @@
+-- What a contract sees of a queue of held frames ("Message Transport").
+use Rattle.std.specs.Prelude.{ℕ, List}
+use Rattle.resend_queue.specs.declared.held_frame.Held.{Held}
+
+pub record Queue : Type 0 where
+  -- the oldest first
+  pub held : List Held
+  -- how many there may be
+  pub width : ℕ

@@ -1,0 +1,15 @@
+//! A frame that waits for its acknowledgement.
+
+use iax_frames::Frame;
+
+/// A full frame that was sent with a sequence number and isn't acknowledged yet.
+#[derive(Debug, Drop)]
+pub struct Held {
+    /// The octet of its sequence number, OSeqno.
+    pub number: u8,
+    pub frame: Frame,
+    /// The moment when it was last sent, in milliseconds.
+    pub last: u64,
+    /// How often it was sent again because it was due.
+    pub tries: u32,
+}

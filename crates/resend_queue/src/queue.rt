@@ -1,0 +1,128 @@
+//! The frames that wait, the oldest first.
+
+ghost use Rattle.std.specs.Prelude.{◌≡◌, ℕ, ◌≤◌, ◌<◌, ◌↔◌, ◌++◌, ◌∷◌, ◌==◌, [], length, drop, map, position, slice_get, option_copied, IfOk, IfSome, OnOk, IfErr, IsOk};
+ghost use Rattle.resend_queue.specs.Timing.{is_due, marked, touched, changed_at};
+
+use crate::held_frame::Held;
+use circular_buffer::HeapCircularBuffer;
+use std::alloc::{AllocError, Global};
+use std::marker::Model;
+
+/// The queue holds as many frames as it can.
+#[derive(Clone, Copy, Debug, PartialEq, Eq)]
+pub struct NoPlace;
+
+/// Frames that wait for their acknowledgement, in the order of their sequence numbers.
+///
+/// Contracts see them as a list, the oldest first, and how many there may be. Only `new` takes memory.
+#[derive(Drop)]
+pub struct Resend {
+    ring: HeapCircularBuffer<Held>,
+}
+
+impl Model for Resend {
+    ghost use Rattle.resend_queue.specs.Queue.{Queue};
+
+    ghost Value = { Queue };
+
+    ghost view = { λ q. record { held = q.ring.items; width = q.ring.capacity } };
+}
+
+impl Resend {
+    /// A queue with room for `width` frames, 1..=127.
+    pub fn new(alloc: Global, width: u8) -> Result<Self, AllocError>
+        requires some { 1 ≤ width }
+        requires most { width ≤ 127 }
+        ensures { IfOk result (λ q. q ≡ record { held = []; width = width }) }
+    {
+        let ring = HeapCircularBuffer::with_capacity(alloc, width as usize)?;
+        Ok(Resend { ring })
+    }
+
+    /// How many frames wait.
+    pub fn len(&self) -> usize
+        ensures len { result ≡ length self.now.held }
+        ensures within { result ≤ self.now.width }
+    {
+        self.ring.len()
+    }
+
+    /// Whether no frame waits.
+    pub fn is_empty(&self) -> bool
+        ensures { result ≡ (length self.now.held == 0) }
+    {
+        self.ring.is_empty()
+    }
+
+    /// Adds a frame as the youngest. A full queue hands it back.
+    pub fn push(&mut self, held: Held) -> Result<(), (Held, NoPlace)>
+        ensures variant { IsOk result ↔ (length self.old.held < self.old.width) }
+        ensures ok { OnOk result (self.new ≡ record { held = self.old.held ++ held ∷ []; width = self.old.width }) }
+        ensures err { IfErr result (λ e. (e.0 ≡ held) × (self.new ≡ self.old)) }
+    {
+        match self.ring.try_push_back(held) {
+            Ok(()) => Ok(()),
+            Err(held) => Err((held, NoPlace)),
+        }
+    }
+
+    /// Drops the `count` oldest frames.
+    pub fn drop_front(&mut self, count: usize)
+        requires { count ≤ length self.old.held }
+        ensures { self.new ≡ record { held = drop count self.old.held; width = self.old.width } }
+    {
+        let len = self.len();
+        self.ring.truncate_front(len - count);
+    }
+
+    /// The first place whose frame was last sent `retry_ms` milliseconds before `now`, or earlier.
+    pub fn due(&self, now: u64, retry_ms: u64) -> Option<usize>
+        ensures first { result ≡ position (is_due now retry_ms) self.now.held }
+        ensures place { IfSome result (λ place. place < length self.now.held) }
+    {
+        self.ring
+            .iter()
+            .position(|held| now >= held.last && now - held.last >= retry_ms)
+    }
+
+    /// The frame at a place, 0 for the oldest.
+    pub fn get(&self, place: usize) -> Option<&Held>
+        ensures { option_copied result ≡ slice_get self.now.held place }
+    {
+        self.ring.get(place)
+    }
+
+    /// The frame at a place is sent again at this moment, and counts it as a try, up to 2^32 - 1 tries.
+    #[tactic(auto, using(crate::proofs::Changes::changed_none))]
+    pub fn mark(&mut self, place: usize, now: u64)
+        requires { place < length self.old.held }
+        ensures { self.new ≡ record { held = changed_at (marked now) place self.old.held; width = self.old.width } }
+    {
+        let Some(held) = self.ring.get_mut(place) else {
+            return;
+        };
+        held.last = now;
+        held.tries = held.tries.saturating_add(1);
+    }
+
+    /// The frame at a place is sent again at this moment, which is no try.
+    #[tactic(auto, using(crate::proofs::Changes::changed_none))]
+    pub fn touch(&mut self, place: usize, now: u64)
+        requires { place < length self.old.held }
+        ensures { self.new ≡ record { held = changed_at (touched now) place self.old.held; width = self.old.width } }
+    {
+        let Some(waiting) = self.ring.get_mut(place) else {
+            return;
+        };
+        waiting.last = now;
+    }
+
+    /// Each frame is sent again at this moment, which is no try.
+    pub fn touch_all(&mut self, now: u64)
+        ensures { self.new ≡ record { held = map (touched now) self.old.held; width = self.old.width } }
+    {
+        for place in 0..self.len() {
+            self.touch(place, now);
+        }
+    }
+}

@@ -1,0 +1,71 @@
+-- The entries of a record's heads.
+use Rattle.std.proofs.Common.{◌≡◌, ℕ, ◌+◌, ◌-◌, ◌≤◌, suc, List, [], ◌∷◌, ◌++◌, length, take, drop, refl, ap, ◌∙◌, arith, length-drop}
+use Rattle.std.proofs.lemmas.List.{take-append-le, drop-append-le, map-append}
+use Rattle.std.proofs.lemmas.List.Sums.{sum_by-cons}
+use Rattle.std.specs.Prelude.{slice_range, sum_by, All, max}
+use Rattle.seq_window.specs.declared.history.Head.{Head}
+use Rattle.seq_window.specs.declared.history.Head.TheVariants as head
+use Rattle.seq_window.specs.declared.history.FrameHead.{FrameHead}
+use Rattle.seq_window.specs.Entry.{Entry, Sent, Taken}
+use Rattle.seq_window.specs.History.{sent_count, acked_count, taken_count}
+use Rattle.seq_window.specs.Record.{RecordState}
+use Rattle.seq_window.specs.RecordFields.{frame_at, entry_at, entries_in, EndsBelow, sent_by, acked_by, taken_by}
+
+pub sent_count-heads : (octets : List ℕ) (heads : List Head) → sum_by sent_by heads ≡ sent_count (entries_in octets heads)
+sent_count-heads octets [] = refl
+sent_count-heads octets (head.Sent h ∷ heads) = let rest : sum_by sent_by heads ≡ sent_count (entries_in octets heads) = sent_count-heads octets heads in omega (arith, sum_by-cons sent_by (head.Sent h) heads)
+sent_count-heads octets (head.Acked count ∷ heads) = let rest : sum_by sent_by heads ≡ sent_count (entries_in octets heads) = sent_count-heads octets heads in omega (arith, sum_by-cons sent_by (head.Acked count) heads)
+sent_count-heads octets (head.Taken h ∷ heads) = let rest : sum_by sent_by heads ≡ sent_count (entries_in octets heads) = sent_count-heads octets heads in omega (arith, sum_by-cons sent_by (head.Taken h) heads)
+
+pub acked_count-heads : (octets : List ℕ) (heads : List Head) → sum_by acked_by heads ≡ acked_count (entries_in octets heads)
+acked_count-heads octets [] = refl
+acked_count-heads octets (head.Sent h ∷ heads) = let rest : sum_by acked_by heads ≡ acked_count (entries_in octets heads) = acked_count-heads octets heads in omega (arith, sum_by-cons acked_by (head.Sent h) heads)
+acked_count-heads octets (head.Acked count ∷ heads) = let rest : sum_by acked_by heads ≡ acked_count (entries_in octets heads) = acked_count-heads octets heads in omega (arith, sum_by-cons acked_by (head.Acked count) heads)
+acked_count-heads octets (head.Taken h ∷ heads) = let rest : sum_by acked_by heads ≡ acked_count (entries_in octets heads) = acked_count-heads octets heads in omega (arith, sum_by-cons acked_by (head.Taken h) heads)
+
+pub taken_count-heads : (octets : List ℕ) (heads : List Head) → sum_by taken_by heads ≡ taken_count (entries_in octets heads)
+taken_count-heads octets [] = refl
+taken_count-heads octets (head.Sent h ∷ heads) = let rest : sum_by taken_by heads ≡ taken_count (entries_in octets heads) = taken_count-heads octets heads in omega (arith, sum_by-cons taken_by (head.Sent h) heads)
+taken_count-heads octets (head.Acked count ∷ heads) = let rest : sum_by taken_by heads ≡ taken_count (entries_in octets heads) = taken_count-heads octets heads in omega (arith, sum_by-cons taken_by (head.Acked count) heads)
+taken_count-heads octets (head.Taken h ∷ heads) = let rest : sum_by taken_by heads ≡ taken_count (entries_in octets heads) = taken_count-heads octets heads in omega (arith, sum_by-cons taken_by (head.Taken h) heads)
+
+-- a frame stays where it lies, whatever comes after
+frame_at-more : (octets more : List ℕ) (h : FrameHead) → h.start + h.len ≤ length octets → frame_at (octets ++ more) h ≡ frame_at octets h
+frame_at-more octets more h within =
+    let skipped : drop h.start (octets ++ more) ≡ drop h.start octets ++ more = drop-append-le h.start octets more (omega arith) in
+    let kept : slice_range (octets ++ more) h.start (h.start + h.len) ≡ slice_range octets h.start (h.start + h.len)
+    = ap (take (h.start + h.len - h.start)) skipped ∙ take-append-le (h.start + h.len - h.start) (drop h.start octets) more (omega (arith, length-drop h.start octets)) in
+    rw kept refl
+
+entry_at-more : (octets more : List ℕ) (h : Head) → EndsBelow (length octets) h → entry_at (octets ++ more) h ≡ entry_at octets h
+entry_at-more octets more (head.Sent h) within = ap (λ f. Sent f) (frame_at-more octets more h within)
+entry_at-more octets more (head.Acked count) within = refl
+entry_at-more octets more (head.Taken h) within = ap (λ f. Taken f) (frame_at-more octets more h within)
+
+entries_in-more : (octets more : List ℕ) (heads : List Head) → All (EndsBelow (length octets)) heads → entries_in (octets ++ more) heads ≡ entries_in octets heads
+entries_in-more octets more [] within = refl
+entries_in-more octets more (h ∷ heads) within =
+    let first : EndsBelow (length octets) h = within 0 h (omega arith) in
+    let rest : All (EndsBelow (length octets)) heads = λ k d lt. within (suc k) d (omega arith) in
+    ap (λ e. e ∷ entries_in (octets ++ more) heads) (entry_at-more octets more h first)
+    ∙ ap (λ es. entry_at octets h ∷ es) (entries_in-more octets more heads rest)
+
+same_state : (es fs : List Entry) (m n : ℕ) → es ≡ fs → m ≡ n → let a : RecordState = record { entries = es; spare = m } in let b : RecordState = record { entries = fs; spare = n } in a ≡ b
+same_state es fs m n entries spare = rw (entries, spare) refl
+
+-- a record that has room, with one more head and its octets
+pub pushed : (old room : RecordState) (octets more grown_octets : List ℕ) (heads grown_heads : List Head) (h : Head) (entry : Entry) (spare : ℕ)
+    → (let there : RecordState = record { entries = entries_in octets heads; spare = spare } in there ≡ room)
+    → room.entries ≡ old.entries → room.spare ≡ max old.spare 1
+    → All (EndsBelow (length octets)) heads → grown_octets ≡ octets ++ more → grown_heads ≡ heads ++ h ∷ []
+    → entry_at grown_octets h ≡ entry
+    → let new : RecordState = record { entries = entries_in grown_octets grown_heads; spare = spare - 1 } in
+    let wanted : RecordState = record { entries = old.entries ++ entry ∷ []; spare = old.spare - 1 } in new ≡ wanted
+pushed old room octets more grown_octets heads grown_heads h entry spare view same spared within octets_is heads_is at =
+    let entries_are : entries_in octets heads ≡ old.entries = ap (λ (r : RecordState). r.entries) view ∙ same in
+    let spare_is : spare ≡ room.spare = ap (λ (r : RecordState). r.spare) view in
+    let kept : entries_in grown_octets heads ≡ entries_in octets heads = rw octets_is (entries_in-more octets more heads within) in
+    same_state (entries_in grown_octets grown_heads) (old.entries ++ entry ∷ []) (spare - 1) (old.spare - 1)
+    (ap (entries_in grown_octets) heads_is ∙ map-append (entry_at grown_octets) heads (h ∷ []) ∙ ap (λ es. es ++ entry_at grown_octets h ∷ []) (kept ∙ entries_are)
+    ∙ ap (λ e. old.entries ++ e ∷ []) at)
+    (omega arith)

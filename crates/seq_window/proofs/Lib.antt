@@ -1,0 +1,10 @@
+pub mod Numbers
+pub mod Places
+pub mod Records
+pub mod Kept
+pub mod Sound
+pub mod Heads
+pub mod InStep
+pub mod Rounds
+pub mod Actions
+pub mod Turns

@@ -1,0 +1,9 @@
+pub mod Entry
+pub mod History
+pub mod Network
+pub mod Record
+pub mod RecordFields
+pub mod Sequence
+pub mod Turn
+pub mod Window
+pub mod WindowFields

@@ -1,0 +1,23 @@
+-- What a contract sees of a record.
+use Rattle.std.specs.Prelude.{ℕ, List}
+use Rattle.iax_frames.specs.declared.stored_frame.Frame.{Frame}
+use Rattle.seq_window.specs.declared.history.FrameView.{FrameView}
+use Rattle.seq_window.specs.declared.history.EntryView.{EntryView}
+use Rattle.seq_window.specs.declared.history.EntryView.TheVariants as view
+use Rattle.seq_window.specs.Entry.{Entry, Sent, Acked, Taken}
+
+pub record RecordState : Type 0 where
+  -- from the first
+  pub entries : List Entry
+  -- how many more it takes without asking for memory
+  pub spare : ℕ
+
+-- the frame that is looked at
+abbrev pub frame_of : FrameView → Frame
+frame_of v = record { ts = v.ts; kind = v.kind; subclass = v.subclass; payload = v.payload.now }
+
+-- the entry that is looked at
+abbrev pub entry_of : EntryView → Entry
+entry_of (view.Sent v) = Sent (frame_of v)
+entry_of (view.Acked count) = Acked count
+entry_of (view.Taken v) = Taken (frame_of v)

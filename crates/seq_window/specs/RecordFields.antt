@@ -1,0 +1,55 @@
+-- How a record lies in memory.
+use Rattle.std.specs.Prelude.{ℕ, ◌+◌, ◌*◌, ◌≤◌, List, length, map, All, slice_range}
+use Rattle.std.specs.Vec.{vec_capacity}
+use Rattle.iax_frames.specs.declared.stored_frame.Frame.{Frame}
+use Rattle.seq_window.specs.declared.history.Head.{Head}
+use Rattle.seq_window.specs.declared.history.Head.TheVariants as head
+use Rattle.seq_window.specs.declared.history.FrameHead.{FrameHead}
+use Rattle.seq_window.specs.declared.history.Record.TheInside.{Inside}
+use Rattle.seq_window.specs.Entry.{Entry, Sent, Acked, Taken}
+use Rattle.seq_window.specs.Record.{RecordState}
+
+-- the frame of a head among the octets of all frames
+abbrev pub frame_at : List ℕ → FrameHead → Frame
+frame_at octets h =
+    record { ts = h.ts; kind = h.kind; subclass = h.subclass; payload = slice_range octets h.start (h.start + h.len) }
+
+abbrev pub entry_at : List ℕ → Head → Entry
+entry_at octets (head.Sent h) = Sent (frame_at octets h)
+entry_at octets (head.Acked count) = Acked count
+entry_at octets (head.Taken h) = Taken (frame_at octets h)
+
+abbrev pub entries_in : List ℕ → List Head → List Entry
+entries_in octets heads = map (entry_at octets) heads
+
+-- what a head counts as sent, as acknowledged and as taken
+abbrev pub sent_by : Head → ℕ
+sent_by (head.Sent h) = 1
+sent_by (head.Acked count) = 0
+sent_by (head.Taken h) = 0
+
+abbrev pub acked_by : Head → ℕ
+acked_by (head.Sent h) = 0
+acked_by (head.Acked count) = count
+acked_by (head.Taken h) = 0
+
+abbrev pub taken_by : Head → ℕ
+taken_by (head.Sent h) = 0
+taken_by (head.Acked count) = 0
+taken_by (head.Taken h) = 1
+
+abbrev pub record_of : Inside → RecordState
+record_of r = record { entries = entries_in r.octets.items r.heads.items; spare = r.spare }
+
+-- the octets of a head lie below this
+abbrev pub EndsBelow : ℕ → Head → Type 0
+EndsBelow len (head.Sent h) = h.start + h.len ≤ len
+EndsBelow len (head.Acked count) = Unit {0}
+EndsBelow len (head.Taken h) = h.start + h.len ≤ len
+
+pub record IsRecord (r : Inside) : Type 0 where
+  pub within : All (EndsBelow (length r.octets.items)) r.heads.items
+  pub short : length r.octets.items ≤ 1388 * length r.heads.items
+  pub few : length r.heads.items ≤ 65536
+  pub head_room : length r.heads.items + r.spare ≤ vec_capacity r.heads
+  pub octet_room : length r.octets.items + 1388 * r.spare ≤ vec_capacity r.octets

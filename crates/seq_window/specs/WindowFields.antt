@@ -1,0 +1,41 @@
+-- How a window lies in memory.
+use Rattle.std.specs.Prelude.{◌≡◌, ℕ, ◌+◌, ◌≤◌, List, [], ◌∷◌, map}
+use Rattle.iax_frames.specs.declared.stored_frame.Frame.{Frame}
+use Rattle.resend_queue.specs.declared.held_frame.Held.{Held}
+use Rattle.seq_window.specs.declared.sliding_window.Window.TheInside.{Inside}
+use Rattle.seq_window.specs.History.{sent_count, taken_count, acked_count, held, IsLegal}
+use Rattle.seq_window.specs.Sequence.{byte_of}
+use Rattle.seq_window.specs.Window.{Sending, Window}
+
+abbrev pub sending_of : Held → Sending
+sending_of h = record { last = h.last; tries = h.tries }
+
+-- these are kept for those frames, whose numbers begin at first
+abbrev pub AreHeld : ℕ → List Held → List Frame → Type 0
+AreHeld first [] [] = Unit {0}
+AreHeld first [] (frame ∷ frames) = ⊥
+AreHeld first (h ∷ hs) [] = ⊥
+AreHeld first (h ∷ hs) (frame ∷ frames) = (h.number ≡ byte_of first) × (h.frame ≡ frame) × AreHeld (first + 1) hs frames
+
+abbrev pub window_of : Inside → Window
+window_of w = record {
+  state = record {
+    history = w.history.entries;
+    width = w.width;
+    limit = w.limit;
+    sendings = map sending_of w.held.held;
+  };
+  spare = w.history.spare;
+}
+
+pub record IsSound (w : Inside) : Type 0 where
+  pub legal : IsLegal w.width w.limit w.history.entries
+  pub kept : AreHeld (acked_count w.history.entries) w.held.held (held w.history.entries)
+  pub next : w.next ≡ byte_of (sent_count w.history.entries)
+  pub oldest : w.oldest ≡ byte_of (acked_count w.history.entries)
+  pub expected : w.expected ≡ byte_of (taken_count w.history.entries)
+  pub some : 1 ≤ w.width
+  pub narrow : w.width ≤ 127
+  pub least : 64 ≤ w.limit
+  pub most : w.limit ≤ 65536
+  pub room : w.held.width ≡ w.width

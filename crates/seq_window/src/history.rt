@@ -1,0 +1,305 @@
+//! The record of a leg: what it sent, what was acknowledged and what it took.
+
+ghost use Rattle.std.specs.Prelude.{◌≡◌, ◌+◌, ◌-◌, ◌*◌, ◌<◌, ◌≤◌, ◌==◌, [], ◌∷◌, ◌++◌, length, slice_get, IsOk, OnOk, OnErr, max, sum_by};
+ghost use Rattle.std.specs.Option.{option_map};
+ghost use Rattle.seq_window.specs.Entry.{Sent as EntrySent, Acked as EntryAcked, Taken as EntryTaken};
+ghost use Rattle.seq_window.specs.History.{sent_count, acked_count, taken_count};
+ghost use Rattle.seq_window.specs.Record.{entry_of, frame_of};
+ghost use Rattle.seq_window.specs.RecordFields.{frame_at, sent_by, acked_by, taken_by};
+ghost use Rattle.std.specs.Vec.{vec_capacity};
+
+use iax_frames::Frame;
+use std::alloc::{AllocError, Global};
+use std::marker::Model;
+
+/// One entry of a record, looked at where it lies.
+#[derive(Clone, Copy, Debug)]
+pub enum EntryView<'a> {
+    /// This frame was sent with the next sequence number.
+    Sent(FrameView<'a>),
+    /// So many of the held frames were acknowledged.
+    Acked(u32),
+    /// This frame of the other side was taken.
+    Taken(FrameView<'a>),
+}
+
+/// A full frame of a record, looked at where it lies.
+#[derive(Clone, Copy, Debug)]
+pub struct FrameView<'a> {
+    /// In milliseconds from the opening of the call.
+    pub ts: u32,
+    pub kind: u8,
+    /// The octet of C and subclass.
+    pub subclass: u8,
+    /// At most 1,388 octets.
+    pub payload: &'a [u8],
+}
+
+// An entry without the octets of its frame.
+#[derive(Clone, Copy)]
+enum Head {
+    Sent(FrameHead),
+    Acked(u32),
+    Taken(FrameHead),
+}
+
+#[derive(Clone, Copy)]
+struct FrameHead {
+    ts: u32,
+    kind: u8,
+    subclass: u8,
+    // Where its octets lie among those of the record.
+    start: u32,
+    len: u16,
+}
+
+impl Head {
+    // The frames that the entry counts as sent.
+    fn sent(&self) -> usize
+        ensures { result ≡ sent_by self.now }
+    {
+        match self {
+            Head::Sent(_) => 1,
+            _ => 0,
+        }
+    }
+
+    // The frames that the entry counts as acknowledged.
+    fn acked(&self) -> u32
+        ensures { result ≡ acked_by self.now }
+    {
+        match self {
+            Head::Acked(count) => *count,
+            _ => 0,
+        }
+    }
+
+    // The frames that the entry counts as taken.
+    fn taken(&self) -> usize
+        ensures { result ≡ taken_by self.now }
+    {
+        match self {
+            Head::Taken(_) => 1,
+            _ => 0,
+        }
+    }
+}
+
+/// What a leg sent, what was acknowledged and what it took, in order.
+///
+/// Frames are stored at their own length. Contracts see a list of entries, and how many more it takes without asking for
+/// memory.
+#[derive(Drop)]
+pub struct Record {
+    heads: Vec<Head>,
+    // The octets of all frames, one after another.
+    octets: Vec<u8>,
+    // For so many more entries there is room.
+    spare: usize,
+}
+
+// The most octets that a frame carries.
+const MAX_PAYLOAD: usize = 1388;
+
+impl Model for Record {
+    ghost use Rattle.seq_window.specs.Record.{RecordState};
+
+    ghost Value = { RecordState };
+
+    ghost use Rattle.seq_window.specs.RecordFields.{record_of, IsRecord};
+
+    ghost view = { record_of };
+
+    ghost invariant = { IsRecord };
+}
+
+impl Record {
+    /// An empty record.
+    pub(crate) fn new(alloc: Global) -> Self
+        ensures { result ≡ record { entries = []; spare = 0 } }
+    {
+        Record {
+            heads: Vec::new(alloc),
+            octets: Vec::new(alloc),
+            spare: 0,
+        }
+    }
+
+    /// How many entries there are.
+    pub fn len(&self) -> usize
+        ensures len { result ≡ length self.now.entries }
+        ensures most { result ≤ 65536 }
+    {
+        self.heads.len()
+    }
+
+    /// Whether there is no entry.
+    pub fn is_empty(&self) -> bool
+        ensures { result ≡ (length self.now.entries == 0) }
+    {
+        self.heads.is_empty()
+    }
+
+    /// Makes room for `count` more entries.
+    pub(crate) fn reserve(&mut self, count: usize) -> Result<(), AllocError>
+        ensures entries { self.new.entries ≡ self.old.entries }
+        ensures spare { OnOk result (self.new.spare ≡ max self.old.spare count) }
+        ensures had_room { count ≤ self.old.spare → IsOk result }
+        ensures err { OnErr result (self.new ≡ self.old) }
+    {
+        if count <= self.spare {
+            return Ok(());
+        }
+        let Some(octets) = count.checked_mul(MAX_PAYLOAD) else {
+            return Err(AllocError);
+        };
+        self.heads.reserve(count)?;
+        self.octets.reserve(octets)?;
+        self.spare = count;
+        Ok(())
+    }
+
+    /// Adds the entry of a frame that is sent. Only where nothing is spare it may ask for memory.
+    pub(crate) fn push_sent(&mut self, frame: &Frame) -> Result<(), AllocError>
+        requires { length self.old.entries < 65536 }
+        ensures ok { OnOk result (self.new ≡ record { entries = self.old.entries ++ EntrySent frame.now ∷ []; spare = self.old.spare - 1 }) }
+        ensures memory { OnErr result (self.old.spare ≡ 0) }
+        ensures err { OnErr result (self.new ≡ self.old) }
+    {
+        self.reserve(1)?;
+        let head = push_octets(&mut self.octets, frame);
+        self.heads.push_reserved(Head::Sent(head));
+        self.spare -= 1;
+        Ok(())
+    }
+
+    /// Adds the entry of an acknowledgement. Only where nothing is spare it may ask for memory.
+    pub(crate) fn push_acked(&mut self, count: u32) -> Result<(), AllocError>
+        requires { length self.old.entries < 65536 }
+        ensures ok { OnOk result (self.new ≡ record { entries = self.old.entries ++ EntryAcked count ∷ []; spare = self.old.spare - 1 }) }
+        ensures memory { OnErr result (self.old.spare ≡ 0) }
+        ensures err { OnErr result (self.new ≡ self.old) }
+    {
+        self.reserve(1)?;
+        self.heads.push_reserved(Head::Acked(count));
+        self.spare -= 1;
+        Ok(())
+    }
+
+    /// Adds the entry of a frame that is taken. Only where nothing is spare it may ask for memory.
+    pub(crate) fn push_taken(&mut self, frame: &Frame) -> Result<(), AllocError>
+        requires { length self.old.entries < 65536 }
+        ensures ok { OnOk result (self.new ≡ record { entries = self.old.entries ++ EntryTaken frame.now ∷ []; spare = self.old.spare - 1 }) }
+        ensures memory { OnErr result (self.old.spare ≡ 0) }
+        ensures err { OnErr result (self.new ≡ self.old) }
+    {
+        self.reserve(1)?;
+        let head = push_octets(&mut self.octets, frame);
+        self.heads.push_reserved(Head::Taken(head));
+        self.spare -= 1;
+        Ok(())
+    }
+
+    /// The entry at a place, 0 for the first.
+    pub fn entry(&self, place: usize) -> Option<EntryView<'_>>
+        ensures { option_map entry_of result ≡ slice_get self.now.entries place }
+    {
+        match *self.heads.get(place)? {
+            Head::Sent(head) => Some(EntryView::Sent(frame_in(self.octets.as_slice(), head))),
+            Head::Acked(count) => Some(EntryView::Acked(count)),
+            Head::Taken(head) => Some(EntryView::Taken(frame_in(self.octets.as_slice(), head))),
+        }
+    }
+
+    /// How many frames were sent with a number.
+    pub fn sent_count(&self) -> usize
+        ensures { result ≡ sent_count self.now.entries }
+    {
+        sent_in(self.heads.as_slice())
+    }
+
+    /// How many of the sent frames were acknowledged: the sum over the entries.
+    pub fn acked_count(&self) -> usize
+        ensures { result ≡ acked_count self.now.entries }
+    {
+        acked_in(self.heads.as_slice())
+    }
+
+    /// How many frames of the other side were taken.
+    pub fn taken_count(&self) -> usize
+        ensures { result ≡ taken_count self.now.entries }
+    {
+        taken_in(self.heads.as_slice())
+    }
+}
+
+fn sent_in(heads: &[Head]) -> usize
+    requires { length heads.now ≤ 65536 }
+    ensures { result ≡ sum_by sent_by heads.now }
+{
+    let mut count = 0;
+    for head in heads {
+        count += head.sent();
+    }
+    count
+}
+
+fn acked_in(heads: &[Head]) -> usize
+    requires { length heads.now ≤ 65536 }
+    ensures { result ≡ sum_by acked_by heads.now }
+{
+    let mut count = 0;
+    for head in heads {
+        count += head.acked() as usize;
+    }
+    count
+}
+
+fn taken_in(heads: &[Head]) -> usize
+    requires { length heads.now ≤ 65536 }
+    ensures { result ≡ sum_by taken_by heads.now }
+{
+    let mut count = 0;
+    for head in heads {
+        count += head.taken();
+    }
+    count
+}
+
+// The frame of a head among the octets of a record.
+fn frame_in(octets: &[u8], head: FrameHead) -> FrameView<'_>
+    requires { head.start + head.len ≤ length octets.now }
+    ensures { frame_of result ≡ frame_at octets.now head }
+{
+    let start = head.start as usize;
+    FrameView {
+        ts: head.ts,
+        kind: head.kind,
+        subclass: head.subclass,
+        payload: &octets[start..start + head.len as usize],
+    }
+}
+
+// Appends the octets of a frame, for which there is room.
+fn push_octets(octets: &mut Vec<u8>, frame: &Frame) -> FrameHead
+    requires room { length octets.old.items + 1388 ≤ vec_capacity octets.old }
+    requires short { length octets.old.items ≤ 1388 * 65536 }
+    ensures octets { octets.new.items ≡ octets.old.items ++ frame.now.payload }
+    ensures frame { frame_at octets.new.items result ≡ frame.now }
+    ensures start { result.start ≡ length octets.old.items }
+    ensures len { result.len ≡ length frame.now.payload }
+    ensures fits { result.len ≤ 1388 }
+    ensures capacity { vec_capacity octets.old ≤ vec_capacity octets.new }
+{
+    let payload = frame.payload.as_slice();
+    let start = octets.len() as u32;
+    let appended = octets.extend_from_slice(payload);
+    prove!(appended.is_ok());
+    FrameHead {
+        ts: frame.ts,
+        kind: frame.kind,
+        subclass: frame.subclass,
+        start,
+        len: payload.len() as u16,
+    }
+}

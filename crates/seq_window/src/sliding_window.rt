@@ -1,0 +1,337 @@
+//! The window of one leg.
+
+ghost use Rattle.std.specs.Prelude.{◌≡◌, ℕ, ◌+◌, ◌≤◌, ◌<◌, ◌↔◌, [], option_copied, IfOk, IfSome, OnOk, OnErr, IsOk, IsTrue, Some};
+ghost use Rattle.seq_window.specs.Sequence.{byte_of};
+ghost use Rattle.seq_window.specs.History.{sent_count, taken_count, acked_count, IsLegal};
+ghost use Rattle.seq_window.specs.Window.{held_count, entry_count, is_full, judged_acknowledgement, count_of, judged_number, after_sending, after_acknowledgement, after_receiving, held_at, after_touching, after_touching_all, first_due, tries_at, after_marking, resent, after_resent, IsPlaceBelow};
+
+use crate::errors::{RecordError, SendError};
+use crate::history::Record;
+use crate::judgements::{Acknowledged, Received, Resent};
+use iax_frames::Frame;
+use resend_queue::{Held, Resend};
+use std::alloc::{AllocError, Global};
+use std::marker::Model;
+
+/// The window of one leg: the frames that it holds to send them again, and its record.
+///
+/// Contracts see the record, and of each held frame when it was sent. Which frames are held, under which numbers, follows
+/// from the record: those that were sent and not yet acknowledged.
+#[derive(Drop)]
+pub struct Window {
+    history: Record,
+    held: Resend,
+    width: u8,
+    limit: u32,
+    // The octet of the next number that is sent.
+    next: u8,
+    // The octet of the oldest held frame's number, or of the next where nothing is held.
+    oldest: u8,
+    // The octet of the next number that is expected.
+    expected: u8,
+}
+
+impl Model for Window {
+    ghost use Rattle.seq_window.specs.Window.{Window as State};
+
+    ghost Value = { State };
+
+    ghost use Rattle.seq_window.specs.WindowFields.{window_of, IsSound};
+
+    ghost view = { window_of };
+
+    ghost invariant = { IsSound };
+}
+
+impl Window {
+    ghost use Rattle.seq_window.specs.declared.judgements.Received.TheVariants as received;
+
+    /// A window that holds at most `width` frames, 1..=127, and records at most `record_limit` entries, 64..=65,536.
+    pub fn new(alloc: Global, width: u8, record_limit: u32) -> Result<Window, AllocError>
+        requires some { 1 ≤ width }
+        requires narrow { width ≤ 127 }
+        requires least { 64 ≤ record_limit }
+        requires most { record_limit ≤ 65536 }
+        ensures { IfOk result (λ w. w.state ≡ record { history = []; width = width; limit = record_limit; sendings = [] }) }
+    {
+        let held = Resend::new(alloc, width)?;
+        Ok(Window {
+            history: Record::new(alloc),
+            held,
+            width,
+            limit: record_limit,
+            next: 0,
+            oldest: 0,
+            expected: 0,
+        })
+    }
+
+    /// Records a frame as sent at the moment `now`, in milliseconds, and holds it. The answer is the octet of its number.
+    ///
+    /// A refused frame is dropped. With a reserved entry it isn't refused for memory.
+    pub fn send(&mut self, frame: Frame, now: u64) -> Result<u8, SendError>
+        ensures ok { IfOk result (λ number. number ≡ byte_of (sent_count self.old.state.history)) }
+        ensures state { OnOk result (self.new.state ≡ after_sending self.old.state frame now) }
+        ensures spare { OnOk result (self.old.spare ≤ self.new.spare + 1) }
+        ensures capacity { OnOk result (0 < self.old.spare →
+            self.new.spare + entry_count self.new.state ≡ self.old.spare + entry_count self.old.state) }
+        ensures reserved { 0 < self.old.spare → entry_count self.old.state < self.old.state.limit →
+            held_count self.old.state < self.old.state.width → IsOk result }
+        ensures window_full { (result ≡ Err SendError.WindowFull) ↔ (held_count self.old.state ≡ self.old.state.width) }
+        ensures record_full { (result ≡ Err SendError.RecordFull) ↔
+            (held_count self.old.state < self.old.state.width) × (entry_count self.old.state ≡ self.old.state.limit) }
+        ensures memory { result ≡ Err SendError.Memory → self.old.spare ≡ 0 }
+        ensures err { OnErr result (self.new ≡ self.old) }
+    {
+        if self.is_full() {
+            return Err(SendError::WindowFull);
+        }
+        if self.free_entries() == 0 {
+            return Err(SendError::RecordFull);
+        }
+        self.history.push_sent(&frame)?;
+        let number = self.next;
+        let pushed = self.held.push(Held {
+            number,
+            frame,
+            last: now,
+            tries: 0,
+        });
+        let fits = pushed.is_ok();
+        prove!(fits);
+        self.next = number.wrapping_add(1);
+        Ok(number)
+    }
+
+    /// Takes the frames off that the other side says by ISeqno that it has, where the octet can be such a number
+    /// ("Message Transport"). What takes nothing off has no entry and isn't refused.
+    pub fn acknowledge(&mut self, iseq: u8) -> Result<Acknowledged, RecordError>
+        ensures ok { IfOk result (λ answer. answer ≡ judged_acknowledgement self.old.state.history iseq) }
+        ensures state { OnOk result (self.new.state ≡ after_acknowledgement self.old.state iseq) }
+        ensures spare { OnOk result (self.old.spare ≤ self.new.spare + 1) }
+        ensures capacity { OnOk result (0 < self.old.spare →
+            self.new.spare + entry_count self.new.state ≡ self.old.spare + entry_count self.old.state) }
+        ensures reserved { 0 < self.old.spare → entry_count self.old.state < self.old.state.limit → IsOk result }
+        ensures record_full { (result ≡ Err RecordError.RecordFull) ↔
+            (0 < count_of (judged_acknowledgement self.old.state.history iseq)) × (entry_count self.old.state ≡ self.old.state.limit) }
+        ensures memory { result ≡ Err RecordError.Memory → self.old.spare ≡ 0 }
+        ensures err { OnErr result (self.new ≡ self.old) }
+    {
+        let judged = self.judged(iseq);
+        let Acknowledged::Acked(count) = judged else {
+            return Ok(judged);
+        };
+        if count == 0 {
+            return Ok(judged);
+        }
+        if self.free_entries() == 0 {
+            return Err(RecordError::RecordFull);
+        }
+        self.history.push_acked(count)?;
+        self.held.drop_front(count as usize);
+        self.oldest = iseq;
+        Ok(judged)
+    }
+
+    // The steps from the oldest held number on to the acknowledged one count, up to the number of held frames.
+    fn judged(&self, iseq: u8) -> Acknowledged
+        ensures { result ≡ judged_acknowledgement self.now.state.history iseq }
+    {
+        let distance = iseq.wrapping_sub(self.oldest);
+        if distance as usize <= self.held.len() {
+            Acknowledged::Acked(u32::from(distance))
+        } else {
+            Acknowledged::Ignored
+        }
+    }
+
+    /// What a numbered frame is whose OSeqno is this octet.
+    pub fn judge(&self, oseq: u8) -> Received
+        ensures { result ≡ judged_number self.now.state.history oseq }
+    {
+        match oseq.wrapping_sub(self.expected) {
+            0 => Received::Taken,
+            1..=127 => Received::Gap,
+            _ => Received::Repeat,
+        }
+    }
+
+    /// Judges a numbered frame by its OSeqno, and records it where it is the next one. A frame that isn't is dropped.
+    pub fn receive(&mut self, oseq: u8, frame: Frame) -> Result<Received, RecordError>
+        ensures ok { IfOk result (λ received. received ≡ judged_number self.old.state.history oseq) }
+        ensures state { OnOk result (self.new.state ≡ after_receiving self.old.state oseq frame) }
+        ensures spare { OnOk result (self.old.spare ≤ self.new.spare + 1) }
+        ensures capacity { OnOk result (0 < self.old.spare →
+            self.new.spare + entry_count self.new.state ≡ self.old.spare + entry_count self.old.state) }
+        ensures reserved { 0 < self.old.spare → entry_count self.old.state < self.old.state.limit → IsOk result }
+        ensures record_full { (result ≡ Err RecordError.RecordFull) ↔
+            (judged_number self.old.state.history oseq ≡ received.Taken) × (entry_count self.old.state ≡ self.old.state.limit) }
+        ensures memory { result ≡ Err RecordError.Memory → self.old.spare ≡ 0 }
+        ensures err { OnErr result (self.new ≡ self.old) }
+    {
+        let judged = self.judge(oseq);
+        if judged != Received::Taken {
+            return Ok(judged);
+        }
+        if self.free_entries() == 0 {
+            return Err(RecordError::RecordFull);
+        }
+        self.history.push_taken(&frame)?;
+        self.expected = self.expected.wrapping_add(1);
+        Ok(Received::Taken)
+    }
+
+    /// The first held frame that is due goes out again, where it was sent again less than `max_retries` times.
+    pub fn resend(&mut self, now: u64, retry_ms: u64, max_retries: u32) -> Resent
+        ensures resent { result ≡ resent self.old.state now retry_ms max_retries }
+        ensures state { self.new.state ≡ after_resent (resent self.old.state now retry_ms max_retries) self.old.state now }
+        ensures spare { self.new.spare ≡ self.old.spare }
+        ensures place { IsPlaceBelow (held_count self.new.state) result }
+    {
+        match self.first_due(now, retry_ms) {
+            None => Resent::Nothing,
+            Some(place) => {
+                if max_retries <= self.tries(place) {
+                    Resent::Spent
+                } else {
+                    self.mark(place, now);
+                    Resent::Again(place)
+                }
+            }
+        }
+    }
+
+    // The first place that is due.
+    fn first_due(&self, now: u64, retry_ms: u64) -> Option<usize>
+        ensures value { result ≡ first_due now retry_ms self.now.state.sendings }
+        ensures place { IfSome result (λ place. place < held_count self.now.state) }
+    {
+        self.held.due(now, retry_ms)
+    }
+
+    // How often a held frame was sent again because it was due.
+    fn tries(&self, place: usize) -> u32
+        requires { place < held_count self.now.state }
+        ensures { result ≡ tries_at place self.now.state.sendings }
+    {
+        self.held_frame(place).tries
+    }
+
+    // The frame at a place is sent again at this moment, as one more try.
+    fn mark(&mut self, place: usize, now: u64)
+        requires { place < held_count self.old.state }
+        ensures state { self.new.state ≡ after_marking self.old.state place now }
+        ensures count { held_count self.new.state ≡ held_count self.old.state }
+        ensures spare { self.new.spare ≡ self.old.spare }
+    {
+        self.held.mark(place, now);
+    }
+
+    /// The frame at a place is sent again at the moment `now`, which is no try.
+    pub fn touch(&mut self, place: usize, now: u64)
+        requires { place < held_count self.old.state }
+        ensures state { self.new.state ≡ after_touching self.old.state place now }
+        ensures spare { self.new.spare ≡ self.old.spare }
+    {
+        self.held.touch(place, now);
+    }
+
+    /// Each held frame is sent again at the moment `now`, which is no try.
+    pub fn touch_all(&mut self, now: u64)
+        ensures state { self.new.state ≡ after_touching_all self.old.state now }
+        ensures spare { self.new.spare ≡ self.old.spare }
+    {
+        self.held.touch_all(now);
+    }
+
+    /// Room for `count` more entries: so many calls of `send`, `acknowledge` and `receive` aren't refused for memory.
+    pub fn reserve(&mut self, count: usize) -> Result<(), AllocError>
+        ensures state { self.new.state ≡ self.old.state }
+        ensures ok { OnOk result (count ≤ self.new.spare) }
+        ensures spare { self.old.spare ≤ self.new.spare }
+        ensures had_room { count ≤ self.old.spare → IsOk result }
+        ensures err { OnErr result (self.new ≡ self.old) }
+    {
+        self.history.reserve(count)
+    }
+
+    /// The held frame at a place, 0 for the oldest.
+    pub fn held(&self, place: usize) -> Option<&Held>
+        ensures { option_copied result ≡ held_at self.now.state place }
+    {
+        self.held.get(place)
+    }
+
+    /// The held frame at a place below `held_len`.
+    pub fn held_frame(&self, place: usize) -> &Held
+        requires { place < held_count self.now.state }
+        ensures { held_at self.now.state place ≡ Some result.now }
+    {
+        self.held.get(place).unwrap()
+    }
+
+    /// How many frames are held.
+    pub fn held_len(&self) -> usize
+        ensures value { result ≡ held_count self.now.state }
+        // They are those that the record has as sent and not acknowledged.
+        ensures held { result + acked_count self.now.state.history ≡ sent_count self.now.state.history }
+        ensures width { result ≤ self.now.state.width }
+        ensures most { result ≤ 127 }
+    {
+        self.held.len()
+    }
+
+    /// Whether as many frames are held as may be.
+    pub fn is_full(&self) -> bool
+        ensures { result ≡ is_full self.now.state }
+    {
+        self.width as usize <= self.held_len()
+    }
+
+    /// How many entries the record may still have.
+    pub fn free_entries(&self) -> usize
+        ensures { result + entry_count self.now.state ≡ self.now.state.limit }
+    {
+        self.limit as usize - self.history.len()
+    }
+
+    /// The octet of the next number, OSeqno of a frame that is sent now.
+    pub fn next(&self) -> u8
+        ensures { result ≡ byte_of (sent_count self.now.state.history) }
+    {
+        self.next
+    }
+
+    /// The octet of the next number that is expected, ISeqno of a frame that is sent now.
+    pub fn expected(&self) -> u8
+        ensures { result ≡ byte_of (taken_count self.now.state.history) }
+    {
+        self.expected
+    }
+
+    /// How many frames may be held, 1..=127.
+    pub fn width(&self) -> u8
+        ensures width { result ≡ self.now.state.width }
+        ensures some { 1 ≤ result }
+        ensures most { result ≤ 127 }
+    {
+        self.width
+    }
+
+    /// The record.
+    pub fn record(&self) -> &Record
+        ensures entries { result.now.entries ≡ self.now.state.history }
+        ensures legal { IsLegal self.now.state.width self.now.state.limit self.now.state.history }
+    {
+        &self.history
+    }
+
+    /// The record, whole.
+    pub fn into_record(self) -> Record
+        ensures entries { result.entries ≡ self.state.history }
+        ensures legal { IsLegal self.state.width self.state.limit self.state.history }
+    {
+        let Window { history, .. } = self;
+        history
+    }
+}

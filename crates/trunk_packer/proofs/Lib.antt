@@ -1,0 +1,3 @@
+pub mod StoredLaws
+pub mod QueueLaws
+pub mod PackingLaws

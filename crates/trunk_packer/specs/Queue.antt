@@ -1,0 +1,46 @@
+-- "Meta Frames": media that waits for a trunk frame
+use Rattle.std.specs.Prelude.{◌≡◌, ℕ, ◌+◌, ◌%◌, ◌<◌, ◌≤◌, ◌^◌, Bool, List, [], ◌∷◌, ◌++◌, ◌⊎◌, length, map, if◌then◌else◌}
+use Rattle.iax_frames.specs.TrunkFrame.{TrunkEntry, TrunkFrame, SpellsTrunk, entry_of, head_len}
+
+-- an entry of the trunk queue
+pub record QueueEntry : Type 0 where
+  pub number : ℕ
+  pub timestamp : ℕ
+  pub media : List ℕ
+
+-- the octets of media in a queue
+abbrev pub media_octets : List QueueEntry → ℕ
+media_octets [] = 0
+media_octets (e ∷ es) = length e.media + media_octets es
+
+-- a queue holds 256 entries and 16,384 octets of media: there is room for one entry more, of this many octets
+pub record HasRoom (queue : List QueueEntry) (octets : ℕ) : Type 0 where
+  pub entries : length queue < 256
+  pub media : media_octets queue + octets ≤ 16384
+
+-- there is no room for this many octets of media more
+abbrev pub IsFull : List QueueEntry → ℕ → Type 0
+IsFull queue octets = (256 ≤ length queue) ⊎ (16384 < media_octets queue + octets)
+
+-- an entry as a trunk frame has it
+abbrev pub trunk_entry : Bool → QueueEntry → TrunkEntry
+trunk_entry timed e = entry_of timed e.number e.timestamp e.media
+
+-- the trunk frame of these entries at a moment
+abbrev pub trunk_of : Bool → ℕ → List QueueEntry → TrunkFrame
+trunk_of timed now entries =
+    record { command_data = if timed then 1 else 0; timestamp = now % 2 ^ 32; entries = map (trunk_entry timed) entries }
+
+-- the octets of a trunk frame of these entries
+abbrev pub trunk_octets : Bool → List QueueEntry → ℕ
+trunk_octets timed [] = 8
+trunk_octets timed (e ∷ es) = head_len timed + length e.media + trunk_octets timed es
+
+-- The octets spell the trunk frame of the longest front of a queue that fits in 1,400 octets, and the rest of it stays.
+pub record PacksFront (timed : Bool) (now : ℕ) (old new : List QueueEntry) (bytes : List ℕ) : Type 0 where
+  pub front : List QueueEntry
+  pub whole : old ≡ front ++ new
+  pub spelled : SpellsTrunk bytes (trunk_of timed now front)
+  pub size : length bytes ≡ trunk_octets timed front
+  pub fits : trunk_octets timed front ≤ 1400
+  pub longest : (e : QueueEntry) (rest : List QueueEntry) → new ≡ e ∷ rest → 1400 < trunk_octets timed (front ++ e ∷ [])
