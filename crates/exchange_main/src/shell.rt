@@ -156,15 +156,7 @@ impl Shell {
     {
         let number = CallNumber::new(1);
         let rules = west();
-        let opened = Leg::open_in_into(
-            alloc,
-            &rules,
-            number,
-            frame,
-            now,
-            &self.challenge,
-            replies,
-        );
+        let opened = Leg::open_in_into(alloc, &rules, number, frame, now, &self.challenge, replies);
         match opened {
             Ok((leg, heard)) => {
                 self.leg = Some(leg);
