@@ -1,6 +1,7 @@
-//! The program of the exchange: `exchange_main replay PLAN SCRIPT`.
+//! The program of the exchange: `exchange_main check PLAN` and `exchange_main replay PLAN SCRIPT`.
 #![tactic(auto)]
 
+mod check;
 mod refusal;
 mod replay;
 mod script;
@@ -12,7 +13,7 @@ use std::io::Write;
 use std::process::ExitCode;
 use std::{env, fs, io};
 
-const USAGE: &str = "usage: exchange_main replay <plan> <script>";
+const USAGE: &str = "usage: exchange_main check <plan> | replay <plan> <script>";
 
 fn main(rt: HostRuntime) -> ExitCode {
     let Ok(arguments) = env::args(&rt) else {
@@ -27,6 +28,14 @@ fn main(rt: HostRuntime) -> ExitCode {
         }
     }
     match words.as_slice() {
+        [_, command, plan] if command.as_str() == "check" => {
+            let Ok(plan) = fs::read(&rt, plan.as_str()) else {
+                let _ = println!(rt; "refused File");
+                return ExitCode::from(1);
+            };
+            let mut out = io::writer(&rt);
+            ExitCode::from(check::check(rt.alloc(), &plan, &mut out))
+        }
         [_, command, plan, script] if command.as_str() == "replay" => {
             let Ok(plan) = fs::read(&rt, plan.as_str()) else {
                 let _ = println!(rt; "refused File");
