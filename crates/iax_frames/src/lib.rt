@@ -16,7 +16,9 @@ pub use call_number::CallNumber;
 pub use datagram::{Datagram, FrameError};
 pub use full_frame::{Full, FullHead};
 pub use mini_frame::Mini;
-pub use output::{Out, TooLong, append_entry, write_full, write_mini, write_trunk};
+pub use output::{
+    Out, TooLong, append_entry, append_entry_in_two, write_full, write_mini, write_trunk,
+};
 pub use reading::read;
 pub use stored_frame::{Frame, Payload};
 pub use trunk_frame::{Entries, Trunk};

@@ -52,6 +52,15 @@ impl Out {
         self.octets.as_slice()
     }
 
+    /// The same frame once more. It takes no memory, so it can't fail.
+    pub fn copied(&self) -> Out
+        ensures { result ≡ self.now }
+    {
+        let mut octets = ArrayVec::new();
+        extend(&mut octets, self.octets.as_slice());
+        Out { octets }
+    }
+
     /// How many more octets fit.
     pub fn room(&self) -> usize
         ensures { result + length self.now ≡ 1400 }

@@ -5,13 +5,15 @@ use Rattle.iax_frames.specs.FullFrame.{spelling}
 use Rattle.std.proofs.lemmas.Bool.Decides.{nat_tests}
 use Rattle.seq_window.specs.Window.{held_count}
 use Rattle.leg_machine.specs.Legs.{LegState, entered, is_short_of_entries}
+use Rattle.leg_machine.specs.Seen.{seen as seen_leg, IsSeenTick}
 use Rattle.leg_machine.specs.Stages.{is_ended}
-use Rattle.leg_machine.specs.Ticks.{Tick, quiet, sends_if, must_hang_up, must_ping, pinged, ping_step, last_step, due_frames, tick_step}
+use Rattle.leg_machine.specs.Ticks.{Tick, quiet, sends_if, must_hang_up, must_ping, pinged, last_step, due_frames, tick_step}
 use Rattle.leg_machine.specs.Tries.{tries}
 use Rattle.leg_machine.specs.declared.causes.Cause.TheVariants.{NormalClearing}
 use Rattle.leg_machine.specs.declared.replies.Reply.TheVariants as replies
 use Rattle.leg_machine.specs.declared.stages.Stage.TheVariants as stages
 use Rattle.leg_machine.specs.Tie.{SendsAtMostOne}
+use Rattle.leg_machine.proofs.SeenTicks.{tick-seen}
 use Rattle.leg_machine.proofs.Tied.{either}
 use Rattle.leg_machine.proofs.TiedSends.{tick-sends}
 
@@ -84,16 +86,18 @@ pub record Told (old : LegState) (now skipped : ℕ) (new : LegState) (outs : Li
   pub replies : outs ≡ map spelling (tick_step (eqb skipped 0) old now).replies
   pub count : skipped ≡ (tick_step (eqb skipped 0) old now).skipped
   pub tied : SendsAtMostOne old new
+  pub seen : IsSeenTick (seen_leg old) (seen_leg new)
 
 told_by : (old new : LegState) (outs : List (List ℕ)) (now skipped : ℕ) (t : Tick) → tick_step (eqb t.skipped 0) old now ≡ t → SendsAtMostOne old t.leg
-    → new ≡ t.leg → outs ≡ map spelling t.replies → skipped ≡ t.skipped → Told old now skipped new outs
-told_by old new outs now skipped t step sends leg replies count =
+    → IsSeenTick (seen_leg old) (seen_leg t.leg) → new ≡ t.leg → outs ≡ map spelling t.replies → skipped ≡ t.skipped → Told old now skipped new outs
+told_by old new outs now skipped t step sends seen leg replies count =
     let same : tick_step (eqb skipped 0) old now ≡ t = ap (λ (n : ℕ). tick_step (eqb n 0) old now) count ∙ step in
     record {
       leg = leg ∙ ap (λ (u : Tick). u.leg) (sym same);
       replies = replies ∙ ap (λ (u : Tick). map spelling u.replies) (sym same);
       count = count ∙ ap (λ (u : Tick). u.skipped) (sym same);
       tied = subst (SendsAtMostOne old) (sym leg) sends;
+      seen = subst (λ (l : LegState). IsSeenTick (seen_leg old) (seen_leg l)) (sym leg) seen;
     }
 
 pub told : (old mid new : LegState) (outs : List (List ℕ)) (now skipped : ℕ) (grown : Bool) → mid ≡ old
@@ -101,5 +105,5 @@ pub told : (old mid new : LegState) (outs : List (List ℕ)) (now skipped : ℕ)
     → Told old now skipped new outs
 told old mid new outs now skipped grown e leg replies count =
     let moved : tick_step grown mid now ≡ tick_step grown old now = ap (λ (l : LegState). tick_step grown l now) e in
-    told_by old new outs now skipped (tick_step grown old now) (tick-told old now grown) (tick-sends grown old now)
+    told_by old new outs now skipped (tick_step grown old now) (tick-told old now grown) (tick-sends grown old now) (tick-seen grown old now)
     (leg ∙ ap (λ (t : Tick). t.leg) moved) (replies ∙ ap (λ (t : Tick). map spelling t.replies) moved) (count ∙ ap (λ (t : Tick). t.skipped) moved)

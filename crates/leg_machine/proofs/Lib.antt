@@ -1,6 +1,12 @@
 pub mod Again
+pub mod Finished
 pub mod Growth
 pub mod OneTry
 pub mod Rows
+pub mod SeenFrames
+pub mod SeenOrders
+pub mod SeenTicks
+pub mod SendingSteps
+pub mod Sendings
 pub mod Tied
 pub mod TiedSends

@@ -1,5 +1,5 @@
 -- One more try.
-use Rattle.std.proofs.Common.{◌≡◌, ◌≤◌, ℕ, suc, ◌+◌, ◌++◌, refl, ap, arith}
+use Rattle.std.proofs.Common.{◌≡◌, ℕ, suc, ◌++◌, refl, ap, arith}
 use Rattle.seq_window.specs.Window.{WindowState, resent, after_resent, entry_count}
 use Rattle.seq_window.specs.declared.judgements.Resent.TheVariants as resents
 use Rattle.seq_window.specs.declared.judgements.Resent.{Resent}

@@ -11,7 +11,7 @@ use Rattle.seq_window.specs.History.{taken}
 use Rattle.seq_window.specs.Sequence.{number_byte_judged}
 use Rattle.seq_window.specs.Turn.{entries_for_reply, entries_for_acknowledgement, entries_for_frame}
 use Rattle.seq_window.specs.Window.{WindowState, after_receiving, judged_number, entries_for_number, entries_for_count, judged_acknowledgement, count_of}
-use Rattle.leg_machine.specs.Effects.{is_reply, marked}
+use Rattle.leg_machine.specs.Effects.{marked}
 use Rattle.leg_machine.specs.LegTable.{effect_of}
 use Rattle.leg_machine.specs.Legs.{LegState, entered}
 use Rattle.leg_machine.specs.Messages.{message_of, is_numbered, is_inval, is_vnak}
@@ -41,7 +41,7 @@ settled-history : (leg : LegState) → (settled leg).window.history ≡ leg.wind
 settled-history leg = either (λ (l : LegState). l.window.history ≡ leg.window.history) _ _ _ refl refl
 
 -- the record with the acknowledgement of a frame
-prepared-history : (leg : LegState) (frame : FullFrame) → (prepared leg frame).window.history ≡ leg.window.history ++ entries_for_acknowledgement leg.window.history frame.head.iseqno
+pub prepared-history : (leg : LegState) (frame : FullFrame) → (prepared leg frame).window.history ≡ leg.window.history ++ entries_for_acknowledgement leg.window.history frame.head.iseqno
 prepared-history leg frame = settled-history (acknowledged (learnt leg frame.head.source) frame.head.iseqno)
 
 marked-window : (leg : LegState) (m : Mark) → (marked leg m).window ≡ leg.window
@@ -51,7 +51,7 @@ marked-window leg marks.Unquelches = refl
 marked-window leg marks.Authenticates = refl
 
 -- the record with a frame taken
-taken-history : (effect : Effect) (leg : LegState) (frame : FullFrame) (message : Message) → (taken_leg effect leg frame message).window.history ≡ leg.window.history ++ entries_for_number (judged_number leg.window.history frame.head.oseqno) (stored frame)
+pub taken-history : (effect : Effect) (leg : LegState) (frame : FullFrame) (message : Message) → (taken_leg effect leg frame message).window.history ≡ leg.window.history ++ entries_for_number (judged_number leg.window.history frame.head.oseqno) (stored frame)
 taken-history effect leg frame message =
     ap (λ (w : WindowState). (after_receiving w frame.head.oseqno (stored frame)).history) (marked-window (entered leg effect.stage) effect.mark)
 
@@ -114,7 +114,7 @@ judged-turn received.Taken leg frame message now numbered = taken-turn leg frame
 judged-turn received.Repeat leg frame message now numbered = acknowledges leg frame (prepared leg frame) (prepared-history leg frame)
 judged-turn received.Gap leg frame message now numbered = acknowledges leg frame (prepared leg frame) (prepared-history leg frame)
 
-either_by : {A : Type 0} (P : A → Type 0) (b : Bool) (x y : A) → (b ≡ true → P x) → (b ≡ false → P y) → P (cond b x y)
+pub either_by : {A : Type 0} (P : A → Type 0) (b : Bool) (x y : A) → (b ≡ true → P x) → (b ≡ false → P y) → P (cond b x y)
 either_by P true x y p q = p refl
 either_by P false x y p q = q refl
 

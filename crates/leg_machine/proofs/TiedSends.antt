@@ -13,7 +13,7 @@ use Rattle.leg_machine.specs.OrderTable.{order_row, row_carried, order_carried, 
 use Rattle.leg_machine.specs.Replies.{reply_frame, voice_frame}
 use Rattle.leg_machine.specs.Stages.{is_talking, is_ended}
 use Rattle.leg_machine.specs.Tie.{SendsAtMostOne}
-use Rattle.leg_machine.specs.Ticks.{Tick, quiet, sends_if, must_hang_up, hang_up_step, must_ping, pinged, ping_step, last_step, due_frames, tick_step, is_ping_time}
+use Rattle.leg_machine.specs.Ticks.{Tick, quiet, sends_if, must_hang_up, must_ping, pinged, last_step, due_frames, tick_step, is_ping_time}
 use Rattle.leg_machine.specs.Tries.{Tried, tries, one_try, after_try}
 use Rattle.leg_machine.specs.declared.causes.Cause.TheVariants.{NormalClearing}
 use Rattle.leg_machine.specs.declared.media.MediaSent.{MediaSent}
@@ -79,11 +79,11 @@ later : (leg mid new : LegState) → mid.window.history ≡ leg.window.history �
 later leg mid new e s = (s.0, s.1 ∙ ap (λ (h : List Entry). h ++ entries_for_reply s.0) e)
 
 -- a closing leg sends no PING
-no-ping : (leg : LegState) (now : ℕ) → leg.stage ≡ stages.Closing → must_ping leg now ≡ false
+pub no-ping : (leg : LegState) (now : ℕ) → leg.stage ≡ stages.Closing → must_ping leg now ≡ false
 no-ping leg now e =
     ap (λ (s : Stage). is_talking s && nat_lt (held_count leg.window) (local_room leg.window.width) && is_ping_time leg now) e
 
-last-none : (grown spent : Bool) (leg : LegState) (now : ℕ) → leg.stage ≡ stages.Closing → (last_step grown spent leg now).leg.window.history ≡ leg.window.history
+pub last-none : (grown spent : Bool) (leg : LegState) (now : ℕ) → leg.stage ≡ stages.Closing → (last_step grown spent leg now).leg.window.history ≡ leg.window.history
 last-none grown true leg now e = refl
 last-none grown false leg now e =
     ap (λ (b : Bool). (cond b (sends_if grown leg (pinged leg now) now replies.Ping) (quiet leg)).leg.window.history) (no-ping leg now e)

@@ -1,6 +1,6 @@
 -- What a row of the tables says.
 use Rattle.std.specs.Prelude.{Bool, true, false, Option, None, Some, if◌then◌else◌}
-use Rattle.leg_machine.specs.Legs.{LegState, entered}
+use Rattle.leg_machine.specs.Legs.{LegState}
 use Rattle.leg_machine.specs.Stages.{is_over}
 use Rattle.leg_machine.specs.declared.causes.Cause.{Cause}
 use Rattle.leg_machine.specs.declared.effects.Answering.{Answering}

@@ -1,6 +1,6 @@
 -- A leg of a call, as its steps see it ("IAX Frames", "Message Transport").
 use Rattle.std.specs.Prelude.{ℕ, ◌+◌, ◌-◌, ◌/◌, ◌≤◌, Bool, ◌||◌, ◌&&◌, not, nat_lt, List, Option}
-use Rattle.seq_window.specs.Window.{WindowState, entry_count, held_count}
+use Rattle.seq_window.specs.Window.{WindowState, entry_count}
 use Rattle.leg_machine.specs.declared.formats.Format.{Format}
 use Rattle.leg_machine.specs.declared.rules.PeerRules.{PeerRules}
 use Rattle.leg_machine.specs.declared.stages.Stage.{Stage}

@@ -11,6 +11,7 @@ pub mod Openings
 pub mod OrderTable
 pub mod PeerRules
 pub mod Replies
+pub mod Seen
 pub mod Signals
 pub mod Stages
 pub mod Steps

@@ -1,5 +1,5 @@
 -- What a call of a leg answers, with what its signal speaks of.
-use Rattle.std.specs.Prelude.{map, Option, None, Some}
+use Rattle.std.specs.Prelude.{◌≡◌, map, Option, None, Some}
 use Rattle.iax_frames.specs.FullFrame.{spelling}
 use Rattle.leg_machine.specs.Legs.{LegState}
 use Rattle.leg_machine.specs.Openings.{called_of, calling_of}
@@ -27,6 +27,10 @@ onward_of leg signals.Hangup = onwards.Hangup
 abbrev pub onward_if : LegState → Option Signal → Option Onward
 onward_if leg None = None
 onward_if leg (Some signal) = Some (onward_of leg signal)
+
+-- what is handed up is a signal of which this holds
+abbrev pub HandsUp : LegState → Option Onward → (Option Signal → Type 0) → Type 0
+HandsUp leg onward Holds = (signal : Option Signal) × (onward ≡ onward_if leg signal) × Holds signal
 
 -- what a call answers of a step
 abbrev pub outcome_of : Step → Outcome

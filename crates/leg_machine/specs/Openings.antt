@@ -1,5 +1,5 @@
 -- How a leg begins: the rows of a NEW that comes, and a NEW that goes out ("Call Setup").
-use Rattle.std.specs.Prelude.{ℕ, Bool, true, false, ◌&&◌, ◌||◌, ◌==◌, is_some, List, [], ◌∷◌, Option, None, Some, unwrap_or, bit_and, if◌then◌else◌}
+use Rattle.std.specs.Prelude.{ℕ, Bool, false, ◌&&◌, ◌||◌, ◌==◌, is_some, List, [], ◌∷◌, Option, None, Some, unwrap_or, bit_and, if◌then◌else◌}
 use Rattle.iax_frames.specs.FullFrame.{FullFrame}
 use Rattle.info_elements.specs.Element.{elements_of, last_of, u16_in, u32_in}
 use Rattle.info_elements.specs.Numbers.{CALLED_NUMBER, CALLING_NUMBER, CAPABILITY, FORMAT, VERSION}

@@ -1,6 +1,6 @@
 -- The table of orders: what the layer above lets a leg do, row by row ("Call Setup", "Control Frames").
-use Rattle.std.specs.Prelude.{◌≡◌, ◌≤◌, ℕ, not, ◌&&◌, ◌||◌, nat_le, length, Bool, true, false, List, [], ◌∷◌, ◌++◌, map, Option, None, Some, if◌then◌else◌}
-use Rattle.iax_frames.specs.FullFrame.{FullFrame, spelling}
+use Rattle.std.specs.Prelude.{◌≡◌, ◌≤◌, ℕ, not, ◌&&◌, ◌||◌, nat_le, length, Bool, false, List, [], ◌∷◌, map, Option, None, Some, if◌then◌else◌}
+use Rattle.iax_frames.specs.FullFrame.{spelling}
 use Rattle.iax_frames.specs.MiniFrame.{mini_spelling}
 use Rattle.seq_window.specs.Window.{held_count}
 use Rattle.leg_machine.specs.Legs.{LegState, entered, local_room, is_short_of_entries}

@@ -1,7 +1,6 @@
 -- The steps of a leg: what a full frame does, in its working order ("Message Transport").
-use Rattle.std.specs.Prelude.{ℕ, ◌&&◌, Bool, true, false, List, [], ◌∷◌, map, Option, None, Some, if◌then◌else◌}
+use Rattle.std.specs.Prelude.{ℕ, ◌&&◌, false, List, [], ◌∷◌, map, Option, None, if◌then◌else◌}
 use Rattle.iax_frames.specs.FullFrame.{FullFrame}
-use Rattle.iax_frames.specs.declared.stored_frame.Frame.{Frame}
 use Rattle.seq_window.specs.declared.judgements.Acknowledged.{Acknowledged as Judgement}
 use Rattle.seq_window.specs.declared.judgements.Received.{Received}
 use Rattle.seq_window.specs.declared.judgements.Received.TheVariants as received

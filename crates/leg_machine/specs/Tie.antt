@@ -1,10 +1,15 @@
--- What a step of a leg adds to its record ("Message Transport").
-use Rattle.std.specs.Prelude.{◌≡◌, Bool, Option, None, Some, List, ◌++◌, if◌then◌else◌}
-use Rattle.iax_frames.specs.FullFrame.{FullFrame}
+-- What a step of a leg adds to its record, and what it sends, as one side of a network does ("Message Transport").
+use Rattle.std.specs.Prelude.{◌≡◌, ◌⊎◌, ℕ, ◌+◌, ◌≤◌, Bool, true, false, Option, None, Some, List, ◌++◌, All, slice_get, if◌then◌else◌}
+use Rattle.iax_frames.specs.FullFrame.{FullFrame, spelling, subclass_meaning}
+use Rattle.iax_frames.specs.MiniFrame.{MiniFrame, SpellsMini}
 use Rattle.iax_frames.specs.declared.stored_frame.Frame.{Frame}
+use Rattle.seq_window.specs.Entry.{Entry}
+use Rattle.seq_window.specs.History.{sent, sent_count, taken_count, acked_count}
+use Rattle.seq_window.specs.Network.{Datagram}
+use Rattle.seq_window.specs.Sequence.{byte_of}
 use Rattle.seq_window.specs.Turn.{Turn, entries_in_turn, entries_for_reply}
 use Rattle.leg_machine.specs.Legs.{LegState}
-use Rattle.leg_machine.specs.Messages.{message_of, is_numbered}
+use Rattle.leg_machine.specs.Messages.{message_by, message_of, is_numbered, is_inval}
 use Rattle.leg_machine.specs.Working.{stored}
 
 -- the frame to be judged, where it is numbered
@@ -22,3 +27,40 @@ TakesTurn old frame new =
 abbrev pub SendsAtMostOne : LegState → LegState → Type 0
 SendsAtMostOne old new =
     (sent : Option Frame) × (new.window.history ≡ old.window.history ++ entries_for_reply sent)
+
+-- ---- what goes out
+
+-- a frame is numbered, as its type and its octet of C and subclass say
+abbrev pub IsNumberedFrame : Frame → Type 0
+IsNumberedFrame frame = is_numbered (message_by frame.kind (subclass_meaning frame.subclass)) ≡ true
+
+-- what the record of a leg has as sent is numbered
+abbrev pub SendsNumbered : LegState → Type 0
+SendsNumbered leg = All IsNumberedFrame (sent leg.window.history)
+
+-- The number under which a side with this record has sent: a new frame, its last one, under that one's number; again a held
+-- frame, under its own; and what is no frame of the record under the next number. Again: R is set.
+abbrev pub IsNumberOf : List Entry → Bool → Option Frame → ℕ → Type 0
+IsNumberOf history false (Some frame) number = (slice_get (sent history) number ≡ Some frame) × (number + 1 ≡ sent_count history)
+IsNumberOf history true (Some frame) number = (slice_get (sent history) number ≡ Some frame) × (acked_count history ≤ number)
+IsNumberOf history again None number = (again ≡ false) × (number ≡ sent_count history)
+
+-- A full frame that goes out is a sending of a side with this record: its octets are those of a datagram of the network.
+pub record IsSendingOf (history : List Entry) (f : FullFrame) : Type 0 where
+  pub datagram : Datagram
+  -- what is taken is acknowledged
+  pub acknowledgement : datagram.acknowledgement ≡ taken_count history
+  pub number : IsNumberOf history f.head.retransmitted datagram.frame datagram.number
+  pub oseqno : f.head.oseqno ≡ byte_of datagram.number
+  pub iseqno : f.head.iseqno ≡ byte_of datagram.acknowledgement
+  -- it is numbered exactly where its type and its octet of C and subclass say so
+  pub frame : numbered_frame f ≡ datagram.frame
+  pub no_inval : is_inval (message_of f.head) ≡ false
+
+-- a datagram that goes out from a leg is the spelling of such a full frame
+abbrev pub IsSending : LegState → List ℕ → Type 0
+IsSending leg octets = (f : FullFrame) × (octets ≡ spelling f) × IsSendingOf leg.window.history f
+
+-- or a mini frame, which has no part in the numbers
+abbrev pub IsSendingOrMini : LegState → List ℕ → Type 0
+IsSendingOrMini leg octets = IsSending leg octets ⊎ ((mini : MiniFrame) × SpellsMini octets mini)

@@ -1,10 +1,10 @@
 -- The tries of a tick ("Message Transport": retransmission).
-use Rattle.std.specs.Prelude.{ℕ, zero, suc, ◌++◌, option_map, Bool, true, false, List, []}
+use Rattle.std.specs.Prelude.{◌≡◌, ◌⊎◌, ℕ, zero, suc, ◌++◌, option_map, Bool, true, false, List, [], All}
 use Rattle.std.specs.Option.{option_to_list}
 use Rattle.iax_frames.specs.FullFrame.{FullFrame}
 use Rattle.seq_window.specs.declared.judgements.Resent.{Resent}
 use Rattle.seq_window.specs.declared.judgements.Resent.TheVariants as resents
-use Rattle.seq_window.specs.Window.{held_at, resent, after_marking}
+use Rattle.seq_window.specs.Window.{held_at, is_due, resent, after_marking}
 use Rattle.leg_machine.specs.Legs.{LegState, with_window}
 use Rattle.leg_machine.specs.Replies.{sent_again}
 
@@ -36,3 +36,11 @@ abbrev pub tries : ℕ → LegState → ℕ → Tried
 tries zero leg now = tried leg false
 tries (suc turns) leg now =
     one_try (resent leg.window now leg.rules.retry_ms leg.rules.max_retries) leg now (λ l. tries turns l now)
+
+-- no held frame is due
+abbrev pub NoneDue : LegState → ℕ → Type 0
+NoneDue leg now = All (λ s. is_due now leg.rules.retry_ms s ≡ false) leg.window.sendings
+
+-- the tries of a moment are done: one frame is spent, or none is due any more
+abbrev pub IsFinished : Tried → ℕ → Type 0
+IsFinished tried now = (tried.spent ≡ true) ⊎ NoneDue tried.leg now

@@ -1,5 +1,5 @@
 //! A leg, by the calls of the layer above.
-ghost use Rattle.std.specs.Prelude.{◌≡◌, ◌==◌, ℕ, ◌+◌, ◌≤◌, ◌<◌, ◌↔◌, true, None, Some, [], length, map, option_copied, IfOk, IfErr, OnOk, OnErr};
+ghost use Rattle.std.specs.Prelude.{◌≡◌, ◌==◌, ℕ, ◌+◌, ◌≤◌, ◌<◌, ◌↔◌, true, None, Some, [], length, map, All, option_copied, IfOk, IfErr, OnOk, OnErr};
 ghost use Rattle.std.specs.Option.{ForSome};
 ghost use Rattle.iax_frames.specs.FullFrame.{spelling};
 ghost use Rattle.leg_machine.specs.Legs.{is_short_of_entries};
@@ -7,9 +7,11 @@ ghost use Rattle.leg_machine.specs.Media.{media_sent, after_media, media_frames}
 ghost use Rattle.leg_machine.specs.Openings.{open_in_step, open_out_step};
 ghost use Rattle.leg_machine.specs.OrderTable.{order_row, row_refused, row_carried, order_refused, media_refused, media_datagrams, IsRefusal, IsShortMedia, order_carried};
 ghost use Rattle.leg_machine.specs.PeerRules.{IsPeerRules};
+ghost use Rattle.leg_machine.specs.Seen.{seen, kind_of, stage_after, fresh_leg, IsSeenFrame, IsSeenOpening, IsSeenOrder, IsSeenTick};
 ghost use Rattle.leg_machine.specs.Steps.{full_step, heard_of};
 ghost use Rattle.leg_machine.specs.Ticks.{tick_step};
-ghost use Rattle.leg_machine.specs.Tie.{TakesTurn, SendsAtMostOne};
+ghost use Rattle.leg_machine.specs.Tie.{TakesTurn, SendsAtMostOne, IsSending, IsSendingOrMini};
+ghost use Rattle.leg_machine.specs.declared.orders.OrderKind.TheVariants as kinds;
 
 use crate::formats::Format;
 use crate::local_number::LocalNumber;
@@ -40,10 +42,14 @@ pub struct Leg {
 
 impl Model for Leg {
     ghost use Rattle.leg_machine.specs.Legs.{LegState, leg_of};
+    ghost use Rattle.leg_machine.specs.Tie.{SendsNumbered};
 
     ghost Value = { LegState };
 
     ghost view = { λ l. leg_of l.machine };
+
+    // Each frame that the record has as sent is numbered.
+    ghost invariant = { λ l. SendsNumbered (leg_of l.machine) };
 }
 
 impl Leg {
@@ -68,6 +74,8 @@ impl Leg {
         ensures leg { IfOk result (λ opened. opened.0 ≡ (open_in_step rules.now number frame.now now challenge.now).leg) }
         ensures replies { OnOk result (replies.new ≡ map spelling (open_in_step rules.now number frame.now now challenge.now).replies) }
         ensures heard { IfOk result (λ opened. opened.1 ≡ heard_of (open_in_step rules.now number frame.now now challenge.now)) }
+        ensures sendings { IfOk result (λ opened. All (IsSending opened.0) replies.new) }
+        ensures seen { IfOk result (λ opened. IsSeenOpening (seen opened.0) opened.1.signal) }
         ensures none_sent { OnErr result (replies.new ≡ replies.old) }
     {
         let mut window = Window::new(alloc, rules.window, rules.record_limit)?;
@@ -116,6 +124,8 @@ impl Leg {
         ensures leg { IfOk result (λ leg. leg ≡ (open_out_step rules.now number called.now (option_copied calling.entry) format now).leg) }
         ensures replies { OnOk result (replies.new ≡
             map spelling (open_out_step rules.now number called.now (option_copied calling.entry) format now).replies) }
+        ensures sendings { IfOk result (λ leg. All (IsSending leg) replies.new) }
+        ensures seen { IfOk result (λ leg. seen leg ≡ fresh_leg Stage.Waiting) }
         ensures none_sent { OnErr result (replies.new ≡ replies.old) }
     {
         let mut window = Window::new(alloc, rules.window, rules.record_limit)?;
@@ -158,6 +168,9 @@ impl Leg {
         ensures heard { IfOk result (λ heard. heard ≡ heard_of (full_step self.old frame.now now)) }
         // The record grows as one side of a network lets it.
         ensures tied { OnOk result (TakesTurn self.old frame.now self.new) }
+        // What goes out is what such a side sends.
+        ensures sendings { OnOk result (All (IsSending self.new) replies.new) }
+        ensures seen { IfOk result (λ heard. IsSeenFrame (seen self.old) (seen self.new) heard.signal) }
         ensures record_full { (result ≡ Err StepError.RecordFull) ↔ (is_short_of_entries self.old ≡ true) }
         ensures err { OnErr result (self.new ≡ self.old) }
         ensures none_sent { OnErr result (replies.new ≡ replies.old) }
@@ -177,6 +190,7 @@ impl Leg {
         ensures leg { OnOk result (self.new ≡ (row_carried self.old (order_row self.old order.now) now).leg) }
         ensures replies { OnOk result (replies.new ≡ (row_carried self.old (order_row self.old order.now) now).datagrams) }
         ensures tied { OnOk result (SendsAtMostOne self.old self.new) }
+        ensures sendings { OnOk result (All (IsSendingOrMini self.new) replies.new) }
         ensures unrefused { OnOk result (row_refused self.old (order_row self.old order.now) ≡ None) }
         ensures refused { IfErr result (IsRefusal (row_refused self.old (order_row self.old order.now))) }
         ensures err { OnErr result (self.new ≡ self.old) }
@@ -209,8 +223,11 @@ impl Leg {
         ensures leg { OnOk result (self.new ≡ after_media (media_sent self.old now) self.old media.now now) }
         ensures replies { OnOk result (replies.new ≡ map spelling (media_frames (media_sent self.old now) self.old media.now now)) }
         ensures tied { OnOk result (SendsAtMostOne self.old self.new) }
+        ensures sendings { OnOk result (All (IsSending self.new) replies.new) }
+        ensures seen { OnOk result (IsSeenOrder kinds.Media (seen self.old) (seen self.new)) }
         ensures unrefused { OnOk result (media_refused self.old now ≡ None) }
         ensures refused { IfErr result (IsRefusal (media_refused self.old now)) }
+        ensures wrong_stage { (result ≡ Err OrderError.WrongStage) ↔ (stage_after kinds.Media self.old.stage ≡ None) }
         ensures err { OnErr result (self.new ≡ self.old) }
         ensures none_sent { OnErr result (replies.new ≡ replies.old) }
     {
@@ -243,6 +260,7 @@ impl Leg {
         ensures leg { OnOk result (self.new ≡ after_media (media_sent self.old now) self.old media.now now) }
         ensures replies { OnOk result (replies.new ≡ media_datagrams (media_sent self.old now) self.old media.now now) }
         ensures tied { OnOk result (SendsAtMostOne self.old self.new) }
+        ensures sendings { OnOk result (All (IsSendingOrMini self.new) replies.new) }
         ensures unrefused { OnOk result (media_refused self.old now ≡ None) }
         ensures refused { IfErr result (IsRefusal (media_refused self.old now)) }
         ensures err { OnErr result (self.new ≡ self.old) }
@@ -261,10 +279,8 @@ impl Leg {
         Ok(())
     }
 
-    /// An order is carried out; media has 1 to 1,380 octets. What is sent is written to the empty list.
-    ///
-    /// Refusals are looked for in the order of `OrderError`. Doom and Paid are never refused.
-    pub fn order_into(
+    // Any order is carried out.
+    fn any_order(
         &mut self,
         order: &Order,
         now: u64,
@@ -275,6 +291,7 @@ impl Leg {
         ensures leg { OnOk result (self.new ≡ (order_carried self.old order.now now).leg) }
         ensures replies { OnOk result (replies.new ≡ (order_carried self.old order.now now).datagrams) }
         ensures tied { OnOk result (SendsAtMostOne self.old self.new) }
+        ensures sendings { OnOk result (All (IsSendingOrMini self.new) replies.new) }
         ensures unrefused { OnOk result (order_refused self.old order.now now ≡ None) }
         ensures refused { IfErr result (IsRefusal (order_refused self.old order.now now)) }
         ensures err { OnErr result (self.new ≡ self.old) }
@@ -299,6 +316,31 @@ impl Leg {
         }
     }
 
+    /// An order is carried out; media has 1 to 1,380 octets. What is sent is written to the empty list.
+    ///
+    /// Refusals are looked for in the order of `OrderError`. Doom and Paid are never refused.
+    pub fn order_into(
+        &mut self,
+        order: &Order,
+        now: u64,
+        replies: &mut Replies,
+    ) -> Result<(), OrderError>
+        requires media { IsShortMedia order.now }
+        requires empty { replies.old ≡ [] }
+        ensures leg { OnOk result (self.new ≡ (order_carried self.old order.now now).leg) }
+        ensures replies { OnOk result (replies.new ≡ (order_carried self.old order.now now).datagrams) }
+        ensures tied { OnOk result (SendsAtMostOne self.old self.new) }
+        ensures sendings { OnOk result (All (IsSendingOrMini self.new) replies.new) }
+        ensures seen { OnOk result (IsSeenOrder (kind_of order.now) (seen self.old) (seen self.new)) }
+        ensures unrefused { OnOk result (order_refused self.old order.now now ≡ None) }
+        ensures refused { IfErr result (IsRefusal (order_refused self.old order.now now)) }
+        ensures wrong_stage { (result ≡ Err OrderError.WrongStage) ↔ (stage_after (kind_of order.now) self.old.stage ≡ None) }
+        ensures err { OnErr result (self.new ≡ self.old) }
+        ensures none_sent { OnErr result (replies.new ≡ replies.old) }
+    {
+        self.any_order(order, now, replies)
+    }
+
     /// Time goes on. What is sent is written to the empty list. The answer is how many frames were due and had no memory;
     /// they stay due.
     pub fn tick_into(&mut self, now: u64, replies: &mut Replies) -> u32
@@ -307,6 +349,8 @@ impl Leg {
         ensures replies { replies.new ≡ map spelling (tick_step (result == 0) self.old now).replies }
         ensures skipped { result ≡ (tick_step (result == 0) self.old now).skipped }
         ensures tied { SendsAtMostOne self.old self.new }
+        ensures sendings { All (IsSending self.new) replies.new }
+        ensures seen { IsSeenTick (seen self.old) (seen self.new) }
     {
         let grown = self.machine.grow(now);
         self.machine.tick(grown, now, replies)

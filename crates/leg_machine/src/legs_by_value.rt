@@ -1,14 +1,17 @@
 //! The calls of a leg that give their datagrams in what they answer. Each is made of its form over a lent list.
-ghost use Rattle.std.specs.Prelude.{◌≡◌, ◌==◌, ◌≤◌, ◌↔◌, true, None, length, map, option_copied, IfOk, IfErr, OnOk, OnErr};
+ghost use Rattle.std.specs.Prelude.{◌≡◌, ◌==◌, ◌≤◌, ◌↔◌, true, None, length, map, All, option_copied, IfOk, IfErr, OnOk, OnErr};
 ghost use Rattle.std.specs.Option.{ForSome};
 ghost use Rattle.iax_frames.specs.FullFrame.{spelling};
 ghost use Rattle.leg_machine.specs.Legs.{is_short_of_entries};
-ghost use Rattle.leg_machine.specs.Onward.{outcome_of, order_outcome};
+ghost use Rattle.leg_machine.specs.Onward.{outcome_of, order_outcome, HandsUp};
 ghost use Rattle.leg_machine.specs.Openings.{open_in_step, open_out_step};
 ghost use Rattle.leg_machine.specs.OrderTable.{order_refused, IsRefusal, IsShortMedia, order_carried};
 ghost use Rattle.leg_machine.specs.PeerRules.{IsPeerRules};
+ghost use Rattle.leg_machine.specs.Seen.{seen, kind_of, stage_after, fresh_leg, IsSeenFrame, IsSeenOpening, IsSeenOrder, IsSeenTick};
 ghost use Rattle.leg_machine.specs.Steps.{full_step};
 ghost use Rattle.leg_machine.specs.Ticks.{tick_step};
+ghost use Rattle.leg_machine.specs.Tie.{IsSending, IsSendingOrMini};
+ghost use Rattle.leg_machine.specs.declared.stages.Stage.TheVariants as stages;
 
 use crate::formats::Format;
 use crate::legs::Leg;
@@ -49,6 +52,8 @@ impl Leg {
         requires short { length frame.now.payload ≤ 1388 }
         ensures leg { IfOk result (λ opened. opened.0 ≡ (open_in_step rules.now number frame.now now challenge.now).leg) }
         ensures outcome { IfOk result (λ opened. opened.1 ≡ outcome_of (open_in_step rules.now number frame.now now challenge.now)) }
+        ensures sendings { IfOk result (λ opened. All (IsSending opened.0) opened.1.replies) }
+        ensures seen { IfOk result (λ opened. HandsUp opened.0 opened.1.onward (IsSeenOpening (seen opened.0))) }
     {
         let mut replies = Replies::new();
         let (leg, heard) = Leg::open_in_into(
@@ -88,6 +93,8 @@ impl Leg {
         ensures leg { IfOk result (λ opened. opened.0 ≡ (open_out_step rules.now number called.now (option_copied calling.entry) format now).leg) }
         ensures outcome { IfOk result (λ opened. opened.1 ≡
             outcome_of (open_out_step rules.now number called.now (option_copied calling.entry) format now)) }
+        ensures sendings { IfOk result (λ opened. All (IsSending opened.0) opened.1.replies) }
+        ensures seen { IfOk result (λ opened. seen opened.0 ≡ fresh_leg stages.Waiting) }
     {
         let mut replies = Replies::new();
         let leg = Leg::open_out_into(
@@ -115,6 +122,8 @@ impl Leg {
         requires { length frame.now.payload ≤ 1388 }
         ensures leg { OnOk result (self.new ≡ (full_step self.old frame.now now).leg) }
         ensures outcome { IfOk result (λ outcome. outcome ≡ outcome_of (full_step self.old frame.now now)) }
+        ensures sendings { IfOk result (λ outcome. All (IsSending self.new) outcome.replies) }
+        ensures seen { IfOk result (λ outcome. HandsUp self.new outcome.onward (IsSeenFrame (seen self.old) (seen self.new))) }
         ensures record_full { (result ≡ Err StepError.RecordFull) ↔ (is_short_of_entries self.old ≡ true) }
         ensures err { OnErr result (self.new ≡ self.old) }
     {
@@ -133,8 +142,11 @@ impl Leg {
         requires { IsShortMedia order.now }
         ensures leg { OnOk result (self.new ≡ (order_carried self.old order.now now).leg) }
         ensures outcome { IfOk result (λ outcome. outcome ≡ order_outcome (order_carried self.old order.now now)) }
+        ensures sendings { IfOk result (λ outcome. All (IsSendingOrMini self.new) outcome.replies) }
+        ensures seen { OnOk result (IsSeenOrder (kind_of order.now) (seen self.old) (seen self.new)) }
         ensures unrefused { OnOk result (order_refused self.old order.now now ≡ None) }
         ensures refused { IfErr result (IsRefusal (order_refused self.old order.now now)) }
+        ensures wrong_stage { (result ≡ Err OrderError.WrongStage) ↔ (stage_after (kind_of order.now) self.old.stage ≡ None) }
         ensures err { OnErr result (self.new ≡ self.old) }
     {
         let mut replies = Replies::new();
@@ -151,6 +163,8 @@ impl Leg {
         ensures leg { self.new ≡ (tick_step (result.skipped == 0) self.old now).leg }
         ensures replies { result.replies ≡ map spelling (tick_step (result.skipped == 0) self.old now).replies }
         ensures skipped { result.skipped ≡ (tick_step (result.skipped == 0) self.old now).skipped }
+        ensures sendings { All (IsSending self.new) result.replies }
+        ensures seen { IsSeenTick (seen self.old) (seen self.new) }
     {
         let mut replies = Replies::new();
         let skipped = self.tick_into(now, &mut replies);

@@ -5,6 +5,7 @@
 mod causes;
 mod effects;
 mod formats;
+pub mod laws;
 mod leg_readers;
 mod leg_table;
 mod legs;
@@ -30,7 +31,7 @@ pub use formats::{Format, Formats};
 pub use legs::Leg;
 pub use media::MediaSent;
 pub use messages::Message;
-pub use orders::{Order, OrderError};
+pub use orders::{Order, OrderError, OrderKind};
 pub use outcomes::{Heard, Judged, MediaIn, Outcome, StepError, TickOutcome};
 pub use replies::Replies;
 pub use rules::{Credential, PeerRules};

@@ -33,6 +33,41 @@ pub enum Order<'a> {
     Paid,
 }
 
+/// An order without the octets of its media.
+#[derive(Clone, Copy, Debug, PartialEq, Eq)]
+pub enum OrderKind {
+    Accept,
+    Reject(Cause),
+    Indicate(Indication),
+    Answer,
+    Dtmf(Digit),
+    Media,
+    Hangup,
+    Doom,
+    Paid,
+}
+
+impl Order<'_> {
+    ghost use Rattle.leg_machine.specs.Seen.{kind_of};
+
+    /// The order without the octets of its media.
+    pub fn kind(&self) -> OrderKind
+        ensures { result ≡ kind_of self.now }
+    {
+        match self {
+            Order::Accept => OrderKind::Accept,
+            Order::Reject(cause) => OrderKind::Reject(*cause),
+            Order::Indicate(indication) => OrderKind::Indicate(*indication),
+            Order::Answer => OrderKind::Answer,
+            Order::Dtmf(digit) => OrderKind::Dtmf(*digit),
+            Order::Media(_) => OrderKind::Media,
+            Order::Hangup => OrderKind::Hangup,
+            Order::Doom => OrderKind::Doom,
+            Order::Paid => OrderKind::Paid,
+        }
+    }
+}
+
 /// Why an order is refused, in the order in which causes are looked for.
 #[derive(Clone, Copy, Debug, PartialEq, Eq)]
 pub enum OrderError {

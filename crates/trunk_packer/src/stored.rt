@@ -1,11 +1,11 @@
 //! The entries of a queue as they lie in a ring of octets.
-ghost use Rattle.std.specs.Prelude.{◌≡◌, ◌+◌, ◌<◌, ◌≤◌, ◌^◌, ◌++◌, ◌↔◌, IsOk, OnOk, OnErr, IfNone, IfSome, length, take, drop, slice_index, Some, None};
+ghost use Rattle.std.specs.Prelude.{◌≡◌, ◌+◌, ◌<◌, ◌≤◌, ◌^◌, ◌↔◌, IsOk, OnOk, OnErr, IfNone, IfSome, length, slice_index, Some, None};
 ghost use Rattle.iax_frames.specs.TrunkFrame.{TrunkFrame, SpellsTrunk, IsTrunk, with_entry, head_len, is_timed};
 ghost use Rattle.trunk_packer.specs.Queue.{trunk_entry};
 ghost use Rattle.trunk_packer.specs.Stored.{first_stored};
 
 use crate::pieces::Pieces;
-use iax_frames::{CallNumber, Out, TooLong, append_entry};
+use iax_frames::{CallNumber, Out, TooLong, append_entry_in_two};
 use std::marker::Model;
 
 /// An entry in a ring.
@@ -44,37 +44,14 @@ impl<'a> StoredEntry<'a> {
         ensures spelled { OnOk result ((t : TrunkFrame) → SpellsTrunk out.old t → SpellsTrunk out.new (with_entry t (trunk_entry (is_timed t.command_data) self.now))) }
         ensures err { OnErr result (out.new ≡ out.old) }
     {
-        if self.media.back.is_empty() {
-            return append_entry(out, self.number, self.timestamp, self.media.front);
-        }
-        let len = self.media.len();
-        append_entry(
+        append_entry_in_two(
             out,
             self.number,
             self.timestamp,
-            &joined(&self.media)[..len],
+            self.media.front,
+            self.media.back,
         )
     }
-}
-
-// Media that wraps round the end of a ring, in one piece.
-fn joined(media: &Pieces<'_>) -> [u8; 1380]
-    requires { length media.now ≤ 1380 }
-    ensures { take (length media.now) result ≡ media.now }
-{
-    let mut octets = [0; 1380];
-    let (front, back) = (media.front, media.back);
-    copy_to(&mut octets, 0, front);
-    copy_to(&mut octets, front.len(), back);
-    octets
-}
-
-// Copies a piece to a place among octets.
-fn copy_to(octets: &mut [u8], at: usize, piece: &[u8])
-    requires { at + length piece.now ≤ length octets.old }
-    ensures { octets.new ≡ take at octets.old ++ piece.now ++ drop (at + length piece.now) octets.old }
-{
-    octets[at..at + piece.len()].copy_from_slice(piece);
 }
 
 // The entry at the front, and what follows it.

@@ -1,6 +1,9 @@
-use Rattle.std.proofs.Common.{rules}
+use Rattle.std.proofs.Common.{eqb, subst, rules}
 use Rattle.leg_machine.specs.Legs.{leg_of}
+use Rattle.leg_machine.specs.Ticks.{tick_step}
+use Rattle.leg_machine.specs.Tie.{SendsNumbered}
 use Rattle.leg_machine.proofs.Growth.{Told, told}
+use Rattle.leg_machine.proofs.SendingSteps.{Written, written, tick-sent}
 use Rattle.leg_machine.proofs.legs.Leg.tick_into.Goals as goal
 use Rattle.leg_machine.proofs.legs.Leg.tick_into.Goals.{After-tick}
 
@@ -20,3 +23,19 @@ returns-clause-skipped c = (all c).count
 
 pub returns-clause-tied : goal.returns-clause-tied
 returns-clause-tied c = (all c).tied
+
+pub returns-clause-seen : goal.returns-clause-seen
+returns-clause-seen c = (all c).seen
+
+sent : (c : After-tick) → Written (leg_of c.tick.new.self) c.tick.new.outs
+sent c =
+    let step = tick_step (eqb c.tick.result 0) c.args.self.now c.args.now in
+    let told = all c in
+    written step.leg (leg_of c.tick.new.self) step.replies c.tick.new.outs
+    (tick-sent (eqb c.tick.result 0) c.args.self.now c.args.now (subst SendsNumbered c.self.view_is c.self.invariant)) told.leg told.replies
+
+pub invariant_of-self : goal.invariant_of-self
+invariant_of-self c = (sent c).numbered
+
+pub returns-clause-sendings : goal.returns-clause-sendings
+returns-clause-sendings c = (sent c).sendings

@@ -1,4 +1,4 @@
-use Rattle.std.proofs.Common.{◌≡◌, ◌≤◌, ◌++◌, List, [], ◌∷◌, ℕ, length, arith, sym, ap, ◌∙◌, length-append}
+use Rattle.std.proofs.Common.{◌≤◌, ◌++◌, List, [], ◌∷◌, ℕ, length, arith, sym, ap, ◌∙◌, length-append}
 use Rattle.iax_frames.specs.FullFrame.{spelling}
 use Rattle.resend_queue.specs.declared.held_frame.Held.{Held}
 use Rattle.seq_window.specs.Window.{held_frames}

@@ -1,0 +1,100 @@
+-- What a step leads to, where the book stays and nobody loses who sees to it.
+use Rattle.std.proofs.Common.{◌≡◌, ℕ, ◌≤◌, List, [], Option, Some, None, Bool, true, false, refl, ap, arith, is_some}
+use Rattle.std.specs.Prelude.{Result, Ok, Err}
+use Rattle.call_book.specs.Book.{Book}
+use Rattle.call_book.specs.declared.leg_name.LegName.{LegName}
+use Rattle.leg_machine.specs.declared.causes.Cause.{Cause}
+use Rattle.leg_machine.specs.declared.orders.OrderKind.{OrderKind}
+use Rattle.peer_lock.specs.declared.errors.OrderError.{OrderError}
+use Rattle.peer_lock.specs.declared.errors.OrderError.TheVariants as order_errors
+use Rattle.call_steps.specs.declared.acts.Act.{Act}
+use Rattle.call_steps.specs.declared.acts.Act.TheVariants as acts
+use Rattle.call_steps.specs.declared.places.Place.{Place}
+use Rattle.call_steps.specs.declared.places.Place.TheVariants as places
+use Rattle.call_steps.specs.declared.replies.Reply.TheVariants as replies
+use Rattle.call_steps.specs.Work.{Work, Rest, at, ended, go_on, after_no_room, told_at, in_hand}
+use Rattle.call_steps.specs.Scene.{Leg, Scene, Choice, Answer, at_order}
+use Rattle.call_steps.proofs.BookNames.{bit}
+use Rattle.call_steps.proofs.Held.{scene}
+use Rattle.call_steps.proofs.Weights.{care, offers, past, go_on_care}
+use Rattle.call_steps.proofs.Safe.{Moves, IsSafeStep, go_on_moves}
+use Rattle.call_steps.proofs.SafeSteps.{no_fresh, Before, stays, plain_order}
+
+pub some_more : (o more : Option LegName) → ((p : LegName) → o ≡ Some p → more ≡ Some p) → bit (is_some o) ≤ bit (is_some more)
+some_more None more h = omega arith
+some_more (Some p) more h = let e : bit (is_some more) ≡ 1 = ap (λ o. bit (is_some o)) (h p refl) in omega arith
+
+pub bit_most : (b : Bool) → bit b ≤ 1
+bit_most true = omega arith
+bit_most false = omega arith
+
+-- what a step leads to, where the book stays and nobody loses care
+pub record Flows (place : Place) (rest : Rest) (to : Work) : Type 0 where
+  pub goes : Moves place rest to
+  pub care : (x : LegName) → care (at place rest) x ≤ care to x
+
+-- to a place without a lease in hand
+pub quiet : (place : Place) (rest : Rest) (to : Work) → in_hand to.place ≡ [] → ((x : LegName) → past to x ≤ past (at place rest) x) → ((x : LegName) → care (at place rest) x ≤ care to x) → Flows place rest to
+quiet place rest to hand less more = record {
+  goes = record { past = less; fresh = λ x some. no_fresh to.place x _ hand some };
+  care = more;
+}
+
+-- on to what was handed up besides
+pub flows_on : (place : Place) (rest : Rest) → ((x : LegName) → care (at place rest) x ≤ offers x rest.onward) → Flows place rest (go_on rest)
+flows_on place rest le = record { goes = go_on_moves place rest; care = λ x. omega (arith, le x, go_on_care rest x) }
+
+pub flows_pass : (partner : LegName) (act : Act) (rest : Rest) (r : Result (Unit {0}) OrderError) → Flows (places.Passing partner act) rest (told_at (places.Passing partner act) (replies.Order r) rest)
+flows_pass partner act rest r = result r
+  where
+    no_room : (act own : Act) → Flows (places.Passing partner own) rest (after_no_room act partner rest)
+    no_room (acts.Media span) own = flows_on (places.Passing partner own) rest (λ x. omega arith)
+    no_room act own = quiet (places.Passing partner own) rest (at (places.Dooming partner) rest) refl (λ x. omega arith) (λ x. omega arith)
+
+    when_refused : (error : OrderError) → Flows (places.Passing partner act) rest (told_at (places.Passing partner act) (replies.Order (Err error)) rest)
+    when_refused order_errors.WindowFull = no_room act act
+    when_refused order_errors.RecordFull = no_room act act
+    when_refused order_errors.Memory = no_room act act
+    when_refused error = flows_on (places.Passing partner act) rest (λ x. omega arith)
+
+    result : (r : Result (Unit {0}) OrderError) → Flows (places.Passing partner act) rest (told_at (places.Passing partner act) (replies.Order r) rest)
+    result (Ok done) = flows_on (places.Passing partner act) rest (λ x. omega arith)
+    result (Err error) = when_refused error
+
+pub flows_hanging_up : (name partner : LegName) (rest : Rest) (r : Result (Unit {0}) OrderError) → Flows (places.HangingUp name partner) rest (told_at (places.HangingUp name partner) (replies.Order r) rest)
+flows_hanging_up name partner rest (Ok done) = quiet (places.HangingUp name partner) rest (at (places.Paying name) rest) refl (λ x. omega arith) (λ x. omega arith)
+flows_hanging_up name partner rest (Err order_errors.Gone) = quiet (places.HangingUp name partner) rest (at (places.Paying name) rest) refl (λ x. omega arith) (λ x. omega arith)
+flows_hanging_up name partner rest (Err order_errors.WrongStage) = quiet (places.HangingUp name partner) rest (at (places.Paying name) rest) refl (λ x. omega arith) (λ x. omega arith)
+flows_hanging_up name partner rest (Err error) = quiet (places.HangingUp name partner) rest (at (places.Retiring name) rest) refl (λ x. omega arith) (λ x. omega arith)
+
+pub flows_paying : (name : LegName) (rest : Rest) (r : Result (Unit {0}) OrderError) → Flows (places.Paying name) rest (told_at (places.Paying name) (replies.Order r) rest)
+flows_paying name rest r = quiet (places.Paying name) rest (at (places.Retiring name) rest) refl (λ x. omega arith) (λ x. omega arith)
+
+pub flows_hang_up : (name : LegName) (rest : Rest) (r : Result (Unit {0}) OrderError) → Flows (places.HangUp name) rest (told_at (places.HangUp name) (replies.Order r) rest)
+flows_hang_up name rest (Ok done) = flows_on (places.HangUp name) rest (λ x. omega arith)
+flows_hang_up name rest (Err error) = quiet (places.HangUp name) rest ended refl (λ x. omega arith) (λ x. omega arith)
+
+pub flows_accepting : (offered target : LegName) (rest : Rest) (r : Result (Unit {0}) OrderError) → Flows (places.Accepting offered target) rest (told_at (places.Accepting offered target) (replies.Order r) rest)
+flows_accepting offered target rest (Ok done) = record { goes = record { past = λ x. omega arith; fresh = λ x some. (some, refl) }; care = λ x. omega arith }
+flows_accepting offered target rest (Err error) = record { goes = record { past = λ x. omega arith; fresh = λ x some. (some, refl) }; care = λ x. omega arith }
+
+pub flows_rejecting : (offered : LegName) (cause : Cause) (rest : Rest) (r : Result (Unit {0}) OrderError) → Moves (places.Rejecting offered cause) rest (told_at (places.Rejecting offered cause) (replies.Order r) rest)
+flows_rejecting offered cause rest (Ok done) = go_on_moves (places.Rejecting offered cause) rest
+flows_rejecting offered cause rest (Err error) = (quiet (places.Rejecting offered cause) rest (at (places.Dooming offered) rest) refl (λ x. omega arith) (λ x. omega arith)).goes
+
+module _ (others_care others_fresh beside : LegName → ℕ) (few : (x : LegName) → others_fresh x ≤ beside x) (book : Book) (legs : List Leg) where
+  abbrev Known : Place → Rest → Type 0
+  Known place rest = Before others_care others_fresh beside few book legs place rest
+
+  abbrev Safe : Place → Rest → Scene → Work → Type 0
+  Safe place rest new to = IsSafeStep others_care others_fresh place rest book new to
+
+  abbrev SafeAnswer : Place → Rest → Answer → Type 0
+  SafeAnswer place rest a = Safe place rest a.scene (told_at place a.reply rest)
+
+  pub flows_safe : (place : Place) (rest : Rest) (leases : List LegName) (to : Work) → Known place rest → Flows place rest to → Safe place rest (scene book legs leases) to
+  flows_safe place rest leases to b f = stays others_care others_fresh beside few book legs place rest leases to b f.goes f.care
+
+  pub order_safe : (place : Place) (rest : Rest) (name : LegName) (kind : OrderKind) (choice : Choice) → Known place rest → ((r : Result (Unit {0}) OrderError) → Flows place rest (told_at place (replies.Order r) rest))
+      → SafeAnswer place rest (at_order (scene book legs (in_hand place)) name kind choice)
+  order_safe place rest name kind choice b f = plain_order others_care others_fresh beside few book legs place rest name kind b (λ r. (f r).goes) choice (λ r. (f r).care)

@@ -1,0 +1,289 @@
+//! Where each answer leads a call, place by place. Another answer than that to the step is taken as a refusal.
+ghost use Rattle.std.specs.Prelude.{◌≡◌, [], Option, None, Some, Ok};
+ghost use Rattle.call_steps.specs.Work as work;
+ghost use Rattle.call_steps.specs.WorkState.{onwards_after};
+ghost use Rattle.call_steps.specs.declared.places.Place.TheVariants as places;
+
+use crate::acts::Act;
+use crate::needs::Route;
+use crate::places::Place;
+use crate::replies::Reply;
+use crate::work::Work;
+use call_book::LegName;
+use leg_machine::Cause;
+use peer_lock::{OrderError, PeerError, Status};
+
+impl Work {
+    /// The step that `next` names was answered.
+    ///
+    /// Another answer than that to this step is taken as a refusal.
+    pub fn told(&mut self, reply: Reply)
+        ensures work { self.new.work ≡ work.after_told self.old.work reply }
+        ensures onwards { self.new.onwards ≡ onwards_after self.old.work.place reply self.old.onwards }
+    {
+        match self.place() {
+            Place::Datagram(peer) => self.after_datagram(reply, peer),
+            Place::ReserveIn(_) => self.after_reserve_in(&reply),
+            Place::OpenIn(name) => self.after_open_in(reply, name),
+            Place::GiveBack(_) => self.end(),
+            Place::Routing(offered) => self.after_route(&reply, offered),
+            Place::Rejecting(offered, _) => self.after_reject(&reply, offered),
+            Place::ReserveOut(offered, _) => self.after_reserve_out(&reply, offered),
+            Place::Bridging(offered, target) => self.after_bridge(&reply, offered, target),
+            Place::Accepting(offered, target) => self.after_accept(&reply, offered, target),
+            Place::OpenOut(offered, target) => self.after_open_out(&reply, offered, target),
+            Place::Checking(target) => self.after_check(&reply, target),
+            Place::Undoing(offered, _) => self.go_to(Place::Dooming(offered)),
+            Place::Dooming(_) => self.go_on(),
+            Place::Finding(_, act) => self.after_find(&reply, act),
+            Place::Passing(partner, act) => self.after_pass(&reply, partner, act),
+            Place::Looking(name) => self.after_look(&reply, name),
+            Place::LookingAt(_, _) => self.after_look_at(&reply),
+            Place::FindingPartner(name) => self.after_find_partner(&reply, name),
+            Place::HangingUp(name, _) => self.after_partner_hangup(&reply, name),
+            Place::Paying(name) => self.go_to(Place::Retiring(name)),
+            Place::Retiring(name) => self.after_retire(&reply, name),
+            Place::Freeing(_) => self.after_free(&reply),
+            Place::Tick(_) => self.after_tick(&reply),
+            Place::HangUp(_) => self.after_hang_up(&reply),
+            Place::ReserveCall(_) => self.after_reserve_call(&reply),
+            Place::OpenCall(name) => self.after_open_call(&reply, name),
+            Place::End => self.end(),
+        }
+    }
+
+    fn after_datagram(&mut self, reply: Reply, peer: u16)
+        ensures work { self.new.work ≡ work.after_datagram reply peer self.old.work.rest }
+        ensures onwards { self.new.onwards ≡ onwards_after (places.Datagram peer) reply self.old.onwards }
+    {
+        match reply {
+            Reply::Datagram(Ok(heard)) => self.hear(heard),
+            Reply::Datagram(Err(PeerError::NeedsNumber)) => self.go_to(Place::ReserveIn(peer)),
+            _ => self.end(),
+        }
+    }
+
+    fn after_reserve_in(&mut self, reply: &Reply)
+        ensures { self.new ≡ record self.old { work = work.after_reserve_in reply.now self.old.work.rest } }
+    {
+        match reply {
+            Reply::Reserve(Ok(name)) => self.go_to(Place::OpenIn(*name)),
+            _ => self.end(),
+        }
+    }
+
+    fn after_open_in(&mut self, reply: Reply, name: LegName)
+        ensures work { self.new.work ≡ work.after_open_in reply name self.old.work.rest }
+        ensures onwards { self.new.onwards ≡ onwards_after (places.OpenIn name) reply self.old.onwards }
+    {
+        match reply {
+            Reply::OpenIn(Ok(heard)) => self.hear(heard),
+            _ => self.go_to(Place::GiveBack(name)),
+        }
+    }
+
+    fn after_route(&mut self, reply: &Reply, offered: LegName)
+        ensures { self.new ≡ record self.old { work = work.after_route reply.now offered self.old.work.rest } }
+    {
+        match reply {
+            Reply::Route(Route::To(peer)) => self.go_to(Place::ReserveOut(offered, *peer)),
+            Reply::Route(Route::WithoutFormat) => {
+                self.go_to(Place::Rejecting(offered, Cause::CallRejected))
+            }
+            _ => self.go_to(Place::Rejecting(offered, Cause::UnallocatedNumber)),
+        }
+    }
+
+    fn after_reject(&mut self, reply: &Reply, offered: LegName)
+        ensures { self.new ≡ record self.old { work = work.after_reject reply.now offered self.old.work.rest } }
+    {
+        match reply {
+            Reply::Order(Ok(())) => self.go_on(),
+            _ => self.go_to(Place::Dooming(offered)),
+        }
+    }
+
+    fn after_reserve_out(&mut self, reply: &Reply, offered: LegName)
+        ensures { self.new ≡ record self.old { work = work.after_reserve_out reply.now offered self.old.work.rest } }
+    {
+        match reply {
+            Reply::Reserve(Ok(target)) => self.go_to(Place::Bridging(offered, *target)),
+            _ => self.go_to(Place::Rejecting(offered, Cause::NoChannelAvailable)),
+        }
+    }
+
+    fn after_bridge(&mut self, reply: &Reply, offered: LegName, target: LegName)
+        ensures { self.new ≡ record self.old { work = work.after_bridge reply.now offered target self.old.work.rest } }
+    {
+        match reply {
+            Reply::Bridge(Ok(())) => self.go_to(Place::Accepting(offered, target)),
+            _ => self.go_to(Place::Undoing(offered, target)),
+        }
+    }
+
+    fn after_accept(&mut self, reply: &Reply, offered: LegName, target: LegName)
+        ensures { self.new ≡ record self.old { work = work.after_accept reply.now offered target self.old.work.rest } }
+    {
+        match reply {
+            Reply::Order(Ok(())) => self.go_to(Place::OpenOut(offered, target)),
+            _ => self.go_to(Place::Undoing(offered, target)),
+        }
+    }
+
+    fn after_open_out(&mut self, reply: &Reply, offered: LegName, target: LegName)
+        ensures { self.new ≡ record self.old { work = work.after_open_out reply.now offered target self.old.work.rest } }
+    {
+        match reply {
+            Reply::OpenOut(Ok(())) => self.go_to(Place::Checking(target)),
+            _ => self.go_to(Place::Undoing(offered, target)),
+        }
+    }
+
+    fn after_check(&mut self, reply: &Reply, target: LegName)
+        ensures { self.new ≡ record self.old { work = work.after_check reply.now target self.old.work.rest } }
+    {
+        match reply {
+            Reply::Partner(Some(_)) => self.go_on(),
+            _ => self.go_to(Place::Dooming(target)),
+        }
+    }
+
+    fn after_find(&mut self, reply: &Reply, act: Act)
+        ensures { self.new ≡ record self.old { work = work.after_find reply.now act self.old.work.rest } }
+    {
+        match reply {
+            Reply::Partner(Some(partner)) => self.go_to(Place::Passing(*partner, act)),
+            _ => self.go_on(),
+        }
+    }
+
+    fn after_pass(&mut self, reply: &Reply, partner: LegName, act: Act)
+        ensures { self.new ≡ record self.old { work = work.after_pass reply.now partner act self.old.work.rest } }
+    {
+        match reply {
+            Reply::Order(
+                Err(OrderError::WindowFull | OrderError::RecordFull | OrderError::Memory),
+            ) => self.after_no_room(&act, partner),
+            _ => self.go_on(),
+        }
+    }
+
+    // The partner had no room: it is doomed, unless it was for media.
+    fn after_no_room(&mut self, act: &Act, partner: LegName)
+        ensures { self.new ≡ record self.old { work = work.after_no_room act.now partner self.old.work.rest } }
+    {
+        match act {
+            Act::Media(_) => self.go_on(),
+            _ => self.go_to(Place::Dooming(partner)),
+        }
+    }
+
+    fn after_look(&mut self, reply: &Reply, name: LegName)
+        ensures { self.new ≡ record self.old { work = work.after_look reply.now name self.old.work.rest } }
+    {
+        match reply {
+            Reply::Look(Some(status)) => {
+                if status.name == name {
+                    self.after_status(status)
+                } else {
+                    self.go_on()
+                }
+            }
+            _ => self.go_on(),
+        }
+    }
+
+    fn after_look_at(&mut self, reply: &Reply)
+        ensures { self.new ≡ record self.old { work = work.after_look_at reply.now self.old.work.rest } }
+    {
+        match reply {
+            Reply::Look(Some(status)) => self.after_status(status),
+            _ => self.go_on(),
+        }
+    }
+
+    // A leg that owes is settled with its partner before it is taken out.
+    fn after_status(&mut self, status: &Status)
+        ensures { self.new ≡ record self.old { work = work.after_status status.now.name status.now.owes self.old.work.rest } }
+    {
+        if status.owes {
+            self.go_to(Place::FindingPartner(status.name))
+        } else {
+            self.go_to(Place::Retiring(status.name))
+        }
+    }
+
+    fn after_find_partner(&mut self, reply: &Reply, name: LegName)
+        ensures { self.new ≡ record self.old { work = work.after_find_partner reply.now name self.old.work.rest } }
+    {
+        match reply {
+            Reply::Partner(Some(partner)) => self.go_to(Place::HangingUp(name, *partner)),
+            _ => self.go_to(Place::Paying(name)),
+        }
+    }
+
+    fn after_partner_hangup(&mut self, reply: &Reply, name: LegName)
+        ensures { self.new ≡ record self.old { work = work.after_partner_hangup reply.now name self.old.work.rest } }
+    {
+        match reply {
+            Reply::Order(Ok(()) | Err(OrderError::Gone | OrderError::WrongStage)) => {
+                self.go_to(Place::Paying(name))
+            }
+            _ => self.go_to(Place::Retiring(name)),
+        }
+    }
+
+    fn after_retire(&mut self, reply: &Reply, name: LegName)
+        ensures { self.new ≡ record self.old { work = work.after_retire reply.now name self.old.work.rest } }
+    {
+        match reply {
+            Reply::Retire(true) => self.go_to(Place::Freeing(name)),
+            _ => self.go_on(),
+        }
+    }
+
+    fn after_free(&mut self, reply: &Reply)
+        ensures { self.new ≡ record self.old { work = work.after_free reply.now self.old.work.rest } }
+    {
+        match reply {
+            Reply::Release(Ok(Some(partner))) => self.go_to(Place::Dooming(*partner)),
+            _ => self.go_on(),
+        }
+    }
+
+    fn after_tick(&mut self, reply: &Reply)
+        ensures { self.new ≡ record self.old { work = work.after_tick reply.now self.old.work.rest } }
+    {
+        match reply {
+            Reply::Tick(Ok(())) => self.go_on(),
+            _ => self.end(),
+        }
+    }
+
+    fn after_hang_up(&mut self, reply: &Reply)
+        ensures { self.new ≡ record self.old { work = work.after_hang_up reply.now self.old.work.rest } }
+    {
+        match reply {
+            Reply::Order(Ok(())) => self.go_on(),
+            _ => self.end(),
+        }
+    }
+
+    fn after_reserve_call(&mut self, reply: &Reply)
+        ensures { self.new ≡ record self.old { work = work.after_reserve_call reply.now self.old.work.rest } }
+    {
+        match reply {
+            Reply::Reserve(Ok(name)) => self.go_to(Place::OpenCall(*name)),
+            _ => self.end(),
+        }
+    }
+
+    fn after_open_call(&mut self, reply: &Reply, called: LegName)
+        ensures { self.new ≡ record self.old { work = work.after_open_call reply.now called self.old.work.rest } }
+    {
+        match reply {
+            Reply::OpenOut(Ok(())) => self.end(),
+            _ => self.go_to(Place::GiveBack(called)),
+        }
+    }
+}

@@ -1,0 +1,225 @@
+//! The steps of one call.
+ghost use Rattle.std.specs.Prelude.{◌≡◌, ◌+◌, ◌≤◌, ◌^◌, [], Option, None, Some, option_copied, Ok};
+ghost use Rattle.call_steps.specs.Work as work;
+
+use crate::needs::Need;
+use crate::places::Place;
+use crate::replies::Heard;
+use call_book::LegName;
+use leg_machine::Signal;
+use peer_lock::{Offer, Onwards};
+use std::marker::Model;
+
+/// The steps of one call of an exchange: of a datagram that came, of a tick, of a call or a hang-up from outside.
+///
+/// `next` names the step that is to be made, and `told` takes its answer. Neither takes memory nor waits.
+#[derive(Drop)]
+pub struct Work {
+    place: Place,
+    // What the last step of a peer handed up. So many of its signals, the last ones, aren't passed on yet.
+    onwards: Option<Onwards>,
+    signals_left: usize,
+    // The leg that is finished after them.
+    touched: Option<LegName>,
+    // Of a tick: the peer, the next number, and how many numbers are left.
+    peer: u16,
+    number: u16,
+    numbers_left: u16,
+}
+
+impl Model for Work {
+    ghost use Rattle.call_steps.specs.WorkState.{WorkState};
+
+    ghost Value = { WorkState };
+
+    ghost use Rattle.call_steps.specs.WorkInside.{work_inside, IsWork};
+
+    ghost view = { work_inside };
+
+    ghost invariant = { IsWork };
+}
+
+impl Work {
+    ghost use Rattle.call_steps.specs.WorkState.{begun, offer_in, first_of, without_first};
+
+    /// A datagram of this peer came.
+    pub fn of_datagram(peer: u16) -> Work
+        ensures { result ≡ begun (work.of_datagram peer) }
+    {
+        Work::at(Place::Datagram(peer))
+    }
+
+    /// Time goes on at this peer, whose call numbers are the next `count` from `first` on.
+    pub fn of_tick(peer: u16, first: u16, count: u16) -> Work
+        requires { first + count ≤ 2 ^ 16 }
+        ensures { result ≡ begun (work.of_tick peer first count) }
+    {
+        Work {
+            peer,
+            number: first,
+            numbers_left: count,
+            ..Work::at(Place::Tick(peer))
+        }
+    }
+
+    /// A call to this peer is made from outside.
+    pub fn of_call(peer: u16) -> Work
+        ensures { result ≡ begun (work.of_call peer) }
+    {
+        Work::at(Place::ReserveCall(peer))
+    }
+
+    /// The leg of this name is hung up from outside.
+    pub fn of_hang_up(name: LegName) -> Work
+        ensures { result ≡ begun (work.of_hang_up name) }
+    {
+        Work {
+            touched: Some(name),
+            ..Work::at(Place::HangUp(name))
+        }
+    }
+
+    // A call that stands here, with nothing besides to be done.
+    fn at(place: Place) -> Work
+        ensures { result ≡ begun (work.at place work.nothing_left) }
+    {
+        Work {
+            place,
+            onwards: None,
+            signals_left: 0,
+            touched: None,
+            peer: 0,
+            number: 0,
+            numbers_left: 0,
+        }
+    }
+
+    /// The step that is to be made next; none at the end.
+    pub fn next(&self) -> Option<Need>
+        ensures { result ≡ work.next_of self.now.work }
+    {
+        self.place.next()
+    }
+
+    /// What the offered call asks for, where the last step of a peer handed one up.
+    pub fn offer(&self) -> Option<&Offer>
+        ensures { option_copied result ≡ offer_in self.now.onwards }
+    {
+        match &self.onwards {
+            Some(onwards) => onwards.offer(),
+            None => None,
+        }
+    }
+
+    /// The list that the last step of a peer wrote, for the next one.
+    pub fn into_onwards(self) -> Option<Onwards>
+        ensures { result ≡ self.onwards }
+    {
+        let Work {
+            place: _,
+            onwards,
+            signals_left: _,
+            touched: _,
+            peer: _,
+            number: _,
+            numbers_left: _,
+        } = self;
+        onwards
+    }
+
+    // Where the call stands.
+    pub(crate) fn place(&self) -> Place
+        ensures { result ≡ self.now.work.place }
+    {
+        self.place
+    }
+
+    // The call goes to this place.
+    pub(crate) fn go_to(&mut self, place: Place)
+        ensures { self.new ≡ record self.old { work = work.at place self.old.work.rest } }
+    {
+        self.place = place;
+    }
+
+    // Nothing is left to be done.
+    pub(crate) fn end(&mut self)
+        ensures { self.new ≡ record self.old { work = work.ended } }
+    {
+        self.place = Place::End;
+        self.signals_left = 0;
+        self.touched = None;
+        self.numbers_left = 0;
+    }
+
+    // A step of a peer was made.
+    pub(crate) fn hear(&mut self, heard: Heard)
+        ensures work { self.new.work ≡ work.after_heard heard self.old.work.rest }
+        ensures onwards { self.new.onwards ≡ Some heard.onwards }
+    {
+        let Heard { touched, onwards } = heard;
+        self.signals_left = onwards.len();
+        self.onwards = Some(onwards);
+        self.touched = touched;
+        self.go_on();
+    }
+
+    // What was handed up is passed on, then the touched leg is finished, then the next number of a tick.
+    pub(crate) fn go_on(&mut self)
+        ensures { self.new ≡ record self.old { work = work.go_on self.old.work.rest } }
+    {
+        while let Some((name, signal)) = self.take_signal() {
+            if let Some(place) = Place::for_signal(name, signal) {
+                self.go_to(place);
+                return;
+            }
+        }
+        self.finish();
+    }
+
+    // The next signal that isn't passed on yet.
+    fn take_signal(&mut self) -> Option<(LegName, Signal)>
+        ensures signal { result ≡ first_of self.old.work.rest.onward }
+        ensures work { self.new ≡ record self.old { work = without_first self.old.work } }
+    {
+        let signal = self.next_signal()?;
+        self.signals_left -= 1;
+        Some(signal)
+    }
+
+    fn next_signal(&self) -> Option<(LegName, Signal)>
+        ensures { result ≡ first_of self.now.work.rest.onward }
+    {
+        match &self.onwards {
+            Some(onwards) => onwards.get(onwards.len() - self.signals_left),
+            None => None,
+        }
+    }
+
+    // The touched leg is finished, or the next number of a tick.
+    fn finish(&mut self)
+        requires { self.old.work.rest.onward ≡ [] }
+        ensures { self.new ≡ record self.old { work = work.finish self.old.work.rest.touched self.old.work.rest.looks } }
+    {
+        match self.touched.take() {
+            Some(name) => self.place = Place::Looking(name),
+            None => self.look_at_next(),
+        }
+    }
+
+    // The next number of a tick, or the end.
+    fn look_at_next(&mut self)
+        requires onward { self.old.work.rest.onward ≡ [] }
+        requires touched { self.old.work.rest.touched ≡ None }
+        ensures { self.new ≡ record self.old { work = work.next_look self.old.work.rest.looks } }
+    {
+        if self.numbers_left == 0 {
+            self.place = Place::End;
+            return;
+        }
+        self.place = Place::LookingAt(self.peer, self.number);
+        self.numbers_left -= 1;
+        if self.numbers_left > 0 {
+            self.number += 1;
+        }
+    }
+}

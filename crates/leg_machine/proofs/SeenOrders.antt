@@ -1,0 +1,161 @@
+-- What callers at once see of a leg that gets an order.
+use Rattle.std.specs.Prelude.{◌↔◌, not, nat_le, OnOk, IfErr, Result, Ok, Err}
+use Rattle.std.proofs.Common.{◌≡◌, ℕ, Bool, true, false, cond, List, Option, None, Some, refl, ap, ◌∙◌}
+use Rattle.seq_window.specs.Window.{held_count}
+use Rattle.leg_machine.specs.Legs.{LegState, is_short_of_entries}
+use Rattle.leg_machine.specs.Media.{media_sent, after_media}
+use Rattle.leg_machine.specs.OrderTable.{when, row_refused, row_carried, order_refused, order_carried, media_refused, media_refused_as, sending_refused, IsRefusal}
+use Rattle.leg_machine.specs.Seen.{seen, moved, ordered, kind_of, stage_after, IsSeenOrder}
+use Rattle.leg_machine.specs.Stages.{is_offered, is_linked, is_talking, is_over}
+use Rattle.leg_machine.specs.declared.causes.Cause.{Cause}
+use Rattle.leg_machine.specs.declared.media.MediaSent.{MediaSent}
+use Rattle.leg_machine.specs.declared.media.MediaSent.TheVariants as media
+use Rattle.leg_machine.specs.declared.orders.Order.{Order}
+use Rattle.leg_machine.specs.declared.orders.Order.TheVariants as orders
+use Rattle.leg_machine.specs.declared.orders.OrderError.{OrderError}
+use Rattle.leg_machine.specs.declared.orders.OrderError.TheVariants as errors
+use Rattle.leg_machine.specs.declared.orders.OrderKind.{OrderKind}
+use Rattle.leg_machine.specs.declared.orders.OrderKind.TheVariants as kinds
+use Rattle.leg_machine.specs.declared.orders.Ordered.{Ordered}
+use Rattle.leg_machine.specs.declared.signals.Indication.{Indication}
+use Rattle.leg_machine.specs.declared.stages.Stage.{Stage}
+use Rattle.leg_machine.specs.declared.stages.Stage.TheVariants as stages
+use Rattle.leg_machine.proofs.SeenFrames.{moved-same}
+use Rattle.leg_machine.proofs.Tied.{either, either_by}
+
+-- ---- the stages of each order
+
+-- where the stage is a right one the order leads there, else nowhere
+abbrev LeadsTo : OrderKind → Stage → Bool → Stage → Type 0
+LeadsTo kind stage right there = stage_after kind stage ≡ cond right (Some there) None
+
+accept : (s : Stage) → LeadsTo kinds.Accept s (is_offered s) stages.Linked
+accept stages.Offered = refl
+accept _ = refl
+
+reject : (cause : Cause) (s : Stage) → LeadsTo (kinds.Reject cause) s (is_offered s) stages.Closing
+reject cause stages.Offered = refl
+reject cause _ = refl
+
+indicate : (indication : Indication) (s : Stage) → LeadsTo (kinds.Indicate indication) s (is_linked s) stages.Linked
+indicate indication stages.Linked = refl
+indicate indication _ = refl
+
+answer : (s : Stage) → LeadsTo kinds.Answer s (is_linked s) stages.Up
+answer stages.Linked = refl
+answer _ = refl
+
+dtmf : (digit : ℕ) (s : Stage) → LeadsTo (kinds.Dtmf digit) s (is_talking s) s
+dtmf digit stages.Linked = refl
+dtmf digit stages.Up = refl
+dtmf digit _ = refl
+
+media-stage : (s : Stage) → LeadsTo kinds.Media s (is_talking s) s
+media-stage stages.Linked = refl
+media-stage stages.Up = refl
+media-stage _ = refl
+
+hangup : (s : Stage) → LeadsTo kinds.Hangup s (not (is_over s)) stages.Closing
+hangup stages.Closing = refl
+hangup stages.Ended = refl
+hangup _ = refl
+
+-- ---- the leg after an order
+
+row-seen : (leg : LegState) (kind : OrderKind) (right : Bool) (row : Ordered) (now : ℕ) → LeadsTo kind leg.stage right row.stage
+    → moved (seen leg) row.stage ≡ ordered kind (seen leg) row.stage → row_refused leg (when right row) ≡ None
+    → IsSeenOrder kind (seen leg) (seen (row_carried leg (when right row) now).leg)
+row-seen leg kind true row now leads moves unrefused = (row.stage, leads, moves)
+row-seen leg kind false row now leads moves unrefused = cc
+
+pub seen-media : (sent : MediaSent) (leg : LegState) (octets : List ℕ) (now : ℕ) → seen (after_media sent leg octets now) ≡ seen leg
+seen-media media.Quelched leg octets now = refl
+seen-media media.Voice leg octets now = refl
+seen-media (media.Mini timestamp) leg octets now = refl
+
+-- a talking leg gets media, and callers see no change
+pub talking-seen : (old new : LegState) → is_talking old.stage ≡ true → seen new ≡ seen old → IsSeenOrder kinds.Media (seen old) (seen new)
+talking-seen old new talks same = (
+  old.stage,
+  media-stage old.stage ∙ ap (λ (b : Bool). cond b (Some old.stage) None) talks,
+  same ∙ moved-same (seen old),
+)
+
+media-seen : (leg : LegState) (octets : List ℕ) (now : ℕ) → media_refused leg now ≡ None
+    → IsSeenOrder kinds.Media (seen leg) (seen (after_media (media_sent leg now) leg octets now))
+media-seen leg octets now =
+    let new = after_media (media_sent leg now) leg octets now in
+    either_by (λ (refusal : Option OrderError). refusal ≡ None → IsSeenOrder kinds.Media (seen leg) (seen new))
+    (is_talking leg.stage) (media_refused_as (media_sent leg now) leg) (Some errors.WrongStage)
+    (λ talks unrefused. talking-seen leg new talks (seen-media (media_sent leg now) leg octets now))
+    (λ talks unrefused. cc)
+
+order-seen : (leg : LegState) (order : Order) (now : ℕ) → order_refused leg order now ≡ None
+    → IsSeenOrder (kind_of order) (seen leg) (seen (order_carried leg order now).leg)
+order-seen leg orders.Accept now unrefused = row-seen leg kinds.Accept (is_offered leg.stage) _ now (accept leg.stage) refl unrefused
+order-seen leg (orders.Reject cause) now unrefused = row-seen leg (kinds.Reject cause) (is_offered leg.stage) _ now (reject cause leg.stage) refl unrefused
+order-seen leg (orders.Indicate i) now unrefused = row-seen leg (kinds.Indicate i) (is_linked leg.stage) _ now (indicate i leg.stage) refl unrefused
+order-seen leg orders.Answer now unrefused = row-seen leg kinds.Answer (is_linked leg.stage) _ now (answer leg.stage) refl unrefused
+order-seen leg (orders.Dtmf digit) now unrefused = row-seen leg (kinds.Dtmf digit) (is_talking leg.stage) _ now (dtmf digit leg.stage) refl unrefused
+order-seen leg (orders.Media octets) now unrefused = media-seen leg octets.now now unrefused
+order-seen leg orders.Hangup now unrefused = row-seen leg kinds.Hangup (not (is_over leg.stage)) _ now (hangup leg.stage) refl unrefused
+order-seen leg orders.Doom now unrefused = (leg.stage, refl, refl)
+order-seen leg orders.Paid now unrefused = (leg.stage, refl, refl)
+
+-- ---- the wrong stage
+
+-- refused for the stage exactly where the order leads nowhere
+abbrev WrongTogether : Option OrderError → Option Stage → Type 0
+WrongTogether refusal there = (refusal ≡ Some errors.WrongStage) ↔ (there ≡ None)
+
+sending-right : (leg : LegState) (most : ℕ) → sending_refused leg most ≡ Some errors.WrongStage → ⊥
+sending-right leg most =
+    either (λ (r : Option OrderError). r ≡ Some errors.WrongStage → ⊥) (nat_le most (held_count leg.window)) (Some errors.WindowFull)
+    (cond (is_short_of_entries leg) (Some errors.RecordFull) None) (λ e. cc)
+    (either (λ (r : Option OrderError). r ≡ Some errors.WrongStage → ⊥) (is_short_of_entries leg) (Some errors.RecordFull) None (λ e. cc) (λ e. cc))
+
+row-wrong : (leg : LegState) (kind : OrderKind) (right : Bool) (row : Ordered) → LeadsTo kind leg.stage right row.stage
+    → WrongTogether (row_refused leg (when right row)) (stage_after kind leg.stage)
+row-wrong leg kind true row leads = (λ e. absurd (sending-right leg row.most e), λ e. cc)
+row-wrong leg kind false row leads = (λ e. leads, λ e. refl)
+
+media-right : (sent : MediaSent) (leg : LegState) → media_refused_as sent leg ≡ Some errors.WrongStage → ⊥
+media-right media.Quelched leg e = cc
+media-right media.Voice leg e = sending-right leg _ e
+media-right (media.Mini timestamp) leg e = cc
+
+media-wrong : (leg : LegState) (now : ℕ) → WrongTogether (media_refused leg now) (stage_after kinds.Media leg.stage)
+media-wrong leg now =
+    either_by (λ (refusal : Option OrderError). WrongTogether refusal (stage_after kinds.Media leg.stage)) (is_talking leg.stage)
+    (media_refused_as (media_sent leg now) leg) (Some errors.WrongStage)
+    (λ talks.
+    let leads = media-stage leg.stage ∙ ap (λ (b : Bool). cond b (Some leg.stage) None) talks in
+    (λ e. absurd (media-right (media_sent leg now) leg e), λ e. cc))
+    (λ talks. (λ e. media-stage leg.stage ∙ ap (λ (b : Bool). cond b (Some leg.stage) None) talks, λ e. refl))
+
+pub order-wrong : (leg : LegState) (order : Order) (now : ℕ) → WrongTogether (order_refused leg order now) (stage_after (kind_of order) leg.stage)
+order-wrong leg orders.Accept now = row-wrong leg kinds.Accept (is_offered leg.stage) _ (accept leg.stage)
+order-wrong leg (orders.Reject cause) now = row-wrong leg (kinds.Reject cause) (is_offered leg.stage) _ (reject cause leg.stage)
+order-wrong leg (orders.Indicate i) now = row-wrong leg (kinds.Indicate i) (is_linked leg.stage) _ (indicate i leg.stage)
+order-wrong leg orders.Answer now = row-wrong leg kinds.Answer (is_linked leg.stage) _ (answer leg.stage)
+order-wrong leg (orders.Dtmf digit) now = row-wrong leg (kinds.Dtmf digit) (is_talking leg.stage) _ (dtmf digit leg.stage)
+order-wrong leg (orders.Media octets) now = media-wrong leg now
+order-wrong leg orders.Hangup now = row-wrong leg kinds.Hangup (not (is_over leg.stage)) _ (hangup leg.stage)
+order-wrong leg orders.Doom now = (λ e. cc, λ e. cc)
+order-wrong leg orders.Paid now = (λ e. cc, λ e. cc)
+
+-- ---- what the calls answer
+
+-- the refusal that is answered is the one that is due
+pub answered-wrong : {A : Type 0} (result : Result A OrderError) (refusal : Option OrderError) (there : Option Stage) → WrongTogether refusal there
+    → OnOk result (refusal ≡ None) → IfErr result (IsRefusal refusal) → (result ≡ Err errors.WrongStage) ↔ (there ≡ None)
+answered-wrong (Ok x) refusal there wrong unrefused refused = (λ e. cc, λ e. let w = wrong.1 e in cc)
+answered-wrong (Err e) (Some due) there wrong unrefused refused = (λ h. wrong.0 cc, λ h. let w = wrong.1 h in cc)
+answered-wrong (Err e) None there wrong unrefused refused = (λ h. cc, λ h. let w = wrong.1 h in cc)
+
+pub answered-seen : {A : Type 0} (result : Result A OrderError) (old new : LegState) (order : Order) (now : ℕ) → OnOk result (new ≡ (order_carried old order now).leg)
+    → OnOk result (order_refused old order now ≡ None) → OnOk result (IsSeenOrder (kind_of order) (seen old) (seen new))
+answered-seen (Ok x) old new order now leg unrefused =
+    let s = order-seen old order now unrefused in
+    (s.0, s.1, ap seen leg ∙ s.2)
+answered-seen (Err e) old new order now leg unrefused = tt

@@ -1,0 +1,23 @@
+use Rattle.std.specs.Prelude.{map, option_copied}
+use Rattle.std.proofs.Common.{◌≡◌, rules}
+use Rattle.iax_frames.specs.FullFrame.{spelling}
+use Rattle.leg_machine.specs.Legs.{leg_of}
+use Rattle.leg_machine.specs.Openings.{open_out_step}
+use Rattle.leg_machine.proofs.SendingSteps.{Written, written, call-sent}
+use Rattle.leg_machine.proofs.legs.Leg.open_out_into.Goals as goal
+use Rattle.leg_machine.proofs.legs.Leg.open_out_into.Goals.{After-send_frame}
+
+sent : (c : After-send_frame) → Written (leg_of c.send_frame.new.self) c.send_frame.new.outs
+sent c =
+    let calling = option_copied c.args.calling in
+    let step = open_out_step c.args.rules.now c.args.number c.args.called.now calling c.args.format c.args.now in
+    let leg : leg_of c.send_frame.new.self ≡ step.leg = search rules in
+    let replies : c.send_frame.new.outs ≡ map spelling step.replies = search rules in
+    written step.leg (leg_of c.send_frame.new.self) step.replies c.send_frame.new.outs
+    (call-sent c.args.rules.now c.args.number c.args.called.now calling c.args.format c.args.now) leg replies
+
+pub invariant_of-result : goal.invariant_of-result
+invariant_of-result c = (sent c).numbered
+
+pub returns-clause-sendings : goal.returns-clause-sendings
+returns-clause-sendings c = (sent c).sendings

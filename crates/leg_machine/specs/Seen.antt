@@ -1,0 +1,156 @@
+-- What callers at once see of a leg: where it stands, whether it is doomed and whether it owes; and what a frame, an order, a
+-- tick and an opening may do to that ("IAX Frames", "Call Setup").
+use Rattle.std.specs.Prelude.{◌≡◌, ℕ, ◌||◌, ◌&&◌, not, ◌⊎◌, Bool, false, Option, None, Some, if◌then◌else◌}
+use Rattle.leg_machine.specs.Legs.{LegState}
+use Rattle.leg_machine.specs.Stages.{is_over}
+use Rattle.leg_machine.specs.declared.signals.Indication.{Indication}
+use Rattle.leg_machine.specs.declared.openings.Opening.{Opening}
+use Rattle.leg_machine.specs.declared.openings.Opening.TheVariants.{Refused, Challenges, Offers}
+use Rattle.leg_machine.specs.declared.orders.Order.{Order}
+use Rattle.leg_machine.specs.declared.orders.Order.TheVariants as orders
+use Rattle.leg_machine.specs.declared.orders.OrderKind.{OrderKind}
+use Rattle.leg_machine.specs.declared.orders.OrderKind.TheVariants as kinds
+use Rattle.leg_machine.specs.declared.signals.MediaSpan.{MediaSpan}
+use Rattle.leg_machine.specs.declared.signals.Signal.{Signal}
+use Rattle.leg_machine.specs.declared.signals.Signal.TheVariants as signals
+use Rattle.leg_machine.specs.declared.stages.Stage.{Stage}
+use Rattle.leg_machine.specs.declared.stages.Stage.TheVariants as stages
+
+pub record SeenLeg : Type 0 where
+  pub stage : Stage
+  pub doomed : Bool
+  -- the layer above isn't done with the end of the call
+  pub owes : Bool
+
+abbrev pub seen : LegState → SeenLeg
+seen leg = record { stage = leg.stage; doomed = leg.doomed; owes = leg.owes }
+
+-- A leg enters a stage. From the first that is Closing or Ended on it owes.
+abbrev pub moved : SeenLeg → Stage → SeenLeg
+moved leg stage = record leg { stage = stage; owes = leg.owes || (is_over stage && not (is_over leg.stage)) }
+
+-- ---- frames
+
+-- what a full frame may be to a leg
+pub data SeenFrame : Type 0 where
+  -- it changes nothing here
+  Plain : SeenFrame
+  ProvesItself : SeenFrame
+  FailsToProve : SeenFrame
+  AcceptsCall : SeenFrame
+  RejectsCall : SeenFrame
+  -- the call can't go on with it: another format, busy, hung up in the call
+  BreaksOff : SeenFrame
+  Indicates : (indication : Indication) → SeenFrame
+  AnswersCall : SeenFrame
+  Dials : (digit : ℕ) → SeenFrame
+  Speaks : (span : MediaSpan) → SeenFrame
+  HangsUp : SeenFrame
+  -- nothing is held any more
+  AcknowledgesAll : SeenFrame
+
+-- the stage after, and what is handed up
+pub record SeenEffect : Type 0 where
+  pub stage : Stage
+  pub signal : Option Signal
+
+abbrev pub seen_effect : Stage → Option Signal → SeenEffect
+seen_effect stage signal = record { stage = stage; signal = signal }
+
+abbrev pub frame_effect : SeenFrame → Stage → SeenEffect
+frame_effect ProvesItself stages.Challenged = seen_effect stages.Offered (Some signals.Offered)
+frame_effect FailsToProve stages.Challenged = seen_effect stages.Closing None
+frame_effect AcceptsCall stages.Waiting = seen_effect stages.Linked None
+frame_effect RejectsCall stages.Waiting = seen_effect stages.Ended (Some signals.Hangup)
+frame_effect BreaksOff stages.Waiting = seen_effect stages.Closing (Some signals.Hangup)
+frame_effect BreaksOff stages.Linked = seen_effect stages.Closing (Some signals.Hangup)
+frame_effect BreaksOff stages.Up = seen_effect stages.Closing (Some signals.Hangup)
+frame_effect (Indicates indication) stages.Linked = seen_effect stages.Linked (Some (signals.Indicated indication))
+frame_effect AnswersCall stages.Linked = seen_effect stages.Up (Some signals.Answered)
+frame_effect (Dials digit) stages.Linked = seen_effect stages.Linked (Some (signals.Dtmf digit))
+frame_effect (Dials digit) stages.Up = seen_effect stages.Up (Some (signals.Dtmf digit))
+frame_effect (Speaks span) stages.Linked = seen_effect stages.Linked (Some (signals.Media span))
+frame_effect (Speaks span) stages.Up = seen_effect stages.Up (Some (signals.Media span))
+frame_effect HangsUp stages.Closing = seen_effect stages.Ended None
+frame_effect HangsUp stages.Ended = seen_effect stages.Ended None
+frame_effect HangsUp stage = seen_effect stages.Ended (Some signals.Hangup)
+frame_effect AcknowledgesAll stages.Closing = seen_effect stages.Ended None
+frame_effect frame stage = seen_effect stage None
+
+-- the leg after a full frame, and what it hands up, are those of one of these frames
+abbrev pub IsSeenFrame : SeenLeg → SeenLeg → Option Signal → Type 0
+IsSeenFrame old new signal =
+    (frame : SeenFrame) × (new ≡ moved old (frame_effect frame old.stage).stage) × (signal ≡ (frame_effect frame old.stage).signal)
+
+-- ---- openings
+
+abbrev pub opening_effect : Opening → SeenEffect
+opening_effect Refused = seen_effect stages.Closing None
+opening_effect Challenges = seen_effect stages.Challenged None
+opening_effect Offers = seen_effect stages.Offered (Some signals.Offered)
+
+-- a leg at its opening
+abbrev pub fresh_leg : Stage → SeenLeg
+fresh_leg stage = record { stage = stage; doomed = false; owes = is_over stage }
+
+-- a leg that a NEW opened, and what it hands up, are those of one of these openings
+abbrev pub IsSeenOpening : SeenLeg → Option Signal → Type 0
+IsSeenOpening new signal =
+    (opening : Opening) × (new ≡ fresh_leg (opening_effect opening).stage) × (signal ≡ (opening_effect opening).signal)
+
+-- ---- orders
+
+-- an order without the octets of its media
+abbrev pub kind_of : Order → OrderKind
+kind_of orders.Accept = kinds.Accept
+kind_of (orders.Reject cause) = kinds.Reject cause
+kind_of (orders.Indicate indication) = kinds.Indicate indication
+kind_of orders.Answer = kinds.Answer
+kind_of (orders.Dtmf digit) = kinds.Dtmf digit
+kind_of (orders.Media media) = kinds.Media
+kind_of orders.Hangup = kinds.Hangup
+kind_of orders.Doom = kinds.Doom
+kind_of orders.Paid = kinds.Paid
+
+-- the stage after an order; none: the stage is a wrong one
+abbrev pub stage_after : OrderKind → Stage → Option Stage
+stage_after kinds.Accept stages.Offered = Some stages.Linked
+stage_after (kinds.Reject cause) stages.Offered = Some stages.Closing
+stage_after (kinds.Indicate indication) stages.Linked = Some stages.Linked
+stage_after kinds.Answer stages.Linked = Some stages.Up
+stage_after (kinds.Dtmf digit) stages.Linked = Some stages.Linked
+stage_after (kinds.Dtmf digit) stages.Up = Some stages.Up
+stage_after kinds.Media stages.Linked = Some stages.Linked
+stage_after kinds.Media stages.Up = Some stages.Up
+stage_after kinds.Hangup stages.Closing = None
+stage_after kinds.Hangup stages.Ended = None
+stage_after kinds.Hangup stage = Some stages.Closing
+stage_after kinds.Doom stage = Some stage
+stage_after kinds.Paid stage = Some stage
+stage_after kind stage = None
+
+-- a leg that is carried to this stage by an order
+abbrev pub ordered : OrderKind → SeenLeg → Stage → SeenLeg
+ordered kinds.Doom leg stage = record leg { doomed = leg.doomed || not (is_over leg.stage) }
+ordered kinds.Paid leg stage = record leg { owes = leg.owes && not (is_over leg.stage) }
+ordered kind leg stage = moved leg stage
+
+-- the leg after an order that was carried out
+abbrev pub IsSeenOrder : OrderKind → SeenLeg → SeenLeg → Type 0
+IsSeenOrder kind old new = (stage : Stage) × (stage_after kind old.stage ≡ Some stage) × (new ≡ ordered kind old stage)
+
+-- ---- ticks
+
+-- what a tick may do to a leg, beside sending
+pub data Lapse : Type 0 where
+  Ends : Lapse
+  -- a doomed leg hangs up
+  ClosesDoomed : Lapse
+
+abbrev pub lapsed : Lapse → SeenLeg → SeenLeg
+lapsed Ends leg = moved leg stages.Ended
+lapsed ClosesDoomed leg = if leg.doomed && not (is_over leg.stage) then moved leg stages.Closing else leg
+
+-- the leg after a tick
+abbrev pub IsSeenTick : SeenLeg → SeenLeg → Type 0
+IsSeenTick old new = (new ≡ old) ⊎ ((lapse : Lapse) × (new ≡ lapsed lapse old))

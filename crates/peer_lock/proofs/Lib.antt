@@ -1,0 +1,13 @@
+pub mod Entries
+pub mod LegChanges
+pub mod LegIndex
+pub mod LegSearch
+pub mod LegThere
+pub mod Opened
+pub mod Packing
+pub mod Places
+pub mod Puts
+pub mod Refusing
+pub mod SameCall
+pub mod Shortness
+pub mod Ticking

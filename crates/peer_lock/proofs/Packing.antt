@@ -1,0 +1,59 @@
+-- Trunk frames that are packed one after another.
+use Rattle.std.proofs.Common.{◌≡◌, ◌≤◌, ℕ, ◌+◌, Bool, List, [], ◌∷◌, ◌++◌, ap, sym, refl, subst, ◌∙◌, arith}
+use Rattle.std.proofs.Math.Nat.{add_assoc}
+use Rattle.std.proofs.lemmas.List.{append_assoc, append-nil}
+use Rattle.peer_lock.specs.Peer.{PeerView}
+use Rattle.peer_lock.specs.Ticks.{PacksFronts, PacksOne, PacksMedia, IsPacked, with_packed}
+use Rattle.trunk_packer.specs.Queue.{QueueEntry, media_octets, PacksFront}
+
+-- one front more
+fronts_more : (timed : Bool) (now : ℕ) (datagrams : List (List ℕ)) (old between new : List QueueEntry) (datagram : List ℕ)
+    → PacksFronts timed now old datagrams between → PacksFront timed now between new datagram → PacksFronts timed now old (datagrams ++ datagram ∷ []) new
+fronts_more timed now [] old between new datagram here front = (new, subst (λ q. PacksFront timed now q new datagram) here front, refl)
+fronts_more timed now (first ∷ datagrams) old between new datagram here front =
+    (here.0, here.1, fronts_more timed now datagrams here.0 between new datagram here.2 front)
+
+-- what was packed so far
+pub record ArePacked (start : PeerView) (now octets : ℕ) (peer : PeerView) : Type 0 where
+  pub datagrams : List (List ℕ)
+  pub fronts : PacksFronts start.rules.trunk_timestamps now start.queue datagrams peer.queue
+  pub media : media_octets start.queue ≡ octets + media_octets peer.queue
+  pub few : media_octets start.queue ≤ 16384
+  pub rest : peer ≡ with_packed start datagrams peer.queue octets
+
+pub none_packed : (start : PeerView) (now : ℕ) → start.accounts.queued ≡ media_octets start.queue → media_octets start.queue ≤ 16384 → ArePacked start now 0 start
+none_packed start now queued few = record {
+  datagrams = [];
+  fronts = refl;
+  media = omega arith;
+  few = few;
+  rest = λ i. record start {
+    outbox = (sym (append-nil start.outbox)) i;
+    accounts = record start.accounts { packed = (plus start.accounts.packed) i; queued = queued i };
+  };
+}
+  where
+    plus : (n : ℕ) → n ≡ n + 0
+    plus n = omega arith
+
+more_media : (start done one left now : ℕ) → start ≡ done + left → left ≡ one + now → start ≡ done + one + now
+more_media start done one left now a b = omega arith
+
+pub one_packed : (start : PeerView) (now octets one : ℕ) (peer next : PeerView) → ArePacked start now octets peer → PacksOne peer now one next → ArePacked start now (octets + one) next
+one_packed start now octets one peer next so step = record {
+  datagrams = so.datagrams ++ step.datagram ∷ [];
+  fronts = fronts_more start.rules.trunk_timestamps now so.datagrams start.queue peer.queue next.queue step.datagram so.fronts
+      (subst (λ (timed : Bool). PacksFront timed now peer.queue next.queue step.datagram) (ap (λ (p : PeerView). p.rules.trunk_timestamps) so.rest) step.front);
+  media = more_media (media_octets start.queue) octets one (media_octets peer.queue) (media_octets next.queue) so.media step.media;
+  few = so.few;
+  rest = step.rest ∙ ap (λ (p : PeerView). with_packed p (step.datagram ∷ []) next.queue one) so.rest
+      ∙ λ i. record start {
+        outbox = (append_assoc start.outbox so.datagrams (step.datagram ∷ [])) i;
+        queue = next.queue;
+        accounts = record start.accounts { packed = (add_assoc start.accounts.packed octets one) i; queued = media_octets next.queue };
+      };
+}
+
+pub all_packed : (start : PeerView) (now octets : ℕ) (peer : PeerView) → ArePacked start now octets peer → IsPacked peer → PacksMedia start now octets peer
+all_packed start now octets peer so done =
+    record { datagrams = so.datagrams; fronts = so.fronts; media = so.media; rest = so.rest; done = done }

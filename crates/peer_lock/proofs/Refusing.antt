@@ -1,0 +1,67 @@
+-- Why a datagram is refused, from how it was read and what came of it.
+use native.Mathlib.Omega.{arith}
+use Rattle.std.proofs.Common.{◌≡◌, ◌≢◌, ◌<◌, ◌≤◌, ◌⊎◌, ℕ, List, length, Result, Ok, Err, inl, inr, subst}
+use Rattle.std.specs.Prelude.{IfErr}
+use Rattle.iax_frames.specs.Datagram.{Spells, Refuses}
+use Rattle.iax_frames.specs.declared.datagram.Datagram.{Datagram}
+use Rattle.iax_frames.specs.declared.datagram.Datagram.TheVariants.{Full, Mini, Video, Trunk}
+use Rattle.iax_frames.specs.declared.datagram.FrameError.{FrameError}
+use Rattle.iax_frames.specs.declared.datagram.FrameError.TheVariants as unread
+use Rattle.peer_lock.specs.Arrivals.{datagram_refused}
+use Rattle.peer_lock.specs.Errors.{from_frame}
+use Rattle.peer_lock.specs.Makes.{IsDue}
+use Rattle.peer_lock.specs.Peer.{PeerView}
+use Rattle.peer_lock.specs.Unworked.{IsRefusedRead, IsSound, IsUnworked, IsWorked}
+use Rattle.peer_lock.specs.declared.errors.PeerError.{PeerError}
+use Rattle.peer_lock.specs.declared.errors.PeerError.TheVariants as errors
+use Rattle.peer_lock.specs.declared.steps.Step.{Step}
+
+-- what holds of an error holds of what follows from it
+pub of_error : {A E : Type 0} (P Q : E → Type 0) → ((e : E) → P e → Q e) → (result : Result A E) → IfErr result P → IfErr result Q
+of_error P Q so (Ok value) there = there
+of_error P Q so (Err e) there = so e there
+
+module _ (credit made : ℕ) (octets : List ℕ) (steps : made ≢ credit) (short : length octets ≤ 2048) where
+  -- octets that aren't read are refused for it
+  pub err_refused : (error : FrameError) → Refuses octets error → IsUnworked credit made octets (from_frame error)
+  err_refused unread.Short why = (steps, short, why)
+  err_refused (unread.MetaCommand command) why = (steps, short, (command, why))
+  err_refused (unread.EntryCut place) why = (steps, short, (place, why))
+
+  -- a datagram that is read and not worked is refused for it
+  read_refused : (d : Datagram) (e : PeerError) → Spells octets d → IsRefusedRead d e → IsUnworked credit made octets e
+  read_refused (Full frame) errors.TooLong spelled why = (steps, inr (short, (Full frame, spelled, why)))
+  read_refused (Full frame) errors.NoSource spelled why = (steps, short, (Full frame, spelled, why))
+  read_refused (Full frame) errors.Cut spelled why = (steps, short, (Full frame, spelled, why))
+  read_refused (Full frame) e spelled why = absurd why
+  read_refused (Mini mini) e spelled why = absurd why
+  read_refused (Video video) e spelled why = absurd why
+  read_refused (Trunk trunk) e spelled why = absurd why
+
+  pub ok_refused : (peer : PeerView) (d : Datagram) (e : PeerError) → Spells octets d
+      → IsRefusedRead d e ⊎ (IsSound d × IsDue (datagram_refused peer d) e)
+      → IsUnworked credit made octets e ⊎ ((d : Datagram) × IsWorked credit made octets d × IsDue (datagram_refused peer d) e)
+  ok_refused peer d e spelled (inl why) = inl (read_refused d e spelled why)
+  ok_refused peer d e spelled (inr due) =
+      inr (d, record { steps = steps; short = short; spelled = spelled; sound = due.0 }, due.1)
+
+  too_long : 2048 < length octets → ⊥
+  too_long long = not_both (length octets) long short
+    where
+      not_both : (n : ℕ) → 2048 < n → n ≤ 2048 → ⊥
+      not_both n a b = omega arith
+
+  -- the datagram is the one that was read, and what refuses it comes
+  module _ (result : Result Step PeerError) (d : Datagram) (none : (error : FrameError) → Refuses octets error → ⊥)
+      (only : (other : Datagram) → Spells octets other → other ≡ d) (unsound : (e : PeerError) → IsRefusedRead d e → result ≡ Err e) where
+    as_read : (e : PeerError) (other : Datagram) → Spells octets other → IsRefusedRead other e → result ≡ Err e
+    as_read e other spelled why = unsound e (subst (λ x. IsRefusedRead x e) (only other spelled) why)
+
+    pub ok_unworked : (e : PeerError) → IsUnworked credit made octets e → result ≡ Err e
+    ok_unworked errors.StepsSpent why = absurd (steps why)
+    ok_unworked errors.TooLong (spare, inl long) = absurd (too_long long)
+    ok_unworked errors.TooLong (spare, inr why) = as_read errors.TooLong why.1.0 why.1.1 why.1.2
+    ok_unworked errors.Short why = absurd (none unread.Short why.2)
+    ok_unworked errors.MetaCommand why = absurd (none (unread.MetaCommand why.2.0) why.2.1)
+    ok_unworked errors.EntryCut why = absurd (none (unread.EntryCut why.2.0) why.2.1)
+    ok_unworked e why = as_read e why.2.0 why.2.1 why.2.2

@@ -1,0 +1,16 @@
+use Rattle.std.proofs.Common.{◌≡◌, ◌<◌, ◌∷◌, ◌++◌, [], length, rules}
+use Rattle.peer_lock.specs.Outbox.{put}
+use Rattle.peer_lock.proofs.Puts.{put_fits}
+use Rattle.peer_lock.proofs.state.PeerState.pack_one.Goals as goal
+
+pub returns-clause-some : goal.returns-clause-some
+returns-clause-some g c =
+    let room : length c.args.self.now.outbox < 256 = search rules in
+    let fits : c.args.self.now.outbox ++ c.in_ok-out.out ∷ [] ≡ put c.args.self.now.outbox (c.in_ok-out.out ∷ []) = put_fits c.args.self.now.outbox c.in_ok-out.out room in
+    record {
+      datagram = c.in_ok-out.out;
+      front = search rules;
+      media = search rules;
+      shorter = search rules;
+      rest = search rules;
+    }

@@ -1,0 +1,10 @@
+use Rattle.std.proofs.Common.{◌≡◌, Option, Some, slice_get, rules}
+use Rattle.peer_lock.specs.Legs.{NamedLeg}
+use Rattle.peer_lock.specs.Ticks.{place_tick}
+use Rattle.peer_lock.proofs.Ticking.{few_at}
+use Rattle.peer_lock.proofs.state.PeerState.tick_place.Goals as goal
+
+pub returns-clause-few : goal.returns-clause-few
+returns-clause-few g c =
+    let is : (place : Option NamedLeg) → slice_get c.args.self.now.legs.places c.args.index ≡ Some place → c.tick-skipped.result ≡ (place_tick c.tick-skipped.result place c.args.now).skipped = search rules in
+    few_at c.args.self.now.legs.places c.args.index c.tick-skipped.result c.args.now c.requires is

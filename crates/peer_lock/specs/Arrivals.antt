@@ -1,0 +1,139 @@
+-- The steps of a peer in which a datagram comes ("Full Frames", "Mini Frames", "Meta Frames").
+use Rattle.std.specs.Prelude.{ℕ, ◌+◌, Bool, false, List, [], ◌∷◌, ◌++◌, Option, None, Some, length, map, if◌then◌else◌}
+use Rattle.call_book.specs.declared.leg_name.LegName.{LegName}
+use Rattle.iax_frames.specs.FullFrame.{FullFrame, spelling}
+use Rattle.iax_frames.specs.MiniFrame.{MiniFrame}
+use Rattle.iax_frames.specs.TrunkFrame.{TrunkFrame, is_timed, head_len, entry_item}
+use Rattle.iax_frames.specs.declared.datagram.Datagram.{Datagram}
+use Rattle.iax_frames.specs.declared.datagram.Datagram.TheVariants.{Full, Mini, Video, Trunk}
+use Rattle.leg_machine.specs.Media.{accepts_media}
+use Rattle.leg_machine.specs.Steps.{full_step}
+use Rattle.leg_machine.specs.declared.signals.MediaSpan.{MediaSpan}
+use Rattle.leg_machine.specs.declared.signals.Signal.{Signal}
+use Rattle.leg_machine.specs.declared.signals.Signal.TheVariants.{Media}
+use Rattle.peer_lock.specs.Accounts.{stepped, with_accepted}
+use Rattle.peer_lock.specs.Delivery.{Delivery, Reaches, NeedsNumber, GetsInval, NoCall, delivery, full_refused}
+use Rattle.peer_lock.specs.Legs.{PeerLegs, NamedLeg, leg_of_remote}
+use Rattle.peer_lock.specs.Peer.{PeerView, PeerStep, granted, handed_up, offer_with, leg_alone, no_leg, alone, with_datagram, with_step}
+use Rattle.peer_lock.specs.declared.errors.PeerError.{PeerError}
+use Rattle.peer_lock.specs.declared.errors.PeerError.TheVariants as errors
+
+-- first: the octet credit with which every peer begins
+
+-- ---- full frames
+
+abbrev pub reached_step : ℕ → PeerView → NamedLeg → FullFrame → ℕ → PeerStep
+reached_step first peer named frame now =
+    let s = full_step named.leg frame now in
+    let up = granted first peer.accounts.accepted s.signal in
+    record {
+      peer = with_step peer named.name s.leg (map spelling s.replies) up.octets;
+      step = leg_alone named.name s.judged;
+      signals = handed_up named.name up.signal;
+      offer = offer_with s.leg up.signal;
+      octets = up.octets;
+    }
+
+-- INVAL from the number that the frame names, to its source
+abbrev pub inval_for : FullFrame → FullFrame
+inval_for frame = record {
+  head = record {
+    source = frame.head.destination;
+    retransmitted = false;
+    destination = frame.head.source;
+    timestamp = 0;
+    oseqno = 0;
+    iseqno = 0;
+    frame_type = 6;
+    subclass = 0x0a;
+  };
+  payload = [];
+}
+
+abbrev pub delivered_step : ℕ → PeerView → Delivery → FullFrame → ℕ → PeerStep
+delivered_step first peer (Reaches named) frame now = reached_step first peer named frame now
+delivered_step first peer NeedsNumber frame now = alone peer
+delivered_step first peer GetsInval frame now = alone (with_datagram peer (spelling (inval_for frame)))
+delivered_step first peer NoCall frame now = alone peer
+
+-- ---- media
+
+-- what is handed up of some media, and how many octets are accepted
+pub record MediaTaken : Type 0 where
+  pub signals : List (LegName × Signal)
+  pub octets : ℕ
+
+abbrev pub no_media : MediaTaken
+no_media = record { signals = []; octets = 0 }
+
+abbrev pub granted_at : ℕ → ℕ → LegName → Bool → MediaSpan → MediaTaken
+granted_at first accepted name counts span =
+    if counts
+    then record {
+      signals = handed_up name (granted first accepted (Some (Media span))).signal;
+      octets = (granted first accepted (Some (Media span))).octets;
+    }
+    else no_media
+
+-- media for the leg that has a remote number, where so many octets were accepted before
+abbrev pub media_at : ℕ → ℕ → Option NamedLeg → MediaSpan → MediaTaken
+media_at first accepted None span = no_media
+media_at first accepted (Some named) span = granted_at first accepted named.name (accepts_media named.leg span) span
+
+-- where the media of an entry lies, whose first octet has this place
+abbrev pub entry_span : Bool → ℕ → ℕ × Option ℕ × List ℕ → MediaSpan
+entry_span timed at entry = record { start = at + head_len timed; end = at + head_len timed + length entry.2 }
+
+-- the octets of entries
+abbrev pub entries_len : Bool → List (ℕ × Option ℕ × List ℕ) → ℕ
+entries_len timed [] = 0
+entries_len timed (entry ∷ entries) = head_len timed + length entry.2 + entries_len timed entries
+
+-- the media of the entries of a trunk frame, in their order, the first of which has this place
+abbrev pub entries_media : ℕ → PeerLegs → Bool → ℕ → ℕ → List (ℕ × Option ℕ × List ℕ) → MediaTaken
+entries_media first legs timed at accepted [] = no_media
+entries_media first legs timed at accepted (entry ∷ entries) =
+    let now = media_at first accepted (leg_of_remote legs entry.0) (entry_span timed at entry) in
+    let later = entries_media first legs timed (entry_span timed at entry).end (accepted + now.octets) entries in
+    record { signals = now.signals ++ later.signals; octets = now.octets + later.octets }
+
+-- a step that only accepts media
+abbrev pub media_step : PeerView → MediaTaken → PeerStep
+media_step peer media = record {
+  peer = record peer { accounts = with_accepted (stepped peer.accounts) media.octets };
+  step = no_leg;
+  signals = media.signals;
+  offer = None;
+  octets = media.octets;
+}
+
+-- where media lies in a mini frame
+abbrev pub mini_span : MiniFrame → MediaSpan
+mini_span mini = record { start = 4; end = 4 + length mini.media }
+
+abbrev pub mini_media : ℕ → PeerView → MiniFrame → MediaTaken
+mini_media first peer mini =
+    media_at first peer.accounts.accepted (leg_of_remote peer.legs mini.source) (mini_span mini)
+
+abbrev pub trunk_media : ℕ → PeerView → TrunkFrame → MediaTaken
+trunk_media first peer trunk =
+    entries_media first peer.legs (is_timed trunk.command_data) 8 peer.accounts.accepted (map entry_item trunk.entries)
+
+-- ---- the datagram
+
+-- why a datagram that is read is refused, memory aside
+abbrev pub mini_refused : Option NamedLeg → Option PeerError
+mini_refused None = Some errors.NoCall
+mini_refused (Some named) = None
+
+abbrev pub datagram_refused : PeerView → Datagram → Option PeerError
+datagram_refused peer (Full frame) = full_refused peer.legs frame
+datagram_refused peer (Mini mini) = mini_refused (leg_of_remote peer.legs mini.source)
+datagram_refused peer (Video video) = None
+datagram_refused peer (Trunk trunk) = None
+
+abbrev pub datagram_step : ℕ → PeerView → Datagram → ℕ → PeerStep
+datagram_step first peer (Full frame) now = delivered_step first peer (delivery peer.legs frame) frame now
+datagram_step first peer (Mini mini) now = media_step peer (mini_media first peer mini)
+datagram_step first peer (Video video) now = alone peer
+datagram_step first peer (Trunk trunk) now = media_step peer (trunk_media first peer trunk)

@@ -1,0 +1,22 @@
+-- The legs that the arrays stand for.
+use Rattle.std.specs.Prelude.{◌≡◌, ℕ, ◌+◌, List, Option, Some, slice_get}
+use Rattle.peer_lock.specs.Legs.{NamedLeg, PeerLegs, AreLegs}
+use Rattle.peer_lock.specs.declared.peer_legs.PeerLegs.TheInside.{Inside}
+
+abbrev pub legs_of : Inside → PeerLegs
+legs_of a = record { peer = a.peer; first = a.first; places = a.places.items }
+
+-- the leg at a place has this remote number
+pub record HasRemote (legs : PeerLegs) (place remote : ℕ) : Type 0 where
+  pub named : NamedLeg
+  pub at : slice_get legs.places place ≡ Some (Some named)
+  pub is : named.leg.remote ≡ Some remote
+
+-- an array that says which leg has each remote number
+pub record IsIndex (legs : PeerLegs) (index : List (Option ℕ)) : Type 0 where
+  pub listed : (place remote : ℕ) → HasRemote legs place remote → slice_get index remote ≡ Some (Some (legs.first + place))
+  pub right : (remote number : ℕ) → slice_get index remote ≡ Some (Some number) → (place : ℕ) × (number ≡ legs.first + place) × HasRemote legs place remote
+
+pub record IsSound (a : Inside) : Type 0 where
+  pub legs : AreLegs (legs_of a)
+  pub index : IsIndex (legs_of a) a.by_remote

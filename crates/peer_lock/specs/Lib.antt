@@ -1,0 +1,16 @@
+pub mod Accounts
+pub mod Arrivals
+pub mod Delivery
+pub mod Errors
+pub mod HandedUp
+pub mod Legs
+pub mod LegsInside
+pub mod Makes
+pub mod Openings
+pub mod Orders
+pub mod Outbox
+pub mod Peer
+pub mod RemoteNumbers
+pub mod Statuses
+pub mod Ticks
+pub mod Unworked

@@ -1,0 +1,32 @@
+-- What a call of a peer makes of a step, and what it leaves where it is refused.
+use Rattle.std.specs.Prelude.{◌≡◌, [], Option, None, Some}
+use Rattle.peer_lock.specs.Accounts.{Credit, with_step}
+use Rattle.peer_lock.specs.HandedUp.{HandedUp}
+use Rattle.peer_lock.specs.Peer.{PeerView, PeerStep}
+use Rattle.peer_lock.specs.declared.errors.PeerError.{PeerError}
+use Rattle.peer_lock.specs.declared.errors.PeerError.TheVariants.{Memory}
+use Rattle.peer_lock.specs.declared.steps.Step.{Step}
+
+-- the call made this step, and its credit went to the pass
+pub record Makes (s : PeerStep) (new : PeerView) (result : Step) (pass_old pass_new : Credit) (onwards : HandedUp) : Type 0 where
+  pub peer : new ≡ s.peer
+  pub answer : result ≡ s.step
+  pub signals : onwards.signals ≡ s.signals
+  pub offer : onwards.offer ≡ s.offer
+  pub credit : pass_new ≡ with_step pass_old s.octets
+
+-- nothing is handed up
+pub record IsNothing (onwards : HandedUp) : Type 0 where
+  pub signals : onwards.signals ≡ []
+  pub offer : onwards.offer ≡ None
+
+-- a refused call left all as it was
+pub record IsUnchanged (old new : PeerView) (pass_old pass_new : Credit) (onwards : HandedUp) : Type 0 where
+  pub peer : new ≡ old
+  pub credit : pass_new ≡ pass_old
+  pub nothing : IsNothing onwards
+
+-- a refusal is the one that is due; where none is, memory was refused
+abbrev pub IsDue : Option PeerError → PeerError → Type 0
+IsDue (Some due) e = e ≡ due
+IsDue None e = e ≡ Memory

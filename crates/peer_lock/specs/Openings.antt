@@ -1,0 +1,80 @@
+-- The steps of a peer in which a leg is opened ("Call Setup").
+use Rattle.std.specs.Prelude.{◌≡◌, ℕ, ◌+◌, ◌==◌, ◌&&◌, not, nat_le, nat_lt, is_some, Bool, true, List, [], Option, None, Some, length, map, if◌then◌else◌}
+use Rattle.call_book.specs.declared.leg_name.LegName.{LegName}
+use Rattle.iax_frames.specs.FullFrame.{FullFrame, spelling}
+use Rattle.leg_machine.specs.Messages.{message_of}
+use Rattle.leg_machine.specs.Openings.{open_in_step, open_out_step}
+use Rattle.leg_machine.specs.declared.formats.Format.{Format}
+use Rattle.leg_machine.specs.declared.outcomes.Judged.TheVariants.{Unnumbered}
+use Rattle.peer_lock.specs.Accounts.{stepped}
+use Rattle.peer_lock.specs.Delivery.{is_new}
+use Rattle.peer_lock.specs.Legs.{PeerLegs, NamedLeg, leg_at, leg_of_remote, with_place}
+use Rattle.peer_lock.specs.Outbox.{put}
+use Rattle.peer_lock.specs.Peer.{PeerView, PeerStep, handed_up, offer_with, leg_alone}
+use Rattle.peer_lock.specs.Unworked.{IsSoundFull}
+use Rattle.peer_lock.specs.declared.errors.OpenError.{OpenError}
+use Rattle.peer_lock.specs.declared.errors.OpenError.TheVariants as errors
+
+-- a NEW that opens a leg: it has no destination and OSeqno 0, and a leg is looked for
+pub record IsOpening (frame : FullFrame) : Type 0 where
+  pub sound : IsSoundFull frame
+  pub destination : frame.head.destination ≡ 0
+  pub first : frame.head.oseqno ≡ 0
+  pub new : is_new (message_of frame.head) ≡ true
+
+-- the name is one of this peer's, and no leg has its number
+abbrev pub is_free_name : PeerLegs → LegName → Bool
+is_free_name legs name =
+    (name.peer == legs.peer) && (nat_le legs.first name.number && nat_lt name.number (legs.first + length legs.places))
+    && not (is_some (leg_at legs name.number))
+
+-- why no leg is opened, memory aside
+abbrev pub open_in_refused : PeerView → ℕ → LegName → ℕ → Option OpenError
+open_in_refused peer credit name source =
+    if peer.accounts.steps == credit then Some errors.StepsSpent
+    else if not (is_free_name peer.legs name) then Some errors.NumberBusy
+    else if is_some (leg_of_remote peer.legs source) then Some errors.RemoteBusy
+    else None
+
+abbrev pub open_out_refused : PeerView → ℕ → LegName → Option OpenError
+open_out_refused peer credit name =
+    if peer.accounts.steps == credit then Some errors.StepsSpent
+    else if not (is_free_name peer.legs name) then Some errors.NumberBusy
+    else None
+
+-- a refusal is the one that is due; where none is, memory was refused
+abbrev pub IsOpenRefusal : Option OpenError → OpenError → Type 0
+IsOpenRefusal (Some due) e = e ≡ due
+IsOpenRefusal None e = e ≡ errors.Memory
+
+-- the peer with a new leg, and with what it sends
+abbrev pub with_opened : PeerView → NamedLeg → List (List ℕ) → PeerView
+with_opened peer named datagrams = record peer {
+  legs = with_place peer.legs named.name.number (Some named);
+  outbox = put peer.outbox datagrams;
+  accounts = stepped peer.accounts;
+}
+
+-- a NEW opens a leg
+abbrev pub opens_in : PeerView → LegName → FullFrame → ℕ → List ℕ → PeerStep
+opens_in peer name frame now challenge =
+    let s = open_in_step peer.rules name.number frame now challenge in
+    record {
+      peer = with_opened peer (record { name = name; leg = s.leg }) (map spelling s.replies);
+      step = leg_alone name s.judged;
+      signals = handed_up name s.signal;
+      offer = offer_with s.leg s.signal;
+      octets = 0;
+    }
+
+-- a call goes out
+abbrev pub opens_out : PeerView → LegName → List ℕ → Option (List ℕ) → Format → ℕ → PeerStep
+opens_out peer name called calling format now =
+    let s = open_out_step peer.rules name.number called calling format now in
+    record {
+      peer = with_opened peer (record { name = name; leg = s.leg }) (map spelling s.replies);
+      step = leg_alone name Unnumbered;
+      signals = [];
+      offer = None;
+      octets = 0;
+    }

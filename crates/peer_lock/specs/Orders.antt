@@ -1,0 +1,111 @@
+-- The steps of a peer in which a leg obeys an order ("Call Setup", "Control Frames", "Mini Frames", "Meta Frames").
+use Rattle.std.specs.Prelude.{◌≡◌, ℕ, ◌+◌, ◌==◌, ◌||◌, nat_le, nat_lt, Bool, List, [], ◌∷◌, ◌++◌, Option, None, Some, length, map, if◌then◌else◌}
+use Rattle.call_book.specs.declared.leg_name.LegName.{LegName}
+use Rattle.iax_frames.specs.FullFrame.{spelling}
+use Rattle.iax_frames.specs.MiniFrame.{mini_spelling}
+use Rattle.leg_machine.specs.Media.{media_sent, after_media, media_frames}
+use Rattle.leg_machine.specs.OrderTable.{Carried as OrderCarried, order_refused, order_carried}
+use Rattle.leg_machine.specs.declared.media.MediaSent.{MediaSent}
+use Rattle.leg_machine.specs.declared.media.MediaSent.TheVariants as sent
+use Rattle.leg_machine.specs.declared.orders.Order.{Order}
+use Rattle.leg_machine.specs.declared.orders.Order.TheVariants as orders
+use Rattle.leg_machine.specs.declared.orders.OrderError.{OrderError as LegError}
+use Rattle.peer_lock.specs.Accounts.{stepped, carry_to}
+use Rattle.peer_lock.specs.Errors.{from_leg}
+use Rattle.peer_lock.specs.Legs.{NamedLeg, leg_named, with_leg}
+use Rattle.peer_lock.specs.Outbox.{put}
+use Rattle.peer_lock.specs.Peer.{PeerView, counted, with_datagram}
+use Rattle.peer_lock.specs.declared.account.Carried.{Carried}
+use Rattle.peer_lock.specs.declared.account.Carried.TheVariants.{Packed, Queued, Dropped, Quelched}
+use Rattle.peer_lock.specs.declared.errors.OrderError.{OrderError}
+use Rattle.peer_lock.specs.declared.errors.OrderError.TheVariants as errors
+use Rattle.trunk_packer.specs.Queue.{QueueEntry, media_octets}
+
+-- ---- refusals
+
+abbrev pub from_leg_due : Option LegError → Option OrderError
+from_leg_due None = None
+from_leg_due (Some due) = Some (from_leg due)
+
+abbrev pub refused_at : Option NamedLeg → Order → ℕ → Option OrderError
+refused_at None order now = Some errors.Gone
+refused_at (Some named) order now = from_leg_due (order_refused named.leg order now)
+
+-- why an order is refused, memory aside
+abbrev pub order_refused_by : PeerView → ℕ → LegName → Order → ℕ → Option OrderError
+order_refused_by peer credit name order now =
+    if peer.accounts.steps == credit then Some errors.StepsSpent
+    else refused_at (leg_named peer.legs name) order now
+
+-- a refusal is the one that is due; where none is, memory was refused
+abbrev pub IsOrderRefusal : Option OrderError → OrderError → Type 0
+IsOrderRefusal (Some due) e = e ≡ due
+IsOrderRefusal None e = e ≡ errors.Memory
+
+-- ---- media
+
+-- the media octets of an order
+abbrev pub order_octets : Order → ℕ
+order_octets (orders.Media media) = length media.now
+order_octets _ = 0
+
+abbrev pub carried_media : PeerView → Carried → ℕ → PeerView
+carried_media peer outcome octets = record peer { accounts = carry_to peer.accounts outcome octets }
+
+-- the trunk queue has no room for so many octets more
+abbrev pub is_full_for : List QueueEntry → ℕ → Bool
+is_full_for queue octets = nat_le 256 (length queue) || nat_lt 16384 (media_octets queue + octets)
+
+-- media that waits for a trunk frame, or is dropped
+abbrev pub queued_media : PeerView → QueueEntry → PeerView
+queued_media peer entry =
+    if is_full_for peer.queue (length entry.media)
+    then carried_media peer Dropped (length entry.media)
+    else carried_media (record peer { queue = peer.queue ++ entry ∷ [] }) Queued (length entry.media)
+
+-- later media: an entry for the trunk queue, or a mini frame
+abbrev pub short_media : PeerView → ℕ → ℕ → List ℕ → PeerView
+short_media peer number timestamp media =
+    if peer.rules.trunk
+    then queued_media peer (record { number = number; timestamp = timestamp; media = media })
+    else carried_media (with_datagram peer (mini_spelling (record { source = number; timestamp = timestamp; media = media }))) Packed (length media)
+
+-- what is counted of media that goes out so
+abbrev pub counted_media : MediaSent → PeerView → ℕ → List ℕ → PeerView
+counted_media sent.Quelched peer number media = carried_media peer Quelched (length media)
+counted_media sent.Voice peer number media = carried_media peer Packed (length media)
+counted_media (sent.Mini timestamp) peer number media = short_media peer number timestamp media
+
+-- the leg after media, and the full frame that it sends, if it does
+abbrev pub with_media : MediaSent → PeerView → NamedLeg → List ℕ → ℕ → PeerView
+with_media sent peer named media now = record peer {
+  legs = with_leg peer.legs named.name (after_media sent named.leg media now);
+  outbox = put peer.outbox (map spelling (media_frames sent named.leg media now));
+}
+
+-- what becomes of media that goes out at a leg
+abbrev pub carries_media : MediaSent → PeerView → NamedLeg → List ℕ → ℕ → PeerView
+carries_media sent peer named media now = counted_media sent (with_media sent peer named media now) named.name.number media
+
+-- ---- the order
+
+-- the leg after an order, and what it sends
+abbrev pub with_order : PeerView → NamedLeg → OrderCarried → PeerView
+with_order peer named carried = record peer {
+  legs = with_leg peer.legs named.name carried.leg;
+  outbox = put peer.outbox carried.datagrams;
+  accounts = stepped peer.accounts;
+}
+
+-- the peer after an order at a leg
+abbrev pub ordered_at : PeerView → NamedLeg → Order → ℕ → PeerView
+ordered_at peer named (orders.Media media) now = counted (carries_media (media_sent named.leg now) peer named media.now now)
+ordered_at peer named order now =
+    with_order peer named (order_carried named.leg order now)
+
+abbrev pub ordered_if : PeerView → Option NamedLeg → Order → ℕ → PeerView
+ordered_if peer None order now = peer
+ordered_if peer (Some named) order now = ordered_at peer named order now
+
+abbrev pub ordered_step : PeerView → LegName → Order → ℕ → PeerView
+ordered_step peer name order now = ordered_if peer (leg_named peer.legs name) order now

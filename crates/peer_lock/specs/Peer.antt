@@ -1,0 +1,96 @@
+-- A peer, and what its steps have in common.
+use Rattle.std.specs.Prelude.{ℕ, ◌+◌, nat_le, List, [], ◌∷◌, Option, None, Some, if◌then◌else◌}
+use Rattle.call_book.specs.declared.leg_name.LegName.{LegName}
+use Rattle.leg_machine.specs.Legs.{LegState}
+use Rattle.leg_machine.specs.Openings.{called_of, calling_of}
+use Rattle.leg_machine.specs.Signals.{span_len}
+use Rattle.leg_machine.specs.declared.outcomes.Judged.{Judged}
+use Rattle.leg_machine.specs.declared.outcomes.Judged.TheVariants.{Unnumbered}
+use Rattle.leg_machine.specs.declared.rules.PeerRules.{PeerRules}
+use Rattle.leg_machine.specs.declared.signals.Signal.{Signal}
+use Rattle.leg_machine.specs.declared.signals.Signal.TheVariants.{Offered, Media}
+use Rattle.peer_lock.specs.Accounts.{Accounts, stepped, with_accepted}
+use Rattle.peer_lock.specs.Legs.{PeerLegs, with_leg}
+use Rattle.peer_lock.specs.Outbox.{put}
+use Rattle.peer_lock.specs.declared.onwards.Offer.{Offer}
+use Rattle.peer_lock.specs.declared.steps.Step.{Step}
+use Rattle.trunk_packer.specs.Queue.{QueueEntry}
+
+pub record PeerView : Type 0 where
+  pub rules : PeerRules
+  -- the legs, by local number
+  pub legs : PeerLegs
+  -- the datagrams that wait to be sent, the oldest first
+  pub outbox : List (List ℕ)
+  -- the media that waits for a trunk frame
+  pub queue : List QueueEntry
+  pub accounts : Accounts
+
+-- the peer after a step, what the step answers and hands up, and the media octets that it accepted
+pub record PeerStep : Type 0 where
+  pub peer : PeerView
+  pub step : Step
+  pub signals : List (LegName × Signal)
+  pub offer : Option Offer
+  pub octets : ℕ
+
+-- no frame was judged, and no leg was concerned
+abbrev pub no_leg : Step
+no_leg = record { judged = Unnumbered; touched = None }
+
+abbrev pub leg_alone : LegName → Judged → Step
+leg_alone name judged = record { judged = judged; touched = Some name }
+
+-- ---- credit
+
+-- what is handed up once the octet credit was looked at, and the octets that it takes
+pub record Granted : Type 0 where
+  pub signal : Option Signal
+  pub octets : ℕ
+
+-- media is accepted where the peer has credit for all of it
+abbrev pub granted_media : ℕ → ℕ → Signal → ℕ → Granted
+granted_media first accepted signal octets =
+    if nat_le (accepted + octets) first
+    then record { signal = Some signal; octets = octets }
+    else record { signal = None; octets = 0 }
+
+abbrev pub granted : ℕ → ℕ → Option Signal → Granted
+granted first accepted (Some (Media span)) = granted_media first accepted (Media span) (span_len span)
+granted first accepted signal = record { signal = signal; octets = 0 }
+
+abbrev pub handed_up : LegName → Option Signal → List (LegName × Signal)
+handed_up name None = []
+handed_up name (Some signal) = (name, signal) ∷ []
+
+-- what an offered call asks for
+abbrev pub offer_of : LegState → Offer
+offer_of leg = record { called = called_of leg; calling = calling_of leg; format = leg.format }
+
+abbrev pub offer_with : LegState → Option Signal → Option Offer
+offer_with leg (Some Offered) = Some (offer_of leg)
+offer_with leg signal = None
+
+-- ---- one leg's step
+
+-- The peer with another state of one leg, and with what that leg sends. The step is counted, and what it accepted.
+abbrev pub with_step : PeerView → LegName → LegState → List (List ℕ) → ℕ → PeerView
+with_step peer name leg datagrams octets = record peer {
+  legs = with_leg peer.legs name leg;
+  outbox = put peer.outbox datagrams;
+  accounts = with_accepted (stepped peer.accounts) octets;
+}
+
+-- ---- steps without a leg
+
+-- the peer with one step more
+abbrev pub counted : PeerView → PeerView
+counted peer = record peer { accounts = stepped peer.accounts }
+
+-- the peer with one datagram more in its outbox
+abbrev pub with_datagram : PeerView → List ℕ → PeerView
+with_datagram peer datagram = record peer { outbox = put peer.outbox (datagram ∷ []) }
+
+-- a step that leaves the peer so, and hands nothing up
+abbrev pub alone : PeerView → PeerStep
+alone peer = record { peer = counted peer; step = no_leg; signals = []; offer = None; octets = 0 }

@@ -1,0 +1,20 @@
+-- How a leg stands, as those see it who look.
+use Rattle.std.specs.Prelude.{◌&&◌, not, Bool, false, Option, None, Some}
+use Rattle.leg_machine.specs.Stages.{is_ended}
+use Rattle.seq_window.specs.Window.{held_count, entry_count}
+use Rattle.peer_lock.specs.Legs.{NamedLeg}
+use Rattle.peer_lock.specs.declared.steps.Status.{Status}
+
+abbrev pub status_of : NamedLeg → Status
+status_of named = record {
+  name = named.name;
+  stage = named.leg.stage;
+  owes = named.leg.owes;
+  held = held_count named.leg.window;
+  entries = entry_count named.leg.window;
+}
+
+-- the leg has ended, and the layer above is done with it
+abbrev pub is_done : Option NamedLeg → Bool
+is_done None = false
+is_done (Some named) = is_ended named.leg.stage && not named.leg.owes

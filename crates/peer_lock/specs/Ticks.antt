@@ -1,0 +1,100 @@
+-- The steps of a peer in which time goes on ("Message Transport", "Meta Frames").
+use Rattle.std.specs.Prelude.{◌≡◌, ℕ, ◌+◌, ◌<◌, ◌≤◌, ◌==◌, ◌⊎◌, Bool, List, [], ◌∷◌, ◌++◌, Option, None, Some, length, map}
+use Rattle.iax_frames.specs.FullFrame.{spelling}
+use Rattle.leg_machine.specs.Ticks.{tick_step}
+use Rattle.peer_lock.specs.Legs.{NamedLeg}
+use Rattle.peer_lock.specs.Outbox.{put}
+use Rattle.peer_lock.specs.Peer.{PeerView, counted}
+use Rattle.peer_lock.specs.declared.steps.TickReport.{TickReport}
+use Rattle.trunk_packer.specs.Queue.{QueueEntry, media_octets, PacksFront}
+
+-- ---- the legs, by ascending number
+
+-- what a tick leaves at a place, what it sends, and how many frames had no memory
+pub record PlaceTick : Type 0 where
+  pub place : Option NamedLeg
+  pub datagrams : List (List ℕ)
+  pub skipped : ℕ
+
+-- so many frames had no memory
+abbrev pub place_tick : ℕ → Option NamedLeg → ℕ → PlaceTick
+place_tick skipped None now = record { place = None; datagrams = []; skipped = 0 }
+place_tick skipped (Some named) now =
+    let t = tick_step (skipped == 0) named.leg now in
+    record {
+      place = Some (record { name = named.name; leg = t.leg });
+      datagrams = map spelling t.replies;
+      skipped = t.skipped;
+    }
+
+-- the same of all places
+pub record LegsTick : Type 0 where
+  pub places : List (Option NamedLeg)
+  pub datagrams : List (List ℕ)
+  pub skipped : ℕ
+
+abbrev pub then_ticks : PlaceTick → LegsTick → LegsTick
+then_ticks first rest = record {
+  places = first.place ∷ rest.places;
+  datagrams = first.datagrams ++ rest.datagrams;
+  skipped = first.skipped + rest.skipped;
+}
+
+-- with how many frames at each place had no memory
+abbrev pub legs_tick : List ℕ → List (Option NamedLeg) → ℕ → LegsTick
+legs_tick skips [] now = record { places = []; datagrams = []; skipped = 0 }
+legs_tick [] (place ∷ places) now = then_ticks (place_tick 0 place now) (legs_tick [] places now)
+legs_tick (skipped ∷ skips) (place ∷ places) now = then_ticks (place_tick skipped place now) (legs_tick skips places now)
+
+-- ---- the trunk queue
+
+-- these datagrams are trunk frames of fronts of a queue, one after another, and the rest of it stays
+abbrev pub PacksFronts : Bool → ℕ → List QueueEntry → List (List ℕ) → List QueueEntry → Type 0
+PacksFronts timed now old [] new = new ≡ old
+PacksFronts timed now old (datagram ∷ datagrams) new =
+    (rest : List QueueEntry) × PacksFront timed now old rest datagram × PacksFronts timed now rest datagrams new
+
+-- the queue is packed, as far as the outbox has room
+abbrev pub IsPacked : PeerView → Type 0
+IsPacked peer = (peer.queue ≡ []) ⊎ (256 ≤ length peer.outbox)
+
+-- the peer with more in its outbox, and less in its queue
+abbrev pub with_packed : PeerView → List (List ℕ) → List QueueEntry → ℕ → PeerView
+with_packed peer datagrams queue octets = record peer {
+  outbox = peer.outbox ++ datagrams;
+  queue = queue;
+  accounts = record peer.accounts { packed = peer.accounts.packed + octets; queued = media_octets queue };
+}
+
+-- one trunk frame is packed, with so many octets of media
+pub record PacksOne (old : PeerView) (now octets : ℕ) (new : PeerView) : Type 0 where
+  pub datagram : List ℕ
+  pub front : PacksFront old.rules.trunk_timestamps now old.queue new.queue datagram
+  pub media : media_octets old.queue ≡ octets + media_octets new.queue
+  pub shorter : length new.queue < length old.queue
+  pub rest : new ≡ with_packed old (datagram ∷ []) new.queue octets
+
+-- trunk frames are packed, with so many octets of media, until nothing is queued or the outbox is full
+pub record PacksMedia (old : PeerView) (now octets : ℕ) (new : PeerView) : Type 0 where
+  pub datagrams : List (List ℕ)
+  pub fronts : PacksFronts old.rules.trunk_timestamps now old.queue datagrams new.queue
+  pub media : media_octets old.queue ≡ octets + media_octets new.queue
+  pub rest : new ≡ with_packed old datagrams new.queue octets
+  pub done : IsPacked new
+
+-- ---- the tick
+
+-- what the legs' ticks do to the peer, and how many frames had no memory
+pub record TicksLegs (old : PeerView) (now skipped : ℕ) (new : PeerView) : Type 0 where
+  pub skips : List ℕ
+  pub count : skipped ≡ (legs_tick skips old.legs.places now).skipped
+  pub legs : new ≡ record old {
+    legs = record old.legs { places = (legs_tick skips old.legs.places now).places };
+    outbox = put old.outbox (legs_tick skips old.legs.places now).datagrams;
+  }
+
+-- the step is counted, then come each leg's tick in order, then the trunk queue
+pub record Ticks (old : PeerView) (now : ℕ) (report : TickReport) (new : PeerView) : Type 0 where
+  pub between : PeerView
+  pub legs : TicksLegs (counted old) now report.skipped between
+  pub packs : PacksMedia between now report.packed new

@@ -1,0 +1,351 @@
+//! The steps of a peer in which a datagram comes ("Full Frames", "Mini Frames", "Meta Frames").
+ghost use Rattle.std.specs.Prelude.{◌≡◌, ◌≢◌, ◌+◌, ◌-◌, ◌<◌, ◌≤◌, ◌⊎◌, ◌↔◌, [], length, map, true, None, Some, Err, IsSome, IfOk, IfErr, OnOk, OnErr, IfSome, IsNone, IsTrue};
+ghost use Rattle.leg_machine.specs.Legs.{is_short_of_entries};
+ghost use Rattle.leg_machine.specs.Steps.{full_step, heard_of};
+ghost use Rattle.peer_lock.specs.Accounts.{stepped, with_step as with_credit};
+ghost use Rattle.iax_frames.specs.FullFrame.{spelling};
+ghost use Rattle.peer_lock.specs.Arrivals.{reached_step, delivered_step, datagram_step, datagram_refused};
+ghost use Rattle.peer_lock.specs.Arrivals as answer;
+ghost use Rattle.peer_lock.specs.Delivery.{can_reach, is_reached, found, delivery, delivery_refused, unknown_call, full_refused, Reaches, GetsInval};
+ghost use Rattle.peer_lock.specs.Delivery as answers;
+ghost use Rattle.peer_lock.specs.Legs.{NamedLeg as NamedLegValue, leg_at, leg_of_remote, with_leg};
+ghost use Rattle.peer_lock.specs.Makes.{Makes, IsNothing, IsUnchanged, IsDue};
+ghost use Rattle.peer_lock.specs.Peer.{handed_up, offer_with, no_leg, counted, with_datagram};
+ghost use Rattle.iax_frames.specs.declared.datagram.Datagram.{Datagram as DatagramValue};
+ghost use Rattle.peer_lock.specs.declared.errors.PeerError.{PeerError as PeerErrorValue};
+ghost use Rattle.peer_lock.specs.Unworked.{IsSoundFull, IsRefusedFull, IsCutFrame, IsSound, IsRefusedRead, IsShortDatagram, IsWorked, IsUnworked};
+
+use crate::errors::PeerError;
+use crate::named_legs::NamedLeg;
+use crate::naming::Naming;
+use crate::onwards::{Offer, Onwards};
+use crate::pass::Pass;
+use crate::peer_legs::PeerLegs;
+use crate::state::PeerState;
+use crate::steps::Step;
+use iax_frames::{CallNumber, Datagram, Full, FullHead, Out, read, write_full};
+use info_elements::elements;
+use leg_machine::{Heard, Judged, Message, Replies, Signal, StepError};
+
+// Writes what a leg hands up to the lent list, which is empty and has room for it.
+pub(crate) fn hand_up(onwards: &mut Onwards, named: &NamedLeg, signal: Option<Signal>)
+    requires room { 1 ≤ onwards.old.room }
+    requires empty { onwards.old.signals ≡ [] }
+    requires no_offer { onwards.old.offer ≡ None }
+    ensures signals { onwards.new.signals ≡ handed_up named.now.name signal }
+    ensures offer { onwards.new.offer ≡ offer_with named.now.leg signal }
+{
+    let Some(signal) = &signal else {
+        return;
+    };
+    onwards.push(named.name(), *signal);
+    if let Signal::Offered = signal {
+        onwards.set_offer(named.offer());
+    }
+}
+
+impl PeerLegs {
+    // As `full`; the leg stands under its number still.
+    fn full_kept(
+        &mut self,
+        number: u16,
+        frame: &Full,
+        now: u64,
+        replies: &mut Replies,
+    ) -> Result<Heard, StepError>
+        requires there { can_reach self.old frame.now.head.source (leg_at self.old number) ≡ true }
+        requires short { length frame.now.payload ≤ 1388 }
+        requires empty { replies.old ≡ [] }
+        ensures leg { OnOk result ((named : NamedLegValue) → leg_at self.old number ≡ Some named → self.new ≡ with_leg self.old named.name (full_step named.leg frame.now now).leg) }
+        ensures replies { OnOk result ((named : NamedLegValue) → leg_at self.old number ≡ Some named → replies.new ≡ map spelling (full_step named.leg frame.now now).replies) }
+        ensures heard { IfOk result (λ heard. (named : NamedLegValue) → leg_at self.old number ≡ Some named → heard ≡ heard_of (full_step named.leg frame.now now)) }
+        ensures kept { OnOk result (IsSome (leg_at self.new number)) }
+        ensures there { OnOk result ((named : NamedLegValue) → leg_at self.old number ≡ Some named
+            → leg_at self.new number ≡ Some (record { name = named.name; leg = (full_step named.leg frame.now now).leg })) }
+        ensures record_full { (named : NamedLegValue) → leg_at self.old number ≡ Some named → (result ≡ Err StepError.RecordFull) ↔ (is_short_of_entries named.leg ≡ true) }
+        ensures err { OnErr result (self.new ≡ self.old) }
+    {
+        let _sound = self.count();
+        match self.full(number, frame, now, replies) {
+            Ok(heard) => Ok(heard),
+            Err(error) => Err(error),
+        }
+    }
+
+    // Whether a full frame from this source goes to the leg.
+    fn reaches(&self, source: CallNumber, named: &NamedLeg) -> bool
+        ensures { result ≡ is_reached self.now source named.now }
+    {
+        match named.leg().remote() {
+            Some(remote) => remote == source,
+            None => self.of_remote(source).is_none(),
+        }
+    }
+
+    // Whether fewer than four entries are free in the record of a number's leg.
+    pub(crate) fn is_short(&self, number: u16) -> bool
+        requires { IsSome (leg_at self.now number) }
+        ensures { (named : NamedLegValue) → leg_at self.now number ≡ Some named → result ≡ is_short_of_entries named.leg }
+    {
+        self.get(number).unwrap().leg().window().free_entries() < 4
+    }
+
+    // The local number of the leg to which a full frame goes.
+    pub(crate) fn find(&self, frame: &Full) -> Option<u16>
+        ensures some { IfSome result (λ number. leg_at self.now number ≡ found self.now frame.now) }
+        ensures reached { IfSome result (λ number. can_reach self.now frame.now.head.source (leg_at self.now number) ≡ true) }
+        ensures none { IsNone result ↔ (found self.now frame.now ≡ None) }
+    {
+        let number = frame.destination().get();
+        if number == 0 {
+            return self.of_remote(frame.source());
+        }
+        match self.get(number) {
+            Some(named) => {
+                if self.reaches(frame.source(), named) {
+                    Some(number)
+                } else {
+                    None
+                }
+            }
+            None => None,
+        }
+    }
+}
+
+fn is_new(message: &Message) -> bool
+    ensures { result ≡ answers.is_new message.now }
+{
+    matches!(message, Message::New)
+}
+
+// INVAL from the number that a frame names, to its source.
+fn inval_for(frame: &Full) -> Out
+    ensures { result ≡ spelling (answer.inval_for frame.now) }
+{
+    let head = FullHead {
+        source: frame.destination(),
+        retransmitted: false,
+        destination: frame.source(),
+        timestamp: 0,
+        oseqno: 0,
+        iseqno: 0,
+        frame_type: 6,
+        subclass: 0x0a,
+    };
+    match write_full(&head, &[]) {
+        Ok(out) => out,
+        Err(_) => unreachable!(),
+    }
+}
+
+impl<J: Naming> PeerState<J> {
+    // A full frame goes to the leg of a number.
+    fn reach(
+        &mut self,
+        pass: &mut Pass<J>,
+        number: u16,
+        frame: &Full,
+        now: u64,
+        onwards: &mut Onwards,
+    ) -> Result<Step, PeerError>
+        requires steps { self.old.accounts.steps ≢ J.first_steps }
+        requires short { length frame.now.payload ≤ 1388 }
+        requires there { can_reach self.old.legs frame.now.head.source (leg_at self.old.legs number) ≡ true }
+        requires nothing { IsNothing onwards.old }
+        ensures made { IfOk result (λ step. (named : NamedLegValue) → leg_at self.old.legs number ≡ Some named
+            → Makes (reached_step J.first_octets self.old named frame.now now) self.new step pass.old pass.new onwards.new) }
+        ensures unrefused { OnOk result ((named : NamedLegValue) → leg_at self.old.legs number ≡ Some named → delivery_refused (Reaches named) ≡ None) }
+        ensures refused { IfErr result (λ e. (named : NamedLegValue) → leg_at self.old.legs number ≡ Some named → IsDue (delivery_refused (Reaches named)) e) }
+        ensures err { OnErr result (IsUnchanged self.old self.new pass.old pass.new onwards.new) }
+    {
+        if self.legs.is_short(number) {
+            return Err(PeerError::RecordFull);
+        }
+        onwards.reserve(1)?;
+        self.replies.clear();
+        let heard = self.legs.full_kept(number, frame, now, &mut self.replies)?;
+        self.account.count_step(pass);
+        let signal = self.account.grant(pass, heard.signal);
+        self.outbox.put_all(&self.replies);
+        let named = self.legs.get(number).unwrap();
+        hand_up(onwards, named, signal);
+        Ok(Step {
+            judged: heard.judged,
+            touched: Some(named.name()),
+        })
+    }
+
+    // A step without a leg.
+    pub(crate) fn step_alone(&mut self, pass: &mut Pass<J>) -> Step
+        requires { self.old.accounts.steps ≢ J.first_steps }
+        ensures peer { self.new ≡ counted self.old }
+        ensures step { result ≡ no_leg }
+        ensures credit { pass.new ≡ with_credit pass.old 0 }
+    {
+        self.account.count_step(pass);
+        Step {
+            judged: Judged::Unnumbered,
+            touched: None,
+        }
+    }
+
+    // A step without a leg, in which this datagram is sent.
+    fn answer_alone(&mut self, pass: &mut Pass<J>, out: Out) -> Step
+        requires { self.old.accounts.steps ≢ J.first_steps }
+        ensures peer { self.new ≡ counted (with_datagram self.old out) }
+        ensures step { result ≡ no_leg }
+        ensures credit { pass.new ≡ with_credit pass.old 0 }
+    {
+        self.outbox.put(out);
+        self.step_alone(pass)
+    }
+
+    // A full frame that no leg has.
+    fn answer_unknown(&mut self, pass: &mut Pass<J>, frame: &Full) -> Result<Step, PeerError>
+        requires { self.old.accounts.steps ≢ J.first_steps }
+        ensures peer { OnOk result (self.new ≡ counted (with_datagram self.old (spelling (answer.inval_for frame.now)))) }
+        ensures step { IfOk result (λ step. step ≡ no_leg) }
+        ensures credit { OnOk result (pass.new ≡ with_credit pass.old 0) }
+        ensures unrefused { OnOk result (unknown_call frame.now ≡ GetsInval) }
+        ensures refused { IfErr result (λ e. Some e ≡ delivery_refused (unknown_call frame.now)) }
+        ensures err { OnErr result ((self.new ≡ self.old) × (pass.new ≡ pass.old)) }
+    {
+        let message = Message::of(frame);
+        if frame.destination().get() == 0 {
+            if is_new(&message) && frame.oseqno() == 0 {
+                return Err(PeerError::NeedsNumber);
+            }
+            return Err(PeerError::NoCall);
+        }
+        if !message.is_numbered() {
+            return Err(PeerError::NoCall);
+        }
+        Ok(self.answer_alone(pass, inval_for(frame)))
+    }
+
+    // A full frame comes for which a leg is looked for.
+    fn deliver(
+        &mut self,
+        pass: &mut Pass<J>,
+        frame: &Full,
+        now: u64,
+        onwards: &mut Onwards,
+    ) -> Result<Step, PeerError>
+        requires steps { self.old.accounts.steps ≢ J.first_steps }
+        requires short { length frame.now.payload ≤ 1388 }
+        requires nothing { IsNothing onwards.old }
+        ensures made { IfOk result (λ step. Makes (delivered_step J.first_octets self.old (delivery self.old.legs frame.now) frame.now now) self.new step pass.old pass.new onwards.new) }
+        ensures unrefused { OnOk result (full_refused self.old.legs frame.now ≡ None) }
+        ensures refused { IfErr result (λ e. IsDue (full_refused self.old.legs frame.now) e) }
+        ensures err { OnErr result (IsUnchanged self.old self.new pass.old pass.new onwards.new) }
+    {
+        match self.legs.find(frame) {
+            Some(number) => self.reach(pass, number, frame, now, onwards),
+            None => self.answer_unknown(pass, frame),
+        }
+    }
+
+    // A full frame comes.
+    fn full(
+        &mut self,
+        pass: &mut Pass<J>,
+        frame: &Full,
+        now: u64,
+        onwards: &mut Onwards,
+    ) -> Result<Step, PeerError>
+        requires steps { self.old.accounts.steps ≢ J.first_steps }
+        requires nothing { IsNothing onwards.old }
+        ensures made { IfOk result (λ step. Makes (delivered_step J.first_octets self.old (delivery self.old.legs frame.now) frame.now now) self.new step pass.old pass.new onwards.new) }
+        ensures sound { OnOk result (IsSoundFull frame.now) }
+        ensures unrefused { OnOk result (full_refused self.old.legs frame.now ≡ None) }
+        ensures unsound { (e : PeerErrorValue) → IsRefusedFull frame.now e → result ≡ Err e }
+        ensures refused { IfErr result (λ e. IsRefusedFull frame.now e ⊎ (IsSoundFull frame.now × IsDue (full_refused self.old.legs frame.now) e)) }
+        ensures err { OnErr result (IsUnchanged self.old self.new pass.old pass.new onwards.new) }
+    {
+        if frame.payload().len() > 1388 {
+            return Err(PeerError::TooLong);
+        }
+        if frame.source().get() == 0 {
+            return Err(PeerError::NoSource);
+        }
+        if is_cut(frame) {
+            return Err(PeerError::Cut);
+        }
+        self.deliver(pass, frame, now, onwards)
+    }
+
+    // A datagram comes that was read.
+    fn arrive(
+        &mut self,
+        pass: &mut Pass<J>,
+        datagram: &Datagram,
+        now: u64,
+        onwards: &mut Onwards,
+    ) -> Result<Step, PeerError>
+        requires steps { self.old.accounts.steps ≢ J.first_steps }
+        requires short { IsShortDatagram datagram.now }
+        requires nothing { IsNothing onwards.old }
+        ensures made { IfOk result (λ step. Makes (datagram_step J.first_octets self.old datagram.now now) self.new step pass.old pass.new onwards.new) }
+        ensures sound { OnOk result (IsSound datagram.now) }
+        ensures unrefused { OnOk result (datagram_refused self.old datagram.now ≡ None) }
+        ensures unsound { (e : PeerErrorValue) → IsRefusedRead datagram.now e → result ≡ Err e }
+        ensures refused { IfErr result (λ e. IsRefusedRead datagram.now e ⊎ (IsSound datagram.now × IsDue (datagram_refused self.old datagram.now) e)) }
+        ensures err { OnErr result (IsUnchanged self.old self.new pass.old pass.new onwards.new) }
+    {
+        match datagram {
+            Datagram::Full(frame) => self.full(pass, frame, now, onwards),
+            Datagram::Mini(mini) => self.mini(pass, mini, onwards),
+            Datagram::Video(_) => Ok(self.step_alone(pass)),
+            Datagram::Trunk(trunk) => self.trunk(pass, trunk, onwards),
+        }
+    }
+
+    /// A datagram comes from the peer, at most 2,048 octets: one step, at the leg that it concerns, if any. What is handed up is
+    /// written to the list, which is empty.
+    ///
+    /// Refusals are looked for in the order of `PeerError`. `Memory` comes only where memory was refused.
+    pub fn datagram(
+        &mut self,
+        pass: &mut Pass<J>,
+        octets: &[u8],
+        now: u64,
+        onwards: &mut Onwards,
+    ) -> Result<Step, PeerError>
+        requires nothing { IsNothing onwards.old }
+        // What comes of a datagram that is worked.
+        ensures made { IfOk result (λ step. (d : DatagramValue) → IsWorked J.first_steps self.old.accounts.steps octets.now d
+            → Makes (datagram_step J.first_octets self.old d now) self.new step pass.old pass.new onwards.new) }
+        ensures worked { OnOk result ((d : DatagramValue) × IsWorked J.first_steps self.old.accounts.steps octets.now d) }
+        ensures unrefused { OnOk result ((d : DatagramValue) → IsWorked J.first_steps self.old.accounts.steps octets.now d → datagram_refused self.old d ≡ None) }
+        // Each refusal comes where its cause is, and has it.
+        ensures unworked { (e : PeerErrorValue) → IsUnworked J.first_steps self.old.accounts.steps octets.now e → result ≡ Err e }
+        ensures refused { IfErr result (λ e. IsUnworked J.first_steps self.old.accounts.steps octets.now e
+            ⊎ ((d : DatagramValue) × IsWorked J.first_steps self.old.accounts.steps octets.now d × IsDue (datagram_refused self.old d) e)) }
+        ensures err { OnErr result (IsUnchanged self.old self.new pass.old pass.new onwards.new) }
+    {
+        if self.account.is_spent() {
+            return Err(PeerError::StepsSpent);
+        }
+        if octets.len() > 2048 {
+            return Err(PeerError::TooLong);
+        }
+        match read(octets) {
+            Ok(datagram) => self.arrive(pass, &datagram, now, onwards),
+            Err(error) => Err(PeerError::from(error)),
+        }
+    }
+}
+
+// Whether the last element of an IAX frame passes the end.
+fn is_cut(frame: &Full) -> bool
+    ensures { IsTrue result ↔ IsCutFrame frame.now }
+{
+    if frame.frame_type() != 6 {
+        return false;
+    }
+    match elements(frame.payload()) {
+        Ok(_) => false,
+        Err(_) => true,
+    }
+}

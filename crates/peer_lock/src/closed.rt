@@ -1,0 +1,127 @@
+//! A peer without its shares.
+ghost use Rattle.std.specs.Prelude.{◌≡◌, ◌+◌, ◌≤◌, option_map};
+ghost use Rattle.peer_lock.specs.Accounts.{carried};
+ghost use Rattle.peer_lock.specs.Legs.{leg_at};
+ghost use Rattle.peer_lock.specs.Statuses.{status_of};
+
+use crate::account::ClosedAccount;
+use crate::naming::Naming;
+use crate::outboxes::Outbox;
+use crate::peer_legs::PeerLegs;
+use crate::state::PeerState;
+use crate::steps::Status;
+use leg_machine::{PeerRules, Replies};
+use media_ledger::Share;
+use std::alloc::Global;
+use std::marker::Model;
+use trunk_packer::Packer;
+
+/// A peer that gave its shares up. Contracts see it as the peer.
+#[derive(Drop)]
+pub struct ClosedPeer<J: Naming> {
+    pub(crate) alloc: Global,
+    pub(crate) rules: PeerRules,
+    pub(crate) legs: PeerLegs,
+    pub(crate) outbox: Outbox,
+    pub(crate) queue: Packer,
+    pub(crate) account: ClosedAccount<J>,
+    pub(crate) replies: Box<Replies>,
+}
+
+impl<J: Naming> Model for ClosedPeer<J> {
+    ghost use Rattle.std.specs.Prelude.{◌≡◌};
+    ghost use Rattle.leg_machine.specs.PeerRules.{IsPeerRules};
+    ghost use Rattle.peer_lock.specs.Peer.{PeerView};
+    ghost use Rattle.trunk_packer.specs.Queue.{media_octets};
+
+    ghost Value = { PeerView };
+
+    ghost view = { λ s. record { rules = s.rules; legs = s.legs; outbox = s.outbox; queue = s.queue; accounts = s.account } };
+
+    ghost invariant = { λ s. IsPeerRules s.rules × (s.account.queued ≡ media_octets s.queue) };
+}
+
+impl<J: Naming> ClosedPeer<J> {
+    /// The peer's place in the plan.
+    pub fn peer(&self) -> u16
+        ensures { result ≡ self.now.legs.peer }
+    {
+        self.legs.peer()
+    }
+
+    /// How the leg of a local number stands.
+    pub fn look(&self, number: u16) -> Option<Status>
+        ensures { result ≡ option_map status_of (leg_at self.now.legs number) }
+    {
+        self.legs.get(number).map(|named| named.status())
+    }
+
+    /// The media octets that the peer brought and that were accepted.
+    pub fn accepted(&self) -> u64
+        ensures { result ≡ self.now.accounts.accepted }
+    {
+        self.account.accepted()
+    }
+
+    /// The media octets for the peer that were written into frames.
+    pub fn packed(&self) -> u64
+        ensures { result ≡ self.now.accounts.packed }
+    {
+        self.account.packed()
+    }
+
+    /// The media octets in the trunk queue.
+    pub fn queued(&self) -> u64
+        ensures { result ≡ self.now.accounts.queued }
+    {
+        self.account.queued()
+    }
+
+    /// The media octets for the peer that were dropped, the quelched ones among them.
+    pub fn dropped(&self) -> u64
+        ensures { result ≡ self.now.accounts.dropped }
+    {
+        self.account.dropped()
+    }
+
+    /// Of the dropped media octets, those that the other side wanted none of.
+    pub fn quelched(&self) -> u64
+        ensures value { result ≡ self.now.accounts.quelched }
+        ensures part { result ≤ self.now.accounts.dropped }
+    {
+        self.account.quelched()
+    }
+
+    /// The steps that the peer made.
+    pub fn steps(&self) -> u64
+        ensures { result ≡ self.now.accounts.steps }
+    {
+        self.account.steps()
+    }
+
+    /// The peer with its shares again, as `part` gave them.
+    pub fn whole(self, octets: Share<J::Octets>, steps: Share<J::Steps>) -> PeerState<J>
+        requires octets { octets + self.accounts.accepted ≡ J.first_octets + carried self.accounts }
+        requires steps { steps + self.accounts.steps ≡ J.first_steps }
+        ensures { result ≡ self }
+    {
+        let ClosedPeer {
+            alloc,
+            rules,
+            legs,
+            outbox,
+            queue,
+            account,
+            replies,
+        } = self;
+        PeerState {
+            alloc,
+            rules,
+            legs,
+            outbox,
+            queue,
+            account: account.whole(octets, steps),
+            replies,
+        }
+    }
+}

@@ -1,0 +1,82 @@
+//! Legs and the leases on their names.
+ghost use Rattle.std.specs.Prelude.{◌≡◌};
+ghost use Rattle.peer_lock.specs.Peer.{offer_of};
+ghost use Rattle.peer_lock.specs.Statuses.{status_of};
+
+use crate::onwards::Offer;
+use crate::steps::Status;
+use call_book::{Lease, LegName};
+use leg_machine::{ElementText, Leg};
+use std::marker::Model;
+
+// A leg, with the lease on its name. Contracts see the name and the leg.
+#[derive(Drop)]
+pub(crate) struct NamedLeg {
+    pub(crate) lease: Lease,
+    pub(crate) leg: Leg,
+}
+
+impl Model for NamedLeg {
+    ghost use Rattle.peer_lock.specs.Legs.{NamedLeg};
+
+    ghost Value = { NamedLeg };
+
+    ghost view = { λ named. record { name = named.lease; leg = named.leg } };
+}
+
+impl NamedLeg {
+    // The name that the lease is for.
+    pub(crate) fn name(&self) -> LegName
+        ensures { result ≡ self.now.name }
+    {
+        self.lease.name()
+    }
+
+    // The leg, to be read.
+    pub(crate) fn leg(&self) -> &Leg
+        ensures { result.now ≡ self.now.leg }
+    {
+        &self.leg
+    }
+
+    // The lease and the leg, where the leg has gone.
+    pub(crate) fn into_parts(self) -> (Lease, Leg)
+        ensures lease { result.0 ≡ self.name }
+        ensures leg { result.1 ≡ self.leg }
+    {
+        let NamedLeg { lease, leg } = self;
+        (lease, leg)
+    }
+
+    // How the leg stands.
+    pub(crate) fn status(&self) -> Status
+        ensures { result ≡ status_of self.now }
+    {
+        Status {
+            name: self.lease.name(),
+            stage: self.leg.stage(),
+            owes: self.leg.owes(),
+            held: self.leg.window().held_len(),
+            entries: self.leg.window().record().len(),
+        }
+    }
+
+    // What the offered call asks for.
+    pub(crate) fn offer(&self) -> Offer
+        ensures { result ≡ offer_of self.now.leg }
+    {
+        let called = ElementText::new(self.leg.called());
+        match self.leg.calling() {
+            Some(calling) => Offer {
+                called,
+                calling: Some(ElementText::new(calling)),
+                format: self.leg.format(),
+            },
+            None => Offer {
+                called,
+                calling: None,
+                format: self.leg.format(),
+            },
+        }
+    }
+}

@@ -1,0 +1,211 @@
+//! The steps of a peer in which a leg is opened ("Call Setup").
+ghost use Rattle.std.specs.Prelude.{◌≡◌, ◌≢◌, ◌+◌, ◌<◌, ◌≤◌, [], length, map, None, Some, IsNone, IsTrue, ◌↔◌, true, option_copied, IfOk, IfErr, OnOk, OnErr};
+ghost use Rattle.std.specs.Option.{ForSome};
+ghost use Rattle.iax_frames.specs.FullFrame.{spelling};
+ghost use Rattle.peer_lock.specs.Accounts.{with_step as with_credit};
+ghost use Rattle.std.specs.Prelude.{ℕ};
+ghost use Rattle.peer_lock.specs.Legs.{leg_at, leg_of_remote, with_place};
+ghost use Rattle.leg_machine.specs.declared.outcomes.Judged.TheVariants.{Unnumbered};
+ghost use Rattle.peer_lock.specs.Peer.{counted, handed_up, leg_alone, offer_with};
+ghost use Rattle.peer_lock.specs.Makes.{IsNothing, IsUnchanged};
+ghost use Rattle.peer_lock.specs.Openings.{IsOpening, IsOpenRefusal, is_free_name, open_in_refused, open_out_refused, opens_in, opens_out, with_opened};
+
+use crate::arrivals::hand_up;
+use crate::errors::OpenError;
+use crate::naming::Naming;
+use crate::onwards::Onwards;
+use crate::pass::Pass;
+use crate::peer_legs::PeerLegs;
+use crate::state::PeerState;
+use crate::steps::Step;
+use call_auth::Challenge;
+use call_book::{Lease, LegName};
+use iax_frames::{CallNumber, Full};
+use leg_machine::{Format, Heard, Judged, Leg};
+
+impl PeerLegs {
+    // Whether the name is one of this peer's, and no leg has its number.
+    pub(crate) fn is_free(&self, name: LegName) -> bool
+        ensures free { result ≡ is_free_name self.now name }
+    {
+        if name.peer != self.peer() || !self.has_number(name.number) {
+            return false;
+        }
+        self.get(name.number).is_none()
+    }
+}
+
+impl<J: Naming> PeerState<J> {
+    // A leg that was opened takes its place.
+    #[tactic(auto, using(crate::proofs::LegThere::placed_there))]
+    fn seat(&mut self, pass: &mut Pass<J>, lease: Lease, leg: Leg)
+        requires steps { self.old.accounts.steps ≢ J.first_steps }
+        requires free { is_free_name self.old.legs lease ≡ true }
+        requires number { leg.number ≡ lease.number }
+        requires remote { (remote : ℕ) → leg.remote ≡ Some remote → leg_of_remote self.old.legs remote ≡ None }
+        ensures peer { self.new ≡ record (counted self.old) { legs = with_place self.old.legs lease.number (Some (record { name = lease; leg = leg })) } }
+        ensures credit { pass.new ≡ with_credit pass.old 0 }
+        ensures there { leg_at self.new.legs lease.number ≡ Some (record { name = lease; leg = leg }) }
+    {
+        self.account.count_step(pass);
+        self.legs.insert(lease, leg);
+    }
+
+    // Why no leg can be opened under a name.
+    fn opening_refused(&self, name: LegName) -> Option<OpenError>
+        ensures { result ≡ open_out_refused self.now J.first_steps name }
+    {
+        if self.account.is_spent() {
+            return Some(OpenError::StepsSpent);
+        }
+        if !self.legs.is_free(name) {
+            return Some(OpenError::NumberBusy);
+        }
+        None
+    }
+
+    // The call number of a free name.
+    fn free_number(&self, name: LegName) -> CallNumber
+        requires { is_free_name self.now.legs name ≡ true }
+        ensures number { result ≡ name.number }
+        ensures some { 1 ≤ result }
+    {
+        let _sound = self.legs.count();
+        CallNumber::new(name.number)
+    }
+
+    /// A NEW that came opens a leg, under the lease: one step. It is one that `datagram` answers by `NeedsNumber`. What is handed up
+    /// is written to the list, which is empty.
+    ///
+    /// Refusals are looked for in the order of `OpenError`; the lease comes back. `Memory` comes only where memory was refused.
+    pub fn open_in(
+        &mut self,
+        pass: &mut Pass<J>,
+        lease: Lease,
+        frame: &Full,
+        now: u64,
+        challenge: &Challenge,
+        onwards: &mut Onwards,
+    ) -> Result<Step, (Lease, OpenError)>
+        requires opening { IsOpening frame.now }
+        requires nothing { IsNothing onwards.old }
+        ensures peer { OnOk result (self.new ≡ (opens_in self.old lease frame.now now challenge.now).peer) }
+        ensures step { IfOk result (λ step. step ≡ (opens_in self.old lease frame.now now challenge.now).step) }
+        ensures signals { OnOk result (onwards.new.signals ≡ (opens_in self.old lease frame.now now challenge.now).signals) }
+        ensures offer { OnOk result (onwards.new.offer ≡ (opens_in self.old lease frame.now now challenge.now).offer) }
+        ensures credit { OnOk result (pass.new ≡ with_credit pass.old 0) }
+        ensures unrefused { OnOk result (open_in_refused self.old J.first_steps lease frame.now.head.source ≡ None) }
+        ensures refused { IfErr result (λ back. IsOpenRefusal (open_in_refused self.old J.first_steps lease frame.now.head.source) back.1) }
+        ensures lease { IfErr result (λ back. back.0 ≡ lease) }
+        ensures err { OnErr result (IsUnchanged self.old self.new pass.old pass.new onwards.new) }
+    {
+        if let Some(refusal) = self.opening_refused(lease.name()) {
+            return Err((lease, refusal));
+        }
+        if self.legs.of_remote(frame.source()).is_some() {
+            return Err((lease, OpenError::RemoteBusy));
+        }
+        if onwards.reserve(1).is_err() {
+            return Err((lease, OpenError::Memory));
+        }
+        let number = self.free_number(lease.name());
+        self.replies.clear();
+        match Leg::open_in_into(
+            self.alloc,
+            &self.rules,
+            number,
+            frame,
+            now,
+            challenge,
+            &mut self.replies,
+        ) {
+            Err(_) => Err((lease, OpenError::Memory)),
+            Ok((leg, heard)) => {
+                self.outbox.put_all(&self.replies);
+                Ok(self.opened(pass, lease, leg, heard, onwards))
+            }
+        }
+    }
+
+    // A leg that was opened takes its place, and hands up what it heard.
+    fn opened(
+        &mut self,
+        pass: &mut Pass<J>,
+        lease: Lease,
+        leg: Leg,
+        heard: Heard,
+        onwards: &mut Onwards,
+    ) -> Step
+        requires steps { self.old.accounts.steps ≢ J.first_steps }
+        requires free { is_free_name self.old.legs lease ≡ true }
+        requires number { leg.number ≡ lease.number }
+        requires remote { (remote : ℕ) → leg.remote ≡ Some remote → leg_of_remote self.old.legs remote ≡ None }
+        requires room { 1 ≤ onwards.old.room }
+        requires nothing { IsNothing onwards.old }
+        ensures peer { self.new ≡ record (counted self.old) { legs = with_place self.old.legs lease.number (Some (record { name = lease; leg = leg })) } }
+        ensures credit { pass.new ≡ with_credit pass.old 0 }
+        ensures step { result ≡ leg_alone lease heard.judged }
+        ensures signals { onwards.new.signals ≡ handed_up lease heard.signal }
+        ensures offer { onwards.new.offer ≡ offer_with leg heard.signal }
+    {
+        let name = lease.name();
+        self.seat(pass, lease, leg);
+        let named = self.legs.get(name.number).unwrap();
+        hand_up(onwards, named, heard.signal);
+        Step {
+            judged: heard.judged,
+            touched: Some(name),
+        }
+    }
+
+    /// A call goes out under the lease, for a number of at most 255 octets: one step.
+    ///
+    /// Refusals are looked for in the order of `OpenError`, of which `RemoteBusy` never comes; the lease comes back. `Memory` comes
+    /// only where memory was refused.
+    pub fn open_out(
+        &mut self,
+        pass: &mut Pass<J>,
+        lease: Lease,
+        called: &[u8],
+        calling: Option<&[u8]>,
+        format: Format,
+        now: u64,
+    ) -> Result<Step, (Lease, OpenError)>
+        requires called { length called.now ≤ 255 }
+        requires calling { ForSome calling (λ text. length text.now ≤ 255) }
+        ensures peer { OnOk result (self.new ≡ (opens_out self.old lease called.now (option_copied calling.entry) format now).peer) }
+        ensures step { IfOk result (λ step. step ≡ leg_alone lease Unnumbered) }
+        ensures credit { OnOk result (pass.new ≡ with_credit pass.old 0) }
+        ensures unrefused { OnOk result (open_out_refused self.old J.first_steps lease ≡ None) }
+        ensures refused { IfErr result (λ back. IsOpenRefusal (open_out_refused self.old J.first_steps lease) back.1) }
+        ensures lease { IfErr result (λ back. back.0 ≡ lease) }
+        ensures err { OnErr result ((self.new ≡ self.old) × (pass.new ≡ pass.old)) }
+    {
+        if let Some(refusal) = self.opening_refused(lease.name()) {
+            return Err((lease, refusal));
+        }
+        let number = self.free_number(lease.name());
+        self.replies.clear();
+        match Leg::open_out_into(
+            self.alloc,
+            &self.rules,
+            number,
+            called,
+            calling,
+            format,
+            now,
+            &mut self.replies,
+        ) {
+            Err(_) => Err((lease, OpenError::Memory)),
+            Ok(leg) => {
+                self.outbox.put_all(&self.replies);
+                let name = lease.name();
+                self.seat(pass, lease, leg);
+                Ok(Step {
+                    judged: Judged::Unnumbered,
+                    touched: Some(name),
+                })
+            }
+        }
+    }
+}

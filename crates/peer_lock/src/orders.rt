@@ -1,0 +1,180 @@
+//! The steps of a peer in which a leg obeys an order ("Call Setup", "Control Frames", "Mini Frames", "Meta Frames").
+ghost use Rattle.std.specs.Prelude.{◌≡◌, ◌≢◌, ◌+◌, ◌-◌, ◌<◌, ◌≤◌, [], length, map, None, Some, IsSome, IsTrue, ◌↔◌, IfOk, IfErr, OnOk, OnErr};
+ghost use Rattle.std.specs.Option.{ForSome};
+ghost use Rattle.leg_machine.specs.OrderTable.{IsShortMedia, media_refused, order_refused, order_carried};
+ghost use Rattle.peer_lock.specs.Accounts.{with_step as with_credit};
+ghost use Rattle.leg_machine.specs.Media.{media_sent};
+ghost use Rattle.leg_machine.specs.declared.outcomes.Judged.TheVariants.{Unnumbered};
+ghost use Rattle.peer_lock.specs.Legs.{NamedLeg as NamedLegValue, leg_at, leg_named};
+ghost use Rattle.peer_lock.specs.Peer.{counted, leg_alone};
+ghost use Rattle.peer_lock.specs.Orders as spec;
+ghost use Rattle.peer_lock.specs.Orders.{queued_media, counted_media, carries_media, with_order, from_leg_due, IsOrderRefusal, order_refused_by, ordered_step, order_octets};
+
+use crate::account::Carried;
+use crate::errors::OrderError;
+use crate::naming::Naming;
+use crate::pass::Pass;
+use crate::state::PeerState;
+use crate::steps::Step;
+use call_book::LegName;
+use iax_frames::{CallNumber, write_mini};
+use leg_machine::{Judged, MediaSent, Order};
+
+impl<J: Naming> PeerState<J> {
+    // Media waits for a trunk frame, or is dropped where the queue is full.
+    fn queue_media(&mut self, pass: &mut Pass<J>, number: CallNumber, timestamp: u16, media: &[u8])
+        requires short { length media.now ≤ 1380 }
+        requires credit { length media.now ≤ pass.old.octets }
+        ensures peer { self.new ≡ queued_media self.old (record { number = number; timestamp = timestamp; media = media.now }) }
+        ensures credit { pass.new.octets + length media.now ≡ pass.old.octets }
+        ensures steps { pass.new.steps ≡ pass.old.steps }
+    {
+        let outcome = match self.queue.queue(number, timestamp, media) {
+            Ok(()) => Carried::Queued,
+            Err(_) => Carried::Dropped,
+        };
+        self.account.carry(pass, media.len() as u64, outcome);
+    }
+
+    // Media that goes out without a full frame: into the trunk queue, or as a mini frame.
+    fn short_media(&mut self, pass: &mut Pass<J>, number: CallNumber, timestamp: u16, media: &[u8])
+        requires number { 1 ≤ number }
+        requires short { length media.now ≤ 1380 }
+        requires credit { length media.now ≤ pass.old.octets }
+        ensures peer { self.new ≡ spec.short_media self.old number timestamp media.now }
+        ensures credit { pass.new.octets + length media.now ≡ pass.old.octets }
+        ensures steps { pass.new.steps ≡ pass.old.steps }
+    {
+        if self.rules.trunk {
+            self.queue_media(pass, number, timestamp, media);
+            return;
+        }
+        match write_mini(number, timestamp, media) {
+            Ok(out) => self.outbox.put(out),
+            Err(_) => unreachable!(),
+        }
+        self.account
+            .carry(pass, media.len() as u64, Carried::Packed);
+    }
+
+    // What is counted of media that goes out so, and what goes out without a full frame.
+    fn count_media(&mut self, pass: &mut Pass<J>, number: CallNumber, sent: MediaSent, media: &[u8])
+        requires number { 1 ≤ number }
+        requires short { length media.now ≤ 1380 }
+        requires credit { length media.now ≤ pass.old.octets }
+        ensures peer { self.new ≡ counted_media sent self.old number media.now }
+        ensures credit { pass.new.octets + length media.now ≡ pass.old.octets }
+        ensures steps { pass.new.steps ≡ pass.old.steps }
+    {
+        let octets = media.len() as u64;
+        match sent {
+            MediaSent::Quelched => self.account.carry(pass, octets, Carried::Quelched),
+            MediaSent::Voice => self.account.carry(pass, octets, Carried::Packed),
+            MediaSent::Mini(timestamp) => self.short_media(pass, number, timestamp, media),
+        }
+    }
+
+    // Media goes out at the leg of a name.
+    fn order_media(
+        &mut self,
+        pass: &mut Pass<J>,
+        name: LegName,
+        media: &[u8],
+        now: u64,
+    ) -> Result<Step, OrderError>
+        requires steps { self.old.accounts.steps ≢ J.first_steps }
+        requires there { IsSome (leg_at self.old.legs name.number) }
+        requires short { length media.now ≤ 1380 }
+        requires credit { length media.now ≤ pass.old.octets }
+        ensures peer { (named : NamedLegValue) → leg_at self.old.legs name.number ≡ Some named → named.name ≡ name
+            → OnOk result (self.new ≡ counted (carries_media (media_sent named.leg now) self.old named media.now now)) }
+        ensures step { IfOk result (λ step. step ≡ leg_alone name Unnumbered) }
+        ensures octets { OnOk result (pass.new.octets + length media.now ≡ pass.old.octets) }
+        ensures steps { OnOk result (pass.new.steps ≡ pass.old.steps + 1) }
+        ensures unrefused { (named : NamedLegValue) → leg_at self.old.legs name.number ≡ Some named → OnOk result (from_leg_due (media_refused named.leg now) ≡ None) }
+        ensures refused { (named : NamedLegValue) → leg_at self.old.legs name.number ≡ Some named
+            → IfErr result (IsOrderRefusal (from_leg_due (media_refused named.leg now))) }
+        ensures err { OnErr result ((self.new ≡ self.old) × (pass.new ≡ pass.old)) }
+    {
+        let number = self.legs.call_number(name.number);
+        self.replies.clear();
+        let sent = self.legs.media(name.number, media, now, &mut self.replies)?;
+        self.outbox.put_all(&self.replies);
+        self.account.count_step(pass);
+        self.count_media(pass, number, sent, media);
+        Ok(Step {
+            judged: Judged::Unnumbered,
+            touched: Some(name),
+        })
+    }
+
+    // The leg of a name obeys another order.
+    fn order_leg(
+        &mut self,
+        pass: &mut Pass<J>,
+        name: LegName,
+        order: &Order,
+        now: u64,
+    ) -> Result<Step, OrderError>
+        requires steps { self.old.accounts.steps ≢ J.first_steps }
+        requires there { IsSome (leg_at self.old.legs name.number) }
+        requires media { IsShortMedia order.now }
+        ensures peer { (named : NamedLegValue) → leg_at self.old.legs name.number ≡ Some named
+            → OnOk result (self.new ≡ with_order self.old named (order_carried named.leg order.now now)) }
+        ensures step { IfOk result (λ step. step ≡ leg_alone name Unnumbered) }
+        ensures credit { OnOk result (pass.new ≡ with_credit pass.old 0) }
+        ensures unrefused { (named : NamedLegValue) → leg_at self.old.legs name.number ≡ Some named → OnOk result (from_leg_due (order_refused named.leg order.now now) ≡ None) }
+        ensures refused { (named : NamedLegValue) → leg_at self.old.legs name.number ≡ Some named
+            → IfErr result (IsOrderRefusal (from_leg_due (order_refused named.leg order.now now))) }
+        ensures err { OnErr result ((self.new ≡ self.old) × (pass.new ≡ pass.old)) }
+    {
+        self.replies.clear();
+        self.legs.order(name.number, order, now, &mut self.replies)?;
+        self.outbox.put_all(&self.replies);
+        self.account.count_step(pass);
+        Ok(Step {
+            judged: Judged::Unnumbered,
+            touched: Some(name),
+        })
+    }
+
+    /// The leg of a name obeys an order: one step. Media is 1 to 1,380 octets, for which the pass has the credit; the credit comes
+    /// back to the peer, which counts what became of the media.
+    ///
+    /// Refusals are looked for in the order of `OrderError`. `Memory` comes only where memory was refused.
+    pub fn order(
+        &mut self,
+        pass: &mut Pass<J>,
+        name: LegName,
+        order: &Order,
+        now: u64,
+    ) -> Result<Step, OrderError>
+        requires media { IsShortMedia order.now }
+        requires credit { order_octets order.now ≤ pass.old.octets }
+        ensures peer { OnOk result (self.new ≡ ordered_step self.old name order.now now) }
+        ensures step { IfOk result (λ step. step ≡ leg_alone name Unnumbered) }
+        ensures octets { OnOk result (pass.new.octets + order_octets order.now ≡ pass.old.octets) }
+        ensures steps { OnOk result (pass.new.steps ≡ pass.old.steps + 1) }
+        ensures unrefused { OnOk result (order_refused_by self.old J.first_steps name order.now now ≡ None) }
+        ensures refused { IfErr result (IsOrderRefusal (order_refused_by self.old J.first_steps name order.now now)) }
+        ensures err { OnErr result ((self.new ≡ self.old) × (pass.new ≡ pass.old)) }
+    {
+        if self.account.is_spent() {
+            return Err(OrderError::StepsSpent);
+        }
+        if self.legs.named(name).is_none() {
+            return Err(OrderError::Gone);
+        }
+        match order {
+            Order::Accept => self.order_leg(pass, name, order, now),
+            Order::Reject(_) => self.order_leg(pass, name, order, now),
+            Order::Indicate(_) => self.order_leg(pass, name, order, now),
+            Order::Answer => self.order_leg(pass, name, order, now),
+            Order::Dtmf(_) => self.order_leg(pass, name, order, now),
+            Order::Media(media) => self.order_media(pass, name, media, now),
+            Order::Hangup => self.order_leg(pass, name, order, now),
+            Order::Doom => self.order_leg(pass, name, order, now),
+            Order::Paid => self.order_leg(pass, name, order, now),
+        }
+    }
+}

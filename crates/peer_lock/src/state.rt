@@ -1,0 +1,181 @@
+//! What lies under the lock of one peer.
+ghost use Rattle.std.specs.Prelude.{◌≡◌, ◌+◌, ◌^◌, ◌<◌, ◌≤◌, [], ◌∷◌, ◌↔◌, length, replicate, option_map, None, Some, false, IfOk, IfErr, IsErr, IsNone, IfNone, IfSome, OnSome, MatchOption};
+ghost use Rattle.leg_machine.specs.PeerRules.{IsPeerRules};
+ghost use Rattle.peer_lock.specs.Accounts.{no_accounts, carried};
+ghost use Rattle.peer_lock.specs.Legs.{NamedLeg as NamedLegValue, AreLegs, leg_at, leg_named, with_place};
+ghost use Rattle.seq_window.specs.History.{IsLegal};
+ghost use Rattle.peer_lock.specs.Statuses.{status_of, is_done};
+ghost use Rattle.trunk_packer.specs.Queue.{media_octets};
+
+use crate::account::Account;
+use crate::closed::ClosedPeer;
+use crate::naming::Naming;
+use crate::outboxes::Outbox;
+use crate::peer_legs::PeerLegs;
+use crate::steps::Status;
+use call_book::{Lease, LegName};
+use iax_frames::Out;
+use leg_machine::{PeerRules, Replies};
+use media_ledger::Share;
+use seq_window::Record;
+use std::alloc::{AllocError, Global};
+use std::marker::Model;
+use trunk_packer::Packer;
+
+/// One peer: its legs, its outbox, its trunk queue and its accounts.
+///
+/// Events come by `datagram` and `tick`, openings by `open_in` and `open_out`, orders by `order`; each is one step, which takes
+/// one step credit and gives it to the pass. `take_out` empties the outbox, `retire` gives up a leg that is over, and `look`
+/// only looks. All room but that of the legs' records is made by `new`. No call waits or looks at a clock.
+#[derive(Drop)]
+pub struct PeerState<J: Naming> {
+    pub(crate) alloc: Global,
+    pub(crate) rules: PeerRules,
+    pub(crate) legs: PeerLegs,
+    pub(crate) outbox: Outbox,
+    pub(crate) queue: Packer,
+    pub(crate) account: Account<J>,
+    // What the step of a leg sends, on its way to the outbox.
+    pub(crate) replies: Box<Replies>,
+}
+
+impl<J: Naming> Model for PeerState<J> {
+    ghost use Rattle.std.specs.Prelude.{◌≡◌};
+    ghost use Rattle.leg_machine.specs.PeerRules.{IsPeerRules};
+    ghost use Rattle.peer_lock.specs.Peer.{PeerView};
+    ghost use Rattle.trunk_packer.specs.Queue.{media_octets};
+
+    ghost Value = { PeerView };
+
+    ghost view = { λ s. record { rules = s.rules; legs = s.legs; outbox = s.outbox; queue = s.queue; accounts = s.account } };
+
+    ghost invariant = { λ s. IsPeerRules s.rules × (s.account.queued ≡ media_octets s.queue) };
+}
+
+// What a peer needs memory for.
+fn rooms(
+    alloc: Global,
+    peer: u16,
+    first: u16,
+    count: u16,
+) -> Result<(PeerLegs, Outbox, Packer, Box<Replies>), AllocError>
+    requires first { 1 ≤ first }
+    requires some { 1 ≤ count }
+    requires most { count ≤ 512 }
+    requires within { first + count ≤ 2 ^ 15 }
+    ensures legs { IfOk result (λ made. made.0 ≡ record { peer = peer; first = first; places = replicate count None }) }
+    ensures outbox { IfOk result (λ made. made.1 ≡ []) }
+    ensures queue { IfOk result (λ made. made.2 ≡ []) }
+{
+    let legs = PeerLegs::new(alloc, peer, first, count)?;
+    let outbox = Outbox::new(alloc)?;
+    let packer = Packer::new(alloc)?;
+    match Box::new(alloc, Replies::new()) {
+        Ok(replies) => Ok((legs, outbox, packer, replies)),
+        Err(_) => Err(AllocError),
+    }
+}
+
+impl<J: Naming> PeerState<J> {
+    /// A peer without a leg, at this place of the plan. Its local numbers are so many, 1 ..= 512, from the first on, all of them
+    /// 1 ..= 32,767. The shares are the first ones of a peer; they come back where memory was refused.
+    pub fn new(
+        alloc: Global,
+        peer: u16,
+        rules: &PeerRules,
+        first: u16,
+        count: u16,
+        octets: Share<J::Octets>,
+        steps: Share<J::Steps>,
+    ) -> Result<PeerState<J>, (Share<J::Octets>, Share<J::Steps>, AllocError)>
+        requires rules { IsPeerRules rules.now }
+        requires first { 1 ≤ first }
+        requires some { 1 ≤ count }
+        requires most { count ≤ 512 }
+        requires within { first + count ≤ 2 ^ 15 }
+        requires octets { octets ≡ J.first_octets }
+        requires steps { steps ≡ J.first_steps }
+        ensures rules { IfOk result (λ state. state.rules ≡ rules.now) }
+        ensures legs { IfOk result (λ state. state.legs ≡ record { peer = peer; first = first; places = replicate count None }) }
+        ensures outbox { IfOk result (λ state. state.outbox ≡ []) }
+        ensures queue { IfOk result (λ state. state.queue ≡ []) }
+        ensures accounts { IfOk result (λ state. state.accounts ≡ no_accounts) }
+        ensures shares { IfErr result (λ back. (back.0 ≡ octets) × (back.1 ≡ steps)) }
+    {
+        match rooms(alloc, peer, first, count) {
+            Ok((legs, outbox, queue, replies)) => Ok(PeerState {
+                alloc,
+                rules: rules.copied(),
+                legs,
+                outbox,
+                queue,
+                account: Account::new(octets, steps),
+                replies,
+            }),
+            Err(error) => Err((octets, steps, error)),
+        }
+    }
+
+    /// The oldest datagram of the outbox.
+    pub fn take_out(&mut self) -> Option<Out>
+        ensures { MatchOption result ((self.old.outbox ≡ []) × (self.new ≡ self.old))
+            (λ out. (self.old.outbox ≡ out ∷ self.new.outbox) × (self.new ≡ record self.old { outbox = self.new.outbox })) }
+    {
+        self.outbox.take_out()
+    }
+
+    /// How the leg of a local number stands.
+    pub fn look(&self, number: u16) -> Option<Status>
+        ensures { result ≡ option_map status_of (leg_at self.now.legs number) }
+    {
+        self.legs.get(number).map(|named| named.status())
+    }
+
+    /// Gives up the leg of a name that has ended and owes nothing: its lease and its record. That is no step.
+    ///
+    /// `None` exactly where no such leg has that name.
+    pub fn retire(&mut self, name: LegName) -> Option<(Lease, Record)>
+        ensures none { IsNone result ↔ (is_done (leg_named self.old.legs name) ≡ false) }
+        ensures lease { IfSome result (λ retired. retired.0 ≡ name) }
+        ensures record { IfSome result (λ retired. (named : NamedLegValue) → leg_named self.old.legs name ≡ Some named
+            → (retired.1.entries ≡ named.leg.window.history) × IsLegal named.leg.window.width named.leg.window.limit named.leg.window.history) }
+        ensures gone { OnSome result (self.new ≡ record self.old { legs = with_place self.old.legs name.number None }) }
+        ensures same { IfNone result (self.new ≡ self.old) }
+    {
+        let named = self.legs.named(name)?;
+        if !named.leg().stage().is_ended() || named.leg().owes() {
+            return None;
+        }
+        let (lease, leg) = self.legs.take(name.number).into_parts();
+        Some((lease, leg.into_record()))
+    }
+
+    /// Gives the shares up.
+    pub fn part(self) -> (ClosedPeer<J>, Share<J::Octets>, Share<J::Steps>)
+        ensures same { result.0 ≡ self }
+        ensures octets { result.1 + self.accounts.accepted ≡ J.first_octets + carried self.accounts }
+        ensures steps { result.2 + self.accounts.steps ≡ J.first_steps }
+        ensures within { self.accounts.accepted ≤ J.first_octets }
+    {
+        let PeerState {
+            alloc,
+            rules,
+            legs,
+            outbox,
+            queue,
+            account,
+            replies,
+        } = self;
+        let (account, octets, steps) = account.part();
+        let closed = ClosedPeer {
+            alloc,
+            rules,
+            legs,
+            outbox,
+            queue,
+            account,
+            replies,
+        };
+        (closed, octets, steps)
+    }
+}

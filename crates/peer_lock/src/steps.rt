@@ -1,0 +1,35 @@
+//! What the calls of a peer answer.
+
+use call_book::LegName;
+use leg_machine::{Judged, Stage};
+
+/// How a step went, beside what it handed up.
+#[derive(Clone, Copy, Debug, PartialEq, Eq)]
+pub struct Step {
+    /// How a full frame was judged; `Unnumbered` where there was none, or where an INVAL answered it.
+    pub judged: Judged,
+    /// The leg concerned; none of a mini, video or trunk frame, and none where an INVAL is the answer.
+    pub touched: Option<LegName>,
+}
+
+/// How a leg stands.
+#[derive(Clone, Copy, Debug, PartialEq, Eq)]
+pub struct Status {
+    pub name: LegName,
+    pub stage: Stage,
+    /// Whether the layer above isn't done with the end of the call.
+    pub owes: bool,
+    /// How many full frames are held, to be sent again.
+    pub held: usize,
+    /// How many entries the leg's record has.
+    pub entries: usize,
+}
+
+/// What a tick did.
+#[derive(Clone, Copy, Debug, PartialEq, Eq)]
+pub struct TickReport {
+    /// How many frames were due and had no memory. They stay due.
+    pub skipped: u32,
+    /// How many octets of media were packed into trunk frames.
+    pub packed: u64,
+}

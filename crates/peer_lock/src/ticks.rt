@@ -1,0 +1,109 @@
+//! The steps of a peer in which time goes on ("Message Transport", "Meta Frames").
+ghost use Rattle.std.specs.Prelude.{◌≡◌, ◌≢◌, ◌+◌, ◌^◌, ◌<◌, ◌≤◌, ◌↔◌, ◌⊎◌, [], length, Option, Some, slice_get, slice_set, IsErr, IfSome, IfNone, IfOk, OnOk, OnErr};
+ghost use Rattle.peer_lock.specs.Accounts.{with_step as with_credit};
+ghost use Rattle.peer_lock.specs.Legs.{NamedLeg as NamedLegValue};
+ghost use Rattle.peer_lock.specs.Outbox.{put};
+ghost use Rattle.peer_lock.specs.Ticks.{place_tick, TicksLegs, PacksOne, IsPacked, PacksMedia, Ticks};
+ghost use Rattle.trunk_packer.specs.Queue.{media_octets};
+
+use crate::errors::StepsSpent;
+use crate::naming::Naming;
+use crate::pass::Pass;
+use crate::state::PeerState;
+use crate::steps::TickReport;
+
+impl<J: Naming> PeerState<J> {
+    // Time goes on for the leg at a place, if there is one. Tells how many frames had no memory.
+    #[tactic(auto, using(crate::proofs::Ticking::place_same, crate::proofs::Puts::put_none))]
+    fn tick_place(&mut self, index: usize, now: u64) -> u32
+        requires { index < length self.old.legs.places }
+        ensures peer { (place : Option NamedLegValue) → slice_get self.old.legs.places index ≡ Some place
+            → self.new ≡ record self.old {
+              legs = record self.old.legs { places = slice_set self.old.legs.places index (place_tick result place now).place };
+              outbox = put self.old.outbox (place_tick result place now).datagrams;
+            } }
+        ensures skipped { (place : Option NamedLegValue) → slice_get self.old.legs.places index ≡ Some place → result ≡ (place_tick result place now).skipped }
+        ensures few { result ≤ 2 }
+    {
+        let _ = self.outbox.is_full();
+        self.replies.clear();
+        let skipped = self.legs.tick(index, now, &mut self.replies);
+        self.outbox.put_all(&self.replies);
+        skipped
+    }
+
+    // How many places for legs there are.
+    fn place_count(&self) -> usize
+        ensures count { result ≡ length self.now.legs.places }
+        ensures few { result ≤ 2 ^ 15 }
+        ensures outbox { length self.now.outbox ≤ 256 }
+    {
+        let _ = self.outbox.is_full();
+        self.legs.count()
+    }
+
+    // Time goes on for the legs, by ascending number. Tells how many frames had no memory.
+    fn tick_legs(&mut self, now: u64) -> u32
+        ensures { TicksLegs self.old now result self.new }
+    {
+        let count = self.place_count();
+        let mut skipped = 0;
+        for index in 0..count {
+            skipped += self.tick_place(index, now);
+        }
+        skipped
+    }
+
+    // One trunk frame goes out, where something is queued and the outbox has room. Tells the octets of media.
+    fn pack_one(&mut self, now: u64) -> Option<u64>
+        ensures some { IfSome result (λ octets. PacksOne self.old now octets self.new) }
+        ensures none { IfNone result (IsPacked self.old) }
+        ensures same { IfNone result (self.new ≡ self.old) }
+    {
+        if self.outbox.is_full() {
+            return None;
+        }
+        let (out, octets) = self.queue.pack(now, self.rules.trunk_timestamps)?;
+        self.outbox.put(out);
+        self.account.pack(octets);
+        Some(octets)
+    }
+
+    // The octets of media that wait for a trunk frame.
+    fn waiting(&self) -> u64
+        ensures octets { result ≡ media_octets self.now.queue }
+        ensures queued { self.now.accounts.queued ≡ media_octets self.now.queue }
+        ensures few { result ≤ 16384 }
+    {
+        let _ = &self.queue;
+        self.queue.queued().1
+    }
+
+    // The trunk queue is packed while the outbox has room. Tells the octets of media.
+    fn pack(&mut self, now: u64) -> u64
+        ensures { PacksMedia self.old now result self.new }
+    {
+        let _waiting = self.waiting();
+        let mut packed = 0;
+        while let Some(octets) = self.pack_one(now) {
+            packed += octets;
+        }
+        packed
+    }
+
+    /// Time goes on: one step. Each leg's tick by ascending number, then the trunk queue is packed while the outbox has room.
+    pub fn tick(&mut self, pass: &mut Pass<J>, now: u64) -> Result<TickReport, StepsSpent>
+        ensures spent { IsErr result ↔ (self.old.accounts.steps ≡ J.first_steps) }
+        ensures ticked { IfOk result (λ report. Ticks self.old now report self.new) }
+        ensures credit { OnOk result (pass.new ≡ with_credit pass.old 0) }
+        ensures err { OnErr result ((self.new ≡ self.old) × (pass.new ≡ pass.old)) }
+    {
+        if self.account.is_spent() {
+            return Err(StepsSpent);
+        }
+        self.account.count_step(pass);
+        let skipped = self.tick_legs(now);
+        let packed = self.pack(now);
+        Ok(TickReport { skipped, packed })
+    }
+}
