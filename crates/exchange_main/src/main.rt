@@ -2,10 +2,10 @@
 #![tactic(auto)]
 
 mod check;
-mod refusal;
+mod names;
+mod player;
 mod replay;
 mod script;
-mod shell;
 #[cfg(test)]
 mod tests;
 
@@ -46,7 +46,7 @@ fn main(rt: HostRuntime) -> ExitCode {
                 return ExitCode::from(1);
             };
             let mut out = io::writer(&rt);
-            ExitCode::from(replay::replay(rt.alloc(), &plan, &script, &mut out))
+            ExitCode::from(replay::replay(&rt, rt.alloc(), &plan, &script, &mut out))
         }
         _ => {
             let _ = eprintln!(rt; "{USAGE}");

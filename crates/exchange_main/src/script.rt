@@ -7,10 +7,18 @@ pub enum Line<'a> {
     Nothing,
     /// `at <ms>`: the moment, in milliseconds.
     At(u64),
+    /// `challenge <text>`: the challenge for callers from now on.
+    Challenge(&'a [u8]),
     /// `rx <peer> <hex>`: a datagram comes from a peer.
     Rx(&'a [u8], &'a [u8]),
-    /// `tick`.
+    /// `call <peer> <number>`: a call goes out to a peer.
+    Call(&'a [u8], &'a [u8]),
+    /// `hangup <number>`: the leg of a local number hangs up.
+    HangUp(u64),
+    /// `tick`: time goes on at all peers.
     Tick,
+    /// `settle`: the accounts are closed. No line follows it.
+    Settle,
 }
 
 // A number in decimal digits that fits 64 bits.
@@ -43,9 +51,15 @@ pub fn line_of(line: &[u8]) -> Option<Line<'_>> {
     }
     match words(line) {
         [Some(b"tick"), None, None, None] => Some(Line::Tick),
+        [Some(b"settle"), None, None, None] => Some(Line::Settle),
         [Some(b"at"), Some(digits), None, None] => Some(Line::At(decimal(digits)?)),
+        [Some(b"challenge"), Some(text), None, None] => Some(Line::Challenge(text)),
+        [Some(b"hangup"), Some(digits), None, None] => Some(Line::HangUp(decimal(digits)?)),
         [Some(b"rx"), Some(peer), Some(octets), None] if !octets.is_empty() => {
             Some(Line::Rx(peer, octets))
+        }
+        [Some(b"call"), Some(peer), Some(number), None] if !number.is_empty() => {
+            Some(Line::Call(peer, number))
         }
         _ => None,
     }

@@ -3,6 +3,35 @@ use crate::replay::replay;
 use std::alloc::Global;
 use std::test::*;
 
+const PLAN: &[u8] = b"format = 1\n\
+\n\
+[[worker]]\n\
+address = \"127.0.0.1\"\n\
+port = 4569\n\
+\n\
+[[peer]]\n\
+name = \"west\"\n\
+address = \"127.0.0.1\"\n\
+port = 5001\n\
+worker = 0\n\
+formats = [\"ulaw\"]\n\
+trunk = true\n\
+trunk_timestamps = true\n\
+numbers = 4\n\
+\n\
+[[peer]]\n\
+name = \"east\"\n\
+address = \"127.0.0.1\"\n\
+port = 5002\n\
+worker = 0\n\
+formats = [\"ulaw\"]\n\
+numbers = 4\n\
+\n\
+[[route]]\n\
+prefix = \"3\"\n\
+peer = \"east\"\n\
+";
+
 const OPENING: &[u8] =
     b"rx west 8007000000000000000006010b0200020103333030090400000004080400000004\n";
 
@@ -15,10 +44,10 @@ fn checked(alloc: Global, plan: &[u8]) -> Vec<u8> {
 #[test]
 fn first_line_of_a_call(rt: HostRuntime) {
     let mut out = Vec::new(rt.alloc());
-    assert_eq!(rt; replay(rt.alloc(), b"", OPENING, &mut out), 0);
+    assert_eq!(rt; replay(&rt, rt.alloc(), PLAN, OPENING, &mut out), 0);
     assert_eq!(rt;
         out.as_slice(),
-        b"tx west 800100070000000000010607090400000004\nleg 1 Linked\n".as_slice()
+        b"tx west 800100070000000000010607090400000004\ntx east 8005000000000000000006010b0200020103333030090400000004080400000004\nleg 1 Linked\nleg 5 Waiting\n".as_slice()
     );
 }
 

@@ -1,0 +1,83 @@
+-- Which datagrams need a number for their leg.
+use Rattle.std.proofs.Common.{◌≡◌, ◌⊎◌, ℕ, Bool, true, false, List, Option, None, Some, Result, Ok, Err, inl, inr, refl, subst, arith, if◌then◌else◌}
+use Rattle.std.specs.Prelude.{◌==◌, ◌&&◌, IfErr}
+use Rattle.std.proofs.lemmas.Bool.Decides.{nat_tests}
+use Rattle.iax_frames.specs.FullFrame.{FullFrame}
+use Rattle.iax_frames.specs.declared.datagram.Datagram.{Datagram}
+use Rattle.iax_frames.specs.declared.datagram.Datagram.TheVariants.{Full, Mini, Video, Trunk}
+use Rattle.leg_machine.specs.Legs.{is_short_of_entries}
+use Rattle.leg_machine.specs.Messages.{message_of, is_numbered}
+use Rattle.peer_lock.specs.Arrivals.{datagram_refused, mini_refused}
+use Rattle.peer_lock.specs.Delivery.{NeedsNumber, GetsInval, NoCall, delivered, delivery_refused, found, is_new}
+use Rattle.peer_lock.specs.Legs.{NamedLeg, leg_of_remote}
+use Rattle.peer_lock.specs.Makes.{IsDue}
+use Rattle.peer_lock.specs.Peer.{PeerView}
+use Rattle.peer_lock.specs.Unworked.{IsUnworked, IsWorked}
+use Rattle.peer_lock.specs.declared.errors.PeerError.{PeerError}
+use Rattle.peer_lock.specs.declared.errors.PeerError.TheVariants as errors
+use Rattle.peer_lock.specs.declared.steps.Step.{Step}
+use Rattle.exchange_core.specs.Newcomers.{SpellsOpening}
+
+record IsNewcomer (frame : FullFrame) : Type 0 where
+  destination : frame.head.destination ≡ 0
+  first : frame.head.oseqno ≡ 0
+  new : is_new (message_of frame.head) ≡ true
+
+-- at a leg it needs none
+at_leg : (short : Bool) → IsDue (if short then Some errors.RecordFull else None) errors.NeedsNumber → ⊥
+at_leg true why = grind (arith, why)
+at_leg false why = grind (arith, why)
+
+mini_needs_none : (leg : Option NamedLeg) → IsDue (mini_refused leg) errors.NeedsNumber → ⊥
+mini_needs_none None why = grind (arith, why)
+mini_needs_none (Some named) why = grind (arith, why)
+
+tests : (nowhere new first numbered : Bool)
+    → IsDue (delivery_refused (if nowhere then (if new && first then NeedsNumber else NoCall) else (if numbered then GetsInval else NoCall))) errors.NeedsNumber
+    → (nowhere ≡ true) × (new ≡ true) × (first ≡ true)
+tests true true true numbered why = (refl, refl, refl)
+tests true true false numbered why = grind (arith, why)
+tests true false first numbered why = grind (arith, why)
+tests false new first true why = grind (arith, why)
+tests false new first false why = grind (arith, why)
+
+number_of : (n : ℕ) → (n == 0) ≡ true → n ≡ 0
+number_of n is = grind (arith, nat_tests, is)
+
+newcomer : (frame : FullFrame) (at : Option NamedLeg) → IsDue (delivery_refused (delivered at frame)) errors.NeedsNumber → IsNewcomer frame
+newcomer frame (Some named) why = absurd (at_leg (is_short_of_entries named.leg) why)
+newcomer frame None why =
+    let are = tests (frame.head.destination == 0) (is_new (message_of frame.head)) (frame.head.oseqno == 0) (is_numbered (message_of frame.head)) why in
+    record { destination = number_of frame.head.destination are.0; first = number_of frame.head.oseqno are.2; new = are.1 }
+
+module _ (credit made : ℕ) (octets : List ℕ) (peer : PeerView) where
+  unworked : IsUnworked credit made octets errors.NeedsNumber → ⊥
+  unworked (spare, short, (Full frame, spelled, none)) = none
+  unworked (spare, short, (Mini mini, spelled, none)) = none
+  unworked (spare, short, (Video video, spelled, none)) = none
+  unworked (spare, short, (Trunk trunk, spelled, none)) = none
+
+  opens : (d : Datagram) → IsWorked credit made octets d → IsDue (datagram_refused peer d) errors.NeedsNumber → SpellsOpening octets
+  opens (Full frame) worked why =
+      let is = newcomer frame (found peer.legs frame) why in
+      record {
+        frame = frame;
+        spelled = worked.spelled;
+        opening = record { sound = worked.sound; destination = is.destination; first = is.first; new = is.new };
+      }
+  opens (Mini mini) worked why = absurd (mini_needs_none (leg_of_remote peer.legs mini.source) why)
+  opens (Video video) worked why = absurd (at_leg false why)
+  opens (Trunk trunk) worked why = absurd (at_leg false why)
+
+  of_refusal : IsUnworked credit made octets errors.NeedsNumber ⊎ ((d : Datagram) × IsWorked credit made octets d × IsDue (datagram_refused peer d) errors.NeedsNumber)
+      → SpellsOpening octets
+  of_refusal (inl why) = absurd (unworked why)
+  of_refusal (inr why) = opens why.0 why.1 why.2
+
+  -- a datagram that needs a number spells a NEW that opens a leg
+  pub needs_opening : (result : Result Step PeerError)
+      → IfErr result (λ e. IsUnworked credit made octets e ⊎ ((d : Datagram) × IsWorked credit made octets d × IsDue (datagram_refused peer d) e))
+      → IfErr result (λ e. e ≡ errors.NeedsNumber → SpellsOpening octets)
+  needs_opening (Ok step) there = there
+  needs_opening (Err e) there =
+      λ same. of_refusal (subst (λ (x : PeerError). IsUnworked credit made octets x ⊎ ((d : Datagram) × IsWorked credit made octets d × IsDue (datagram_refused peer d) x)) same there)

@@ -1,0 +1,21 @@
+use Rattle.std.proofs.Common.{◌≡◌, ◌+◌, ◌*◌, ◌≤◌, sum, vec_len}
+use Rattle.std.specs.Vec.{vec_capacity}
+use Rattle.exchange_core.specs.Sums.{accepted_of, packed_of, queued_of, dropped_of, quelched_of, steps_of}
+use Rattle.exchange_core.proofs.parting.part_peers.Given as goal
+
+abbrev pub invariant-loop-cell : goal.invariant-loop-cell
+invariant-loop-cell g l = record {
+  peers_len : vec_len l.peers + vec_len l.cells ≡ vec_len l.fn.cells;
+  octets_len : vec_len l.octets ≡ vec_len l.peers;
+  steps_len : vec_len l.steps ≡ vec_len l.peers;
+  peers_room : vec_capacity l.peers ≡ vec_capacity l.initial.peers;
+  octets_room : vec_capacity l.octets ≡ vec_capacity l.initial.octets;
+  steps_room : vec_capacity l.steps ≡ vec_capacity l.initial.steps;
+  octets : sum l.octets.items + accepted_of l.peers.items ≡ vec_len l.peers * g.J.Naming.first_octets + packed_of l.peers.items + queued_of l.peers.items + dropped_of l.peers.items;
+  steps : sum l.steps.items + steps_of l.peers.items ≡ vec_len l.peers * g.J.Naming.first_steps;
+  within : accepted_of l.peers.items ≤ vec_len l.peers * g.J.Naming.first_octets;
+  quelched : quelched_of l.peers.items ≤ dropped_of l.peers.items;
+}
+
+abbrev pub decreases-loop-cell : goal.decreases-loop-cell
+decreases-loop-cell g l = vec_len l.cells

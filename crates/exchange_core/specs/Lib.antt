@@ -1,0 +1,5 @@
+pub mod Newcomers
+pub mod Numbers
+pub mod Refusals
+pub mod Routes
+pub mod Sums

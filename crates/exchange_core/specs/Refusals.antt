@@ -1,0 +1,47 @@
+-- How the refusals of the layers below are named here.
+use Rattle.std.specs.Prelude.{Option, None, Some}
+use Rattle.call_book.specs.declared.errors.ReserveError.{ReserveError}
+use Rattle.call_book.specs.declared.errors.ReserveError.TheVariants as reserve_errors
+use Rattle.peer_lock.specs.declared.errors.OpenError.{OpenError}
+use Rattle.peer_lock.specs.declared.errors.OpenError.TheVariants as open_errors
+use Rattle.peer_lock.specs.declared.errors.PeerError.{PeerError}
+use Rattle.peer_lock.specs.declared.errors.PeerError.TheVariants as peer_errors
+use Rattle.exchange_core.specs.declared.answers.CallError.{CallError}
+use Rattle.exchange_core.specs.declared.answers.CallError.TheVariants as call_errors
+use Rattle.exchange_core.specs.declared.answers.Refusal.{Refusal}
+use Rattle.exchange_core.specs.declared.answers.Refusal.TheVariants as refusals
+
+-- why a datagram is refused; none where it needs a number for its leg
+abbrev pub from_peer : PeerError → Option Refusal
+from_peer peer_errors.StepsSpent = Some refusals.StepsSpent
+from_peer peer_errors.TooLong = Some refusals.TooLong
+from_peer peer_errors.Short = Some refusals.Short
+from_peer peer_errors.MetaCommand = Some refusals.MetaCommand
+from_peer peer_errors.EntryCut = Some refusals.EntryCut
+from_peer peer_errors.NoSource = Some refusals.NoSource
+from_peer peer_errors.Cut = Some refusals.Cut
+from_peer peer_errors.NeedsNumber = None
+from_peer peer_errors.NoCall = Some refusals.NoCall
+from_peer peer_errors.RecordFull = Some refusals.RecordFull
+from_peer peer_errors.Memory = Some refusals.Memory
+
+abbrev pub from_open : OpenError → Refusal
+from_open open_errors.StepsSpent = refusals.StepsSpent
+from_open open_errors.NumberBusy = refusals.NumberBusy
+from_open open_errors.RemoteBusy = refusals.RemoteBusy
+from_open open_errors.Memory = refusals.Memory
+
+abbrev pub from_reserve : ReserveError → Refusal
+from_reserve reserve_errors.SerialsSpent = refusals.SerialsSpent
+from_reserve reserve_errors.NoNumber = refusals.NoNumber
+
+-- of a call that goes out, whose leg has no remote number yet
+abbrev pub call_from_open : OpenError → CallError
+call_from_open open_errors.StepsSpent = call_errors.StepsSpent
+call_from_open open_errors.NumberBusy = call_errors.NumberBusy
+call_from_open open_errors.RemoteBusy = call_errors.NumberBusy
+call_from_open open_errors.Memory = call_errors.Memory
+
+abbrev pub call_from_reserve : ReserveError → CallError
+call_from_reserve reserve_errors.SerialsSpent = call_errors.SerialsSpent
+call_from_reserve reserve_errors.NoNumber = call_errors.NoNumber

@@ -1,0 +1,148 @@
+//! What the calls of an exchange answer.
+ghost use Rattle.std.specs.Prelude.{◌≡◌, ◌≢◌};
+ghost use Rattle.exchange_core.specs.Refusals.{from_peer, from_open, from_reserve, call_from_open, call_from_reserve};
+
+use call_book::{LegName, ReserveError};
+use peer_lock::{OpenError, PeerError};
+use seq_window::Record;
+
+/// Why a call did nothing: it made no step, and changed no leg and no bridge.
+#[derive(Clone, Copy, Debug, PartialEq, Eq)]
+pub enum Refusal {
+    /// No peer has that endpoint.
+    Stranger,
+    /// The peer has no step credit left.
+    StepsSpent,
+    /// More than 2,048 octets, or a full frame with more than 1,388 octets of data.
+    TooLong,
+    /// It is shorter than any frame of its kind ("Full Frames", "Mini Frames", "Meta Frames").
+    Short,
+    /// A meta frame of another command than trunking.
+    MetaCommand,
+    /// An entry of a trunk frame passes the end.
+    EntryCut,
+    /// A full frame from call number 0.
+    NoSource,
+    /// The last information element of an IAX frame passes the end.
+    Cut,
+    /// No leg has this call.
+    NoCall,
+    /// Fewer than four entries of the leg's record are free.
+    RecordFull,
+    /// No serial is left for a name.
+    SerialsSpent,
+    /// No number of the peer is free.
+    NoNumber,
+    /// A leg has that number.
+    NumberBusy,
+    /// A leg has that remote number already.
+    RemoteBusy,
+    /// A request for memory was refused.
+    Memory,
+}
+
+impl Refusal {
+    /// Why a datagram is refused; none where it needs a number for its leg.
+    pub(crate) fn of_datagram(error: PeerError) -> Option<Refusal>
+        ensures { result ≡ from_peer error }
+    {
+        match error {
+            PeerError::StepsSpent => Some(Refusal::StepsSpent),
+            PeerError::TooLong => Some(Refusal::TooLong),
+            PeerError::Short => Some(Refusal::Short),
+            PeerError::MetaCommand => Some(Refusal::MetaCommand),
+            PeerError::EntryCut => Some(Refusal::EntryCut),
+            PeerError::NoSource => Some(Refusal::NoSource),
+            PeerError::Cut => Some(Refusal::Cut),
+            PeerError::NeedsNumber => None,
+            PeerError::NoCall => Some(Refusal::NoCall),
+            PeerError::RecordFull => Some(Refusal::RecordFull),
+            PeerError::Memory => Some(Refusal::Memory),
+        }
+    }
+}
+
+impl From<OpenError> for Refusal {
+    ghost from_gives = { λ of e. e ≡ from_open of };
+
+    fn from(error: OpenError) -> Refusal {
+        match error {
+            OpenError::StepsSpent => Refusal::StepsSpent,
+            OpenError::NumberBusy => Refusal::NumberBusy,
+            OpenError::RemoteBusy => Refusal::RemoteBusy,
+            OpenError::Memory => Refusal::Memory,
+        }
+    }
+}
+
+impl From<ReserveError> for Refusal {
+    ghost from_gives = { λ of e. e ≡ from_reserve of };
+
+    fn from(error: ReserveError) -> Refusal {
+        match error {
+            ReserveError::SerialsSpent => Refusal::SerialsSpent,
+            ReserveError::NoNumber => Refusal::NoNumber,
+        }
+    }
+}
+
+/// A leg that was taken out, and its history.
+#[derive(Drop)]
+pub struct Retired {
+    pub name: LegName,
+    pub history: Record,
+}
+
+/// What a call made.
+#[derive(Drop)]
+pub struct Answer {
+    /// How many steps were made under the pass.
+    pub steps: u64,
+    /// Why nothing was done, if so. An order that is refused later, within the call, is no refusal of it.
+    pub refused: Option<Refusal>,
+    /// The legs that were taken out, in order.
+    pub retired: Vec<Retired>,
+}
+
+/// Why no call went out, in the order in which causes are looked for.
+#[derive(Clone, Copy, Debug, PartialEq, Eq)]
+pub enum CallError {
+    /// The number isn't 1 to 64 octets, each of them 0x21 ..= 0x7e.
+    BadNumber,
+    /// No serial is left for a name.
+    SerialsSpent,
+    /// No number of the peer is free.
+    NoNumber,
+    /// The peer has no step credit left.
+    StepsSpent,
+    /// A leg has that number.
+    NumberBusy,
+    /// A request for memory was refused.
+    Memory,
+}
+
+impl CallError {
+    /// Why a leg that has no remote number yet wasn't opened.
+    pub(crate) fn of_opening(error: OpenError) -> CallError
+        requires { error ≢ OpenError.RemoteBusy }
+        ensures { result ≡ call_from_open error }
+    {
+        match error {
+            OpenError::StepsSpent => CallError::StepsSpent,
+            OpenError::NumberBusy => CallError::NumberBusy,
+            OpenError::RemoteBusy => unreachable!(),
+            OpenError::Memory => CallError::Memory,
+        }
+    }
+}
+
+impl From<ReserveError> for CallError {
+    ghost from_gives = { λ of e. e ≡ call_from_reserve of };
+
+    fn from(error: ReserveError) -> CallError {
+        match error {
+            ReserveError::SerialsSpent => CallError::SerialsSpent,
+            ReserveError::NoNumber => CallError::NoNumber,
+        }
+    }
+}

@@ -1,0 +1,51 @@
+//! The exchange and its locks.
+ghost use Rattle.std.specs.Prelude.{◌≡◌};
+
+use crate::gates::Gate;
+use call_book::CallBook;
+use media_ledger::Supply;
+use peer_lock::{Naming, PeerState};
+use peer_plan::Plan;
+use std::alloc::Global;
+use std::marker::Model;
+use std::sync::Mutex;
+
+/// A peer under its lock.
+pub(crate) type PeerCell<J> = Mutex<PeerState<J>>;
+
+/// The peers of a plan, each under its lock, and the book of their calls under another.
+///
+/// Any number of threads may call it at once, each with a pass of its own. No call holds two locks, or a lock while it waits.
+/// Contracts see it as its plan.
+#[derive(Drop)]
+pub struct Exchange<G: Gate, J: Naming> {
+    pub(crate) alloc: Global,
+    pub(crate) gate: G,
+    pub(crate) plan: Plan,
+    // In plan order.
+    pub(crate) peers: Vec<PeerCell<J>>,
+    pub(crate) book: Mutex<CallBook>,
+    pub(crate) octets: Supply<J::Octets>,
+    pub(crate) steps: Supply<J::Steps>,
+}
+
+impl<G: Gate, J: Naming> Model for Exchange<G, J> {
+    ghost use Rattle.std.specs.Prelude.{◌≡◌, ◌+◌, ◌*◌, ◌≤◌, length, vec_len};
+    ghost use Rattle.peer_plan.specs.Plan.{PlanView};
+
+    ghost Value = { PlanView };
+
+    ghost view = { λ x. x.plan };
+
+    // Each peer and each pass has one share of either supply, which is what the peers began with.
+    ghost invariant = { λ x. (vec_len x.peers ≡ length x.plan.peers) × (vec_len x.peers ≤ 32) × (x.plan.passes ≤ 64) × (x.octets.shares ≡ vec_len x.peers + x.plan.passes) × (x.steps.shares ≡ vec_len x.peers + x.plan.passes) × (x.octets.amount ≡ vec_len x.peers * J.first_octets) × (x.steps.amount ≡ vec_len x.peers * J.first_steps) };
+}
+
+impl<G: Gate, J: Naming> Exchange<G, J> {
+    /// The plan that it was opened with.
+    pub fn plan(&self) -> &Plan
+        ensures { result.now ≡ self.now }
+    {
+        &self.plan
+    }
+}

@@ -1,0 +1,165 @@
+//! The accounts of all peers, once every pass is back.
+ghost use Rattle.std.specs.Prelude.{◌≡◌, ◌≢◌, ◌+◌, ◌<◌, ◌≤◌, ◌^◌, IfOk, IfErr, OnOk, length, vec_len};
+ghost use Rattle.exchange_core.specs.Sums.{accepted_of, packed_of, queued_of, dropped_of, quelched_of, steps_of, left_with, steps_under};
+
+use crate::exchange::Exchange;
+use crate::gates::Gate;
+use crate::parting::{Parts, part_passes, part_peers};
+use call_book::CallBook;
+use media_ledger::gather;
+use peer_lock::{ClosedPeer, Naming, Pass};
+
+/// What the locks held, and the sums over all peers and passes.
+#[derive(Drop)]
+pub struct Settlement<J: Naming> {
+    /// The book of calls.
+    pub book: CallBook,
+    /// The peers, in plan order.
+    pub peers: Vec<ClosedPeer<J>>,
+    /// The media octets that were accepted.
+    pub accepted: u64,
+    /// Of these, the octets that were written into frames.
+    pub packed: u64,
+    /// Of these, the octets that wait in trunk queues.
+    pub queued: u64,
+    /// Of these, the octets that were dropped, at the peers or in the passes.
+    pub dropped: u64,
+    /// Of the dropped octets, those that the other side wanted none of.
+    pub quelched: u64,
+    /// The steps that were made.
+    pub steps: u64,
+}
+
+/// Why nothing was settled, in the order in which causes are looked for.
+#[derive(Clone, Copy, Debug, PartialEq, Eq)]
+pub enum SettleError {
+    /// A request for memory was refused.
+    Memory,
+    /// The passes aren't all those of `open`.
+    Missing,
+}
+
+fn accepted_in<J: Naming>(peers: &[ClosedPeer<J>]) -> u64
+    requires { accepted_of peers.now < 2 ^ 64 }
+    ensures { result ≡ accepted_of peers.now }
+{
+    peers.iter().map(|peer| peer.accepted()).sum()
+}
+
+fn packed_in<J: Naming>(peers: &[ClosedPeer<J>]) -> u64
+    requires { packed_of peers.now < 2 ^ 64 }
+    ensures { result ≡ packed_of peers.now }
+{
+    peers.iter().map(|peer| peer.packed()).sum()
+}
+
+fn queued_in<J: Naming>(peers: &[ClosedPeer<J>]) -> u64
+    requires { queued_of peers.now < 2 ^ 64 }
+    ensures { result ≡ queued_of peers.now }
+{
+    peers.iter().map(|peer| peer.queued()).sum()
+}
+
+fn quelched_in<J: Naming>(peers: &[ClosedPeer<J>]) -> u64
+    requires { quelched_of peers.now < 2 ^ 64 }
+    ensures { result ≡ quelched_of peers.now }
+{
+    peers.iter().map(|peer| peer.quelched()).sum()
+}
+
+fn steps_in<J: Naming>(peers: &[ClosedPeer<J>]) -> u64
+    requires { steps_of peers.now < 2 ^ 64 }
+    ensures { result ≡ steps_of peers.now }
+{
+    peers.iter().map(|peer| peer.steps()).sum()
+}
+
+// The sums over peers whose accounts balance but for octets that were left with passes.
+fn settled<J: Naming>(book: CallBook, peers: Vec<ClosedPeer<J>>) -> Settlement<J>
+    requires accepted { accepted_of peers.items < 2 ^ 64 }
+    requires within { packed_of peers.items + queued_of peers.items + dropped_of peers.items ≤ accepted_of peers.items }
+    requires quelched { quelched_of peers.items ≤ dropped_of peers.items }
+    requires steps { steps_of peers.items < 2 ^ 64 }
+    ensures peers { result.peers.items ≡ peers.items }
+    ensures accepted { result.accepted ≡ accepted_of peers.items }
+    ensures packed { result.packed ≡ packed_of peers.items }
+    ensures queued { result.queued ≡ queued_of peers.items }
+    ensures quelched { result.quelched ≡ quelched_of peers.items }
+    ensures part { result.quelched ≤ result.dropped }
+    ensures balances { result.accepted ≡ result.packed + result.queued + result.dropped }
+    ensures steps { result.steps ≡ steps_of peers.items }
+{
+    let accepted = accepted_in(&peers);
+    let packed = packed_in(&peers);
+    let queued = queued_in(&peers);
+    let quelched = quelched_in(&peers);
+    let steps = steps_in(&peers);
+    Settlement {
+        book,
+        peers,
+        accepted,
+        packed,
+        queued,
+        dropped: accepted - packed - queued,
+        quelched,
+        steps,
+    }
+}
+
+impl<G: Gate, J: Naming> Exchange<G, J> {
+    /// Ends the exchange, once every pass is back. At an `Err` all is handed back.
+    ///
+    /// The passes are those of its `open`, by their type. Memory for them and the peers is asked for first; then `Missing` is the
+    /// answer exactly where they aren't all.
+    pub fn settle(
+        self,
+        passes: Vec<Pass<J>>,
+    ) -> Result<Settlement<J>, (Exchange<G, J>, Vec<Pass<J>>, SettleError)>
+        ensures missing { IfErr result (λ back. back.2 ≡ SettleError.Missing → vec_len passes ≢ self.passes) }
+        ensures all { OnOk result (vec_len passes ≡ self.passes) }
+        ensures returned { IfErr result (λ back. (back.0 ≡ self) × (back.1.items ≡ passes.items)) }
+
+        // The accounts of all peers.
+        ensures peers { IfOk result (λ s. vec_len s.peers ≡ length self.peers) }
+        ensures accepted { IfOk result (λ s. s.accepted ≡ accepted_of s.peers.items) }
+        ensures packed { IfOk result (λ s. s.packed ≡ packed_of s.peers.items) }
+        ensures queued { IfOk result (λ s. s.queued ≡ queued_of s.peers.items) }
+        ensures dropped { IfOk result (λ s. s.dropped ≡ dropped_of s.peers.items + left_with passes.items) }
+        ensures quelched { IfOk result (λ s. s.quelched ≡ quelched_of s.peers.items) }
+        ensures part { IfOk result (λ s. s.quelched ≤ s.dropped) }
+        ensures steps { IfOk result (λ s. s.steps ≡ steps_of s.peers.items) }
+
+        // What was accepted is what became of it, and the steps are those under the passes.
+        ensures balances { IfOk result (λ s. s.accepted ≡ s.packed + s.queued + s.dropped) }
+        ensures made { IfOk result (λ s. s.steps ≡ steps_under passes.items) }
+    {
+        let pass_count = usize::from(self.plan.passes());
+        let shares = self.peers.len() + pass_count;
+        let Ok(parts) = Parts::<J>::with_room(self.alloc, self.peers.len(), shares) else {
+            return Err((self, passes, SettleError::Memory));
+        };
+        if passes.len() != pass_count {
+            return Err((self, passes, SettleError::Missing));
+        }
+        let Exchange {
+            alloc: _,
+            gate: _,
+            plan: _,
+            peers: cells,
+            book,
+            octets: octet_supply,
+            steps: step_supply,
+        } = self;
+        let Parts {
+            mut peers,
+            mut octets,
+            mut steps,
+        } = parts;
+        part_peers(cells, &mut peers, &mut octets, &mut steps);
+        part_passes(passes, &mut octets, &mut steps);
+        let (Ok(_), Ok(_)) = (gather(&octet_supply, octets), gather(&step_supply, steps)) else {
+            unreachable!()
+        };
+        Ok(settled(book.into_inner(), peers))
+    }
+}

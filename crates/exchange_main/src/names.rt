@@ -1,0 +1,63 @@
+//! The names that are printed.
+use exchange_core::{CallError, Refusal};
+use leg_machine::Stage;
+use peer_lock::OrderError;
+
+/// The stage of a number: `Free` where it has no leg.
+pub fn stage_name(stage: Option<Stage>) -> &'static str {
+    match stage {
+        None => "Free",
+        Some(Stage::Waiting) => "Waiting",
+        Some(Stage::Challenged) => "Challenged",
+        Some(Stage::Offered) => "Offered",
+        Some(Stage::Linked) => "Linked",
+        Some(Stage::Up) => "Up",
+        Some(Stage::Closing) => "Closing",
+        Some(Stage::Ended) => "Ended",
+    }
+}
+
+/// Why a datagram or a tick did nothing.
+pub fn refusal_name(refusal: Refusal) -> &'static str {
+    match refusal {
+        Refusal::Stranger => "Stranger",
+        Refusal::StepsSpent => "StepsSpent",
+        Refusal::TooLong => "TooLong",
+        Refusal::Short => "Short",
+        Refusal::MetaCommand => "MetaCommand",
+        Refusal::EntryCut => "EntryCut",
+        Refusal::NoSource => "NoSource",
+        Refusal::Cut => "Cut",
+        Refusal::NoCall => "NoCall",
+        Refusal::RecordFull => "RecordFull",
+        Refusal::SerialsSpent => "SerialsSpent",
+        Refusal::NoNumber => "NoNumber",
+        Refusal::NumberBusy => "NumberBusy",
+        Refusal::RemoteBusy => "RemoteBusy",
+        Refusal::Memory => "Memory",
+    }
+}
+
+/// Why no call went out.
+pub fn call_error_name(error: CallError) -> &'static str {
+    match error {
+        CallError::BadNumber => "BadNumber",
+        CallError::SerialsSpent => "SerialsSpent",
+        CallError::NoNumber => "NoNumber",
+        CallError::StepsSpent => "StepsSpent",
+        CallError::NumberBusy => "NumberBusy",
+        CallError::Memory => "Memory",
+    }
+}
+
+/// Why a leg doesn't hang up.
+pub fn order_error_name(error: OrderError) -> &'static str {
+    match error {
+        OrderError::StepsSpent => "StepsSpent",
+        OrderError::Gone => "Gone",
+        OrderError::WrongStage => "WrongStage",
+        OrderError::WindowFull => "WindowFull",
+        OrderError::RecordFull => "RecordFull",
+        OrderError::Memory => "Memory",
+    }
+}
