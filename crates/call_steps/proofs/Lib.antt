@@ -20,3 +20,6 @@ mod TalkSteps
 mod Talk
 mod Idle
 mod SeenReplies
+mod WorldLegs
+mod PeerSteps
+mod Numbers

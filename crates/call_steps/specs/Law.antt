@@ -10,7 +10,7 @@ use Rattle.leg_machine.specs.declared.stages.Stage.TheVariants as stages
 use Rattle.peer_lock.specs.declared.errors.OpenError.TheVariants as open_errors
 use Rattle.peer_lock.specs.declared.errors.OrderError.TheVariants as order_errors
 use Rattle.peer_lock.specs.declared.errors.PeerError.TheVariants as peer_errors
-use Rattle.call_steps.specs.Scene.{Leg, Choice, RefusesDatagram, RefusesOpening, RefusesOrder, RefusesTick, leg_at, leg_named}
+use Rattle.call_steps.specs.Scene.{Leg, Choice, RefusesDatagram, RefusesOpening, RefusesOrder, RefusesTick, leg_at, leg_named, without}
 use Rattle.call_steps.specs.SeenReply.{seen_reply}
 use Rattle.call_steps.specs.Work.{Work, next_of, after_told, ended}
 use Rattle.call_steps.specs.World.{World, Caller, Event, Starts, Steps, run}
@@ -84,6 +84,11 @@ AreTheBooks world names = (name : LegName) → times name names ≡ (if has_name
 -- the names in the book are those of the legs and of the leases in hand, each once
 abbrev pub NamesAreHeldOnce : World → Type 0
 NamesAreHeldOnce world = AreTheBooks world (held_names world)
+
+-- no number serves two legs: but for the leg that is found under it, none has it
+abbrev pub NumbersServeOne : World → Type 0
+NumbersServeOne world =
+    (peer number : ℕ) (leg : Leg) → leg_at world.legs peer number ≡ Some leg → leg_at (without world.legs leg.name) peer number ≡ None
 
 -- whatever caller opens a leg next, no leg has its number
 pub record NoneIsBusy (world : World) : Type 0 where

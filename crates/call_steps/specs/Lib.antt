@@ -3,6 +3,7 @@ pub mod Work
 pub mod WorkState
 pub mod WorkInside
 pub mod SeenReply
+pub mod Sees
 pub mod Scene
 pub mod World
 pub mod Law

@@ -9,11 +9,12 @@ use Rattle.leg_machine.specs.Stages.{is_ended}
 use Rattle.leg_machine.specs.declared.openings.Opening.{Opening}
 use Rattle.leg_machine.specs.declared.openings.Opening.TheVariants.{Offers}
 use Rattle.leg_machine.specs.declared.orders.OrderKind.{OrderKind}
-use Rattle.leg_machine.specs.declared.orders.OrderKind.TheVariants as kinds
 use Rattle.leg_machine.specs.declared.signals.MediaSpan.{MediaSpan}
 use Rattle.leg_machine.specs.declared.signals.Signal.{Signal}
 use Rattle.leg_machine.specs.declared.stages.Stage.{Stage}
 use Rattle.leg_machine.specs.declared.stages.Stage.TheVariants as stages
+pub use Rattle.peer_lock.specs.Peer.{handed_up}
+pub use Rattle.peer_lock.specs.Seen.{refuses_order}
 use Rattle.peer_lock.specs.declared.errors.OpenError.{OpenError}
 use Rattle.peer_lock.specs.declared.errors.OpenError.TheVariants as open_errors
 use Rattle.peer_lock.specs.declared.errors.OrderError.{OrderError}
@@ -100,10 +101,6 @@ pub record Answer : Type 0 where
 
 abbrev pub answer : Scene → Reply → Answer
 answer scene reply = record { scene = scene; reply = reply }
-
-abbrev pub handed_up : LegName → Option Signal → List (LegName × Signal)
-handed_up name None = []
-handed_up name (Some signal) = (name, signal) ∷ []
 
 abbrev pub heard_of : LegName → Option Signal → Heard
 heard_of name signal = heard (Some name) (handed_up name signal)
@@ -206,15 +203,6 @@ at_open_out scene name called choice =
     if can_open scene name then opens_out scene name called else busy_out scene
 
 -- ---- orders
-
--- the refusals of an order, once its leg and stage are right, that depend on more than is seen here
-abbrev pub refuses_order : OrderKind → OrderError → Bool
-refuses_order kinds.Doom error = false
-refuses_order kinds.Paid error = false
-refuses_order kind order_errors.WindowFull = true
-refuses_order kind order_errors.RecordFull = true
-refuses_order kind order_errors.Memory = true
-refuses_order kind error = false
 
 -- a leg that is carried to this stage by an order
 abbrev pub carried : OrderKind → Leg → Stage → Leg

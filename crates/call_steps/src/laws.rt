@@ -1,10 +1,39 @@
 //! What holds of many calls at once, in whatever order their steps come.
-ghost use Rattle.call_steps.specs.Law.{InEveryRun, InEveryRunWithinSteps, OnlyWhatIsSeenCounts, NamesAreHeldOnce, NoneIsBusy, NoneIsOutside, NoneIsStale, AllAreLookedAfter, NoneMeetsOffered, NamesAreTheLegs, AllHavePartners};
+ghost use Rattle.std.specs.Prelude.{◌≡◌, ◌≤◌, ℕ, true, false, Bool, List, ◌∷◌, Option, None, Some, Ok, Err, option_map};
+ghost use Rattle.call_book.specs.declared.leg_name.LegName.{LegName};
+ghost use Rattle.iax_frames.specs.FullFrame.{FullFrame};
+ghost use Rattle.iax_frames.specs.declared.datagram.Datagram.{Datagram};
+ghost use Rattle.leg_machine.specs.OrderTable.{wants_memory};
+ghost use Rattle.leg_machine.specs.Seen.{kind_of};
+ghost use Rattle.leg_machine.specs.declared.formats.Format.{Format};
+ghost use Rattle.leg_machine.specs.declared.orders.Order.{Order};
+ghost use Rattle.peer_lock.specs.Arrivals.{datagram_step};
+ghost use Rattle.peer_lock.specs.Legs.{AreLegs, PeerLegs, NamedLeg, leg_at, leg_named, with_place};
+ghost use Rattle.peer_lock.specs.Openings.{is_free_name, opens_in, opens_out};
+ghost use Rattle.peer_lock.specs.Orders.{order_refused_by, ordered_step, IsOrderRefusal};
+ghost use Rattle.peer_lock.specs.Peer.{PeerView};
+ghost use Rattle.peer_lock.specs.Statuses.{is_done, status_of};
+ghost use Rattle.peer_lock.specs.Ticks.{Ticks};
+ghost use Rattle.peer_lock.specs.declared.errors.OpenError.{OpenError};
+ghost use Rattle.peer_lock.specs.declared.errors.OrderError.{OrderError};
+ghost use Rattle.peer_lock.specs.declared.errors.OrderError.TheVariants.{Memory};
+ghost use Rattle.peer_lock.specs.declared.errors.PeerError.{PeerError};
+ghost use Rattle.peer_lock.specs.declared.steps.TickReport.{TickReport};
+ghost use Rattle.call_steps.specs.Acts.{act_kind};
+ghost use Rattle.call_steps.specs.Scene.{Scene, is_leased, dropped, leg_at as world_leg_at, without};
+ghost use Rattle.call_steps.specs.SeenReply.{heard};
+ghost use Rattle.call_steps.specs.Sees.{Sees, IsWorldStep};
+ghost use Rattle.call_steps.specs.declared.acts.Act.{Act};
+ghost use Rattle.call_steps.specs.declared.needs.Need.TheVariants as needs;
+ghost use Rattle.call_steps.specs.declared.replies.Reply.TheVariants as replies;
+ghost use Rattle.call_steps.specs.Law.{InEveryRun, InEveryRunWithinSteps, OnlyWhatIsSeenCounts, NamesAreHeldOnce, NumbersServeOne, NoneIsBusy, NoneIsOutside, NoneIsStale, AllAreLookedAfter, NoneMeetsOffered, NamesAreTheLegs, AllHavePartners};
 
 /// Whatever many calls do at once, whichever step comes first and whatever is refused.
 pub fn calls_at_once()
     // The names in the book are those of the legs and of the leases in the callers' hands, each once.
     ensures names { InEveryRun NamesAreHeldOnce }
+    // No number serves two legs.
+    ensures numbers { InEveryRun NumbersServeOne }
     // No leg is opened under a number that a leg has.
     ensures busy { InEveryRun NoneIsBusy }
     // .. nor under one that isn't of its peer.
@@ -23,3 +52,57 @@ pub fn calls_at_once()
     // What the model leaves out of the answers plays no part in the steps of a call.
     ensures seen { OnlyWhatIsSeenCounts }
 {}
+
+/// Each step of a peer, and each taking out of a leg, is a step of the world of which `calls_at_once` speaks: where the world has the
+/// peer's legs as they are seen, it can make that step too, with that answer, and has them so again. The steps are those of the
+/// contracts of `PeerState`.
+pub fn peers_steps_are_the_worlds()
+    ensures datagrams { (first : ℕ) (peer : PeerView) (datagram : Datagram) (now : ℕ) (scene : Scene) (called : Bool) →
+        AreLegs peer.legs → Sees scene.legs peer.legs →
+        IsWorldStep scene (needs.Datagram peer.legs.peer) called peer.legs (datagram_step first peer datagram now).peer.legs
+        (replies.Datagram (Ok (heard (datagram_step first peer datagram now).step.touched (datagram_step first peer datagram now).signals)))
+        scene.leases }
+    ensures refused_datagrams { (legs : PeerLegs) (error : PeerError) (scene : Scene) (called : Bool) → Sees scene.legs legs →
+        IsWorldStep scene (needs.Datagram legs.peer) called legs legs (replies.Datagram (Err error)) scene.leases }
+    // An opening is made by a caller that has the lease.
+    ensures calls_in { (peer : PeerView) (name : LegName) (frame : FullFrame) (now : ℕ) (challenge : List ℕ) (scene : Scene) (called : Bool) →
+        AreLegs peer.legs → 1 ≤ peer.rules.window → is_free_name peer.legs name ≡ true → Sees scene.legs peer.legs → is_leased scene.leases name ≡ true →
+        IsWorldStep scene (needs.OpenIn name) called peer.legs (opens_in peer name frame now challenge).peer.legs
+        (replies.OpenIn (Ok (heard (opens_in peer name frame now challenge).step.touched (opens_in peer name frame now challenge).signals)))
+        (dropped scene.leases name) }
+    ensures refused_calls_in { (legs : PeerLegs) (name : LegName) (error : OpenError) (scene : Scene) (called : Bool) → Sees scene.legs legs →
+        IsWorldStep scene (needs.OpenIn name) called legs legs (replies.OpenIn (Err error)) scene.leases }
+    ensures calls_out { (peer : PeerView) (name : LegName) (number : List ℕ) (calling : Option (List ℕ)) (format : Format) (now : ℕ) (scene : Scene) (called : Bool) →
+        AreLegs peer.legs → is_free_name peer.legs name ≡ true → Sees scene.legs peer.legs → is_leased scene.leases name ≡ true →
+        IsWorldStep scene (needs.OpenOut name) called peer.legs (opens_out peer name number calling format now).peer.legs
+        (replies.OpenOut (Ok tt)) (dropped scene.leases name) }
+    ensures refused_calls_out { (legs : PeerLegs) (name : LegName) (error : OpenError) (scene : Scene) (called : Bool) → Sees scene.legs legs →
+        IsWorldStep scene (needs.OpenOut name) called legs legs (replies.OpenOut (Err error)) scene.leases }
+    ensures orders { (peer : PeerView) (credit : ℕ) (name : LegName) (act : Act) (order : Order) (now : ℕ) (scene : Scene) (called : Bool) →
+        AreLegs peer.legs → name.peer ≡ peer.legs.peer → kind_of order ≡ act_kind act → order_refused_by peer credit name order now ≡ None →
+        Sees scene.legs peer.legs →
+        IsWorldStep scene (needs.Order name act) called peer.legs (ordered_step peer name order now).legs (replies.Order (Ok tt)) scene.leases }
+    ensures refused_orders { (peer : PeerView) (credit : ℕ) (name : LegName) (act : Act) (order : Order) (now : ℕ) (error : OrderError) (scene : Scene) (called : Bool) →
+        AreLegs peer.legs → name.peer ≡ peer.legs.peer → kind_of order ≡ act_kind act →
+        IsOrderRefusal (order_refused_by peer credit name order now) error →
+        (error ≡ Memory → (named : NamedLeg) → leg_named peer.legs name ≡ Some named → wants_memory named.leg order now ≡ true) →
+        Sees scene.legs peer.legs →
+        IsWorldStep scene (needs.Order name act) called peer.legs peer.legs (replies.Order (Err error)) scene.leases }
+    ensures ticks { (old new : PeerView) (now : ℕ) (report : TickReport) (scene : Scene) (called : Bool) →
+        AreLegs old.legs → Ticks old now report new → Sees scene.legs old.legs →
+        IsWorldStep scene (needs.Tick old.legs.peer) called old.legs new.legs (replies.Tick (Ok tt)) scene.leases }
+    ensures refused_ticks { (legs : PeerLegs) (scene : Scene) (called : Bool) → Sees scene.legs legs →
+        IsWorldStep scene (needs.Tick legs.peer) called legs legs (replies.Tick (Err (record {}))) scene.leases }
+    ensures looks { (legs : PeerLegs) (number : ℕ) (scene : Scene) (called : Bool) → Sees scene.legs legs →
+        IsWorldStep scene (needs.Look legs.peer number) called legs legs (replies.Look (option_map status_of (leg_at legs number))) scene.leases }
+    // A leg is taken out where no other leg has its number, as in every run (`numbers` of `calls_at_once`).
+    ensures retiring { (legs : PeerLegs) (name : LegName) (scene : Scene) (called : Bool) →
+        AreLegs legs → name.peer ≡ legs.peer → is_done (leg_named legs name) ≡ true → Sees scene.legs legs →
+        world_leg_at (without scene.legs name) name.peer name.number ≡ None →
+        IsWorldStep scene (needs.Retire name) called legs (with_place legs name.number None) (replies.Retire true) (name ∷ scene.leases) }
+    // A leg that is kept is kept in the world too.
+    ensures keeping { (legs : PeerLegs) (name : LegName) (scene : Scene) (called : Bool) → Sees scene.legs legs →
+        IsWorldStep scene (needs.Retire name) called legs legs (replies.Retire false) scene.leases }
+{
+    peer_lock::laws::steps_are_seen();
+}

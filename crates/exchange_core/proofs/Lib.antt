@@ -1,2 +1,3 @@
 pub mod Newcomers
 pub mod Pops
+mod Starting

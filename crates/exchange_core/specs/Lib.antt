@@ -2,4 +2,5 @@ pub mod Newcomers
 pub mod Numbers
 pub mod Refusals
 pub mod Routes
+pub mod Start
 pub mod Sums

@@ -9,7 +9,7 @@ use call_auth::Challenge;
 use call_book::LegName;
 use call_steps::{Heard, Reply, Work};
 use leg_machine::Order;
-use peer_lock::{Naming, Onwards, OrderError, Pass};
+use peer_lock::{Naming, OrderError, Pass};
 use peer_plan::Endpoint;
 use std::sync::Wait;
 
@@ -34,14 +34,20 @@ impl<G: Gate, J: Naming> Exchange<G, J> {
         let Some(peer) = self.plan.peer_of(from) else {
             return self.refused(Refusal::Stranger);
         };
-        let mut onwards = Onwards::new(self.alloc);
+        let mut onwards = pass.lend(self.alloc);
         match self.enter(rt, pass, peer, octets, now, challenge, &mut onwards) {
-            Err(refusal) => self.refused(refusal),
+            Err(refusal) => {
+                pass.keep(onwards);
+                self.refused(refusal)
+            }
             Ok(step) => {
                 let mut work = Work::of_datagram(peer);
                 let touched = step.touched;
                 work.told(Reply::Datagram(Ok(Heard { touched, onwards })));
                 let retired = self.follow(rt, pass, &mut work, octets, now);
+                if let Some(onwards) = work.into_onwards() {
+                    pass.keep(onwards);
+                }
                 let steps = pass.steps() - first;
                 Answer {
                     steps,

@@ -8,6 +8,7 @@ mod calling;
 mod calls;
 mod exchange;
 mod gates;
+pub mod laws;
 mod opening;
 mod order_sections;
 mod parting;

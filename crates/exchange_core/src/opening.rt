@@ -1,8 +1,7 @@
 //! Opening an exchange.
-ghost use Rattle.std.specs.Prelude.{◌≡◌, ◌+◌, ◌*◌, ◌<◌, ◌≤◌, ◌^◌, ◌++◌, [], None, Some, IfOk, All, length, map, option_map, replicate, slice_get, vec_len};
-ghost use Rattle.call_book.specs.Book.{IsBook, fresh_book};
+ghost use Rattle.std.specs.Prelude.{◌≡◌, ◌+◌, ◌*◌, ◌<◌, ◌≤◌, ◌^◌, ◌++◌, [], Some, IfOk, OnOk, All, length, map, option_map, replicate, slice_get, vec_len};
+ghost use Rattle.exchange_core.specs.Start.{first_book, first_legs, IsStart};
 ghost use Rattle.peer_lock.specs.Accounts.{no_accounts};
-ghost use Rattle.peer_plan.specs.Plan.{counts_of, range_of};
 
 use crate::exchange::{Exchange, PeerCell};
 use crate::gates::Gate;
@@ -36,6 +35,8 @@ impl<G: Gate, J: Naming> Exchange<G, J> {
         ensures plan { IfOk result (λ opened. opened.0 ≡ plan) }
         ensures passes { IfOk result (λ opened. vec_len opened.1 ≡ plan.passes) }
         ensures empty { IfOk result (λ opened. All (λ pass. (pass.octets ≡ 0) × (pass.steps ≡ 0)) opened.1.items) }
+        // It is a start of the world in which the law over many calls holds, with a caller for each pass.
+        ensures start { IfOk result (λ opened. IsStart plan) }
     {
         let peer_count = plan.peer_count();
         let pass_count = plan.passes();
@@ -62,8 +63,10 @@ impl<G: Gate, J: Naming> Exchange<G, J> {
 }
 
 // The book of a plan, with every number free. Its first serial is 0.
+#[tactic(auto, using(crate::proofs::Starting::starts))]
 fn book_of(alloc: Global, plan: &Plan) -> Result<CallBook, AllocError>
-    ensures { IfOk result (λ book. book ≡ fresh_book (counts_of plan.now.peers) 0) }
+    ensures book { IfOk result (λ book. book ≡ first_book plan.now) }
+    ensures start { OnOk result (IsStart plan.now) }
 {
     let _peers = plan.peer_count();
     CallBook::new(alloc, plan.counts(), 0)
@@ -118,11 +121,7 @@ fn state_of<J: Naming>(
     requires octets { octets ≡ J.first_octets }
     requires steps { steps ≡ J.first_steps }
     ensures rules { IfOk result (λ state. option_map (λ peer. peer.rules) (slice_get plan.now.peers peer) ≡ Some state.rules) }
-    ensures legs { IfOk result (λ state. state.legs ≡ record {
-      peer = peer;
-      first = (range_of (counts_of plan.now.peers) peer).first;
-      places = replicate (range_of (counts_of plan.now.peers) peer).count None;
-    }) }
+    ensures legs { IfOk result (λ state. state.legs ≡ first_legs plan.now peer) }
     ensures empty { IfOk result (λ state. (state.outbox ≡ []) × (state.queue ≡ []) × (state.accounts ≡ no_accounts)) }
 {
     let _counts = plan.counts();

@@ -1,5 +1,6 @@
 pub mod Again
 pub mod Finished
+pub mod FrameMedia
 pub mod Growth
 pub mod OneTry
 pub mod Rows

@@ -90,7 +90,7 @@ media-seen leg octets now =
     (λ talks unrefused. talking-seen leg new talks (seen-media (media_sent leg now) leg octets now))
     (λ talks unrefused. cc)
 
-order-seen : (leg : LegState) (order : Order) (now : ℕ) → order_refused leg order now ≡ None
+pub order-seen : (leg : LegState) (order : Order) (now : ℕ) → order_refused leg order now ≡ None
     → IsSeenOrder (kind_of order) (seen leg) (seen (order_carried leg order now).leg)
 order-seen leg orders.Accept now unrefused = row-seen leg kinds.Accept (is_offered leg.stage) _ now (accept leg.stage) refl unrefused
 order-seen leg (orders.Reject cause) now unrefused = row-seen leg (kinds.Reject cause) (is_offered leg.stage) _ now (reject cause leg.stage) refl unrefused

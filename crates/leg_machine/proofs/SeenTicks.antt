@@ -44,7 +44,7 @@ same-signal openings.Refused = refl
 same-signal openings.Challenges = refl
 same-signal openings.Offers = refl
 
-opening-seen : (rules : PeerRules) (number : ℕ) (frame : FullFrame) (now : ℕ) (challenge : List ℕ) → 1 ≤ rules.window
+pub opening-seen : (rules : PeerRules) (number : ℕ) (frame : FullFrame) (now : ℕ) (challenge : List ℕ) → 1 ≤ rules.window
     → let s = open_in_step rules number frame now challenge in IsSeenOpening (seen s.leg) s.signal
 opening-seen rules number frame now challenge some =
     let opening = opening_of rules frame in

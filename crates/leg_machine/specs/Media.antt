@@ -1,5 +1,5 @@
 -- Media at a leg ("Mini Frames", "Voice Frames").
-use Rattle.std.specs.Prelude.{ℕ, ◌/◌, ◌%◌, ◌^◌, ◌==◌, ◌&&◌, not, Bool, true, false, List, [], ◌∷◌, Option, None, Some, if◌then◌else◌}
+use Rattle.std.specs.Prelude.{ℕ, ◌/◌, ◌%◌, ◌^◌, ◌≡◌, ◌+◌, length, ◌==◌, ◌&&◌, not, Bool, true, false, List, [], ◌∷◌, Option, None, Some, if◌then◌else◌}
 use Rattle.iax_frames.specs.FullFrame.{FullFrame}
 use Rattle.leg_machine.specs.LegTable.{is_media}
 use Rattle.leg_machine.specs.Legs.{LegState}
@@ -10,10 +10,18 @@ use Rattle.leg_machine.specs.Working.{sent}
 use Rattle.leg_machine.specs.declared.media.MediaSent.{MediaSent}
 use Rattle.leg_machine.specs.declared.media.MediaSent.TheVariants.{Quelched, Voice, Mini}
 use Rattle.leg_machine.specs.declared.signals.MediaSpan.{MediaSpan}
+use Rattle.leg_machine.specs.declared.signals.Signal.{Signal}
+use Rattle.leg_machine.specs.declared.signals.Signal.TheVariants as signals
 
 -- media of the other side counts in a talking leg that took voice of its format
 abbrev pub accepts_media : LegState → MediaSpan → Bool
 accepts_media leg span = is_talking leg.stage && leg.voice_taken && is_media (span_len span)
+
+-- media that a full frame hands up is all of its data, 1 to 1,380 octets behind the head's twelve
+abbrev pub IsMediaOf : FullFrame → Option Signal → Type 0
+IsMediaOf frame (Some (signals.Media span)) =
+    (span ≡ record { start = 12; end = 12 + length frame.payload }) × (is_media (length frame.payload) ≡ true)
+IsMediaOf frame signal = Unit {0}
 
 -- the high halves of two timestamps differ, or there is no last one
 abbrev pub is_other_half : Option ℕ → ℕ → Bool

@@ -1,5 +1,5 @@
 -- The table of orders: what the layer above lets a leg do, row by row ("Call Setup", "Control Frames").
-use Rattle.std.specs.Prelude.{◌≡◌, ◌≤◌, ℕ, not, ◌&&◌, ◌||◌, nat_le, length, Bool, false, List, [], ◌∷◌, map, Option, None, Some, if◌then◌else◌}
+use Rattle.std.specs.Prelude.{◌≡◌, ◌≤◌, ℕ, not, ◌&&◌, ◌||◌, nat_le, length, Bool, true, false, List, [], ◌∷◌, map, Option, None, Some, if◌then◌else◌}
 use Rattle.iax_frames.specs.FullFrame.{spelling}
 use Rattle.iax_frames.specs.MiniFrame.{mini_spelling}
 use Rattle.seq_window.specs.Window.{held_count}
@@ -79,6 +79,17 @@ order_refused leg Hangup now = row_refused leg (order_row leg Hangup)
 abbrev pub IsRefusal : Option OrderError → OrderError → Type 0
 IsRefusal (Some due) e = e ≡ due
 IsRefusal None e = e ≡ errors.Memory
+
+abbrev pub is_voice : MediaSent → Bool
+is_voice Voice = true
+is_voice sent = false
+
+-- only an order that sends a full frame wants memory
+abbrev pub wants_memory : LegState → Order → ℕ → Bool
+wants_memory leg (Media media) now = is_voice (media_sent leg now)
+wants_memory leg Doom now = false
+wants_memory leg Paid now = false
+wants_memory leg order now = true
 
 -- media of an order is 1 to 1,380 octets
 abbrev pub IsShortMedia : Order → Type 0

@@ -1,11 +1,21 @@
 //! The laws of a leg.
 
-ghost use Rattle.std.specs.Prelude.{◌≡◌, ◌⊎◌, ◌≤◌, ℕ, Bool};
+ghost use Rattle.std.specs.Prelude.{◌≡◌, ◌⊎◌, ◌↔◌, ◌≤◌, ℕ, Bool, List, Option, None, Some};
+ghost use Rattle.iax_frames.specs.FullFrame.{FullFrame};
 ghost use Rattle.seq_window.specs.Window.{held_count};
 ghost use Rattle.leg_machine.specs.Legs.{LegState};
+ghost use Rattle.leg_machine.specs.Media.{IsMediaOf};
+ghost use Rattle.leg_machine.specs.Openings.{open_in_step, open_out_step};
+ghost use Rattle.leg_machine.specs.OrderTable.{order_refused, order_carried};
+ghost use Rattle.leg_machine.specs.Seen.{seen, kind_of, stage_after, fresh_leg, IsSeenFrame, IsSeenOpening, IsSeenOrder, IsSeenTick};
+ghost use Rattle.leg_machine.specs.Steps.{full_step};
 ghost use Rattle.leg_machine.specs.Ticks.{hang_up_step, tick_step};
 ghost use Rattle.leg_machine.specs.Tries.{tries, NoneDue, IsFinished};
-ghost use Rattle.leg_machine.specs.declared.stages.Stage.TheVariants.{Ended};
+ghost use Rattle.leg_machine.specs.declared.formats.Format.{Format};
+ghost use Rattle.leg_machine.specs.declared.orders.Order.{Order};
+ghost use Rattle.leg_machine.specs.declared.orders.OrderError.TheVariants.{WrongStage};
+ghost use Rattle.leg_machine.specs.declared.rules.PeerRules.{PeerRules};
+ghost use Rattle.leg_machine.specs.declared.stages.Stage.TheVariants.{Waiting, Ended};
 
 /// A tick tries as often as is due: its turns, as many as frames were held when it began, never run out before a frame is
 /// spent or none is due any more.
@@ -18,4 +28,26 @@ pub fn ticks_finish_their_tries()
     // After a tick the leg has ended, or nothing that it holds is due.
     ensures after_tick { (grown : Bool) (leg : LegState) (now : ℕ) → 1 ≤ leg.rules.retry_ms →
         ((tick_step grown leg now).leg.stage ≡ Ended) ⊎ NoneDue (tick_step grown leg now).leg now }
+{}
+
+/// Media that a full frame hands up is that frame's own data.
+pub fn media_is_the_frames()
+    ensures { (leg : LegState) (frame : FullFrame) (now : ℕ) → IsMediaOf frame (full_step leg frame now).signal }
+{}
+
+/// Seen only by its stage, whether it is doomed, whether it owes and what it hands up, each step of a leg is one that callers at
+/// once reckon with: that of a frame, an order, a tick or an opening.
+pub fn steps_are_seen()
+    ensures frames { (leg : LegState) (frame : FullFrame) (now : ℕ) →
+        IsSeenFrame (seen leg) (seen (full_step leg frame now).leg) (full_step leg frame now).signal }
+    ensures orders { (leg : LegState) (order : Order) (now : ℕ) → order_refused leg order now ≡ None →
+        IsSeenOrder (kind_of order) (seen leg) (seen (order_carried leg order now).leg) }
+    // An order is refused for the stage exactly where it leads nowhere from there.
+    ensures wrong_stages { (leg : LegState) (order : Order) (now : ℕ) →
+        (order_refused leg order now ≡ Some WrongStage) ↔ (stage_after (kind_of order) leg.stage ≡ None) }
+    ensures ticks { (grown : Bool) (leg : LegState) (now : ℕ) → IsSeenTick (seen leg) (seen (tick_step grown leg now).leg) }
+    ensures calls_in { (rules : PeerRules) (number : ℕ) (frame : FullFrame) (now : ℕ) (challenge : List ℕ) → 1 ≤ rules.window →
+        IsSeenOpening (seen (open_in_step rules number frame now challenge).leg) (open_in_step rules number frame now challenge).signal }
+    ensures calls_out { (rules : PeerRules) (number : ℕ) (called : List ℕ) (calling : Option (List ℕ)) (format : Format) (now : ℕ) →
+        seen (open_out_step rules number called calling format now).leg ≡ fresh_leg Waiting }
 {}

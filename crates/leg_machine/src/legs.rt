@@ -1,11 +1,11 @@
 //! A leg, by the calls of the layer above.
-ghost use Rattle.std.specs.Prelude.{◌≡◌, ◌==◌, ℕ, ◌+◌, ◌≤◌, ◌<◌, ◌↔◌, true, None, Some, [], length, map, All, option_copied, IfOk, IfErr, OnOk, OnErr};
+ghost use Rattle.std.specs.Prelude.{◌≡◌, ◌==◌, ℕ, ◌+◌, ◌≤◌, ◌<◌, ◌↔◌, true, None, Some, Err, [], length, map, All, option_copied, IfOk, IfErr, OnOk, OnErr};
 ghost use Rattle.std.specs.Option.{ForSome};
 ghost use Rattle.iax_frames.specs.FullFrame.{spelling};
 ghost use Rattle.leg_machine.specs.Legs.{is_short_of_entries};
 ghost use Rattle.leg_machine.specs.Media.{media_sent, after_media, media_frames};
 ghost use Rattle.leg_machine.specs.Openings.{open_in_step, open_out_step};
-ghost use Rattle.leg_machine.specs.OrderTable.{order_row, row_refused, row_carried, order_refused, media_refused, media_datagrams, IsRefusal, IsShortMedia, order_carried};
+ghost use Rattle.leg_machine.specs.OrderTable.{order_row, row_refused, row_carried, order_refused, media_refused, media_datagrams, is_voice, wants_memory, IsRefusal, IsShortMedia, order_carried};
 ghost use Rattle.leg_machine.specs.PeerRules.{IsPeerRules};
 ghost use Rattle.leg_machine.specs.Seen.{seen, kind_of, stage_after, fresh_leg, IsSeenFrame, IsSeenOpening, IsSeenOrder, IsSeenTick};
 ghost use Rattle.leg_machine.specs.Steps.{full_step, heard_of};
@@ -227,6 +227,7 @@ impl Leg {
         ensures seen { OnOk result (IsSeenOrder kinds.Media (seen self.old) (seen self.new)) }
         ensures unrefused { OnOk result (media_refused self.old now ≡ None) }
         ensures refused { IfErr result (IsRefusal (media_refused self.old now)) }
+        ensures memory { result ≡ Err OrderError.Memory → is_voice (media_sent self.old now) ≡ true }
         ensures wrong_stage { (result ≡ Err OrderError.WrongStage) ↔ (stage_after kinds.Media self.old.stage ≡ None) }
         ensures err { OnErr result (self.new ≡ self.old) }
         ensures none_sent { OnErr result (replies.new ≡ replies.old) }
@@ -263,6 +264,7 @@ impl Leg {
         ensures sendings { OnOk result (All (IsSendingOrMini self.new) replies.new) }
         ensures unrefused { OnOk result (media_refused self.old now ≡ None) }
         ensures refused { IfErr result (IsRefusal (media_refused self.old now)) }
+        ensures memory { result ≡ Err OrderError.Memory → is_voice (media_sent self.old now) ≡ true }
         ensures err { OnErr result (self.new ≡ self.old) }
         ensures none_sent { OnErr result (replies.new ≡ replies.old) }
     {
@@ -294,6 +296,7 @@ impl Leg {
         ensures sendings { OnOk result (All (IsSendingOrMini self.new) replies.new) }
         ensures unrefused { OnOk result (order_refused self.old order.now now ≡ None) }
         ensures refused { IfErr result (IsRefusal (order_refused self.old order.now now)) }
+        ensures memory { result ≡ Err OrderError.Memory → wants_memory self.old order.now now ≡ true }
         ensures err { OnErr result (self.new ≡ self.old) }
         ensures none_sent { OnErr result (replies.new ≡ replies.old) }
     {
@@ -334,6 +337,7 @@ impl Leg {
         ensures seen { OnOk result (IsSeenOrder (kind_of order.now) (seen self.old) (seen self.new)) }
         ensures unrefused { OnOk result (order_refused self.old order.now now ≡ None) }
         ensures refused { IfErr result (IsRefusal (order_refused self.old order.now now)) }
+        ensures memory { result ≡ Err OrderError.Memory → wants_memory self.old order.now now ≡ true }
         ensures wrong_stage { (result ≡ Err OrderError.WrongStage) ↔ (stage_after (kind_of order.now) self.old.stage ≡ None) }
         ensures err { OnErr result (self.new ≡ self.old) }
         ensures none_sent { OnErr result (replies.new ≡ replies.old) }

@@ -1,11 +1,11 @@
 //! The calls of a leg that give their datagrams in what they answer. Each is made of its form over a lent list.
-ghost use Rattle.std.specs.Prelude.{◌≡◌, ◌==◌, ◌≤◌, ◌↔◌, true, None, length, map, All, option_copied, IfOk, IfErr, OnOk, OnErr};
+ghost use Rattle.std.specs.Prelude.{◌≡◌, ◌==◌, ◌≤◌, ◌↔◌, true, None, Err, length, map, All, option_copied, IfOk, IfErr, OnOk, OnErr};
 ghost use Rattle.std.specs.Option.{ForSome};
 ghost use Rattle.iax_frames.specs.FullFrame.{spelling};
 ghost use Rattle.leg_machine.specs.Legs.{is_short_of_entries};
 ghost use Rattle.leg_machine.specs.Onward.{outcome_of, order_outcome, HandsUp};
 ghost use Rattle.leg_machine.specs.Openings.{open_in_step, open_out_step};
-ghost use Rattle.leg_machine.specs.OrderTable.{order_refused, IsRefusal, IsShortMedia, order_carried};
+ghost use Rattle.leg_machine.specs.OrderTable.{order_refused, wants_memory, IsRefusal, IsShortMedia, order_carried};
 ghost use Rattle.leg_machine.specs.PeerRules.{IsPeerRules};
 ghost use Rattle.leg_machine.specs.Seen.{seen, kind_of, stage_after, fresh_leg, IsSeenFrame, IsSeenOpening, IsSeenOrder, IsSeenTick};
 ghost use Rattle.leg_machine.specs.Steps.{full_step};
@@ -146,6 +146,7 @@ impl Leg {
         ensures seen { OnOk result (IsSeenOrder (kind_of order.now) (seen self.old) (seen self.new)) }
         ensures unrefused { OnOk result (order_refused self.old order.now now ≡ None) }
         ensures refused { IfErr result (IsRefusal (order_refused self.old order.now now)) }
+        ensures memory { result ≡ Err OrderError.Memory → wants_memory self.old order.now now ≡ true }
         ensures wrong_stage { (result ≡ Err OrderError.WrongStage) ↔ (stage_after (kind_of order.now) self.old.stage ≡ None) }
         ensures err { OnErr result (self.new ≡ self.old) }
     {

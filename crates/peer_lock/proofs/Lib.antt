@@ -9,5 +9,8 @@ pub mod Places
 pub mod Puts
 pub mod Refusing
 pub mod SameCall
+pub mod SeenArrivals
+pub mod SeenChanges
+pub mod SeenSteps
 pub mod Shortness
 pub mod Ticking

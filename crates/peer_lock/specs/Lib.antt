@@ -11,6 +11,7 @@ pub mod Orders
 pub mod Outbox
 pub mod Peer
 pub mod RemoteNumbers
+pub mod Seen
 pub mod Statuses
 pub mod Ticks
 pub mod Unworked

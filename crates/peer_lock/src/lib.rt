@@ -5,6 +5,7 @@ mod account;
 mod arrivals;
 mod closed;
 mod errors;
+pub mod laws;
 mod media_arrivals;
 mod named_legs;
 mod naming;

@@ -1,7 +1,7 @@
 //! The steps of a peer in which a leg obeys an order ("Call Setup", "Control Frames", "Mini Frames", "Meta Frames").
-ghost use Rattle.std.specs.Prelude.{◌≡◌, ◌≢◌, ◌+◌, ◌-◌, ◌<◌, ◌≤◌, [], length, map, None, Some, IsSome, IsTrue, ◌↔◌, IfOk, IfErr, OnOk, OnErr};
+ghost use Rattle.std.specs.Prelude.{◌≡◌, ◌≢◌, ◌+◌, ◌-◌, ◌<◌, ◌≤◌, [], length, map, None, Some, Err, true, IsSome, IsTrue, ◌↔◌, IfOk, IfErr, OnOk, OnErr};
 ghost use Rattle.std.specs.Option.{ForSome};
-ghost use Rattle.leg_machine.specs.OrderTable.{IsShortMedia, media_refused, order_refused, order_carried};
+ghost use Rattle.leg_machine.specs.OrderTable.{IsShortMedia, is_voice, wants_memory, media_refused, order_refused, order_carried};
 ghost use Rattle.peer_lock.specs.Accounts.{with_step as with_credit};
 ghost use Rattle.leg_machine.specs.Media.{media_sent};
 ghost use Rattle.leg_machine.specs.declared.outcomes.Judged.TheVariants.{Unnumbered};
@@ -94,6 +94,8 @@ impl<J: Naming> PeerState<J> {
         ensures unrefused { (named : NamedLegValue) → leg_at self.old.legs name.number ≡ Some named → OnOk result (from_leg_due (media_refused named.leg now) ≡ None) }
         ensures refused { (named : NamedLegValue) → leg_at self.old.legs name.number ≡ Some named
             → IfErr result (IsOrderRefusal (from_leg_due (media_refused named.leg now))) }
+        ensures memory { result ≡ Err OrderError.Memory → (named : NamedLegValue) → leg_at self.old.legs name.number ≡ Some named
+            → is_voice (media_sent named.leg now) ≡ true }
         ensures err { OnErr result ((self.new ≡ self.old) × (pass.new ≡ pass.old)) }
     {
         let number = self.legs.call_number(name.number);
@@ -126,6 +128,8 @@ impl<J: Naming> PeerState<J> {
         ensures unrefused { (named : NamedLegValue) → leg_at self.old.legs name.number ≡ Some named → OnOk result (from_leg_due (order_refused named.leg order.now now) ≡ None) }
         ensures refused { (named : NamedLegValue) → leg_at self.old.legs name.number ≡ Some named
             → IfErr result (IsOrderRefusal (from_leg_due (order_refused named.leg order.now now))) }
+        ensures memory { result ≡ Err OrderError.Memory → (named : NamedLegValue) → leg_at self.old.legs name.number ≡ Some named
+            → wants_memory named.leg order.now now ≡ true }
         ensures err { OnErr result ((self.new ≡ self.old) × (pass.new ≡ pass.old)) }
     {
         self.replies.clear();
@@ -157,6 +161,8 @@ impl<J: Naming> PeerState<J> {
         ensures steps { OnOk result (pass.new.steps ≡ pass.old.steps + 1) }
         ensures unrefused { OnOk result (order_refused_by self.old J.first_steps name order.now now ≡ None) }
         ensures refused { IfErr result (IsOrderRefusal (order_refused_by self.old J.first_steps name order.now now)) }
+        ensures memory { result ≡ Err OrderError.Memory → (named : NamedLegValue) → leg_named self.old.legs name ≡ Some named
+            → wants_memory named.leg order.now now ≡ true }
         ensures err { OnErr result ((self.new ≡ self.old) × (pass.new ≡ pass.old)) }
     {
         if self.account.is_spent() {

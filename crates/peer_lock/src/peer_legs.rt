@@ -1,10 +1,10 @@
 //! The legs of one peer, by their local numbers.
 ghost use Rattle.std.specs.Option.{ForSome};
-ghost use Rattle.std.specs.Prelude.{◌&&◌, nat_lt, nat_le, ◌≡◌, ◌==◌, ◌+◌, ◌-◌, ◌^◌, ◌<◌, ◌≤◌, ◌↔◌, length, map, option_copied, replicate, slice_get, slice_set, true, None, Some, [], IfErr, IfNone, IfOk, IfSome, IsNone, IsSome, OnErr, OnOk};
+ghost use Rattle.std.specs.Prelude.{◌&&◌, nat_lt, nat_le, ◌≡◌, ◌==◌, ◌+◌, ◌-◌, ◌^◌, ◌<◌, ◌≤◌, ◌↔◌, length, map, option_copied, replicate, slice_get, slice_set, true, None, Some, Err, [], IfErr, IfNone, IfOk, IfSome, IsNone, IsSome, OnErr, OnOk};
 ghost use Rattle.iax_frames.specs.FullFrame.{spelling};
 ghost use Rattle.leg_machine.specs.Legs.{is_short_of_entries};
 ghost use Rattle.leg_machine.specs.Media.{media_sent, after_media, media_frames};
-ghost use Rattle.leg_machine.specs.OrderTable.{order_refused, media_refused, IsRefusal, IsShortMedia, order_carried};
+ghost use Rattle.leg_machine.specs.OrderTable.{order_refused, media_refused, is_voice, wants_memory, IsRefusal, IsShortMedia, order_carried};
 ghost use Rattle.leg_machine.specs.Steps.{full_step, heard_of};
 ghost use Rattle.leg_machine.specs.Ticks.{tick_step};
 ghost use Rattle.leg_machine.specs.Tie.{TakesTurn, SendsAtMostOne};
@@ -278,6 +278,8 @@ impl PeerLegs {
             (order_refused named.leg order.now now ≡ None)) }
         ensures refused { ForSome (leg_at self.old number) (λ named. IfErr result
             (IsRefusal (order_refused named.leg order.now now))) }
+        ensures memory { ForSome (leg_at self.old number) (λ named. result ≡ Err OrderError.Memory
+            → wants_memory named.leg order.now now ≡ true) }
         ensures err { OnErr result (self.new ≡ self.old) }
         ensures none_sent { OnErr result (replies.new ≡ replies.old) }
         ensures sound { AreLegs self.new }
@@ -314,6 +316,8 @@ impl PeerLegs {
             (media_refused named.leg now ≡ None)) }
         ensures refused { ForSome (leg_at self.old number) (λ named. IfErr result
             (IsRefusal (media_refused named.leg now))) }
+        ensures memory { ForSome (leg_at self.old number) (λ named. result ≡ Err OrderError.Memory
+            → is_voice (media_sent named.leg now) ≡ true) }
         ensures err { OnErr result (self.new ≡ self.old) }
         ensures none_sent { OnErr result (replies.new ≡ replies.old) }
         ensures sound { AreLegs self.new }

@@ -1,6 +1,7 @@
 use Rattle.call_steps.specs.World.{run}
 use Rattle.call_steps.proofs.Idle.{names_are_the_legs, all_have_partners}
 use Rattle.call_steps.proofs.Names.{named, held_once, not_busy, not_outside, not_stale}
+use Rattle.call_steps.proofs.Numbers.{numbers_serve_one}
 use Rattle.call_steps.proofs.Safety.{safe, looked_after}
 use Rattle.call_steps.proofs.Talk.{talks_in, none_meets_offered}
 use Rattle.call_steps.proofs.SeenReplies.{only_what_is_seen_counts}
@@ -32,3 +33,6 @@ returns-clause-idle_partners c world opened events within = all_have_partners (r
 
 pub returns-clause-seen : goal.returns-clause-seen
 returns-clause-seen c = only_what_is_seen_counts
+
+pub returns-clause-numbers : goal.returns-clause-numbers
+returns-clause-numbers c world opened events = numbers_serve_one (run events world) (named world opened events)

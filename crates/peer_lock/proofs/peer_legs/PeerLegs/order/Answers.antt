@@ -57,3 +57,6 @@ returns-clause-unrefused c = λ x e. rw ((is_found c).only x e) c.order_into.ens
 
 pub returns-clause-refused : goal.returns-clause-refused
 returns-clause-refused c = λ x e. rw ((is_found c).only x e) c.order_into.ensures.refused
+
+pub returns-clause-memory : goal.returns-clause-memory
+returns-clause-memory c = λ x e. rw ((is_found c).only x e) c.order_into.ensures.memory

@@ -1,0 +1,33 @@
+-- An exchange at its opening is a start of the law's world.
+use Rattle.std.specs.Prelude.{nat_le, ◌-◌, option_map, slice_get}
+use Rattle.std.proofs.Common.{◌≡◌, ℕ, zero, suc, inl, inr, None, nat_cmp, replicate, refl, sym, ap}
+use Rattle.std.proofs.lemmas.Bool.{cases_Bool}
+use Rattle.std.specs.FinMap.{get-empty}
+use Rattle.std.specs.List.{AllByRecursion}
+use Rattle.call_book.specs.Book.{IsBook}
+use Rattle.peer_lock.specs.Legs.{filled, leg_at}
+use Rattle.peer_lock.specs.Seen.{seen_named}
+use Rattle.peer_plan.specs.Plan.{PlanView}
+use Rattle.call_steps.specs.Law.{IsFresh}
+use Rattle.exchange_core.specs.Start.{first_book, first_legs, idle, IsStart}
+
+all_idle : (count : ℕ) → AllByRecursion IsFresh (replicate count idle)
+all_idle zero = tt
+all_idle (suc count) = ((refl, refl), all_idle count)
+
+none_there : (count place : ℕ) → filled (slice_get (replicate count None) place) ≡ None
+none_there zero place = refl
+none_there (suc count) zero = refl
+none_there (suc count) (suc place) = none_there count place
+
+no_leg : (plan : PlanView) (peer number : ℕ) → leg_at (first_legs plan peer) number ≡ None
+no_leg plan peer number = elim (cases_Bool (nat_le (first_legs plan peer).first number)) [
+  | inl e ↦ rw e (none_there _ (number - (first_legs plan peer).first))
+  | inr e ↦ rw e refl
+]
+
+pub starts : (plan : PlanView) → IsBook (first_book plan) → IsStart plan
+starts plan sound = record {
+  opened = record { book = sound; no_name = λ number. get-empty nat_cmp number; no_leg = refl; idle = all_idle plan.passes };
+  sees = λ peer number. sym (ap (option_map seen_named) (no_leg plan peer number));
+}

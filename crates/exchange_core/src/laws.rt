@@ -1,0 +1,2 @@
+//! What holds of many calls at once, in whatever order their steps come, from the opening of an exchange on.
+pub use call_steps::laws::{calls_at_once, peers_steps_are_the_worlds};
