@@ -1,5 +1,6 @@
 //! What the calls of an exchange answer.
 ghost use Rattle.std.specs.Prelude.{◌≡◌, ◌≢◌};
+ghost use Rattle.peer_lock.specs.Statuses.{IsHistory};
 ghost use Rattle.exchange_core.specs.Refusals.{from_peer, from_open, from_reserve, call_from_open, call_from_reserve};
 
 use call_book::{LegName, ReserveError};
@@ -86,11 +87,12 @@ impl From<ReserveError> for Refusal {
     }
 }
 
-/// A leg that was taken out, and its history.
+/// A leg that was taken out, and its history, which is one that a window may have.
 #[derive(Drop)]
 pub struct Retired {
     pub name: LegName,
     pub history: Record,
+    ghost legal: { ∥ IsHistory history.entries ∥₁ },
 }
 
 /// What a call made.

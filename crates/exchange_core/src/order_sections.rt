@@ -3,6 +3,7 @@ ghost use Rattle.std.specs.Prelude.{◌≡◌, ◌+◌, ◌<◌, ◌≤◌, Some
 ghost use Rattle.leg_machine.specs.OrderTable.{IsShortMedia};
 ghost use Rattle.peer_lock.specs.Accounts.{with_step};
 ghost use Rattle.peer_lock.specs.Orders.{order_octets};
+ghost use Rattle.peer_lock.specs.Statuses.{IsHistory};
 
 use crate::exchange::Exchange;
 use crate::gates::Gate;
@@ -55,7 +56,8 @@ impl<G: Gate, J: Naming> Exchange<G, J> {
     // Takes out the leg of a name, where it has ended and owes nothing: its lease and its record. That is no step.
     pub(crate) fn retire<R: Wait>(&self, rt: &R, name: LegName) -> Option<(Lease, Record)>
         requires { name.peer < length self.now.peers }
-        ensures { IfSome result (λ retired. retired.0 ≡ name) }
+        ensures lease { IfSome result (λ retired. retired.0 ≡ name) }
+        ensures legal { IfSome result (λ retired. IsHistory retired.1.entries) }
     {
         let mut state = self.peers[usize::from(name.peer)].lock(rt);
         self.gate.enter(name.peer);

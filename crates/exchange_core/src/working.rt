@@ -1,6 +1,6 @@
 //! The steps of a call after its first one, until nothing is left to be done.
-ghost use Rattle.std.specs.Prelude.{◌≡◌, ◌+◌, ◌<◌, ◌≤◌, length};
-ghost use Rattle.exchange_core.specs.Routes.{LeadsInside};
+ghost use Rattle.std.specs.Prelude.{◌≡◌, ◌+◌, ◌<◌, ◌≤◌, length, Some, option_copied};
+ghost use Rattle.exchange_core.specs.Routes.{IsRoute, LeadsInside};
 ghost use Rattle.leg_machine.specs.OrderTable.{IsShortMedia};
 ghost use Rattle.peer_lock.specs.Orders.{order_octets};
 
@@ -23,11 +23,20 @@ pub(crate) struct Hands {
 impl<G: Gate, J: Naming> Exchange<G, J> {
     // Where the call leads that a leg offers.
     fn route(&self, offer: Option<&Offer>) -> Route
-        ensures { LeadsInside result (length self.now.peers) }
+        ensures route { IsRoute self.now (option_copied offer.entry) result }
+        ensures inside { LeadsInside result (length self.now.peers) }
     {
-        let Some(offer) = offer else {
-            return Route::Nowhere;
-        };
+        match offer {
+            Some(offer) => self.route_for(offer),
+            None => Route::Nowhere,
+        }
+    }
+
+    // Where an offered call leads.
+    fn route_for(&self, offer: &Offer) -> Route
+        ensures route { IsRoute self.now (Some offer.now) result }
+        ensures inside { LeadsInside result (length self.now.peers) }
+    {
         let Some(peer) = self.plan.route(offer.called.as_slice()) else {
             return Route::Nowhere;
         };

@@ -1,19 +1,49 @@
-//! The program of the exchange: `exchange_main check PLAN` and `exchange_main replay PLAN SCRIPT`.
+//! The program of the exchange: `exchange_main check PLAN`, `exchange_main replay PLAN SCRIPT` and `exchange_main serve PLAN TURNS`.
 #![tactic(auto)]
 
+mod accounts;
 mod check;
+mod clock;
+mod digits;
+#[cfg(test)]
+mod leg_tests;
 mod names;
 mod player;
 mod replay;
 mod script;
+mod serve;
+#[cfg(test)]
+mod serve_tests;
 #[cfg(test)]
 mod tests;
 
 use std::io::Write;
 use std::process::ExitCode;
+use std::rt::Files;
 use std::{env, fs, io};
 
-const USAGE: &str = "usage: exchange_main check <plan> | replay <plan> <script>";
+const USAGE: &str =
+    "usage: exchange_main check <plan> | replay <plan> <script> | serve <plan> <turns>";
+
+// The octets of a file. Where it can't be read, says so.
+fn octets_of<R: Files + Print + Alloc>(rt: &R, path: &str) -> Option<Vec<u8, R::A>> {
+    match fs::read(rt, path) {
+        Ok(octets) => Some(octets),
+        Err(_) => {
+            let _ = println!(rt; "refused File");
+            None
+        }
+    }
+}
+
+// A number of turns: decimal digits, from 1 on.
+fn turns_of(word: &str) -> Option<u32> {
+    let turns = script::decimal(word.as_bytes())?;
+    if turns == 0 {
+        return None;
+    }
+    u32::try_from(turns).ok()
+}
 
 fn main(rt: HostRuntime) -> ExitCode {
     let Ok(arguments) = env::args(&rt) else {
@@ -27,30 +57,36 @@ fn main(rt: HostRuntime) -> ExitCode {
             return ExitCode::from(1);
         }
     }
-    match words.as_slice() {
+    let status = match words.as_slice() {
         [_, command, plan] if command.as_str() == "check" => {
-            let Ok(plan) = fs::read(&rt, plan.as_str()) else {
-                let _ = println!(rt; "refused File");
+            let Some(plan) = octets_of(&rt, plan.as_str()) else {
                 return ExitCode::from(1);
             };
-            let mut out = io::writer(&rt);
-            ExitCode::from(check::check(rt.alloc(), &plan, &mut out))
+            check::check(rt.alloc(), &plan, &mut io::writer(&rt))
         }
         [_, command, plan, script] if command.as_str() == "replay" => {
-            let Ok(plan) = fs::read(&rt, plan.as_str()) else {
-                let _ = println!(rt; "refused File");
+            let Some(plan) = octets_of(&rt, plan.as_str()) else {
                 return ExitCode::from(1);
             };
-            let Ok(script) = fs::read(&rt, script.as_str()) else {
-                let _ = println!(rt; "refused File");
+            let Some(script) = octets_of(&rt, script.as_str()) else {
                 return ExitCode::from(1);
             };
-            let mut out = io::writer(&rt);
-            ExitCode::from(replay::replay(&rt, rt.alloc(), &plan, &script, &mut out))
+            replay::replay(&rt, rt.alloc(), &plan, &script, &mut io::writer(&rt))
+        }
+        [_, command, plan, turns] if command.as_str() == "serve" => {
+            let Some(turns) = turns_of(turns.as_str()) else {
+                let _ = eprintln!(rt; "{USAGE}");
+                return ExitCode::from(2);
+            };
+            let Some(plan) = octets_of(&rt, plan.as_str()) else {
+                return ExitCode::from(1);
+            };
+            serve::serve(&rt, rt.alloc(), &plan, turns, &mut io::writer(&rt))
         }
         _ => {
             let _ = eprintln!(rt; "{USAGE}");
-            ExitCode::from(2)
+            2
         }
-    }
+    };
+    ExitCode::from(status)
 }

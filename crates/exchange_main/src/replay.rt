@@ -1,6 +1,7 @@
 //! A script is replayed, line by line, through an exchange.
 ghost use Rattle.std.specs.Prelude.{◌≡◌, ◌+◌, ◌<◌, ◌^◌, length, IfSome};
 
+use crate::accounts::write_accounts;
 use crate::player::{Player, Stop};
 use crate::script::{Line, line_of};
 use exchange_core::{Exchange, NoGate};
@@ -22,14 +23,7 @@ fn settle<J: Naming, W: Write>(
     let Ok(settlement) = exchange.settle(passes) else {
         return Err(Stop::Memory);
     };
-    writeln!(
-        writer,
-        "octets {} {} {} {}",
-        settlement.accepted, settlement.packed, settlement.queued, settlement.dropped
-    )?;
-    if settlement.quelched > 0 {
-        writeln!(writer, "quelched {}", settlement.quelched)?;
-    }
+    write_accounts(&settlement, writer)?;
     Ok(())
 }
 

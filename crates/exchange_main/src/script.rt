@@ -21,8 +21,8 @@ pub enum Line<'a> {
     Settle,
 }
 
-// A number in decimal digits that fits 64 bits.
-fn decimal(digits: &[u8]) -> Option<u64> {
+/// A number in decimal digits that fits 64 bits.
+pub fn decimal(digits: &[u8]) -> Option<u64> {
     if digits.is_empty() {
         return None;
     }

@@ -1,3 +1,4 @@
+pub mod Carrying
 pub mod Entries
 pub mod LegChanges
 pub mod LegIndex

@@ -26,13 +26,16 @@ all timed (e ∷ es) each =
     length-append (entry e) (flat_map entry es)
     ∙ ap (λ n. n + length (flat_map entry es)) (one timed e each.0) ∙ ap (λ n. head_len timed + length e.media + n) (all timed es each.1)
 
+-- the length of a trunk frame
+pub trunk_len : (octets : List ℕ) (t : TrunkFrame) → SpellsTrunk octets t
+    → length octets ≡ 8 + entries_len (is_timed t.command_data) (map entry_item t.entries)
+trunk_len octets t s =
+    ap length s.whole ∙ length-append (trunk_head t.command_data t.timestamp) s.rest
+    ∙ ap (λ n. 8 + n) (ap length s.entries.whole ∙ all (is_timed t.command_data) t.entries s.entries.each)
+
 trunk_short : (octets : List ℕ) (t : TrunkFrame) → SpellsTrunk octets t → length octets ≤ 2048
     → 8 + entries_len (is_timed t.command_data) (map entry_item t.entries) ≤ 2048
-trunk_short octets t s short =
-    subst (λ n. n ≤ 2048)
-    (ap length s.whole ∙ length-append (trunk_head t.command_data t.timestamp) s.rest
-    ∙ ap (λ n. 8 + n) (ap length s.entries.whole ∙ all (is_timed t.command_data) t.entries s.entries.each))
-    short
+trunk_short octets t s short = subst (λ n. n ≤ 2048) (trunk_len octets t s) short
 
 within : (n m : ℕ) → n ≡ suc (suc (suc (suc m))) → n ≤ 2048 → m ≤ 2048
 within n m here short = omega arith

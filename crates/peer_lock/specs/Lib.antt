@@ -1,5 +1,6 @@
 pub mod Accounts
 pub mod Arrivals
+pub mod CarriedMedia
 pub mod Delivery
 pub mod Errors
 pub mod HandedUp

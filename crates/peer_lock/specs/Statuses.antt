@@ -1,6 +1,8 @@
 -- How a leg stands, as those see it who look.
-use Rattle.std.specs.Prelude.{◌&&◌, not, Bool, false, Option, None, Some}
+use Rattle.std.specs.Prelude.{ℕ, List, ◌&&◌, not, Bool, false, Option, None, Some}
 use Rattle.leg_machine.specs.Stages.{is_ended}
+use Rattle.seq_window.specs.Entry.{Entry}
+use Rattle.seq_window.specs.History.{IsLegal}
 use Rattle.seq_window.specs.Window.{held_count, entry_count}
 use Rattle.peer_lock.specs.Legs.{NamedLeg}
 use Rattle.peer_lock.specs.declared.steps.Status.{Status}
@@ -18,3 +20,7 @@ status_of named = record {
 abbrev pub is_done : Option NamedLeg → Bool
 is_done None = false
 is_done (Some named) = is_ended named.leg.stage && not named.leg.owes
+
+-- a record that a window of some width and limit may have
+abbrev pub IsHistory : List Entry → Type 0
+IsHistory history = (width limit : ℕ) × IsLegal width limit history

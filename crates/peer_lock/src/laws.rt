@@ -1,6 +1,7 @@
 //! What holds of every step of a peer.
-ghost use Rattle.std.specs.Prelude.{◌≡◌, ◌≤◌, ℕ, true, List, Option, None, Some};
+ghost use Rattle.std.specs.Prelude.{◌≡◌, ◌≤◌, ℕ, true, length, List, Option, None, Some};
 ghost use Rattle.call_book.specs.declared.leg_name.LegName.{LegName};
+ghost use Rattle.iax_frames.specs.Datagram.{Spells};
 ghost use Rattle.iax_frames.specs.FullFrame.{FullFrame};
 ghost use Rattle.iax_frames.specs.declared.datagram.Datagram.{Datagram};
 ghost use Rattle.leg_machine.specs.OrderTable.{wants_memory};
@@ -8,6 +9,7 @@ ghost use Rattle.leg_machine.specs.Seen.{kind_of};
 ghost use Rattle.leg_machine.specs.declared.formats.Format.{Format};
 ghost use Rattle.leg_machine.specs.declared.orders.Order.{Order};
 ghost use Rattle.peer_lock.specs.Arrivals.{datagram_step};
+ghost use Rattle.peer_lock.specs.CarriedMedia.{CarriesItsOwn};
 ghost use Rattle.peer_lock.specs.Legs.{AreLegs, PeerLegs, NamedLeg, leg_named, with_place};
 ghost use Rattle.peer_lock.specs.Openings.{is_free_name, opens_in, opens_out};
 ghost use Rattle.peer_lock.specs.Orders.{order_refused_by, ordered_step, IsOrderRefusal};
@@ -18,6 +20,15 @@ ghost use Rattle.peer_lock.specs.Ticks.{Ticks};
 ghost use Rattle.peer_lock.specs.declared.errors.OrderError.{OrderError};
 ghost use Rattle.peer_lock.specs.declared.errors.OrderError.TheVariants.{Memory};
 ghost use Rattle.peer_lock.specs.declared.steps.TickReport.{TickReport};
+
+/// Media that a datagram's step hands up lies within the datagram, each piece of it 1 to 1,380 octets, and the step takes credit for
+/// exactly all of it.
+pub fn media_is_the_datagrams()
+    ensures { (first : ℕ) (peer : PeerView) (octets : List ℕ) (datagram : Datagram) (now : ℕ) → Spells octets datagram →
+        CarriesItsOwn (length octets) (datagram_step first peer datagram now) }
+{
+    leg_machine::laws::media_is_the_frames();
+}
 
 /// Seen by the legs' names, their stages, whether they are doomed, whether they owe and what is handed up, each step of a peer, and
 /// each taking out of a leg, is one that callers at once reckon with. The steps are those of the calls' own clauses.

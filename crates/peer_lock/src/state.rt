@@ -4,7 +4,7 @@ ghost use Rattle.leg_machine.specs.PeerRules.{IsPeerRules};
 ghost use Rattle.peer_lock.specs.Accounts.{no_accounts, carried};
 ghost use Rattle.peer_lock.specs.Legs.{NamedLeg as NamedLegValue, AreLegs, leg_at, leg_named, with_place};
 ghost use Rattle.seq_window.specs.History.{IsLegal};
-ghost use Rattle.peer_lock.specs.Statuses.{status_of, is_done};
+ghost use Rattle.peer_lock.specs.Statuses.{IsHistory, status_of, is_done};
 ghost use Rattle.trunk_packer.specs.Queue.{media_octets};
 
 use crate::account::Account;
@@ -139,6 +139,7 @@ impl<J: Naming> PeerState<J> {
         ensures lease { IfSome result (λ retired. retired.0 ≡ name) }
         ensures record { IfSome result (λ retired. (named : NamedLegValue) → leg_named self.old.legs name ≡ Some named
             → (retired.1.entries ≡ named.leg.window.history) × IsLegal named.leg.window.width named.leg.window.limit named.leg.window.history) }
+        ensures legal { IfSome result (λ retired. IsHistory retired.1.entries) }
         ensures gone { OnSome result (self.new ≡ record self.old { legs = with_place self.old.legs name.number None }) }
         ensures same { IfNone result (self.new ≡ self.old) }
     {

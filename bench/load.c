@@ -1,0 +1,248 @@
+// Loads an exchange, or a plain relay, with calls that carry mini frames of 160 octets both ways, and says how many frames it
+// carried per second of its processor time.
+//
+// load exchange|relay CALLS SECONDS COMMAND [ARGUMENT..]
+//
+// It starts the command, which has to bind 127.0.0.1 port 4569; it is itself the peers at ports 5001 (west) and 5002 (east). To
+// an exchange it first sets up the calls, from west to the number 300. It then keeps a fixed number of frames on their way,
+// evenly over the calls, takes the processor time of the command over the given seconds, and ends the command.
+#define _GNU_SOURCE
+#include <arpa/inet.h>
+#include <netinet/in.h>
+#include <poll.h>
+#include <signal.h>
+#include <stdio.h>
+#include <stdlib.h>
+#include <string.h>
+#include <sys/socket.h>
+#include <sys/wait.h>
+#include <time.h>
+#include <unistd.h>
+
+enum { MOST_CALLS = 512, MEDIA = 160, BATCH = 32, ON_THE_WAY = 96, FULL = 12 };
+enum { DTMF = 1, VOICE = 2, CONTROL = 4, IAX = 6 };
+enum { NEW = 1, PING = 2, PONG = 3, ACK = 4, ACCEPT = 7, INVAL = 10, VNAK = 18, ANSWER = 4, ULAW = 4 };
+
+// One end of a call: our number is its place plus 1.
+struct leg {
+    unsigned theirs;
+    unsigned char sent, taken;
+    int open, voiced;
+};
+
+struct peer {
+    int wire;
+    struct leg legs[MOST_CALLS];
+    unsigned opened;
+    unsigned long carried;
+    long on_the_way;
+};
+
+static struct peer west, east;
+static struct timespec begin;
+static int calls;
+
+static unsigned now_ms(void) {
+    struct timespec now;
+    clock_gettime(CLOCK_MONOTONIC, &now);
+    return (unsigned)((now.tv_sec - begin.tv_sec) * 1000 + (now.tv_nsec - begin.tv_nsec) / 1000000);
+}
+
+static double seconds_of(clockid_t clock) {
+    struct timespec time;
+    clock_gettime(clock, &time);
+    return (double)time.tv_sec + (double)time.tv_nsec / 1e9;
+}
+
+static int bound(int port) {
+    struct sockaddr_in at = {.sin_family = AF_INET, .sin_port = htons((unsigned short)port)};
+    at.sin_addr.s_addr = htonl(INADDR_LOOPBACK);
+    int wire = socket(AF_INET, SOCK_DGRAM, 0), room = 8 << 20;
+    setsockopt(wire, SOL_SOCKET, SO_RCVBUF, &room, sizeof room);
+    if (wire < 0 || bind(wire, (struct sockaddr *)&at, sizeof at) != 0) {
+        perror("load: bind");
+        exit(1);
+    }
+    struct sockaddr_in to = at;
+    to.sin_port = htons(4569);
+    if (connect(wire, (struct sockaddr *)&to, sizeof to) != 0) {
+        perror("load: connect");
+        exit(1);
+    }
+    return wire;
+}
+
+static void put16(unsigned char *at, unsigned n) { at[0] = (unsigned char)(n >> 8), at[1] = (unsigned char)n; }
+
+// Sends a full frame ("Full Frames").
+static void send_full(struct peer *peer, int place, unsigned ts, int numbered, int type, int subclass, const void *data, size_t len) {
+    struct leg *leg = &peer->legs[place];
+    unsigned char frame[FULL + 256];
+    put16(frame, 0x8000u | (unsigned)(place + 1));
+    put16(frame + 2, leg->theirs);
+    put16(frame + 4, ts >> 16), put16(frame + 6, ts);
+    frame[8] = leg->sent, frame[9] = leg->taken;
+    frame[10] = (unsigned char)type, frame[11] = (unsigned char)subclass;
+    if (len) memcpy(frame + FULL, data, len);
+    if (numbered) leg->sent++;
+    (void)send(peer->wire, frame, FULL + len, 0);
+}
+
+static const unsigned char FORMAT_OF_CALL[] = {0x09, 4, 0, 0, 0, 4};
+static const unsigned char NEW_FOR_300[] = {0x0b, 2, 0, 2, 0x01, 3, '3', '0', '0', 0x09, 4, 0, 0, 0, 4, 0x08, 4, 0, 0, 0, 4};
+
+// A full frame came in: it is acknowledged, and answered where the call has to go on.
+static void take_full(struct peer *peer, const unsigned char *frame) {
+    unsigned theirs = ((unsigned)frame[0] << 8 | frame[1]) & 0x7fff, ours = ((unsigned)frame[2] << 8 | frame[3]) & 0x7fff;
+    unsigned ts = (unsigned)frame[4] << 24 | (unsigned)frame[5] << 16 | (unsigned)frame[6] << 8 | frame[7];
+    int type = frame[10], subclass = frame[11];
+    if (type == IAX && (subclass == ACK || subclass == INVAL || subclass == VNAK)) return;
+    if (ours == 0) {
+        if (type != IAX || subclass != NEW) return;
+        for (unsigned i = 0; i < peer->opened; i++)
+            if (peer->legs[i].theirs == theirs) return;
+        if (peer->opened == (unsigned)calls) return;
+        int place = (int)peer->opened++;
+        peer->legs[place].theirs = theirs;
+        peer->legs[place].taken = 1;
+        send_full(peer, place, ts + 1, 1, IAX, ACCEPT, FORMAT_OF_CALL, sizeof FORMAT_OF_CALL);
+        send_full(peer, place, ts + 2, 1, CONTROL, ANSWER, 0, 0);
+        peer->legs[place].open = 1;
+        return;
+    }
+    if (ours > (unsigned)calls) return;
+    int place = (int)ours - 1;
+    struct leg *leg = &peer->legs[place];
+    if (frame[8] == leg->taken) {
+        leg->taken++;
+        leg->theirs = theirs;
+        if (type == CONTROL && subclass == ANSWER) leg->open = 1;
+        if (type == VOICE) peer->carried++, peer->on_the_way--;
+        if (type == IAX && subclass == PING) {
+            send_full(peer, place, ts, 1, IAX, PONG, 0, 0);
+            return;
+        }
+    }
+    send_full(peer, place, ts, 0, IAX, ACK, 0, 0);
+}
+
+// Takes what is there.
+static void take_all(struct peer *peer) {
+    static unsigned char frames[BATCH][2049];
+    struct iovec parts[BATCH];
+    struct mmsghdr all[BATCH];
+    memset(all, 0, sizeof all);
+    for (int i = 0; i < BATCH; i++) {
+        parts[i] = (struct iovec){frames[i], sizeof frames[i]};
+        all[i].msg_hdr.msg_iov = &parts[i], all[i].msg_hdr.msg_iovlen = 1;
+    }
+    for (;;) {
+        int got = recvmmsg(peer->wire, all, BATCH, MSG_DONTWAIT, 0);
+        for (int i = 0; i < got; i++) {
+            if (frames[i][0] & 0x80) take_full(peer, frames[i]);
+            else peer->carried++, peer->on_the_way--;
+        }
+        if (got < BATCH) return;
+    }
+}
+
+static void wait_for_any(int ms) {
+    struct pollfd both[2] = {{west.wire, POLLIN, 0}, {east.wire, POLLIN, 0}};
+    poll(both, 2, ms);
+    take_all(&west);
+    take_all(&east);
+}
+
+static int both_open(int place) { return west.legs[place].open && east.legs[place].open; }
+
+// Sets up the calls one after another, and opens the voice of each both ways.
+static int set_up(void) {
+    static const unsigned char media[MEDIA];
+    for (int place = 0; place < calls; place++) {
+        // The first NEW may go out before the command has bound its socket, so it is sent again.
+        for (int tries = 0; tries < 500 && !both_open(place); tries++) {
+            if (tries % 50 == 0) {
+                west.legs[place].sent = 0;
+                send_full(&west, place, 0, 1, IAX, NEW, NEW_FOR_300, sizeof NEW_FOR_300);
+            }
+            wait_for_any(10);
+        }
+        if (!both_open(place)) return place;
+    }
+    for (int place = 0; place < calls; place++) {
+        long before = (long)(west.carried + east.carried);
+        send_full(&west, place, now_ms(), 1, VOICE, ULAW, media, MEDIA);
+        send_full(&east, place, now_ms(), 1, VOICE, ULAW, media, MEDIA);
+        for (int tries = 0; tries < 500 && (long)(west.carried + east.carried) < before + 2; tries++) wait_for_any(10);
+    }
+    return calls;
+}
+
+// Sends a batch of mini frames, one of each of the next calls in turn ("Mini Frames").
+static void send_batch(struct peer *from, struct peer *to, int *next) {
+    static unsigned char frames[BATCH][4 + MEDIA];
+    struct iovec parts[BATCH];
+    struct mmsghdr all[BATCH];
+    unsigned ts = now_ms();
+    memset(all, 0, sizeof all);
+    for (int i = 0; i < BATCH; i++) {
+        put16(frames[i], (unsigned)(*next + 1)), put16(frames[i] + 2, ts);
+        parts[i] = (struct iovec){frames[i], sizeof frames[i]};
+        all[i].msg_hdr.msg_iov = &parts[i], all[i].msg_hdr.msg_iovlen = 1;
+        *next = (*next + 1) % calls;
+    }
+    int gone = sendmmsg(from->wire, all, BATCH, 0);
+    if (gone > 0) to->on_the_way += gone;
+}
+
+// Keeps frames on their way both ways for so many seconds.
+static void carry(double seconds) {
+    int next_west = 0, next_east = 0;
+    double end = seconds_of(CLOCK_MONOTONIC) + seconds, quiet = 0;
+    while (seconds_of(CLOCK_MONOTONIC) < end) {
+        unsigned long before = west.carried + east.carried;
+        if (east.on_the_way < ON_THE_WAY) send_batch(&west, &east, &next_west);
+        if (west.on_the_way < ON_THE_WAY) send_batch(&east, &west, &next_east);
+        wait_for_any(1);
+        // What is lost doesn't come: after a while nothing is on its way any more.
+        if (west.carried + east.carried != before) quiet = 0;
+        else if (quiet == 0) quiet = seconds_of(CLOCK_MONOTONIC);
+        else if (seconds_of(CLOCK_MONOTONIC) > quiet + 0.1) west.on_the_way = east.on_the_way = 0, quiet = 0;
+    }
+}
+
+int main(int count, char **words) {
+    if (count < 5 || (calls = atoi(words[2])) < 1 || calls > MOST_CALLS) {
+        fprintf(stderr, "usage: load exchange|relay CALLS SECONDS COMMAND [ARGUMENT..]\n");
+        return 2;
+    }
+    double seconds = atof(words[3]);
+    clock_gettime(CLOCK_MONOTONIC, &begin);
+    west.wire = bound(5001), east.wire = bound(5002);
+    pid_t command = fork();
+    if (command == 0) {
+        execvp(words[4], words + 4);
+        perror("load: command");
+        _exit(127);
+    }
+    usleep(200000);
+    int status = 1;
+    clockid_t processor;
+    if (strcmp(words[1], "exchange") == 0 && set_up() != calls)
+        fprintf(stderr, "load: a call wasn't set up\n");
+    else if (clock_getcpuclockid(command, &processor) != 0)
+        fprintf(stderr, "load: the command has ended\n");
+    else {
+        carry(0.5);
+        unsigned long carried = west.carried + east.carried;
+        double used = seconds_of(processor), from = seconds_of(CLOCK_MONOTONIC);
+        carry(seconds);
+        carried = west.carried + east.carried - carried;
+        used = seconds_of(processor) - used, from = seconds_of(CLOCK_MONOTONIC) - from;
+        printf("%s %d calls: %lu frames in %.2f s, %.2f s of processor time: %.0f frames per second of processor time\n", words[1], calls, carried, from, used, (double)carried / used);
+        status = 0;
+    }
+    kill(command, SIGTERM);
+    waitpid(command, 0, 0);
+    return status;
+}

@@ -1,0 +1,287 @@
+//! Worked examples by one leg: full frames, orders and ticks come, octets go out.
+ghost use Rattle.std.specs.Prelude.{◌≡◌, ◌≤◌, [], length, IfSome};
+ghost use Rattle.leg_machine.specs.OrderTable.{IsShortMedia};
+
+mod challenges;
+mod media;
+mod refused_memory;
+mod windows;
+
+use call_auth::Challenge;
+use iax_frames::{CallNumber, Datagram, Full, read};
+use leg_machine::{
+    Cause, Digit, Format, Heard, Judged, Leg, Order, OrderError, Replies, Signal, Stage,
+};
+use peer_plan::Plan;
+use std::alloc::Global;
+use std::process::Abort;
+use std::test::Fail;
+
+/// A NEW for 200 from call number 7.
+const NEW_200: &str = "8007000000000000000006010b0200020103323030090400000004080400000004";
+
+/// A NEW for 300 from call number 7.
+const NEW_300: &str = "8007000000000000000006010b0200020103333030090400000004080400000004";
+
+// A plan of a peer in the west and one in the east, with further lines at its top and for each of both.
+fn plan_of(alloc: Global, top: &str, west: &str, east: &str) -> Result<Plan, Fail> {
+    let text = format!(in alloc;
+        "format = 2\n{top}\n\
+[[worker]]\n\
+address = \"127.0.0.1\"\n\
+port = 4569\n\
+[[peer]]\n\
+name = \"west\"\n\
+address = \"127.0.0.1\"\n\
+port = 5001\n\
+worker = 0\n\
+formats = [\"ulaw\"]\n\
+numbers = 4\n\
+{west}\n\
+[[peer]]\n\
+name = \"east\"\n\
+address = \"127.0.0.1\"\n\
+port = 5002\n\
+worker = 0\n\
+formats = [\"ulaw\"]\n\
+numbers = 4\n\
+{east}\n\
+[[route]]\n\
+prefix = \"3\"\n\
+peer = \"east\"\n"
+    )?;
+    Ok(Plan::read(alloc, text.as_bytes())?)
+}
+
+// The full frame of a datagram.
+fn full_of(octets: &[u8]) -> Option<Full<'_>>
+    ensures { IfSome result (λ frame. length frame.payload ≤ 1388) }
+{
+    let Ok(Datagram::Full(frame)) = read(octets) else {
+        return None;
+    };
+    if frame.payload().len() > 1388 {
+        return None;
+    }
+    Some(frame)
+}
+
+/// A leg, and the list to which it writes.
+#[derive(Drop)]
+struct Tested {
+    alloc: Global,
+    leg: Leg,
+    replies: Box<Replies>,
+}
+
+// The leg of the peer in the west that a NEW opens at moment 0, under local number 1.
+fn called(
+    alloc: Global,
+    plan: &Plan,
+    new: &str,
+    challenge: &[u8],
+) -> Result<(Tested, Heard), Fail> {
+    let octets = hex::decode(alloc, new)?;
+    let Some(frame) = full_of(&octets) else {
+        return Err(Fail::new("no full frame"));
+    };
+    let Some(challenge) = Challenge::new(challenge) else {
+        return Err(Fail::new("no challenge"));
+    };
+    if frame.oseqno() != 0 {
+        return Err(Fail::new("not the first frame"));
+    }
+    if plan.peer_count() == 0 {
+        return Err(Fail::new("no peer"));
+    }
+    let mut replies = Box::new(alloc, Replies::new())?;
+    let (leg, heard) = Leg::open_in_into(
+        alloc,
+        plan.rules(0),
+        CallNumber::new(1),
+        &frame,
+        0,
+        &challenge,
+        &mut replies,
+    )?;
+    let tested = Tested {
+        alloc,
+        leg,
+        replies,
+    };
+    Ok((tested, heard))
+}
+
+// The leg of the peer in the east that a call for 300 opens at moment 0, under local number 5.
+fn calling(alloc: Global, plan: &Plan) -> Result<Tested, Fail> {
+    if plan.peer_count() < 2 {
+        return Err(Fail::new("no peer in the east"));
+    }
+    let mut replies = Box::new(alloc, Replies::new())?;
+    let leg = Leg::open_out_into(
+        alloc,
+        plan.rules(1),
+        CallNumber::new(5),
+        b"300",
+        None,
+        Format::Ulaw,
+        0,
+        &mut replies,
+    )?;
+    Ok(Tested {
+        alloc,
+        leg,
+        replies,
+    })
+}
+
+/// What the layer above asks of a leg.
+#[derive(Drop)]
+enum Wish<'a> {
+    Accept,
+    Reject(Cause),
+    Answer,
+    /// The digit 5.
+    Digit,
+    Media(&'a [u8]),
+    Hangup,
+    Doom,
+}
+
+/// What happens to a leg, and what comes of it beside the datagrams.
+#[derive(Drop)]
+enum Event<'a> {
+    /// A full frame comes: how it is judged, and what is handed up.
+    Frame(&'a str, Judged, Option<Signal>),
+    /// An order is given, and refused or not.
+    Order(Wish<'a>, Result<(), OrderError>),
+}
+
+/// A line of a worked example: the moment, what happens, the datagrams that go out, and the stage after.
+#[derive(Drop)]
+struct Line<'a> {
+    at: u64,
+    event: Event<'a>,
+    said: &'a [&'a str],
+    stage: Stage,
+}
+
+impl Tested {
+    // A full frame comes.
+    fn hears(&mut self, at: u64, text: &str) -> Result<Heard, Fail> {
+        let octets = hex::decode(self.alloc, text)?;
+        let Some(frame) = full_of(&octets) else {
+            return Err(Fail::new("no full frame"));
+        };
+        self.replies.clear();
+        Ok(self.leg.full_into(&frame, at, &mut self.replies)?)
+    }
+
+    // An order is given.
+    fn obeys(&mut self, at: u64, order: &Order) -> Result<(), OrderError>
+        requires { IsShortMedia order.now }
+    {
+        self.replies.clear();
+        self.leg.order_into(order, at, &mut self.replies)
+    }
+
+    // Something is asked of the leg.
+    fn grants(&mut self, at: u64, wish: &Wish) -> Result<(), OrderError> {
+        match wish {
+            Wish::Accept => self.obeys(at, &Order::Accept),
+            Wish::Reject(cause) => self.obeys(at, &Order::Reject(*cause)),
+            Wish::Answer => self.obeys(at, &Order::Answer),
+            Wish::Digit => self.obeys(at, &Order::Dtmf(Digit::new(0x35))),
+            Wish::Media(media) => self.sends(at, media),
+            Wish::Hangup => self.obeys(at, &Order::Hangup),
+            Wish::Doom => self.obeys(at, &Order::Doom),
+        }
+    }
+
+    // Media is to go out.
+    fn sends(&mut self, at: u64, media: &[u8]) -> Result<(), OrderError> {
+        if media.is_empty() {
+            return Err(OrderError::WrongStage);
+        }
+        if media.len() > 1380 {
+            return Err(OrderError::WrongStage);
+        }
+        self.obeys(at, &Order::Media(media))
+    }
+
+    // Time goes on. Answers how many frames had no memory.
+    fn waits(&mut self, at: u64) -> u32 {
+        self.replies.clear();
+        self.leg.tick_into(at, &mut self.replies)
+    }
+
+    // The octets of a datagram of the last step.
+    fn octets(&self, place: usize) -> Result<String, Fail> {
+        let Some(out) = self.replies.get(place) else {
+            return Err(Fail::new("too few datagrams"));
+        };
+        Ok(hex::encode(self.alloc, out.octets())?)
+    }
+
+    // These datagrams went out in the last step, and no other.
+    fn said(&self, rt: &impl Abort, expected: &[&str]) -> Result<(), Fail> {
+        assert_eq!(rt; self.replies.len(), expected.len());
+        for (place, text) in expected.iter().enumerate() {
+            let octets = self.octets(place)?;
+            assert_eq!(rt; octets.as_str(), *text, "datagram {place}");
+        }
+        Ok(())
+    }
+
+    // What happens in a line, happens so.
+    fn happens(&mut self, rt: &impl Abort, at: u64, event: &Event) -> Result<(), Fail> {
+        match event {
+            Event::Frame(text, judged, signal) => {
+                let heard = self.hears(at, text)?;
+                assert_eq!(rt; heard.judged, *judged);
+                assert_eq!(rt; heard.signal, *signal);
+            }
+            Event::Order(wish, answer) => {
+                assert_eq!(rt; self.grants(at, wish), *answer);
+            }
+        }
+        Ok(())
+    }
+
+    // All that happens, line by line.
+    fn plays(&mut self, rt: &impl Abort, lines: &[Line]) -> Result<(), Fail> {
+        for line in lines {
+            self.happens(rt, line.at, &line.event)?;
+            self.said(rt, line.said)?;
+            assert_eq!(rt; self.leg.stage(), line.stage);
+        }
+        Ok(())
+    }
+}
+
+// The leg of a NEW for 300, once it accepted the call at moment 0, got the acknowledgement, and answered at 20.
+fn answered(rt: &impl Abort, alloc: Global, plan: &Plan) -> Result<Tested, Fail> {
+    let (mut tested, _) = called(alloc, plan, NEW_300, b"0")?;
+    let lines = [
+        Line {
+            at: 0,
+            event: Event::Order(Wish::Accept, Ok(())),
+            said: &["800100070000000000010607090400000004"],
+            stage: Stage::Linked,
+        },
+        Line {
+            at: 10,
+            event: Event::Frame("800700010000000001010604", Judged::Unnumbered, None),
+            said: &[],
+            stage: Stage::Linked,
+        },
+        Line {
+            at: 20,
+            event: Event::Order(Wish::Answer, Ok(())),
+            said: &["800100070000001401010404"],
+            stage: Stage::Up,
+        },
+    ];
+    tested.plays(rt, &lines)?;
+    Ok(tested)
+}

@@ -1,0 +1,257 @@
+//! The workers of a plan carry calls between real peers.
+ghost use Rattle.std.specs.Prelude.{◌≡◌, ◌+◌, ◌<◌, ◌≤◌, ◌^◌, IfOk, length, vec_len};
+
+use crate::accounts::write_accounts;
+use crate::clock::SinceOpening;
+use crate::digits::Digits;
+use exchange_core::{Exchange, NoGate};
+use media_ledger::Blank;
+use peer_lock::{Naming, Pass, Service};
+use peer_plan::Plan;
+use rand::make_rng;
+use std::alloc::{AllocError, Global};
+use std::io;
+use std::io::Write;
+use std::marker::Brand;
+use std::net::Net;
+use std::random::RandomSource;
+use std::sync::Wait;
+use std::sync::ledger::Ledger;
+use std::thread::Threads;
+use std::time::{Clock, Instant};
+use udp_workers::{BindError, MioWire, NoThread, Post, Seat, TurnReport, Worker, run_all};
+
+// Why a service ends before its turns are made, or before its accounts are written.
+#[derive(Clone, Copy, Debug, PartialEq, Eq)]
+enum Stop {
+    // A worker's socket isn't bound.
+    Bind,
+    // A request for memory was refused.
+    Memory,
+    // A thread was refused.
+    NoThread,
+    // The system's clock can't be read.
+    Clock,
+    // The system gives no random octets.
+    Entropy,
+    // The writer can't write.
+    Writer,
+}
+
+impl From<BindError> for Stop {
+    fn from(error: BindError) -> Stop {
+        match error {
+            BindError::Bind => Stop::Bind,
+            BindError::Memory => Stop::Memory,
+        }
+    }
+}
+
+impl From<AllocError> for Stop {
+    fn from(_error: AllocError) -> Stop {
+        Stop::Memory
+    }
+}
+
+impl From<NoThread> for Stop {
+    fn from(_error: NoThread) -> Stop {
+        Stop::NoThread
+    }
+}
+
+impl From<io::Error> for Stop {
+    fn from(_error: io::Error) -> Stop {
+        Stop::Writer
+    }
+}
+
+// What is printed after `refused`; nothing where the writer can't write.
+fn name_of(stop: Stop) -> Option<&'static str> {
+    match stop {
+        Stop::Bind => Some("Bind"),
+        Stop::Memory => Some("Memory"),
+        Stop::NoThread => Some("NoThread"),
+        Stop::Clock => Some("Clock"),
+        Stop::Entropy => Some("Entropy"),
+        Stop::Writer => None,
+    }
+}
+
+type ServiceSeat<'r, R, J, P> = Seat<MioWire, SinceOpening<'r, R>, Digits, J, P>;
+
+// The seat of the worker at a place of the plan, over its own socket.
+fn seat_of<'r, J: Naming, P: Post, R: Clock + Net + RandomSource>(
+    rt: &'r R,
+    alloc: Global,
+    plan: &Plan,
+    place: u16,
+    pass: Pass<J>,
+    opened: Instant,
+) -> Result<ServiceSeat<'r, R, J, P>, Stop>
+    requires plan { plan.now ≡ P.plan }
+    requires place { place < length plan.now.workers }
+{
+    let worker = Worker::new(plan, place);
+    let endpoints = worker.endpoints(alloc, plan)?;
+    let wire = MioWire::bind(rt, alloc, plan.workers()[usize::from(place)], endpoints)?;
+    let Ok(generator) = make_rng(rt) else {
+        return Err(Stop::Entropy);
+    };
+    let moments = SinceOpening {
+        rt,
+        opened,
+        last: 0,
+    };
+    Ok(Seat::new(worker, wire, pass, moments, Digits { generator }))
+}
+
+// The seats of all workers of the plan, in its order. Each takes the next pass, so the first worker has the first.
+fn seats_of<'r, J: Naming, P: Post, R: Clock + Net + RandomSource>(
+    rt: &'r R,
+    alloc: Global,
+    plan: &Plan,
+    passes: &mut Vec<Pass<J>>,
+    opened: Instant,
+) -> Result<Vec<ServiceSeat<'r, R, J, P>>, Stop>
+    requires plan { plan.now ≡ P.plan }
+    requires enough { length plan.now.workers ≤ vec_len passes.old }
+    ensures { IfOk result (λ seats. vec_len seats ≤ 8) }
+{
+    let mut seats = Vec::new(alloc);
+    for place in 0..plan.workers().len() {
+        let pass = passes.remove(0);
+        let seat = seat_of::<J, P, R>(rt, alloc, plan, place as u16, pass, opened)?;
+        if seats.push(seat).is_err() {
+            return Err(Stop::Memory);
+        }
+    }
+    Ok(seats)
+}
+
+// The reports of the seats, in order. Their passes go back to the others.
+fn reports_of<'r, J: Naming, P: Post, R: Clock>(
+    alloc: Global,
+    seats: Vec<ServiceSeat<'r, R, J, P>>,
+    passes: &mut Vec<Pass<J>>,
+) -> Result<Vec<TurnReport>, Stop> {
+    let mut reports = Vec::new(alloc);
+    for seat in seats {
+        let place = seat.into_place();
+        if reports.push(place.report).is_err() || passes.push(place.pass).is_err() {
+            return Err(Stop::Memory);
+        }
+    }
+    Ok(reports)
+}
+
+// One line for each worker, in order.
+fn write_reports<W: Write>(reports: &[TurnReport], writer: &mut W) -> io::Result<()> {
+    for (place, report) in reports.iter().enumerate() {
+        writeln!(
+            writer,
+            "worker {place} {} {} {} {}",
+            report.received, report.sent, report.lost, report.faults
+        )?;
+    }
+    Ok(())
+}
+
+// All workers make their turns on an exchange of the plan; then their reports and the accounts are written.
+fn work<
+    J: Naming,
+    P: Post + Send + Sync,
+    R: Clock + Net + RandomSource + Threads + Wait + Sync,
+    W: Write,
+>(
+    rt: &R,
+    alloc: Global,
+    plan: Plan,
+    turns: u32,
+    writer: &mut W,
+    octets: Blank,
+    steps: Blank,
+) -> Result<(), Stop>
+    requires plan { plan ≡ P.plan }
+    requires octets { (octets.name ≡ J.Octets.name) × (octets.parts ≡ J.Octets.parts) × (octets.parts ≡ length plan.peers + plan.passes) }
+    requires steps { (steps.name ≡ J.Steps.name) × (steps.parts ≡ J.Steps.parts) × (steps.parts ≡ length plan.peers + plan.passes) }
+    requires first { (J.first_octets ≡ 2 ^ 48) × (J.first_steps ≡ 2 ^ 48) }
+{
+    let Ok(opened) = Instant::now(rt) else {
+        return Err(Stop::Clock);
+    };
+    let _passes = plan.passes();
+    let (exchange, mut passes) = Exchange::<NoGate, J>::open(alloc, plan, NoGate, octets, steps)?;
+    let mut seats = seats_of::<J, P, R>(rt, alloc, exchange.plan(), &mut passes, opened)?;
+    run_all(rt, &exchange, &mut seats, turns)?;
+    let reports = reports_of(alloc, seats, &mut passes)?;
+    write_reports(&reports, writer)?;
+    let Ok(settlement) = exchange.settle(passes) else {
+        return Err(Stop::Memory);
+    };
+    write_accounts(&settlement, writer)?;
+    Ok(())
+}
+
+// The same, by the ledgers and the plan that the caller names.
+fn work_named<
+    O: Ledger + Send + Sync,
+    S: Ledger + Send + Sync,
+    P: Post + Send + Sync,
+    R: Clock + Net + RandomSource + Threads + Wait + Sync,
+    W: Write,
+>(
+    rt: &R,
+    alloc: Global,
+    plan: Plan,
+    turns: u32,
+    writer: &mut W,
+    octets: Blank,
+    steps: Blank,
+) -> Result<(), Stop>
+    requires plan { plan ≡ P.plan }
+    requires octets { (octets.name ≡ O.name) × (octets.parts ≡ O.parts) × (octets.parts ≡ length plan.peers + plan.passes) }
+    requires steps { (steps.name ≡ S.name) × (steps.parts ≡ S.parts) × (steps.parts ≡ length plan.peers + plan.passes) }
+{
+    work::<Service<O, S>, P, R, W>(rt, alloc, plan, turns, writer, octets, steps)
+}
+
+/// Makes so many turns of each worker of a plan, each on a thread of its own over its own UDP socket. Then it writes
+/// `worker <place> <received> <sent> <lost> <faults>` for each, and the accounts. Answers the status: 0, or 1 after a refusal.
+///
+/// The plan is the octets of its file; a refused one is told as `check` tells it. `refused Bind`: a socket can't be bound;
+/// `refused NoThread`: a thread was refused; `refused Memory`; `refused Clock`, `refused Entropy`: the system tells no time, or
+/// gives no random octets.
+pub fn serve<R: Clock + Net + RandomSource + Threads + Wait + Sync, W: Write>(
+    rt: &R,
+    alloc: Global,
+    plan: &[u8],
+    turns: u32,
+    writer: &mut W,
+) -> u8 {
+    let plan = match Plan::read(alloc, plan) {
+        Ok(plan) => plan,
+        Err(fault) => {
+            let _ = writeln!(writer, "refused {fault}");
+            return 1;
+        }
+    };
+    let parts = u64::from(plan.peer_count()) + u64::from(plan.passes());
+    let served = work_named::<Brand, Brand, Brand, R, W>(
+        rt,
+        alloc,
+        plan,
+        turns,
+        writer,
+        Blank::new(parts),
+        Blank::new(parts),
+    );
+    match served {
+        Ok(()) => 0,
+        Err(stop) => {
+            if let Some(name) = name_of(stop) {
+                let _ = writeln!(writer, "refused {name}");
+            }
+            1
+        }
+    }
+}

@@ -1,0 +1,14 @@
+use Rattle.std.proofs.Common.{◌≡◌, ◌+◌, ◌≤◌}
+use Rattle.udp_workers.specs.Counts.{RisesBy}
+use Rattle.udp_workers.proofs.receiving.receive_all.Given as goal
+
+abbrev pub invariant-loop : goal.invariant-loop
+invariant-loop g l = record {
+  received : l.report.received ≤ l.counter;
+  refused : l.report.refused ≤ l.report.received;
+  no_fault : l.report.faults ≡ 0;
+  given : g.W.Wire.given l.wire ≡ g.W.Wire.given l.fn.wire;
+  failures : RisesBy (g.W.Wire.failures l.fn.wire) (g.W.Wire.failures l.wire) 0;
+  peers : g.W.Wire.peers l.wire ≡ g.W.Wire.peers l.fn.wire;
+  steps : l.fn.pass.steps + l.report.received ≤ l.pass.steps + l.report.refused;
+}

@@ -1,0 +1,6 @@
+-- Counts of 64 bits that wrap.
+use Rattle.std.specs.Prelude.{◌≡◌, ℕ, ◌+◌, ◌%◌, ◌^◌}
+
+-- the count went up by n, modulo 2 ^ 64
+abbrev pub RisesBy : ℕ → ℕ → ℕ → Type 0
+RisesBy old new n = new % 2 ^ 64 ≡ (old + n) % 2 ^ 64

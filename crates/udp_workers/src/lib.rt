@@ -1,0 +1,24 @@
+//! Workers: each carries datagrams between its own socket and the exchange, for its own peers alone.
+#![tactic(auto)]
+
+mod mio_wire;
+mod receiving;
+mod report;
+mod running;
+mod seat;
+mod sending;
+mod sources;
+#[cfg(test)]
+mod tests;
+mod threads;
+mod turning;
+mod wire;
+mod worker;
+
+pub use mio_wire::{BindError, MioWire};
+pub use report::TurnReport;
+pub use seat::{Place, Post, Seat};
+pub use sources::{Challenges, Moments};
+pub use threads::{NoThread, run_all};
+pub use wire::{Wire, WireFault};
+pub use worker::Worker;

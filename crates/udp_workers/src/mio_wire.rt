@@ -1,0 +1,158 @@
+//! A wire over a UDP socket of the system.
+ghost use Rattle.std.specs.Prelude.{◌≡◌, IfOk};
+
+use crate::wire::{Wire, WireFault};
+use mio::net::UdpSocket;
+use mio::{Events, Interest, Poll, Token};
+use peer_plan::Endpoint;
+use std::alloc::{AllocError, Global};
+use std::io;
+use std::net::{IpAddr, Ipv4Addr, Net, SocketAddr};
+use std::time::Duration;
+
+/// Why no socket was bound.
+#[derive(Clone, Copy, Debug, PartialEq, Eq)]
+pub enum BindError {
+    /// The system doesn't bind a socket to that endpoint, or has no more sockets.
+    Bind,
+    /// A request for memory was refused.
+    Memory,
+}
+
+impl From<io::Error> for BindError {
+    fn from(_error: io::Error) -> BindError {
+        BindError::Bind
+    }
+}
+
+impl From<AllocError> for BindError {
+    fn from(_error: AllocError) -> BindError {
+        BindError::Memory
+    }
+}
+
+/// A UDP socket of the system that is bound to an IPv4 endpoint.
+#[derive(Drop)]
+pub struct MioWire {
+    socket: UdpSocket,
+    poll: Poll,
+    events: Events,
+    // Whether the last `receive` found nothing. The system tells of each datagram once, so without it there may be more.
+    empty: bool,
+    peers: Vec<Endpoint>,
+    given: u64,
+    failures: u64,
+}
+
+fn socket_address(endpoint: Endpoint) -> SocketAddr {
+    SocketAddr::new(
+        IpAddr::V4(Ipv4Addr::from_octets(endpoint.address)),
+        endpoint.port,
+    )
+}
+
+fn endpoint_of(address: SocketAddr) -> Option<Endpoint> {
+    match address {
+        SocketAddr::V4(address) => Some(Endpoint {
+            address: address.ip().octets(),
+            port: address.port(),
+        }),
+        SocketAddr::V6(_) => None,
+    }
+}
+
+impl MioWire {
+    ghost use Rattle.udp_workers.specs.MioWire.{given_of, failures_of, peers_of};
+
+    /// A socket that is bound to this endpoint and may send to these peers. Nothing was given to it yet, and no call failed.
+    ///
+    /// At an `Err` the list is dropped.
+    pub fn bind<N: Net>(
+        rt: &N,
+        alloc: Global,
+        at: Endpoint,
+        peers: Vec<Endpoint>,
+    ) -> Result<MioWire, BindError>
+        ensures peers { IfOk result (λ wire. peers_of wire ≡ peers.items) }
+        ensures given { IfOk result (λ wire. given_of wire ≡ 0) }
+        ensures failures { IfOk result (λ wire. failures_of wire ≡ 0) }
+    {
+        let poll = Poll::new(rt)?;
+        let events = Events::with_capacity(alloc, 1)?;
+        let mut socket = UdpSocket::bind(rt, socket_address(at))?;
+        poll.registry()
+            .register(&mut socket, Token(0), Interest::READABLE)?;
+        Ok(MioWire {
+            socket,
+            poll,
+            events,
+            empty: false,
+            peers,
+            given: 0,
+            failures: 0,
+        })
+    }
+}
+
+impl Wire for MioWire {
+    ghost use Rattle.udp_workers.specs.MioWire.{given_of, failures_of, peers_of};
+
+    ghost given = { given_of };
+
+    ghost failures = { failures_of };
+
+    ghost peers = { peers_of };
+
+    fn receive(&mut self, octets: &mut [u8]) -> Result<Option<(usize, Endpoint)>, WireFault> {
+        self.empty = false;
+        match self.socket.recv_from(octets) {
+            Ok((len, from)) => {
+                if let Some(sender) = endpoint_of(from) {
+                    return Ok(Some((len, sender)));
+                }
+            }
+            Err(error) => {
+                if error.kind() == io::ErrorKind::WouldBlock {
+                    self.empty = true;
+                    return Ok(None);
+                }
+            }
+        }
+        self.failures = self.failures.wrapping_add(1);
+        Err(WireFault)
+    }
+
+    fn send(&mut self, to: Endpoint, octets: &[u8]) -> Result<bool, WireFault> {
+        self.given = self.given.wrapping_add(1);
+        match self.socket.send_to(octets, socket_address(to)) {
+            Ok(_) => return Ok(true),
+            Err(error) => {
+                if error.kind() == io::ErrorKind::WouldBlock {
+                    return Ok(false);
+                }
+            }
+        }
+        self.failures = self.failures.wrapping_add(1);
+        Err(WireFault)
+    }
+
+    fn wait(&mut self, ms: u64) {
+        if self.empty {
+            let _ = self
+                .poll
+                .poll(&mut self.events, Some(Duration::from_millis(ms)));
+        }
+    }
+
+    fn peers(&self) -> &[Endpoint] {
+        &self.peers
+    }
+
+    fn given(&self) -> u64 {
+        self.given
+    }
+
+    fn failures(&self) -> u64 {
+        self.failures
+    }
+}

@@ -1,0 +1,68 @@
+//! Datagrams come in.
+ghost use Rattle.std.specs.Prelude.{◌≡◌, ◌+◌, ◌≤◌};
+ghost use Rattle.udp_workers.specs.Counts.{RisesBy};
+
+use crate::wire::Wire;
+use call_auth::Challenge;
+use exchange_core::{Exchange, Gate};
+use peer_lock::{Naming, Pass};
+use std::sync::Wait;
+
+// The longest datagram is 2,048 octets; one more shows that a datagram is longer.
+const OCTETS: usize = 2049;
+
+// How many datagrams are received in one turn at most.
+const DATAGRAMS: u64 = 64;
+
+// What came in.
+#[derive(Clone, Copy)]
+pub(crate) struct Received {
+    pub(crate) received: u64,
+    pub(crate) refused: u64,
+    pub(crate) faults: u64,
+    pub(crate) retired: u64,
+}
+
+// Receives until nothing is there, a call of the wire fails or 64 datagrams came, and hands each to the exchange.
+pub(crate) fn receive_all<W: Wire, G: Gate, J: Naming, R: Wait>(
+    rt: &R,
+    wire: &mut W,
+    exchange: &Exchange<G, J>,
+    pass: &mut Pass<J>,
+    now: u64,
+    challenge: &Challenge,
+) -> Received
+    ensures given { W.given wire.new ≡ W.given wire.old }
+    ensures faults { RisesBy (W.failures wire.old) (W.failures wire.new) result.faults }
+    ensures peers { W.peers wire.new ≡ W.peers wire.old }
+    ensures received { result.received ≤ 64 }
+    ensures refused { result.refused ≤ result.received }
+    ensures one_fault { result.faults ≤ 1 }
+    ensures steps { pass.old.steps + result.received ≤ pass.new.steps + result.refused }
+{
+    let mut octets = [0u8; OCTETS];
+    let mut report = Received {
+        received: 0,
+        refused: 0,
+        faults: 0,
+        retired: 0,
+    };
+    for _ in 0..DATAGRAMS {
+        match wire.receive(&mut octets) {
+            Ok(Some((len, from))) => {
+                let answer = exchange.datagram(rt, pass, from, &octets[..len], now, challenge);
+                report.received += 1;
+                if answer.refused.is_some() {
+                    report.refused += 1;
+                }
+                report.retired = report.retired.wrapping_add(answer.retired.len() as u64);
+            }
+            Ok(None) => return report,
+            Err(_) => {
+                report.faults = 1;
+                return report;
+            }
+        }
+    }
+    report
+}

@@ -1,0 +1,44 @@
+//! What a turn did.
+ghost use Rattle.std.specs.Prelude.{◌≡◌, ◌+◌, ◌<◌, ◌^◌};
+
+/// What one turn did, or several together.
+#[derive(Clone, Copy, Debug, Default, PartialEq, Eq)]
+pub struct TurnReport {
+    /// Datagrams that were received.
+    pub received: u64,
+    /// Of these, those that the exchange refused; a stranger's among them.
+    pub refused: u64,
+    /// Datagrams that were sent.
+    pub sent: u64,
+    /// Datagrams that the wire didn't take, and that are lost.
+    pub lost: u64,
+    /// Calls of the wire that failed.
+    pub faults: u64,
+    /// Legs that were taken out, modulo 2^64.
+    pub retired: u64,
+}
+
+impl TurnReport {
+    // Both together.
+    pub(crate) fn with(self, other: TurnReport) -> TurnReport
+        requires received { self.received + other.received < 2 ^ 64 }
+        requires refused { self.refused + other.refused < 2 ^ 64 }
+        requires sent { self.sent + other.sent < 2 ^ 64 }
+        requires lost { self.lost + other.lost < 2 ^ 64 }
+        requires faults { self.faults + other.faults < 2 ^ 64 }
+        ensures received { result.received ≡ self.received + other.received }
+        ensures refused { result.refused ≡ self.refused + other.refused }
+        ensures sent { result.sent ≡ self.sent + other.sent }
+        ensures lost { result.lost ≡ self.lost + other.lost }
+        ensures faults { result.faults ≡ self.faults + other.faults }
+    {
+        TurnReport {
+            received: self.received + other.received,
+            refused: self.refused + other.refused,
+            sent: self.sent + other.sent,
+            lost: self.lost + other.lost,
+            faults: self.faults + other.faults,
+            retired: self.retired.wrapping_add(other.retired),
+        }
+    }
+}

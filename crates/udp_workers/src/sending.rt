@@ -1,0 +1,59 @@
+//! Frames go out.
+ghost use Rattle.std.specs.Prelude.{◌≡◌, ◌+◌, ◌<◌, ◌≤◌, Contains, length};
+ghost use Rattle.udp_workers.specs.Counts.{RisesBy};
+
+use crate::wire::Wire;
+use exchange_core::{Exchange, Gate};
+use peer_lock::{Naming, Pass};
+use peer_plan::Endpoint;
+use std::sync::Wait;
+
+// How many frames are taken from one outbox in one turn at most: all that it can hold.
+const FRAMES: u64 = 256;
+
+// What went out.
+#[derive(Clone, Copy)]
+pub(crate) struct Sent {
+    pub(crate) sent: u64,
+    pub(crate) lost: u64,
+    pub(crate) faults: u64,
+}
+
+// Takes up to 256 frames from the outbox of a peer, and sends each to its endpoint. What the wire doesn't take is lost.
+pub(crate) fn send_all<W: Wire, G: Gate, J: Naming, R: Wait>(
+    rt: &R,
+    wire: &mut W,
+    exchange: &Exchange<G, J>,
+    pass: &mut Pass<J>,
+    peer: u16,
+    to: Endpoint,
+) -> Sent
+    requires peer { peer < length exchange.now.peers }
+    requires to { Contains (W.peers wire.old) to }
+    ensures given { RisesBy (W.given wire.old) (W.given wire.new) (result.sent + result.lost) }
+    ensures faults { RisesBy (W.failures wire.old) (W.failures wire.new) result.faults }
+    ensures peers { W.peers wire.new ≡ W.peers wire.old }
+    ensures emptied { result.sent + result.lost ≤ 256 }
+    ensures some_lost { result.faults ≤ result.lost }
+    ensures pass { pass.new ≡ pass.old }
+{
+    let mut report = Sent {
+        sent: 0,
+        lost: 0,
+        faults: 0,
+    };
+    for _ in 0..FRAMES {
+        let Some(frame) = exchange.take_out(rt, pass, peer) else {
+            return report;
+        };
+        match wire.send(to, frame.octets()) {
+            Ok(true) => report.sent += 1,
+            Ok(false) => report.lost += 1,
+            Err(_) => {
+                report.lost += 1;
+                report.faults += 1;
+            }
+        }
+    }
+    report
+}

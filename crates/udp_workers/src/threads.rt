@@ -1,0 +1,94 @@
+//! Seats on threads of their own.
+ghost use Rattle.std.specs.Prelude.{◌≡◌, ◌≤◌, [], IsOk, length};
+
+use crate::seat::{Post, Seat, Shift};
+use crate::sources::{Challenges, Moments};
+use crate::wire::Wire;
+use exchange_core::{Exchange, Gate};
+use peer_lock::Naming;
+use std::marker::PhantomData;
+use std::sync::Wait;
+use std::thread;
+use std::thread::{Scope, Threads};
+
+/// A thread was refused.
+#[derive(Clone, Copy, Debug, PartialEq, Eq)]
+pub struct NoThread;
+
+// Starts a thread for each seat. True if none was refused.
+fn start_each<
+    's,
+    E,
+    W: Wire + Drop + Send,
+    M: Moments + Drop + Send,
+    C: Challenges + Drop + Send,
+    G: Gate + Sync,
+    J: Naming,
+    P: Post + Send + Sync,
+    R: Wait + Sync,
+>(
+    rt: &'s R,
+    scope: &Scope<'s, E>,
+    shift: &'s Shift<'s, G, J, P>,
+    seats: &'s [Seat<W, M, C, J, P>],
+) -> bool {
+    let mut started = true;
+    for seat in seats {
+        if scope.spawn(move || seat.run(rt, shift)).is_err() {
+            started = false;
+        }
+    }
+    started
+}
+
+// Makes the runs of all seats. False if a thread was refused.
+fn run_shared<
+    W: Wire + Drop + Send,
+    M: Moments + Drop + Send,
+    C: Challenges + Drop + Send,
+    G: Gate + Sync,
+    J: Naming,
+    P: Post + Send + Sync,
+    R: Threads + Wait + Sync,
+>(rt: &R, shift: &Shift<'_, G, J, P>, seats: &[Seat<W, M, C, J, P>]) -> bool {
+    thread::scope(thread::scope_env(), rt, |scope| {
+        start_each(rt, scope, shift, seats)
+    })
+}
+
+/// Makes the run of each seat, so many turns, on a thread of its own, and puts the sum of its reports into it. All threads have
+/// ended when it returns.
+///
+/// `NoThread`: a thread was refused. Seats without a thread are unchanged, the others have run.
+pub fn run_all<
+    W: Wire + Drop + Send,
+    M: Moments + Drop + Send,
+    C: Challenges + Drop + Send,
+    G: Gate + Sync,
+    J: Naming,
+    P: Post + Send + Sync,
+    R: Threads + Wait + Sync,
+>(
+    rt: &R,
+    exchange: &Exchange<G, J>,
+    seats: &mut [Seat<W, M, C, J, P>],
+    turns: u32,
+) -> Result<(), NoThread>
+    requires few { length seats.old ≤ 8 }
+    requires plan { exchange.now ≡ P.plan }
+    ensures { seats.old ≡ [] → IsOk result }
+{
+    if seats.is_empty() {
+        return Ok(());
+    }
+    let shift = Shift {
+        exchange,
+        turns,
+        post: PhantomData,
+    };
+    if run_shared(rt, &shift, seats) {
+        Ok(())
+    } else {
+        Err(NoThread)
+    }
+}

@@ -1,0 +1,84 @@
+//! A worker and its peers.
+ghost use Rattle.std.specs.Prelude.{◌≡◌, ◌<◌, ◌≤◌, IfOk, length};
+ghost use Rattle.udp_workers.specs.Served.{AreEndpoints, peers_of};
+
+use arrayvec::ArrayVec;
+use peer_plan::{Endpoint, Plan};
+use std::alloc::{AllocError, Global};
+use std::marker::Model;
+
+/// A worker: its place among the workers of the plan, and the peers that it serves, at most 32, by their places in the plan.
+/// It takes no memory.
+#[derive(Drop)]
+pub struct Worker {
+    pub(crate) place: u16,
+    pub(crate) peers: ArrayVec<u16, 32>,
+    pub(crate) turns: u64,
+}
+
+impl Model for Worker {
+    ghost use Rattle.std.specs.Prelude.{◌≤◌, length};
+    ghost use Rattle.udp_workers.specs.Served.{WorkerView};
+
+    ghost Value = { WorkerView };
+
+    ghost view = { λ worker. record { place = worker.place; peers = worker.peers.items; turns = worker.turns } };
+
+    ghost invariant = { λ worker. length worker.peers.items ≤ 32 };
+}
+
+impl Worker {
+    /// The worker at a place of the plan, which has made no turn yet. Its peers are those that name its place, in plan order.
+    pub fn new(plan: &Plan, place: u16) -> Worker
+        requires { place < length plan.now.workers }
+        ensures place { result.place ≡ place }
+        ensures peers { result.peers ≡ peers_of plan.now place }
+        ensures turns { result.turns ≡ 0 }
+    {
+        let mut peers = ArrayVec::new();
+        for peer in 0..plan.peer_count() {
+            if plan.worker(peer) == place {
+                peers.push(peer);
+            }
+        }
+        Worker {
+            place,
+            peers,
+            turns: 0,
+        }
+    }
+
+    /// Its place among the workers of the plan.
+    pub fn place(&self) -> u16
+        ensures { result ≡ self.now.place }
+    {
+        self.place
+    }
+
+    /// The peers that it serves, by their places in the plan, in plan order.
+    pub fn peers(&self) -> &[u16]
+        ensures peers { result.now ≡ self.now.peers }
+        ensures few { length result.now ≤ 32 }
+    {
+        self.peers.as_slice()
+    }
+
+    /// How many turns it has made, modulo 2^64.
+    pub fn turns(&self) -> u64
+        ensures { result ≡ self.now.turns }
+    {
+        self.turns
+    }
+
+    /// The endpoints of its peers, in their order: those that its wire may send to.
+    pub fn endpoints(&self, alloc: Global, plan: &Plan) -> Result<Vec<Endpoint>, AllocError>
+        requires { self.now.peers ≡ peers_of plan.now self.now.place }
+        ensures { IfOk result (λ endpoints. AreEndpoints plan.now self.now.peers endpoints.items) }
+    {
+        let mut endpoints = Vec::new(alloc);
+        for &peer in self.peers() {
+            endpoints.push(plan.endpoint(peer))?;
+        }
+        Ok(endpoints)
+    }
+}
