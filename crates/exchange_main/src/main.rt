@@ -8,6 +8,8 @@ mod digits;
 #[cfg(test)]
 mod leg_tests;
 mod names;
+#[cfg(test)]
+mod peer_tests;
 mod player;
 mod replay;
 mod script;

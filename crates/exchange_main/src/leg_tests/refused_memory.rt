@@ -9,8 +9,8 @@ use std::process::Abort;
 use std::test::*;
 
 // A leg that is Up, and whose record has no room for a further frame: two more entries need memory.
-fn without_room(rt: &impl Abort, alloc: Global) -> Result<Tested, Fail> {
-    let plan = plan_of(alloc, "ping_ms = 30", "", "")?;
+fn without_room(rt: &impl Abort, alloc: Global, pings: &str) -> Result<Tested, Fail> {
+    let plan = plan_of(alloc, pings, "", "")?;
     let mut tested = answered(rt, alloc, &plan)?;
     for _ in 0..4 {
         tested.grants(20, &Wish::Digit)?;
@@ -33,7 +33,7 @@ fn goes_out(rt: &impl Abort, tested: &mut Tested, at_30: &str, at_40: &str) -> R
 
 #[test]
 fn ping_without_memory(rt: HostRuntime) -> Result<(), Fail> {
-    let mut tested = without_room(&rt, rt.alloc())?;
+    let mut tested = without_room(&rt, rt.alloc(), "ping_ms = 30")?;
     goes_out(
         &rt,
         &mut tested,
@@ -44,7 +44,7 @@ fn ping_without_memory(rt: HostRuntime) -> Result<(), Fail> {
 
 #[test]
 fn hangup_without_memory(rt: HostRuntime) -> Result<(), Fail> {
-    let mut tested = without_room(&rt, rt.alloc())?;
+    let mut tested = without_room(&rt, rt.alloc(), "ping_ms = 0")?;
     tested.grants(20, &Wish::Doom)?;
     goes_out(
         &rt,

@@ -1,0 +1,269 @@
+//! Worked examples by one peer: datagrams come, legs are opened, time goes on, and the outbox is emptied.
+ghost use Rattle.std.specs.Prelude.{◌≡◌, ◌↔◌, IfSome, IsTrue};
+ghost use Rattle.peer_lock.specs.Openings.{IsOpening};
+ghost use Rattle.peer_lock.specs.Unworked.{IsCutFrame};
+
+mod credit;
+mod numbers;
+
+use call_auth::Challenge;
+use call_book::{CallBook, Lease};
+use iax_frames::{Datagram, Full, read};
+use info_elements::elements;
+use leg_machine::{Message, Stage};
+use media_ledger::{Blank, supply};
+use peer_lock::{Naming, Onwards, OpenError, Pass, PeerError, PeerState, Step};
+use peer_plan::Plan;
+use std::alloc::Global;
+use std::marker::PhantomData;
+use std::process::Abort;
+use std::sync::ledger::Ledger;
+use std::test::Fail;
+
+/// A NEW for 200 from call number 7.
+const NEW_200: &str = "8007000000000000000006010b0200020103323030090400000004080400000004";
+
+/// A NEW for 300 from call number 7.
+const NEW_300: &str = "8007000000000000000006010b0200020103333030090400000004080400000004";
+
+/// More credit than any test needs.
+const PLENTY: u64 = 1 << 48;
+
+/// The naming of a test: each peer begins with so many octets and steps.
+struct Lent<O, S, const OCTETS: u64, const STEPS: u64> {
+    octets: PhantomData<O>,
+    steps: PhantomData<S>,
+}
+
+impl<O: Ledger + Send + Sync, S: Ledger + Send + Sync, const OCTETS: u64, const STEPS: u64> Naming
+    for Lent<O, S, OCTETS, STEPS> {
+    type Octets = O;
+
+    type Steps = S;
+
+    ghost first_octets = { OCTETS };
+
+    ghost first_steps = { STEPS };
+}
+
+/// A peer, with the book, the one pass, and the list of what is handed up.
+#[derive(Drop)]
+struct Desk<J: Naming> {
+    alloc: Global,
+    book: CallBook,
+    state: PeerState<J>,
+    pass: Pass<J>,
+    onwards: Onwards,
+}
+
+// A plan of a peer in the west and one in the east, with further lines for the first.
+fn plan_of(alloc: Global, west: &str) -> Result<Plan, Fail> {
+    let text = format!(in alloc;
+        "format = 1\n\
+[[worker]]\n\
+address = \"127.0.0.1\"\n\
+port = 4569\n\
+[[peer]]\n\
+name = \"west\"\n\
+address = \"127.0.0.1\"\n\
+port = 5001\n\
+worker = 0\n\
+formats = [\"ulaw\"]\n\
+numbers = 4\n\
+{west}\n\
+[[peer]]\n\
+name = \"east\"\n\
+address = \"127.0.0.1\"\n\
+port = 5002\n\
+worker = 0\n\
+formats = [\"ulaw\"]\n\
+numbers = 4\n"
+    )?;
+    Ok(Plan::read(alloc, text.as_bytes())?)
+}
+
+// The peer at a place of the plan, without a leg.
+fn desk_of<O: Ledger + Send + Sync, S: Ledger + Send + Sync, const OCTETS: u64, const STEPS: u64>(
+    alloc: Global,
+    plan: &Plan,
+    peer: u16,
+    octets: Blank,
+    steps: Blank,
+) -> Result<Desk<Lent<O, S, OCTETS, STEPS>>, Fail>
+    requires octets { (octets.name ≡ O.name) × (octets.parts ≡ O.parts) × (octets.parts ≡ 2) }
+    requires steps { (steps.name ≡ S.name) × (steps.parts ≡ S.parts) × (steps.parts ≡ 2) }
+{
+    let (_, mut octets) = supply::<O>(alloc, octets, &[OCTETS, 0])?;
+    let (_, mut steps) = supply::<S>(alloc, steps, &[STEPS, 0])?;
+    let (Some(no_octets), Some(octets)) = (octets.pop(), octets.pop()) else {
+        return Err(Fail::new("no octets"));
+    };
+    let (Some(no_steps), Some(steps)) = (steps.pop(), steps.pop()) else {
+        return Err(Fail::new("no steps"));
+    };
+    if octets.amount() != OCTETS {
+        return Err(Fail::new("other octets"));
+    }
+    if steps.amount() != STEPS {
+        return Err(Fail::new("other steps"));
+    }
+    if plan.peer_count() <= peer {
+        return Err(Fail::new("no such peer"));
+    }
+    let range = plan.range(peer);
+    if range.count == 0 {
+        return Err(Fail::new("no numbers"));
+    }
+    if range.count > 512 {
+        return Err(Fail::new("too many numbers"));
+    }
+    let book = CallBook::new(alloc, &[4, 4], 0)?;
+    match PeerState::new(
+        alloc,
+        peer,
+        plan.rules(peer),
+        range.first,
+        range.count,
+        octets,
+        steps,
+    ) {
+        Ok(state) => Ok(Desk {
+            alloc,
+            book,
+            state,
+            pass: Pass::new(no_octets, no_steps),
+            onwards: Onwards::new(alloc),
+        }),
+        Err(_) => Err(Fail::new("no memory")),
+    }
+}
+
+// Whether the last element of an IAX frame passes the end.
+fn is_cut(frame: &Full) -> bool
+    ensures { IsTrue result ↔ IsCutFrame frame.now }
+{
+    if frame.frame_type() != 6 {
+        return false;
+    }
+    match elements(frame.payload()) {
+        Ok(_) => false,
+        Err(_) => true,
+    }
+}
+
+// The NEW of a datagram that opens a leg.
+fn opening_of(octets: &[u8]) -> Option<Full<'_>>
+    ensures { IfSome result IsOpening }
+{
+    let Ok(Datagram::Full(frame)) = read(octets) else {
+        return None;
+    };
+    if frame.payload().len() > 1388 {
+        return None;
+    }
+    if frame.source().get() == 0 {
+        return None;
+    }
+    if frame.destination().get() != 0 {
+        return None;
+    }
+    if frame.oseqno() != 0 {
+        return None;
+    }
+    if is_cut(&frame) {
+        return None;
+    }
+    match Message::of(&frame) {
+        Message::New => Some(frame),
+        _ => None,
+    }
+}
+
+impl<J: Naming> Desk<J> {
+    // A datagram comes.
+    fn comes(&mut self, at: u64, text: &str) -> Option<Result<Step, PeerError>> {
+        let Ok(octets) = hex::decode(self.alloc, text) else {
+            return None;
+        };
+        self.onwards.clear();
+        Some(
+            self.state
+                .datagram(&mut self.pass, &octets, at, &mut self.onwards),
+        )
+    }
+
+    // A NEW that came opens a leg under the lease.
+    fn opens(
+        &mut self,
+        text: &str,
+        lease: Lease,
+        challenge: &[u8],
+    ) -> Option<Result<Step, (Lease, OpenError)>> {
+        let Ok(octets) = hex::decode(self.alloc, text) else {
+            return None;
+        };
+        let Some(frame) = opening_of(&octets) else {
+            return None;
+        };
+        let Some(challenge) = Challenge::new(challenge) else {
+            return None;
+        };
+        self.onwards.clear();
+        Some(
+            self.state.open_in(
+                &mut self.pass,
+                lease,
+                &frame,
+                0,
+                &challenge,
+                &mut self.onwards,
+            ),
+        )
+    }
+
+    // A NEW that came opens a leg under the next lease of the book's first peer. Answers the leg's number.
+    fn opens_next(&mut self, text: &str, challenge: &[u8]) -> Option<u16> {
+        let Ok(lease) = self.book.reserve(0) else {
+            return None;
+        };
+        match self.opens(text, lease, challenge) {
+            Some(Ok(step)) => match step.touched {
+                Some(name) => Some(name.number),
+                None => None,
+            },
+            Some(Err(_)) => None,
+            None => None,
+        }
+    }
+
+    // The octets of the oldest datagram of the outbox.
+    fn oldest(&mut self) -> Option<String> {
+        match self.state.take_out() {
+            Some(out) => match hex::encode(self.alloc, out.octets()) {
+                Ok(text) => Some(text),
+                Err(_) => None,
+            },
+            None => None,
+        }
+    }
+
+    // These datagrams are in the outbox, and no other.
+    fn said(&mut self, rt: &impl Abort, expected: &[&str]) {
+        for text in expected {
+            let said = self.oldest();
+            assert!(rt; said.is_some());
+            if let Some(said) = said {
+                assert_eq!(rt; said.as_str(), *text);
+            }
+        }
+        assert!(rt; self.state.take_out().is_none());
+    }
+
+    // The stage of the leg of a number.
+    fn stage(&self, number: u16) -> Option<Stage> {
+        match self.state.look(number) {
+            Some(status) => Some(status.stage),
+            None => None,
+        }
+    }
+}
