@@ -1,5 +1,5 @@
 -- How a leg stands, as those see it who look.
-use Rattle.std.specs.Prelude.{ℕ, List, ◌&&◌, not, Bool, false, Option, None, Some}
+use Rattle.std.specs.Prelude.{ℕ, List, ◌&&◌, not, Bool, true, false, Option, None, Some}
 use Rattle.leg_machine.specs.Stages.{is_ended}
 use Rattle.seq_window.specs.Entry.{Entry}
 use Rattle.seq_window.specs.History.{IsLegal}
@@ -20,6 +20,11 @@ status_of named = record {
 abbrev pub is_done : Option NamedLeg → Bool
 is_done None = false
 is_done (Some named) = is_ended named.leg.stage && not named.leg.owes
+
+-- at this place no leg has ended and none owes: there is nothing to be finished
+abbrev pub is_quiet : Option NamedLeg → Bool
+is_quiet None = true
+is_quiet (Some named) = not (is_ended named.leg.stage) && not named.leg.owes
 
 -- a record that a window of some width and limit may have
 abbrev pub IsHistory : List Entry → Type 0

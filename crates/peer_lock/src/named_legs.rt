@@ -1,7 +1,7 @@
 //! Legs and the leases on their names.
-ghost use Rattle.std.specs.Prelude.{◌≡◌};
+ghost use Rattle.std.specs.Prelude.{◌≡◌, Some};
 ghost use Rattle.peer_lock.specs.Peer.{offer_of};
-ghost use Rattle.peer_lock.specs.Statuses.{status_of};
+ghost use Rattle.peer_lock.specs.Statuses.{is_quiet, status_of};
 
 use crate::onwards::Offer;
 use crate::steps::Status;
@@ -37,6 +37,13 @@ impl NamedLeg {
         ensures { result.now ≡ self.now.leg }
     {
         &self.leg
+    }
+
+    // Whether it hasn't ended and owes nothing.
+    pub(crate) fn is_quiet(&self) -> bool
+        ensures { result ≡ is_quiet (Some self.now) }
+    {
+        !self.leg.stage().is_ended() && !self.leg.owes()
     }
 
     // The lease and the leg, where the leg has gone.

@@ -1,6 +1,6 @@
 //! The legs of one peer, by their local numbers.
 ghost use Rattle.std.specs.Option.{ForSome};
-ghost use Rattle.std.specs.Prelude.{◌&&◌, nat_lt, nat_le, ◌≡◌, ◌==◌, ◌+◌, ◌-◌, ◌^◌, ◌<◌, ◌≤◌, ◌↔◌, length, map, option_copied, replicate, slice_get, slice_set, true, None, Some, Err, [], IfErr, IfNone, IfOk, IfSome, IsNone, IsSome, OnErr, OnOk};
+ghost use Rattle.std.specs.Prelude.{◌&&◌, nat_lt, nat_le, ◌≡◌, ◌==◌, ◌+◌, ◌-◌, ◌^◌, ◌<◌, ◌≤◌, ◌↔◌, length, map, option_copied, replicate, slice_get, slice_set, true, None, Some, Err, [], IfErr, IfNone, IfOk, IfSome, IsNone, IsSome, IsTrue, All, OnErr, OnOk};
 ghost use Rattle.iax_frames.specs.FullFrame.{spelling};
 ghost use Rattle.leg_machine.specs.Legs.{is_short_of_entries};
 ghost use Rattle.leg_machine.specs.Media.{media_sent, after_media, media_frames};
@@ -8,6 +8,7 @@ ghost use Rattle.leg_machine.specs.OrderTable.{order_refused, media_refused, is_
 ghost use Rattle.leg_machine.specs.Steps.{full_step, heard_of};
 ghost use Rattle.leg_machine.specs.Ticks.{tick_step};
 ghost use Rattle.leg_machine.specs.Tie.{TakesTurn, SendsAtMostOne};
+ghost use Rattle.peer_lock.specs.Statuses.{is_quiet};
 
 use crate::named_legs::NamedLeg;
 use crate::remote_index::RemoteIndex;
@@ -52,6 +53,16 @@ fn no_legs(alloc: Global, count: u16) -> Result<Vec<Option<NamedLeg>>, AllocErro
         places.push_reserved(None);
     }
     Ok(places)
+}
+
+// Whether no leg at this place has ended or owes.
+fn is_quiet_place(place: &Option<NamedLeg>) -> bool
+    ensures { result ≡ is_quiet place.now }
+{
+    match place {
+        Some(named) => named.is_quiet(),
+        None => true,
+    }
 }
 
 impl PeerLegs {
@@ -118,6 +129,13 @@ impl PeerLegs {
             Some(place) => place.as_ref(),
             None => None,
         }
+    }
+
+    // Whether no leg has ended and none owes.
+    pub(crate) fn are_quiet(&self) -> bool
+        ensures { IsTrue result ↔ All (λ place. is_quiet place ≡ true) self.now.places }
+    {
+        self.places.iter().all(is_quiet_place)
     }
 
     // The leg of a local number.
