@@ -21,6 +21,7 @@ use Rattle.leg_machine.specs.declared.signals.Signal.{Signal}
 use Rattle.leg_machine.specs.declared.signals.Signal.TheVariants as signals
 use Rattle.leg_machine.specs.declared.stages.Stage.{Stage}
 use Rattle.leg_machine.specs.declared.stages.Stage.TheVariants as stages
+use Rattle.leg_machine.proofs.Tied.{either}
 use Rattle.peer_lock.specs.Arrivals.{delivered_step, reached_step, datagram_step, media_at, mini_span, entries_media, entry_span}
 use Rattle.peer_lock.specs.Delivery.{Delivery, NeedsNumber, GetsInval, NoCall, delivered, unknown_call, found, if_reached, is_reached, is_new}
 use Rattle.peer_lock.specs.Legs.{NamedLeg, PeerLegs, AreLegs, leg_at, leg_of_remote}
@@ -120,10 +121,6 @@ reached_seen law first peer named frame now at =
 
 nothing_seen : (old : PeerLegs) (step : PeerStep) → step.peer.legs ≡ old → step.signals ≡ [] → step.step.touched ≡ None → IsSeenDatagram old step
 nothing_seen old step same none untouched = inr (record { same = same; media = []; signals = none; touched = untouched })
-
-pub either : {A : Type 0} (P : A → Type 0) (b : Bool) (x y : A) → P x → P y → P (cond b x y)
-either P true x y p q = p
-either P false x y p q = q
 
 unknown_seen : (first : ℕ) (peer : PeerView) (frame : FullFrame) (now : ℕ) → IsSeenDatagram peer.legs (delivered_step first peer (unknown_call frame) frame now)
 unknown_seen first peer frame now =

@@ -33,7 +33,7 @@ use Rattle.peer_lock.specs.declared.errors.OrderError.{OrderError}
 use Rattle.peer_lock.specs.declared.errors.OrderError.TheVariants as errors
 use Rattle.peer_lock.specs.declared.steps.TickReport.{TickReport}
 use Rattle.trunk_packer.specs.Queue.{QueueEntry}
-use Rattle.peer_lock.proofs.SeenArrivals.{either}
+use Rattle.leg_machine.proofs.Tied.{either}
 use Rattle.peer_lock.proofs.SeenChanges.{named_at, none_named, seen_of_name, placed_turns, put_turns, leg_turns}
 
 -- ---- openings
