@@ -70,10 +70,10 @@ impl<G: Gate, J: Naming> Exchange<G, J> {
         let first = pass.steps();
         match self.tick_peer(rt, pass, peer, now) {
             Err(_) => self.refused(Refusal::StepsSpent),
-            Ok(is_quiet) => {
+            Ok(report) => {
                 let range = self.plan.range(peer);
                 // Where no leg has ended and none owes, no number is looked at.
-                let count = if is_quiet { 0 } else { range.count };
+                let count = if report.is_quiet { 0 } else { range.count };
                 let mut work = Work::of_tick(peer, range.first, count);
                 work.told(Reply::Tick(Ok(())));
                 let retired = self.follow(rt, pass, &mut work, &[], now);

@@ -9,7 +9,7 @@ use crate::exchange::Exchange;
 use crate::gates::Gate;
 use call_book::{Lease, LegName};
 use leg_machine::Order;
-use peer_lock::{Naming, OrderError, Pass, Step, StepsSpent};
+use peer_lock::{Naming, OrderError, Pass, Step, StepsSpent, TickReport};
 use seq_window::Record;
 use std::sync::Wait;
 
@@ -36,22 +36,21 @@ impl<G: Gate, J: Naming> Exchange<G, J> {
         state.order(pass, name, order, now)
     }
 
-    // Time goes on at a peer. Tells whether no leg of it is to be finished then.
+    // Time goes on at a peer.
     pub(crate) fn tick_peer<R: Wait>(
         &self,
         rt: &R,
         pass: &mut Pass<J>,
         peer: u16,
         now: u64,
-    ) -> Result<bool, StepsSpent>
+    ) -> Result<TickReport, StepsSpent>
         requires { peer < length self.now.peers }
         ensures credit { OnOk result (pass.new ≡ with_step pass.old 0) }
         ensures refused { OnErr result (pass.new ≡ pass.old) }
     {
         let mut state = self.peers[usize::from(peer)].lock(rt);
         self.gate.enter(peer);
-        state.tick(pass, now)?;
-        Ok(state.is_quiet())
+        state.tick(pass, now)
     }
 
     // Takes out the leg of a name, where it has ended and owes nothing: its lease and its record. That is no step.

@@ -12,7 +12,7 @@ use iax_frames::{CallNumber, Datagram, Full, read};
 use leg_machine::{
     Cause, Digit, Format, Heard, Judged, Leg, Order, OrderError, Replies, Signal, Stage,
 };
-use peer_plan::Plan;
+use peer_plan::{Plan, PlanError};
 use std::alloc::Global;
 use std::process::Abort;
 use std::test::Fail;
@@ -24,7 +24,7 @@ const NEW_200: &str = "8007000000000000000006010b0200020103323030090400000004080
 const NEW_300: &str = "8007000000000000000006010b0200020103333030090400000004080400000004";
 
 // A plan of a peer in the west and one in the east, with further lines at its top and for each of both.
-fn plan_of(alloc: Global, top: &str, west: &str, east: &str) -> Result<Plan, Fail> {
+fn plan_of(alloc: Global, top: &str, west: &str, east: &str) -> Result<Plan, PlanError> {
     let text = format!(in alloc;
         "format = 2\n{top}\n\
 [[worker]]\n\
@@ -50,7 +50,7 @@ numbers = 4\n\
 prefix = \"3\"\n\
 peer = \"east\"\n"
     )?;
-    Ok(Plan::read(alloc, text.as_bytes())?)
+    Plan::read(alloc, text.as_bytes())
 }
 
 // The full frame of a datagram.
@@ -74,42 +74,48 @@ struct Tested {
     replies: Box<Replies>,
 }
 
-// The leg of the peer in the west that a NEW opens at moment 0, under local number 1.
+// The leg of the peer in the west that a NEW opens at moment 0, under local number 1, if there is memory for it.
+fn opened(alloc: Global, plan: &Plan, new: &str, challenge: &[u8]) -> Option<(Tested, Heard)> {
+    let octets = hex::decode(alloc, new).ok()?;
+    let frame = full_of(&octets)?;
+    let challenge = Challenge::new(challenge)?;
+    if frame.oseqno() != 0 {
+        return None;
+    }
+    if plan.peer_count() == 0 {
+        return None;
+    }
+    let mut replies = Box::new(alloc, Replies::new()).ok()?;
+    let number = CallNumber::new(1);
+    let (leg, heard) = Leg::open_in_into(
+        alloc,
+        plan.rules(0),
+        number,
+        &frame,
+        0,
+        &challenge,
+        &mut replies,
+    )
+    .ok()?;
+    let tested = Tested {
+        alloc,
+        leg,
+        replies,
+    };
+    Some((tested, heard))
+}
+
+// The same, where there must be memory.
 fn called(
     alloc: Global,
     plan: &Plan,
     new: &str,
     challenge: &[u8],
 ) -> Result<(Tested, Heard), Fail> {
-    let octets = hex::decode(alloc, new)?;
-    let Some(frame) = full_of(&octets) else {
-        return Err(Fail::new("no full frame"));
-    };
-    let Some(challenge) = Challenge::new(challenge) else {
-        return Err(Fail::new("no challenge"));
-    };
-    if frame.oseqno() != 0 {
-        return Err(Fail::new("not the first frame"));
+    match opened(alloc, plan, new, challenge) {
+        Some(called) => Ok(called),
+        None => Err(Fail::new("no leg was opened")),
     }
-    if plan.peer_count() == 0 {
-        return Err(Fail::new("no peer"));
-    }
-    let mut replies = Box::new(alloc, Replies::new())?;
-    let (leg, heard) = Leg::open_in_into(
-        alloc,
-        plan.rules(0),
-        CallNumber::new(1),
-        &frame,
-        0,
-        &challenge,
-        &mut replies,
-    )?;
-    let tested = Tested {
-        alloc,
-        leg,
-        replies,
-    };
-    Ok((tested, heard))
 }
 
 // The leg of the peer in the east that a call for 300 opens at moment 0, under local number 5.
@@ -259,29 +265,31 @@ impl Tested {
     }
 }
 
-// The leg of a NEW for 300, once it accepted the call at moment 0, got the acknowledgement, and answered at 20.
+/// A leg of a NEW for 300 accepts the call at moment 0, gets the acknowledgement, and answers at 20.
+const ANSWERING: [Line<'static>; 3] = [
+    Line {
+        at: 0,
+        event: Event::Order(Wish::Accept, Ok(())),
+        said: &["800100070000000000010607090400000004"],
+        stage: Stage::Linked,
+    },
+    Line {
+        at: 10,
+        event: Event::Frame("800700010000000001010604", Judged::Unnumbered, None),
+        said: &[],
+        stage: Stage::Linked,
+    },
+    Line {
+        at: 20,
+        event: Event::Order(Wish::Answer, Ok(())),
+        said: &["800100070000001401010404"],
+        stage: Stage::Up,
+    },
+];
+
+// The leg of a NEW for 300 that answered the call.
 fn answered(rt: &impl Abort, alloc: Global, plan: &Plan) -> Result<Tested, Fail> {
     let (mut tested, _) = called(alloc, plan, NEW_300, b"0")?;
-    let lines = [
-        Line {
-            at: 0,
-            event: Event::Order(Wish::Accept, Ok(())),
-            said: &["800100070000000000010607090400000004"],
-            stage: Stage::Linked,
-        },
-        Line {
-            at: 10,
-            event: Event::Frame("800700010000000001010604", Judged::Unnumbered, None),
-            said: &[],
-            stage: Stage::Linked,
-        },
-        Line {
-            at: 20,
-            event: Event::Order(Wish::Answer, Ok(())),
-            said: &["800100070000001401010404"],
-            stage: Stage::Up,
-        },
-    ];
-    tested.plays(rt, &lines)?;
+    tested.plays(rt, &ANSWERING)?;
     Ok(tested)
 }

@@ -27,14 +27,34 @@ use std::{env, fs, io};
 const USAGE: &str =
     "usage: exchange_main check <plan> | replay <plan> <script> | serve <plan> <turns>";
 
+// Whether a call of the system failed for want of memory.
+fn is_memory(error: &io::Error) -> bool {
+    error.kind() == io::ErrorKind::OutOfMemory
+}
+
 // The octets of a file. Where it can't be read, says so.
 fn octets_of<R: Files + Print + Alloc>(rt: &R, path: &str) -> Option<Vec<u8, R::A>> {
     match fs::read(rt, path) {
         Ok(octets) => Some(octets),
-        Err(_) => {
-            let _ = println!(rt; "refused File");
+        Err(error) => {
+            if is_memory(&error) {
+                let _ = println!(rt; "refused Memory");
+            } else {
+                let _ = println!(rt; "refused File");
+            }
             None
         }
+    }
+}
+
+// Says that the program's arguments can't be read, and gives its status.
+fn refuse_arguments<R: Eprint + Print>(rt: &R, error: &io::Error) -> u8 {
+    if is_memory(error) {
+        let _ = println!(rt; "refused Memory");
+        1
+    } else {
+        let _ = eprintln!(rt; "{USAGE}");
+        2
     }
 }
 
@@ -48,9 +68,9 @@ fn turns_of(word: &str) -> Option<u32> {
 }
 
 fn main(rt: HostRuntime) -> ExitCode {
-    let Ok(arguments) = env::args(&rt) else {
-        let _ = eprintln!(rt; "{USAGE}");
-        return ExitCode::from(2);
+    let arguments = match env::args(&rt) {
+        Ok(arguments) => arguments,
+        Err(error) => return ExitCode::from(refuse_arguments(&rt, &error)),
     };
     let mut words = Vec::new(rt.alloc());
     for argument in arguments {

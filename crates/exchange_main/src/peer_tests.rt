@@ -5,6 +5,7 @@ ghost use Rattle.peer_lock.specs.Unworked.{IsCutFrame};
 
 mod credit;
 mod numbers;
+mod refused_memory;
 
 use call_auth::Challenge;
 use call_book::{CallBook, Lease};
@@ -13,7 +14,7 @@ use info_elements::elements;
 use leg_machine::{Message, Stage};
 use media_ledger::{Blank, supply};
 use peer_lock::{Naming, Onwards, OpenError, Pass, PeerError, PeerState, Step};
-use peer_plan::Plan;
+use peer_plan::{Plan, PlanError};
 use std::alloc::Global;
 use std::marker::PhantomData;
 use std::process::Abort;
@@ -57,7 +58,7 @@ struct Desk<J: Naming> {
 }
 
 // A plan of a peer in the west and one in the east, with further lines for the first.
-fn plan_of(alloc: Global, west: &str) -> Result<Plan, Fail> {
+fn plan_of(alloc: Global, west: &str) -> Result<Plan, PlanError> {
     let text = format!(in alloc;
         "format = 1\n\
 [[worker]]\n\
@@ -79,10 +80,63 @@ worker = 0\n\
 formats = [\"ulaw\"]\n\
 numbers = 4\n"
     )?;
-    Ok(Plan::read(alloc, text.as_bytes())?)
+    Plan::read(alloc, text.as_bytes())
 }
 
-// The peer at a place of the plan, without a leg.
+// The peer at a place of the plan, without a leg, if there is memory for the shares of its credit. For the peer and the book memory
+// is asked for once more, where it is refused.
+fn opened<O: Ledger + Send + Sync, S: Ledger + Send + Sync, const OCTETS: u64, const STEPS: u64>(
+    alloc: Global,
+    plan: &Plan,
+    peer: u16,
+    octets: Blank,
+    steps: Blank,
+) -> Option<Desk<Lent<O, S, OCTETS, STEPS>>>
+    requires octets { (octets.name ≡ O.name) × (octets.parts ≡ O.parts) × (octets.parts ≡ 2) }
+    requires steps { (steps.name ≡ S.name) × (steps.parts ≡ S.parts) × (steps.parts ≡ 2) }
+{
+    let (_, mut octets) = supply::<O>(alloc, octets, &[OCTETS, 0]).ok()?;
+    let (_, mut steps) = supply::<S>(alloc, steps, &[STEPS, 0]).ok()?;
+    let (no_octets, octets) = (octets.pop()?, octets.pop()?);
+    let (no_steps, steps) = (steps.pop()?, steps.pop()?);
+    if octets.amount() != OCTETS {
+        return None;
+    }
+    if steps.amount() != STEPS {
+        return None;
+    }
+    if plan.peer_count() <= peer {
+        return None;
+    }
+    let range = plan.range(peer);
+    if range.count == 0 {
+        return None;
+    }
+    if range.count > 512 {
+        return None;
+    }
+    let rules = plan.rules(peer);
+    let (first, count) = (range.first, range.count);
+    let state = match PeerState::new(alloc, peer, rules, first, count, octets, steps) {
+        Ok(state) => state,
+        Err((octets, steps, _)) => {
+            PeerState::new(alloc, peer, rules, first, count, octets, steps).ok()?
+        }
+    };
+    let book = match CallBook::new(alloc, &[4, 4], 0) {
+        Ok(book) => book,
+        Err(_) => CallBook::new(alloc, &[4, 4], 0).ok()?,
+    };
+    Some(Desk {
+        alloc,
+        book,
+        state,
+        pass: Pass::new(no_octets, no_steps),
+        onwards: Onwards::new(alloc),
+    })
+}
+
+// The same, where there must be memory.
 fn desk_of<O: Ledger + Send + Sync, S: Ledger + Send + Sync, const OCTETS: u64, const STEPS: u64>(
     alloc: Global,
     plan: &Plan,
@@ -93,48 +147,9 @@ fn desk_of<O: Ledger + Send + Sync, S: Ledger + Send + Sync, const OCTETS: u64, 
     requires octets { (octets.name ≡ O.name) × (octets.parts ≡ O.parts) × (octets.parts ≡ 2) }
     requires steps { (steps.name ≡ S.name) × (steps.parts ≡ S.parts) × (steps.parts ≡ 2) }
 {
-    let (_, mut octets) = supply::<O>(alloc, octets, &[OCTETS, 0])?;
-    let (_, mut steps) = supply::<S>(alloc, steps, &[STEPS, 0])?;
-    let (Some(no_octets), Some(octets)) = (octets.pop(), octets.pop()) else {
-        return Err(Fail::new("no octets"));
-    };
-    let (Some(no_steps), Some(steps)) = (steps.pop(), steps.pop()) else {
-        return Err(Fail::new("no steps"));
-    };
-    if octets.amount() != OCTETS {
-        return Err(Fail::new("other octets"));
-    }
-    if steps.amount() != STEPS {
-        return Err(Fail::new("other steps"));
-    }
-    if plan.peer_count() <= peer {
-        return Err(Fail::new("no such peer"));
-    }
-    let range = plan.range(peer);
-    if range.count == 0 {
-        return Err(Fail::new("no numbers"));
-    }
-    if range.count > 512 {
-        return Err(Fail::new("too many numbers"));
-    }
-    let book = CallBook::new(alloc, &[4, 4], 0)?;
-    match PeerState::new(
-        alloc,
-        peer,
-        plan.rules(peer),
-        range.first,
-        range.count,
-        octets,
-        steps,
-    ) {
-        Ok(state) => Ok(Desk {
-            alloc,
-            book,
-            state,
-            pass: Pass::new(no_octets, no_steps),
-            onwards: Onwards::new(alloc),
-        }),
-        Err(_) => Err(Fail::new("no memory")),
+    match opened(alloc, plan, peer, octets, steps) {
+        Some(desk) => Ok(desk),
+        None => Err(Fail::new("no peer")),
     }
 }
 
@@ -199,25 +214,26 @@ impl<J: Naming> Desk<J> {
         lease: Lease,
         challenge: &[u8],
     ) -> Option<Result<Step, (Lease, OpenError)>> {
-        let Ok(octets) = hex::decode(self.alloc, text) else {
-            return None;
-        };
-        let Some(frame) = opening_of(&octets) else {
-            return None;
-        };
-        let Some(challenge) = Challenge::new(challenge) else {
-            return None;
-        };
+        let octets = hex::decode(self.alloc, text).ok()?;
+        let frame = opening_of(&octets)?;
+        self.opens_for(&frame, lease, challenge)
+    }
+
+    // The NEW opens a leg under the lease.
+    fn opens_for(
+        &mut self,
+        frame: &Full,
+        lease: Lease,
+        challenge: &[u8],
+    ) -> Option<Result<Step, (Lease, OpenError)>>
+        requires { IsOpening frame.now }
+    {
+        let challenge = Challenge::new(challenge)?;
         self.onwards.clear();
+        let (pass, onwards) = (&mut self.pass, &mut self.onwards);
         Some(
-            self.state.open_in(
-                &mut self.pass,
-                lease,
-                &frame,
-                0,
-                &challenge,
-                &mut self.onwards,
-            ),
+            self.state
+                .open_in(pass, lease, frame, 0, &challenge, onwards),
         )
     }
 

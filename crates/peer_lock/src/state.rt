@@ -1,10 +1,10 @@
 //! What lies under the lock of one peer.
-ghost use Rattle.std.specs.Prelude.{◌≡◌, ◌+◌, ◌^◌, ◌<◌, ◌≤◌, [], ◌∷◌, ◌↔◌, length, replicate, option_map, None, Some, false, IfOk, IfErr, IsErr, IsNone, IsTrue, All, true, IfNone, IfSome, OnSome, MatchOption};
+ghost use Rattle.std.specs.Prelude.{◌≡◌, ◌+◌, ◌^◌, ◌<◌, ◌≤◌, [], ◌∷◌, ◌↔◌, length, replicate, option_map, None, Some, false, IfOk, IfErr, IsErr, IsNone, IfNone, IfSome, OnSome, MatchOption};
 ghost use Rattle.leg_machine.specs.PeerRules.{IsPeerRules};
 ghost use Rattle.peer_lock.specs.Accounts.{no_accounts, carried};
 ghost use Rattle.peer_lock.specs.Legs.{NamedLeg as NamedLegValue, AreLegs, leg_at, leg_named, with_place};
 ghost use Rattle.seq_window.specs.History.{IsLegal};
-ghost use Rattle.peer_lock.specs.Statuses.{IsHistory, status_of, is_done, is_quiet};
+ghost use Rattle.peer_lock.specs.Statuses.{IsHistory, status_of, is_done};
 ghost use Rattle.trunk_packer.specs.Queue.{media_octets};
 
 use crate::account::Account;
@@ -129,13 +129,6 @@ impl<J: Naming> PeerState<J> {
         ensures { result ≡ option_map status_of (leg_at self.now.legs number) }
     {
         self.legs.get(number).map(|named| named.status())
-    }
-
-    /// Whether no leg has ended and none owes, so that there is nothing to be finished. One pass over the legs.
-    pub fn is_quiet(&self) -> bool
-        ensures { IsTrue result ↔ All (λ place. is_quiet place ≡ true) self.now.legs.places }
-    {
-        self.legs.are_quiet()
     }
 
     /// Gives up the leg of a name that has ended and owes nothing: its lease and its record. That is no step.

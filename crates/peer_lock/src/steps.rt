@@ -32,4 +32,6 @@ pub struct TickReport {
     pub skipped: u32,
     /// How many octets of media were packed into trunk frames.
     pub packed: u64,
+    /// Whether no leg has ended and none owes, so that there is nothing to be finished.
+    pub is_quiet: bool,
 }

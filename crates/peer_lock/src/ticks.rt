@@ -1,8 +1,9 @@
 //! The steps of a peer in which time goes on ("Message Transport", "Meta Frames").
-ghost use Rattle.std.specs.Prelude.{◌≡◌, ◌≢◌, ◌+◌, ◌^◌, ◌<◌, ◌≤◌, ◌↔◌, ◌⊎◌, [], length, Option, Some, slice_get, slice_set, IsErr, IfSome, IfNone, IfOk, OnOk, OnErr};
+ghost use Rattle.std.specs.Prelude.{◌≡◌, ◌≢◌, ◌+◌, ◌^◌, ◌<◌, ◌≤◌, ◌↔◌, ◌⊎◌, [], length, true, Option, Some, slice_get, slice_set, All, IsErr, IsTrue, IfSome, IfNone, IfOk, OnOk, OnErr};
 ghost use Rattle.peer_lock.specs.Accounts.{with_step as with_credit};
 ghost use Rattle.peer_lock.specs.Legs.{NamedLeg as NamedLegValue};
 ghost use Rattle.peer_lock.specs.Outbox.{put};
+ghost use Rattle.peer_lock.specs.Statuses.{is_quiet};
 ghost use Rattle.peer_lock.specs.Ticks.{place_tick, TicksLegs, PacksOne, IsPacked, PacksMedia, Ticks};
 ghost use Rattle.trunk_packer.specs.Queue.{media_octets};
 
@@ -92,9 +93,11 @@ impl<J: Naming> PeerState<J> {
     }
 
     /// Time goes on: one step. Each leg's tick by ascending number, then the trunk queue is packed while the outbox has room.
+    /// Tells, too, whether a leg is to be finished then.
     pub fn tick(&mut self, pass: &mut Pass<J>, now: u64) -> Result<TickReport, StepsSpent>
         ensures spent { IsErr result ↔ (self.old.accounts.steps ≡ J.first_steps) }
         ensures ticked { IfOk result (λ report. Ticks self.old now report self.new) }
+        ensures quiet { IfOk result (λ report. IsTrue report.is_quiet ↔ All (λ place. is_quiet place ≡ true) self.new.legs.places) }
         ensures credit { OnOk result (pass.new ≡ with_credit pass.old 0) }
         ensures err { OnErr result ((self.new ≡ self.old) × (pass.new ≡ pass.old)) }
     {
@@ -104,6 +107,10 @@ impl<J: Naming> PeerState<J> {
         self.account.count_step(pass);
         let skipped = self.tick_legs(now);
         let packed = self.pack(now);
-        Ok(TickReport { skipped, packed })
+        Ok(TickReport {
+            skipped,
+            packed,
+            is_quiet: self.legs.are_quiet(),
+        })
     }
 }

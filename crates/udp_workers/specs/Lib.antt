@@ -1,3 +1,4 @@
 pub mod Counts
 pub mod MioWire
+pub mod PeerCounts
 pub mod Served

@@ -2,6 +2,7 @@
 #![tactic(auto)]
 
 mod mio_wire;
+mod peer_counts;
 mod receiving;
 mod report;
 mod running;

@@ -1,6 +1,8 @@
 //! A wire over a UDP socket of the system.
 ghost use Rattle.std.specs.Prelude.{◌≡◌, IfOk};
+ghost use Rattle.peer_plan.specs.declared.endpoint.Endpoint.{Endpoint};
 
+use crate::peer_counts::PeerCounts;
 use crate::wire::{Wire, WireFault};
 use mio::net::UdpSocket;
 use mio::{Events, Interest, Poll, Token};
@@ -39,7 +41,7 @@ pub struct MioWire {
     events: Events,
     // Whether the last `receive` found nothing. The system tells of each datagram once, so without it there may be more.
     empty: bool,
-    peers: Vec<Endpoint>,
+    peers: PeerCounts,
     given: u64,
     failures: u64,
 }
@@ -62,7 +64,7 @@ fn endpoint_of(address: SocketAddr) -> Option<Endpoint> {
 }
 
 impl MioWire {
-    ghost use Rattle.udp_workers.specs.MioWire.{given_of, failures_of, peers_of};
+    ghost use Rattle.udp_workers.specs.MioWire.{given_of, given_to_of, failures_of, peers_of};
 
     /// A socket that is bound to this endpoint and may send to these peers. Nothing was given to it yet, and no call failed.
     ///
@@ -75,8 +77,10 @@ impl MioWire {
     ) -> Result<MioWire, BindError>
         ensures peers { IfOk result (λ wire. peers_of wire ≡ peers.items) }
         ensures given { IfOk result (λ wire. given_of wire ≡ 0) }
+        ensures given_to { IfOk result (λ wire. (to : Endpoint) → given_to_of wire to ≡ 0) }
         ensures failures { IfOk result (λ wire. failures_of wire ≡ 0) }
     {
+        let peers = PeerCounts::new(alloc, peers)?;
         let poll = Poll::new(rt)?;
         let events = Events::with_capacity(alloc, 1)?;
         let mut socket = UdpSocket::bind(rt, socket_address(at))?;
@@ -95,9 +99,11 @@ impl MioWire {
 }
 
 impl Wire for MioWire {
-    ghost use Rattle.udp_workers.specs.MioWire.{given_of, failures_of, peers_of};
+    ghost use Rattle.udp_workers.specs.MioWire.{given_of, given_to_of, failures_of, peers_of};
 
     ghost given = { given_of };
+
+    ghost given_to = { given_to_of };
 
     ghost failures = { failures_of };
 
@@ -124,6 +130,7 @@ impl Wire for MioWire {
 
     fn send(&mut self, to: Endpoint, octets: &[u8]) -> Result<bool, WireFault> {
         self.given = self.given.wrapping_add(1);
+        self.peers.count(to);
         match self.socket.send_to(octets, socket_address(to)) {
             Ok(_) => return Ok(true),
             Err(error) => {
@@ -145,11 +152,15 @@ impl Wire for MioWire {
     }
 
     fn peers(&self) -> &[Endpoint] {
-        &self.peers
+        &self.peers.endpoints
     }
 
     fn given(&self) -> u64 {
         self.given
+    }
+
+    fn given_to(&self, to: Endpoint) -> u64 {
+        self.peers.get(to)
     }
 
     fn failures(&self) -> u64 {

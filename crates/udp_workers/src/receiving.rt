@@ -1,5 +1,6 @@
 //! Datagrams come in.
 ghost use Rattle.std.specs.Prelude.{◌≡◌, ◌+◌, ◌≤◌};
+ghost use Rattle.peer_plan.specs.declared.endpoint.Endpoint.{Endpoint};
 ghost use Rattle.udp_workers.specs.Counts.{RisesBy};
 
 use crate::wire::Wire;
@@ -33,6 +34,7 @@ pub(crate) fn receive_all<W: Wire, G: Gate, J: Naming, R: Wait>(
     challenge: &Challenge,
 ) -> Received
     ensures given { W.given wire.new ≡ W.given wire.old }
+    ensures given_to { (to : Endpoint) → W.given_to wire.new to ≡ W.given_to wire.old to }
     ensures faults { RisesBy (W.failures wire.old) (W.failures wire.new) result.faults }
     ensures peers { W.peers wire.new ≡ W.peers wire.old }
     ensures received { result.received ≤ 64 }

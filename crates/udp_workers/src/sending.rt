@@ -1,5 +1,6 @@
 //! Frames go out.
-ghost use Rattle.std.specs.Prelude.{◌≡◌, ◌+◌, ◌<◌, ◌≤◌, Contains, length};
+ghost use Rattle.std.specs.Prelude.{◌≡◌, ◌≢◌, ◌+◌, ◌<◌, ◌≤◌, Contains, length};
+ghost use Rattle.peer_plan.specs.declared.endpoint.Endpoint.{Endpoint};
 ghost use Rattle.udp_workers.specs.Counts.{RisesBy};
 
 use crate::wire::Wire;
@@ -31,6 +32,8 @@ pub(crate) fn send_all<W: Wire, G: Gate, J: Naming, R: Wait>(
     requires peer { peer < length exchange.now.peers }
     requires to { Contains (W.peers wire.old) to }
     ensures given { RisesBy (W.given wire.old) (W.given wire.new) (result.sent + result.lost) }
+    ensures to { RisesBy (W.given_to wire.old to) (W.given_to wire.new to) (result.sent + result.lost) }
+    ensures others { (other : Endpoint) → other ≢ to → W.given_to wire.new other ≡ W.given_to wire.old other }
     ensures faults { RisesBy (W.failures wire.old) (W.failures wire.new) result.faults }
     ensures peers { W.peers wire.new ≡ W.peers wire.old }
     ensures emptied { result.sent + result.lost ≤ 256 }

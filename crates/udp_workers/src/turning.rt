@@ -1,6 +1,7 @@
 //! One turn of a worker.
-ghost use Rattle.std.specs.Prelude.{◌≡◌, ◌+◌, ◌*◌, ◌<◌, ◌≤◌, All, length};
-ghost use Rattle.udp_workers.specs.Counts.{RisesBy};
+ghost use Rattle.std.specs.Prelude.{◌≡◌, ◌≢◌, ◌+◌, ◌*◌, ◌<◌, ◌≤◌, All, AllPairs, length};
+ghost use Rattle.peer_plan.specs.declared.endpoint.Endpoint.{Endpoint};
+ghost use Rattle.udp_workers.specs.Counts.{RisesBy, RisesByAtMost};
 ghost use Rattle.udp_workers.specs.Served.{AreEndpoints, peers_of};
 
 use crate::receiving::receive_all;
@@ -36,6 +37,7 @@ impl Worker {
         ensures received { result.received ≤ 64 }
         ensures refused { result.refused ≤ result.received }
         ensures emptied { result.sent + result.lost ≤ 256 * length self.old.peers }
+        ensures each { (to : Endpoint) → RisesByAtMost 256 (W.given_to wire.old to) (W.given_to wire.new to) }
         ensures few_faults { result.faults ≤ result.lost + 1 }
         // Each datagram that isn't refused made a step at least.
         ensures steps { pass.old.steps + result.received ≤ pass.new.steps + result.refused }
@@ -44,6 +46,8 @@ impl Worker {
         ensures few { length self.new.peers ≤ 32 }
         ensures turns { RisesBy self.old.turns self.new.turns 1 }
     {
+        // No two peers of a plan have one endpoint.
+        let _peers = exchange.plan().peer_count();
         self.turns = self.turns.wrapping_add(1);
         let arrived = receive_all(rt, wire, exchange, pass, now, challenge);
         let peers = self.peers();
@@ -90,10 +94,12 @@ fn empty_all<W: Wire, G: Gate, J: Naming, R: Wait>(
     requires few { length peers.now ≤ 32 }
     requires peers { All (λ peer. peer < length exchange.now.peers) peers.now }
     requires wire { AreEndpoints exchange.now peers.now (W.peers wire.old) }
+    requires apart { AllPairs (λ one other. one ≢ other) (W.peers wire.old) }
     ensures given { RisesBy (W.given wire.old) (W.given wire.new) (result.sent + result.lost) }
     ensures faults { RisesBy (W.failures wire.old) (W.failures wire.new) result.faults }
     ensures wire { W.peers wire.new ≡ W.peers wire.old }
     ensures emptied { result.sent + result.lost ≤ 256 * length peers.now }
+    ensures each { (to : Endpoint) → RisesByAtMost 256 (W.given_to wire.old to) (W.given_to wire.new to) }
     ensures some_lost { result.faults ≤ result.lost }
     ensures pass { pass.new ≡ pass.old }
 {

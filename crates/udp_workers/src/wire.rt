@@ -1,5 +1,5 @@
 //! A socket for datagrams, by what is asked of it.
-ghost use Rattle.std.specs.Prelude.{◌≡◌, ◌+◌, ◌≤◌, ◌^◌, ℕ, List, length, Contains, IfOk, IfSome, is_ok, if◌then◌else◌};
+ghost use Rattle.std.specs.Prelude.{◌≡◌, ◌≢◌, ◌+◌, ◌≤◌, ◌^◌, ℕ, List, length, Contains, IfOk, IfSome, is_ok, if◌then◌else◌};
 ghost use Rattle.iax_frames.specs.Datagram.{IsFrame};
 ghost use Rattle.peer_plan.specs.declared.endpoint.Endpoint.{Endpoint};
 ghost use Rattle.udp_workers.specs.Counts.{RisesBy};
@@ -12,10 +12,13 @@ pub struct WireFault;
 
 /// A socket for datagrams. It never waits but in `wait`.
 ///
-/// It counts, modulo 2^64, what it was given to send and how many of its calls failed.
+/// It counts, modulo 2^64, what it was given to send, altogether and for each endpoint, and how many of its calls failed.
 pub trait Wire {
     /// How many datagrams it was given to send, modulo 2^64.
     ghost given: { Self → ℕ };
+
+    /// How many datagrams it was given to send to an endpoint, modulo 2^64.
+    ghost given_to: { Self → Endpoint → ℕ };
 
     /// How many of its calls failed, modulo 2^64.
     ghost failures: { Self → ℕ };
@@ -28,6 +31,7 @@ pub trait Wire {
     fn receive(&mut self, octets: &mut [u8]) -> Result<Option<(usize, Endpoint)>, WireFault>
         ensures within { IfOk result (λ found. IfSome found (λ datagram. datagram.0 ≤ length octets.new)) }
         ensures given { given self.new ≡ given self.old }
+        ensures given_to { (to : Endpoint) → given_to self.new to ≡ given_to self.old to }
         ensures failures { RisesBy (failures self.old) (failures self.new) (if is_ok result then 0 else 1) }
         ensures peers { peers self.new ≡ peers self.old };
 
@@ -36,12 +40,15 @@ pub trait Wire {
         requires frame { IsFrame octets.now }
         requires peer { Contains (peers self.old) to }
         ensures given { RisesBy (given self.old) (given self.new) 1 }
+        ensures to { RisesBy (given_to self.old to) (given_to self.new to) 1 }
+        ensures others { (other : Endpoint) → other ≢ to → given_to self.new other ≡ given_to self.old other }
         ensures failures { RisesBy (failures self.old) (failures self.new) (if is_ok result then 0 else 1) }
         ensures peers { peers self.new ≡ peers self.old };
 
     /// Waits for a datagram, at most so many milliseconds. It may come back earlier, and with none.
     fn wait(&mut self, ms: u64)
         ensures given { given self.new ≡ given self.old }
+        ensures given_to { (to : Endpoint) → given_to self.new to ≡ given_to self.old to }
         ensures failures { failures self.new ≡ failures self.old }
         ensures peers { peers self.new ≡ peers self.old };
 
@@ -52,6 +59,10 @@ pub trait Wire {
     /// How many datagrams it was given to send, modulo 2^64: one more for each `send`.
     fn given(&self) -> u64
         ensures { result ≡ given self.now };
+
+    /// How many datagrams it was given to send to an endpoint, modulo 2^64: one more for each `send` there.
+    fn given_to(&self, to: Endpoint) -> u64
+        ensures { result ≡ given_to self.now to };
 
     /// How many calls failed, modulo 2^64: one more exactly where `WireFault` was answered.
     fn failures(&self) -> u64

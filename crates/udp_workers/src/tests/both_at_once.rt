@@ -100,7 +100,7 @@ fn seats_of<J: Naming, P: Post>(
         };
         let worker = Worker::new(plan, place as u16);
         let endpoints = worker.endpoints(alloc, plan)?;
-        let wire = MemoryWire::new(alloc, endpoints, 0);
+        let wire = MemoryWire::new(alloc, endpoints, 0)?;
         seats.push(Seat::new(worker, wire, pass, AtOnce, Zero(challenge)))?;
     }
     Ok(seats)

@@ -8,6 +8,12 @@ fn each_call_of_the_wire_fails(rt: HostRuntime) -> Result<(), Fail> {
     for place in 1..1000u64 {
         let played = play_over(&rt, rt.alloc(), place)?;
         assert!(rt; played.counted, "at {place}");
+        let gone = played.report.sent.wrapping_add(played.report.lost);
+        assert_eq!(rt;
+            played.to_west.wrapping_add(played.to_east),
+            gone,
+            "at {place}"
+        );
         assert!(rt; played.balances, "at {place}");
         if played.report.faults == 0 {
             assert_eq!(rt; played.report.received, 7);

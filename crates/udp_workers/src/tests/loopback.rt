@@ -4,7 +4,7 @@ ghost use Rattle.udp_workers.specs.MioWire.{peers_of as wire_peers};
 ghost use Rattle.udp_workers.specs.Served.{AreEndpoints, peers_of};
 
 use crate::mio_wire::MioWire;
-use crate::tests::plans::{ONE_WORKER, WEST};
+use crate::tests::plans::{EAST, ONE_WORKER, WEST};
 use crate::wire::Wire;
 use crate::worker::Worker;
 use call_auth::Challenge;
@@ -64,14 +64,15 @@ fn turn_until_rejected<J: Naming, R: Wait>(
     false
 }
 
-// A socket at the endpoint of the peer in the west sends its NEW. Gives whether it was rejected.
+// A socket at the endpoint of the peer in the west sends its NEW. Gives whether it was rejected, and how many datagrams the wire
+// was given for the peer in the west and for the one in the east.
 fn call_200<J: Naming, R: Net + Wait>(
     rt: &R,
     alloc: Global,
     plan: Plan,
     octets: Blank,
     steps: Blank,
-) -> Result<bool, Fail>
+) -> Result<(bool, u64, u64), Fail>
     requires octets { (octets.name ≡ J.Octets.name) × (octets.parts ≡ J.Octets.parts) × (octets.parts ≡ length plan.peers + plan.passes) }
     requires steps { (steps.name ≡ J.Steps.name) × (steps.parts ≡ J.Steps.parts) × (steps.parts ≡ length plan.peers + plan.passes) }
     requires first { (J.first_octets ≡ 2 ^ 48) × (J.first_steps ≡ 2 ^ 48) }
@@ -88,7 +89,7 @@ fn call_200<J: Naming, R: Net + Wait>(
         return Err(Fail::new("no pass"));
     };
     let _len = caller.send_to(NEW_FOR_200, address(at))?;
-    Ok(turn_until_rejected(
+    let rejected = turn_until_rejected(
         rt,
         &exchange,
         pass,
@@ -96,7 +97,8 @@ fn call_200<J: Naming, R: Net + Wait>(
         &mut wire,
         &caller,
         &challenge,
-    ))
+    );
+    Ok((rejected, wire.given_to(WEST), wire.given_to(EAST)))
 }
 
 // The same, by the ledgers that the caller names.
@@ -106,7 +108,7 @@ fn call_named<O: Ledger + Send + Sync, S: Ledger + Send + Sync, R: Net + Wait>(
     plan: Plan,
     octets: Blank,
     steps: Blank,
-) -> Result<bool, Fail>
+) -> Result<(bool, u64, u64), Fail>
     requires octets { (octets.name ≡ O.name) × (octets.parts ≡ O.parts) × (octets.parts ≡ length plan.peers + plan.passes) }
     requires steps { (steps.name ≡ S.name) × (steps.parts ≡ S.parts) × (steps.parts ≡ length plan.peers + plan.passes) }
 {
@@ -117,7 +119,7 @@ fn call_named<O: Ledger + Send + Sync, S: Ledger + Send + Sync, R: Net + Wait>(
 fn reject_on_loopback(rt: HostRuntime) -> Result<(), Fail> {
     let plan = Plan::read(rt.alloc(), ONE_WORKER)?;
     let parts = u64::from(plan.peer_count()) + u64::from(plan.passes());
-    let rejected = call_named::<Brand, Brand, HostRuntime>(
+    let (rejected, to_west, to_east) = call_named::<Brand, Brand, HostRuntime>(
         &rt,
         rt.alloc(),
         plan,
@@ -125,5 +127,7 @@ fn reject_on_loopback(rt: HostRuntime) -> Result<(), Fail> {
         Blank::new(parts),
     )?;
     assert!(rt; rejected);
+    assert_eq!(rt; to_west, 1);
+    assert_eq!(rt; to_east, 0);
     Ok(())
 }

@@ -1,7 +1,8 @@
 //! A wire in memory: it gives what a test puts there, keeps what it is given, and fails at one of its calls.
+use crate::peer_counts::PeerCounts;
 use crate::wire::{Wire, WireFault};
 use peer_plan::Endpoint;
-use std::alloc::Global;
+use std::alloc::{AllocError, Global};
 
 /// A datagram that was sent.
 #[derive(Drop)]
@@ -14,7 +15,7 @@ pub struct Sent {
 #[derive(Drop)]
 pub struct MemoryWire {
     alloc: Global,
-    peers: Vec<Endpoint>,
+    peers: PeerCounts,
     given: u64,
     failures: u64,
     // The datagram that comes next.
@@ -26,21 +27,21 @@ pub struct MemoryWire {
 }
 
 impl MemoryWire {
-    ghost use Rattle.std.specs.Prelude.{◌≡◌};
+    ghost use Rattle.std.specs.Prelude.{◌≡◌, IfOk};
 
     /// A wire that fails at its call of this place, counted from 1; at 0 never.
-    pub fn new(alloc: Global, peers: Vec<Endpoint>, fails_at: u64) -> MemoryWire
-        ensures { result.peers ≡ peers }
+    pub fn new(alloc: Global, peers: Vec<Endpoint>, fails_at: u64) -> Result<MemoryWire, AllocError>
+        ensures { IfOk result (λ wire. wire.peers.endpoints ≡ peers) }
     {
-        MemoryWire {
+        Ok(MemoryWire {
             alloc,
-            peers,
+            peers: PeerCounts::new(alloc, peers)?,
             given: 0,
             failures: 0,
             next: None,
             sent: Vec::new(alloc),
             good_calls: fails_at.wrapping_sub(1),
-        }
+        })
     }
 
     /// Puts a datagram there. False: the one before it wasn't received yet.
@@ -73,11 +74,15 @@ impl MemoryWire {
 }
 
 impl Wire for MemoryWire {
+    ghost use Rattle.udp_workers.specs.PeerCounts.{count_of};
+
     ghost given = { λ wire. wire.given };
+
+    ghost given_to = { λ wire. count_of wire.peers };
 
     ghost failures = { λ wire. wire.failures };
 
-    ghost peers = { λ wire. wire.peers.items };
+    ghost peers = { λ wire. wire.peers.endpoints.items };
 
     fn receive(&mut self, octets: &mut [u8]) -> Result<Option<(usize, Endpoint)>, WireFault> {
         if self.fails() {
@@ -94,6 +99,7 @@ impl Wire for MemoryWire {
 
     fn send(&mut self, to: Endpoint, octets: &[u8]) -> Result<bool, WireFault> {
         self.given = self.given.wrapping_add(1);
+        self.peers.count(to);
         if self.fails() {
             self.failures = self.failures.wrapping_add(1);
             return Err(WireFault);
@@ -107,11 +113,15 @@ impl Wire for MemoryWire {
     fn wait(&mut self, _ms: u64) {}
 
     fn peers(&self) -> &[Endpoint] {
-        &self.peers
+        &self.peers.endpoints
     }
 
     fn given(&self) -> u64 {
         self.given
+    }
+
+    fn given_to(&self, to: Endpoint) -> u64 {
+        self.peers.get(to)
     }
 
     fn failures(&self) -> u64 {

@@ -25,6 +25,9 @@ pub struct Played {
     /// The sum of the reports.
     pub report: TurnReport,
     pub sent: Vec<Sent>,
+    /// How many datagrams the wire was given for the peer in the west, and for the one in the east.
+    pub to_west: u64,
+    pub to_east: u64,
     /// Whether each report has as many faults as `failures()` rose, and `given()` rose by what was sent and lost.
     pub counted: bool,
     /// Whether the accounts were settled, and accepted octets are those packed, queued and dropped.
@@ -41,7 +44,7 @@ fn play_arrivals<J: Naming, R: Wait>(
     challenge: &Challenge,
 ) -> (TurnReport, bool)
     requires peers { worker.old.peers ≡ peers_of exchange.now worker.old.place }
-    requires wire { AreEndpoints exchange.now worker.old.peers wire.old.peers.items }
+    requires wire { AreEndpoints exchange.now worker.old.peers wire.old.peers.endpoints.items }
 {
     let mut sum = TurnReport::default();
     let mut counted = true;
@@ -81,7 +84,7 @@ fn play<J: Naming, R: Wait>(
     let _workers = plan.workers();
     let mut worker = Worker::new(&plan, 0);
     let endpoints = worker.endpoints(alloc, &plan)?;
-    let mut wire = MemoryWire::new(alloc, endpoints, fails_at);
+    let mut wire = MemoryWire::new(alloc, endpoints, fails_at)?;
     let (exchange, mut passes) = Exchange::<NoGate, J>::open(alloc, plan, NoGate, octets, steps)?;
     let Some(pass) = passes.first_mut() else {
         return Err(Fail::new("no pass"));
@@ -93,6 +96,8 @@ fn play<J: Naming, R: Wait>(
     };
     Ok(Played {
         report,
+        to_west: wire.given_to(WEST),
+        to_east: wire.given_to(EAST),
         sent: wire.into_sent(),
         counted,
         balances,
@@ -157,6 +162,8 @@ fn whole_call_over_a_wire(rt: HostRuntime) -> Result<(), Fail> {
     assert_eq!(rt; played.report.retired, 2);
     assert!(rt; went(&played.sent, WEST, &TO_WEST), "to the west");
     assert!(rt; went(&played.sent, EAST, &TO_EAST), "to the east");
+    assert_eq!(rt; played.to_west, 3);
+    assert_eq!(rt; played.to_east, 4);
     assert!(rt; played.counted);
     assert!(rt; played.balances);
     Ok(())

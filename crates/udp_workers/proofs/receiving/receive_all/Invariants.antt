@@ -1,4 +1,5 @@
 use Rattle.std.proofs.Common.{◌≡◌, ◌+◌, ◌≤◌}
+use Rattle.peer_plan.specs.declared.endpoint.Endpoint.{Endpoint}
 use Rattle.udp_workers.specs.Counts.{RisesBy}
 use Rattle.udp_workers.proofs.receiving.receive_all.Given as goal
 
@@ -8,6 +9,7 @@ invariant-loop g l = record {
   refused : l.report.refused ≤ l.report.received;
   no_fault : l.report.faults ≡ 0;
   given : g.W.Wire.given l.wire ≡ g.W.Wire.given l.fn.wire;
+  given_to : (to : Endpoint) → g.W.Wire.given_to l.wire to ≡ g.W.Wire.given_to l.fn.wire to;
   failures : RisesBy (g.W.Wire.failures l.fn.wire) (g.W.Wire.failures l.wire) 0;
   peers : g.W.Wire.peers l.wire ≡ g.W.Wire.peers l.fn.wire;
   steps : l.fn.pass.steps + l.report.received ≤ l.pass.steps + l.report.refused;

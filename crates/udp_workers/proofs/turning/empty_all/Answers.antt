@@ -1,7 +1,9 @@
-use Rattle.std.proofs.Common.{◌≡◌, Some, sym, ap, ◌∙◌, subst, get_or}
-use Rattle.std.specs.Prelude.{Contains}
+use Rattle.std.proofs.Common.{◌≡◌, ◌+◌, Some, sym, ap, ◌∙◌, subst, get_or, arith}
+use Rattle.std.proofs.lemmas.Option.{slice_get_within}
+use Rattle.std.specs.Prelude.{Contains, slice_get}
 use Rattle.udp_workers.specs.Served.{endpoint_at}
-use Rattle.udp_workers.proofs.ServedLaws.{endpoint_among}
+use Rattle.udp_workers.proofs.CountLaws.{each_next, ahead_next}
+use Rattle.udp_workers.proofs.ServedLaws.{endpoint_among, endpoint_there}
 use Rattle.udp_workers.proofs.turning.empty_all.Goals as goal
 
 pub send_all-gone-requires-clause-to : goal.send_all-gone-requires-clause-to
@@ -11,3 +13,27 @@ send_all-gone-requires-clause-to g c κs within =
     let to = c.endpoint-to.result in
     let at : endpoint_at c.args.exchange.now (get_or peers l.peer-index 0) ≡ Some to = ap (λ plan. endpoint_at plan (get_or peers l.peer-index 0)) (sym c.plan.ensures) ∙ c.endpoint-to.ensures in
     subst (λ ends. Contains ends to) (sym l.invariant.peers) (endpoint_among c.args.exchange.now peers _ l.peer-index to c.requires.wire c.loop-peer-test.true at)
+
+pub loop-peer-preserved : goal.loop-peer-preserved
+loop-peer-preserved g c =
+    let l = c.loop-peer in
+    let gone = c.send_all-gone in
+    let peers = c.args.peers.now in
+    let ends = g.W.Wire.peers c.args.wire.now in
+    let to = c.endpoint-to.result in
+    let at : endpoint_at c.args.exchange.now (get_or peers l.peer-index 0) ≡ Some to = ap (λ plan. endpoint_at plan (get_or peers l.peer-index 0)) (sym c.plan.ensures) ∙ c.endpoint-to.ensures in
+    let there : slice_get ends l.peer-index ≡ Some to = endpoint_there c.args.exchange.now peers ends l.peer-index to c.requires.wire c.loop-peer-test.true at in
+    let first = g.W.Wire.given_to c.args.wire.now in
+    let before = g.W.Wire.given_to l.wire in
+    let after = g.W.Wire.given_to gone.new.wire in
+    let place_within = slice_get_within ends l.peer-index to there in
+    record {
+      emptied = omega arith;
+      some_lost = omega arith;
+      given = omega arith;
+      each = each_next first before after ends l.peer-index (gone.result.sent + gone.result.lost) to there gone.ensures.others l.invariant.ahead place_within gone.ensures.emptied gone.ensures.to l.invariant.each;
+      ahead = ahead_next first before after ends l.peer-index (gone.result.sent + gone.result.lost) to there gone.ensures.others l.invariant.ahead place_within c.requires.apart;
+      faults = omega arith;
+      peers = gone.ensures.peers ∙ l.invariant.peers;
+      pass = gone.ensures.pass ∙ l.invariant.pass;
+    }

@@ -9,5 +9,5 @@ invariant-loop-arrival g l = record {
   faults : l.sum.faults ≤ l.sum.lost + l.arrival-index;
   place : l.worker.place ≡ l.fn.worker.place;
   peers : l.worker.peers ≡ l.fn.worker.peers;
-  wire : l.wire.peers.items ≡ l.fn.wire.peers.items;
+  wire : l.wire.peers.endpoints.items ≡ l.fn.wire.peers.endpoints.items;
 }

@@ -1,7 +1,10 @@
-use Rattle.std.proofs.Common.{◌<◌, ◌∙◌, subst, sym, ap, length}
-use Rattle.std.specs.Prelude.{All}
-use Rattle.udp_workers.specs.Served.{WorkerView}
-use Rattle.udp_workers.proofs.ServedLaws.{peers_below}
+use Rattle.std.proofs.Common.{◌≢◌, ℕ, ◌<◌, List, ◌∙◌, subst, sym, ap, length}
+use Rattle.std.specs.Prelude.{All, AllPairs}
+use Rattle.peer_plan.specs.Plan.{IsPlan}
+use Rattle.peer_plan.specs.declared.endpoint.Endpoint.{Endpoint}
+use Rattle.udp_workers.specs.Counts.{RisesByAtMost}
+use Rattle.udp_workers.specs.Served.{WorkerView, AreEndpoints}
+use Rattle.udp_workers.proofs.ServedLaws.{peers_below, endpoints_apart}
 use Rattle.udp_workers.proofs.worker.Worker.turn.Goals as goal
 
 pub tick_all-ended-requires-after_bounds : goal.tick_all-ended-requires-after_bounds
@@ -15,3 +18,17 @@ empty_all-gone-requires-clause-peers g c κs within =
     let plan = c.args.exchange.now in
     let own = c.peers-peers.ensures.peers ∙ ap (λ (worker : WorkerView). worker.peers) c.self.view_is ∙ c.requires.peers in
     subst (All (λ peer. peer < length plan.peers)) (sym own) (peers_below plan c.args.self.now.place)
+
+pub empty_all-gone-requires-clause-apart : goal.empty_all-gone-requires-clause-apart
+empty_all-gone-requires-clause-apart g c κs within =
+    let self = c.args.self.now in
+    let plan = c.args.exchange.now in
+    let ends = g.W.Wire.peers c.args.wire.now in
+    let sound : IsPlan plan = subst IsPlan c.plan.ensures c.peer_count-peers.ensures.sound in
+    let are : AreEndpoints plan self.peers ends = c.requires.wire in
+    let apart = endpoints_apart plan self.place ends sound (subst (λ (peers : List ℕ). AreEndpoints plan peers ends) c.requires.peers are) in
+    subst (AllPairs (λ (one other : Endpoint). one ≢ other)) (sym c.receive_all-arrived.ensures.peers) apart
+
+pub returns-clause-each : goal.returns-clause-each
+returns-clause-each g c to =
+    subst (λ (first : ℕ). RisesByAtMost 256 first (g.W.Wire.given_to c.empty_all-gone.new.wire to)) (c.receive_all-arrived.ensures.given_to to) (c.empty_all-gone.ensures.each to)
