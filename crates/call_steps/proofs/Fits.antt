@@ -72,11 +72,11 @@ refused_hand : (error : PeerError) (peer : ℕ) (rest : Rest) → in_hand (after
 refused_hand peer_errors.NeedsNumber peer rest = refl
 refused_hand error peer rest = refl
 
-status_hand : (name : LegName) (owes : Bool) (rest : Rest) → in_hand (after_status name owes rest).place ≡ []
+pub status_hand : (name : LegName) (owes : Bool) (rest : Rest) → in_hand (after_status name owes rest).place ≡ []
 status_hand name true rest = refl
 status_hand name false rest = refl
 
-no_room_hand : (act : Act) (partner : LegName) (rest : Rest) → in_hand (after_no_room act partner rest).place ≡ []
+pub no_room_hand : (act : Act) (partner : LegName) (rest : Rest) → in_hand (after_no_room act partner rest).place ≡ []
 no_room_hand (acts.Media span) partner rest = go_on_hand rest
 no_room_hand act partner rest = refl
 

@@ -23,3 +23,5 @@ mod SeenReplies
 mod WorldLegs
 mod PeerSteps
 mod Numbers
+mod MediaLeft
+mod Leases

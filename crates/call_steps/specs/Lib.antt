@@ -6,4 +6,6 @@ pub mod SeenReply
 pub mod Sees
 pub mod Scene
 pub mod World
+pub mod MediaLeft
+pub mod Leases
 pub mod Law

@@ -1,5 +1,6 @@
 //! What holds of many calls at once, in whatever order their steps come.
-ghost use Rattle.std.specs.Prelude.{◌≡◌, ◌≤◌, ℕ, true, false, Bool, List, ◌∷◌, Option, None, Some, Ok, Err, option_map};
+ghost use Rattle.std.specs.Prelude.{◌≡◌, ◌≤◌, ◌+◌, ℕ, true, false, Bool, List, ◌∷◌, Option, None, Some, Ok, Err, option_map};
+ghost use Rattle.std.specs.List.{AllByRecursion};
 ghost use Rattle.call_book.specs.declared.leg_name.LegName.{LegName};
 ghost use Rattle.iax_frames.specs.FullFrame.{FullFrame};
 ghost use Rattle.iax_frames.specs.declared.datagram.Datagram.{Datagram};
@@ -8,6 +9,7 @@ ghost use Rattle.leg_machine.specs.Seen.{kind_of};
 ghost use Rattle.leg_machine.specs.declared.formats.Format.{Format};
 ghost use Rattle.leg_machine.specs.declared.orders.Order.{Order};
 ghost use Rattle.peer_lock.specs.Arrivals.{datagram_step};
+ghost use Rattle.peer_lock.specs.CarriedMedia.{LiesWithin, handed_octets};
 ghost use Rattle.peer_lock.specs.Legs.{AreLegs, PeerLegs, NamedLeg, leg_at, leg_named, with_place};
 ghost use Rattle.peer_lock.specs.Openings.{is_free_name, opens_in, opens_out};
 ghost use Rattle.peer_lock.specs.Orders.{order_refused_by, ordered_step, IsOrderRefusal};
@@ -20,11 +22,15 @@ ghost use Rattle.peer_lock.specs.declared.errors.OrderError.TheVariants.{Memory}
 ghost use Rattle.peer_lock.specs.declared.errors.PeerError.{PeerError};
 ghost use Rattle.peer_lock.specs.declared.steps.TickReport.{TickReport};
 ghost use Rattle.call_steps.specs.Acts.{act_kind};
+ghost use Rattle.call_steps.specs.Leases.{lease_in, lease_needed, lease_after};
+ghost use Rattle.call_steps.specs.MediaLeft.{media_left, media_needed, handed_by};
 ghost use Rattle.call_steps.specs.Scene.{Scene, is_leased, dropped, leg_at as world_leg_at, without};
 ghost use Rattle.call_steps.specs.SeenReply.{heard};
 ghost use Rattle.call_steps.specs.Sees.{Sees, IsWorldStep};
+ghost use Rattle.call_steps.specs.Work.{Work, next_of, after_told};
 ghost use Rattle.call_steps.specs.declared.acts.Act.{Act};
 ghost use Rattle.call_steps.specs.declared.needs.Need.TheVariants as needs;
+ghost use Rattle.call_steps.specs.declared.replies.Reply.{Reply};
 ghost use Rattle.call_steps.specs.declared.replies.Reply.TheVariants as replies;
 ghost use Rattle.call_steps.specs.Law.{InEveryRun, InEveryRunWithinSteps, OnlyWhatIsSeenCounts, NamesAreHeldOnce, NumbersServeOne, NoneIsBusy, NoneIsOutside, NoneIsStale, AllAreLookedAfter, NoneMeetsOffered, NamesAreTheLegs, AllHavePartners};
 
@@ -106,3 +112,27 @@ pub fn peers_steps_are_the_worlds()
 {
     peer_lock::laws::steps_are_seen();
 }
+
+/// The media that a call still has to carry, through its steps: where all that is handed up lies within the datagram, so does all that
+/// is left and each piece that is ordered. An order takes its octets away from what is left, and no answer adds more to it than it
+/// hands up.
+pub fn media_is_carried_once()
+    // Where all that is handed up lies within the datagram, all that is left does.
+    ensures within { (len : ℕ) (work : Work) (reply : Reply) → AllByRecursion (LiesWithin len) (media_left work) →
+        AllByRecursion (LiesWithin len) (handed_by reply) → AllByRecursion (LiesWithin len) (media_left (after_told work reply)) }
+    // An answer leaves no more than what was left and what it hands up, less what was ordered.
+    ensures octets { (work : Work) (reply : Reply) →
+        handed_octets (media_left (after_told work reply)) + handed_octets (media_needed (next_of work)) ≤
+        handed_octets (media_left work) + handed_octets (handed_by reply) }
+    // What is ordered next is of what is left.
+    ensures needed { (len : ℕ) (work : Work) → AllByRecursion (LiesWithin len) (media_left work) →
+        AllByRecursion (LiesWithin len) (media_needed (next_of work)) }
+    ensures covered { (work : Work) → handed_octets (media_needed (next_of work)) ≤ handed_octets (media_left work) }
+{}
+
+/// The lease that a call has in its hand is the one that its steps name: each step that takes a lease names the one in hand, and
+/// after each answer the call has the lease that the step left.
+pub fn leases_are_as_named()
+    ensures needed { (work : Work) (name : LegName) → lease_needed (next_of work) ≡ Some name → lease_in work ≡ Some name }
+    ensures after { (work : Work) (reply : Reply) → lease_in (after_told work reply) ≡ lease_after (next_of work) reply (lease_in work) }
+{}

@@ -1,3 +1,5 @@
 pub mod Newcomers
 pub mod Pops
 mod Starting
+mod Media
+mod Carrying

@@ -1,3 +1,4 @@
+pub mod Covered
 pub mod Newcomers
 pub mod Numbers
 pub mod Refusals

@@ -1,5 +1,6 @@
 //! The first step of a datagram: at a leg of its peer, or by a leg that it opens ("NEW").
 ghost use Rattle.std.specs.Prelude.{◌≡◌, ◌+◌, ◌<◌, ◌≤◌, OnOk, OnErr, length};
+ghost use Rattle.exchange_core.specs.Covered.{TakesCredit};
 ghost use Rattle.exchange_core.specs.Newcomers.{SpellsOpening};
 ghost use Rattle.peer_lock.specs.Makes.{IsNothing};
 ghost use Rattle.peer_lock.specs.Openings.{IsOpening};
@@ -39,6 +40,7 @@ impl<G: Gate, J: Naming> Exchange<G, J> {
         requires nothing { IsNothing onwards.old }
         ensures steps { OnOk result (pass.new.steps ≡ pass.old.steps + 1) }
         ensures octets { OnOk result (pass.old.octets ≤ pass.new.octets) }
+        ensures media { OnOk result (TakesCredit (length octets.now) pass.old pass.new onwards.new.signals) }
         ensures refused { OnErr result ((pass.new ≡ pass.old) × IsNothing onwards.new) }
     {
         match self.hear(rt, pass, from, octets, now, onwards) {
@@ -66,6 +68,7 @@ impl<G: Gate, J: Naming> Exchange<G, J> {
         requires opening { SpellsOpening octets.now }
         ensures steps { OnOk result (pass.new.steps ≡ pass.old.steps + 1) }
         ensures octets { OnOk result (pass.old.octets ≤ pass.new.octets) }
+        ensures media { OnOk result (TakesCredit (length octets.now) pass.old pass.new onwards.new.signals) }
         ensures refused { OnErr result ((pass.new ≡ pass.old) × IsNothing onwards.new) }
     {
         let frame = opening_in(octets);

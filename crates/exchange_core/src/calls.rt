@@ -1,5 +1,9 @@
 //! The calls of workers and callers that may take several steps: a datagram, a tick, a hang-up.
-ghost use Rattle.std.specs.Prelude.{◌≡◌, ◌+◌, ◌<◌, ◌≤◌, None, Some, length, IfNone, IfOk, IsSome, OnErr};
+ghost use Rattle.std.specs.Prelude.{◌≡◌, ◌+◌, ◌<◌, ◌≤◌, [], None, Some, length, IfNone, IfOk, IsSome, OnErr};
+ghost use Rattle.call_steps.specs.Leases.{lease_in, lease_after};
+ghost use Rattle.call_steps.specs.MediaLeft.{media_left, handed_by};
+ghost use Rattle.call_steps.specs.Work.{next_of};
+ghost use Rattle.exchange_core.specs.Covered.{IsCovered};
 
 use crate::answers::{Answer, Refusal, Retired};
 use crate::exchange::Exchange;
@@ -7,6 +11,7 @@ use crate::gates::Gate;
 use crate::working::Hands;
 use call_auth::Challenge;
 use call_book::LegName;
+use call_steps::laws::{leases_are_as_named, media_is_carried_once};
 use call_steps::{Heard, Reply, Work};
 use leg_machine::Order;
 use peer_lock::{Naming, OrderError, Pass};
@@ -43,8 +48,8 @@ impl<G: Gate, J: Naming> Exchange<G, J> {
             Ok(step) => {
                 let mut work = Work::of_datagram(peer);
                 let touched = step.touched;
-                work.told(Reply::Datagram(Ok(Heard { touched, onwards })));
-                let retired = self.follow(rt, pass, &mut work, octets, now);
+                let heard = Reply::Datagram(Ok(Heard { touched, onwards }));
+                let retired = self.follow(rt, pass, &mut work, heard, octets, now);
                 if let Some(onwards) = work.into_onwards() {
                     pass.keep(onwards);
                 }
@@ -75,8 +80,8 @@ impl<G: Gate, J: Naming> Exchange<G, J> {
                 // Where no leg has ended and none owes, no number is looked at.
                 let count = if report.is_quiet { 0 } else { range.count };
                 let mut work = Work::of_tick(peer, range.first, count);
-                work.told(Reply::Tick(Ok(())));
-                let retired = self.follow(rt, pass, &mut work, &[], now);
+                let ticked = Reply::Tick(Ok(()));
+                let retired = self.follow(rt, pass, &mut work, ticked, &[], now);
                 let steps = pass.steps() - first;
                 Answer {
                     steps,
@@ -105,8 +110,8 @@ impl<G: Gate, J: Naming> Exchange<G, J> {
         let first = pass.steps();
         let _step = self.order(rt, pass, name, &Order::Hangup, now)?;
         let mut work = Work::of_hang_up(name);
-        work.told(Reply::Order(Ok(())));
-        let retired = self.follow(rt, pass, &mut work, &[], now);
+        let obeyed = Reply::Order(Ok(()));
+        let retired = self.follow(rt, pass, &mut work, obeyed, &[], now);
         let steps = pass.steps() - first;
         Ok(Answer {
             steps,
@@ -127,17 +132,25 @@ impl<G: Gate, J: Naming> Exchange<G, J> {
         }
     }
 
-    // Makes the steps that follow a call's first one, and gives the legs that were taken out.
+    // Makes the steps that follow a call's first one, which answered so, and gives the legs that were taken out. The pass has the
+    // credit for the media that was handed up, and the call has no lease yet.
     fn follow<R: Wait>(
         &self,
         rt: &R,
         pass: &mut Pass<J>,
         work: &mut Work,
+        first: Reply,
         octets: &[u8],
         now: u64,
     ) -> Vec<Retired>
+        requires begun { media_left work.old.work ≡ [] }
+        requires media { IsCovered (length octets.now) pass.old.octets (handed_by first) }
+        requires lease { lease_after (next_of work.old.work) first (lease_in work.old.work) ≡ None }
         ensures { pass.old.steps ≤ pass.new.steps }
     {
+        media_is_carried_once();
+        leases_are_as_named();
+        work.told(first);
         let mut hands = Hands {
             lease: None,
             retired: Vec::new(self.alloc),

@@ -1,6 +1,7 @@
 //! The locked sections of peers: each takes one peer's lock, and makes at most one step.
-ghost use Rattle.std.specs.Prelude.{◌≡◌, ◌≢◌, ◌+◌, ◌<◌, ◌≤◌, Some, length, IfOk, IfErr, OnOk, OnErr};
+ghost use Rattle.std.specs.Prelude.{◌≡◌, ◌≢◌, ℕ, ◌+◌, ◌<◌, ◌≤◌, Some, length, IfOk, IfErr, OnOk, OnErr};
 ghost use Rattle.std.specs.Option.{ForSome};
+ghost use Rattle.exchange_core.specs.Covered.{TakesCredit};
 ghost use Rattle.exchange_core.specs.Newcomers.{SpellsOpening};
 ghost use Rattle.peer_lock.specs.Accounts.{with_step};
 ghost use Rattle.peer_lock.specs.Makes.{IsNothing};
@@ -12,6 +13,7 @@ use call_auth::Challenge;
 use call_book::Lease;
 use iax_frames::{Full, Out};
 use leg_machine::Format;
+use peer_lock::laws::media_is_the_datagrams;
 use peer_lock::{Naming, Onwards, OpenError, Pass, PeerError, Status, Step};
 use std::sync::Wait;
 
@@ -56,10 +58,12 @@ impl<G: Gate, J: Naming> Exchange<G, J> {
         requires nothing { IsNothing onwards.old }
         ensures steps { OnOk result (pass.new.steps ≡ pass.old.steps + 1) }
         ensures octets { OnOk result (pass.old.octets ≤ pass.new.octets) }
+        ensures media { OnOk result (TakesCredit (length octets.now) pass.old pass.new onwards.new.signals) }
         ensures refused { OnErr result ((pass.new ≡ pass.old) × IsNothing onwards.new) }
         // It needs a number only where it spells a NEW that opens a leg.
         ensures needs { IfErr result (λ error. error ≡ PeerError.NeedsNumber → SpellsOpening octets.now) }
     {
+        media_is_the_datagrams();
         let mut state = self.peers[usize::from(from)].lock(rt);
         self.gate.enter(from);
         state.datagram(pass, octets, now, onwards)
@@ -80,6 +84,8 @@ impl<G: Gate, J: Naming> Exchange<G, J> {
         requires opening { IsOpening frame.now }
         requires nothing { IsNothing onwards.old }
         ensures credit { OnOk result (pass.new ≡ with_step pass.old 0) }
+        // What opens a leg has no media.
+        ensures media { (len : ℕ) → OnOk result (TakesCredit len pass.old pass.new onwards.new.signals) }
         ensures touched { IfOk result (λ step. step.touched ≡ Some lease) }
         ensures lease { IfErr result (λ back. back.0 ≡ lease) }
         ensures refused { OnErr result ((pass.new ≡ pass.old) × IsNothing onwards.new) }

@@ -1,15 +1,23 @@
 //! The steps of a call after its first one, until nothing is left to be done.
-ghost use Rattle.std.specs.Prelude.{◌≡◌, ◌+◌, ◌<◌, ◌≤◌, length, Some, option_copied};
+ghost use Rattle.std.specs.Prelude.{◌≡◌, ◌+◌, ◌<◌, ◌≤◌, [], length, None, Some, option_copied, IfErr, OnOk, OnErr};
+ghost use Rattle.call_book.specs.declared.leg_name.LegName.{LegName as LegNameValue};
+ghost use Rattle.call_steps.specs.Leases.{lease_in, lease_needed, lease_after};
+ghost use Rattle.call_steps.specs.MediaLeft.{media_of, media_left, media_needed, handed_by};
+ghost use Rattle.call_steps.specs.declared.needs.Need.TheVariants as needs;
+ghost use Rattle.call_steps.specs.declared.replies.Reply.TheVariants as replies;
+ghost use Rattle.exchange_core.specs.Covered.{IsCovered};
 ghost use Rattle.exchange_core.specs.Routes.{IsRoute, LeadsInside};
 ghost use Rattle.leg_machine.specs.OrderTable.{IsShortMedia};
+ghost use Rattle.peer_lock.specs.CarriedMedia.{handed_octets};
 ghost use Rattle.peer_lock.specs.Orders.{order_octets};
 
 use crate::answers::Retired;
 use crate::exchange::Exchange;
 use crate::gates::Gate;
 use call_book::{Lease, LegName, ReserveError, Stale};
+use call_steps::laws::{leases_are_as_named, media_is_carried_once};
 use call_steps::{Act, Need, Reply, Route, Work};
-use leg_machine::{MediaSpan, Order};
+use leg_machine::Order;
 use peer_lock::{Naming, Offer, OpenError, OrderError, Pass, Status};
 use std::sync::Wait;
 
@@ -58,7 +66,8 @@ impl<G: Gate, J: Naming> Exchange<G, J> {
     ) -> Result<(), OrderError>
         requires media { IsShortMedia order.now }
         requires credit { order_octets order.now ≤ pass.old.octets }
-        ensures { pass.old.steps ≤ pass.new.steps }
+        ensures steps { pass.old.steps ≤ pass.new.steps }
+        ensures octets { pass.old.octets ≤ pass.new.octets + order_octets order.now }
     {
         if name.peer >= self.plan.peer_count() {
             return Err(OrderError::Gone);
@@ -66,38 +75,7 @@ impl<G: Gate, J: Naming> Exchange<G, J> {
         self.order(rt, pass, name, order, now).map(|_| ())
     }
 
-    // Media goes to a leg, where it is media of the datagram for which the pass has credit. Else it is dropped with the pass.
-    fn carry<R: Wait>(
-        &self,
-        rt: &R,
-        pass: &mut Pass<J>,
-        name: LegName,
-        span: MediaSpan,
-        octets: &[u8],
-        now: u64,
-    ) -> Result<(), OrderError>
-        ensures { pass.old.steps ≤ pass.new.steps }
-    {
-        if span.start > span.end {
-            return Err(OrderError::Gone);
-        }
-        if span.end > octets.len() {
-            return Err(OrderError::Gone);
-        }
-        let media = &octets[span.start..span.end];
-        if media.is_empty() {
-            return Err(OrderError::Gone);
-        }
-        if media.len() > 1380 {
-            return Err(OrderError::Gone);
-        }
-        if media.len() as u64 > pass.octets() {
-            return Err(OrderError::Gone);
-        }
-        self.obey(rt, pass, name, &Order::Media(media), now)
-    }
-
-    // An order with the octets of its media.
+    // The leg of a name gets an order with the octets of its media, for which the pass has the credit.
     fn act<R: Wait>(
         &self,
         rt: &R,
@@ -107,19 +85,11 @@ impl<G: Gate, J: Naming> Exchange<G, J> {
         octets: &[u8],
         now: u64,
     ) -> Result<(), OrderError>
-        ensures { pass.old.steps ≤ pass.new.steps }
+        requires media { IsCovered (length octets.now) pass.old.octets (media_of name act) }
+        ensures steps { pass.old.steps ≤ pass.new.steps }
+        ensures octets { pass.old.octets ≤ pass.new.octets + handed_octets (media_of name act) }
     {
-        match act {
-            Act::Accept => self.obey(rt, pass, name, &Order::Accept, now),
-            Act::Reject(cause) => self.obey(rt, pass, name, &Order::Reject(cause), now),
-            Act::Indicate(told) => self.obey(rt, pass, name, &Order::Indicate(told), now),
-            Act::Answer => self.obey(rt, pass, name, &Order::Answer, now),
-            Act::Dtmf(digit) => self.obey(rt, pass, name, &Order::Dtmf(digit), now),
-            Act::Media(span) => self.carry(rt, pass, name, span, octets, now),
-            Act::Hangup => self.obey(rt, pass, name, &Order::Hangup, now),
-            Act::Doom => self.obey(rt, pass, name, &Order::Doom, now),
-            Act::Paid => self.obey(rt, pass, name, &Order::Paid, now),
-        }
+        self.obey(rt, pass, name, &act.order(octets), now)
     }
 
     // How the leg of a number stands.
@@ -133,7 +103,9 @@ impl<G: Gate, J: Naming> Exchange<G, J> {
     }
 
     // Takes a leg out, where there is memory for its place in the answer.
-    fn retire_into<R: Wait>(&self, rt: &R, name: LegName, hands: &mut Hands) -> bool {
+    fn retire_into<R: Wait>(&self, rt: &R, name: LegName, hands: &mut Hands) -> bool
+        ensures { hands.new.lease ≡ lease_after (Some (needs.Retire name)) (replies.Retire result) hands.old.lease }
+    {
         if name.peer >= self.plan.peer_count() {
             return false;
         }
@@ -154,18 +126,26 @@ impl<G: Gate, J: Naming> Exchange<G, J> {
         rt: &R,
         peer: u16,
         hands: &mut Hands,
-    ) -> Result<LegName, ReserveError> {
+    ) -> Result<LegName, ReserveError>
+        ensures { hands.new.lease ≡ lease_after (Some (needs.Reserve peer)) (replies.Reserve result) hands.old.lease }
+    {
         let lease = self.reserve(rt, peer)?;
         let name = lease.name();
         hands.lease = Some(lease);
         Ok(name)
     }
 
-    // The lease that the call keeps goes back. One that the book refuses is dropped.
-    fn release_from<R: Wait>(&self, rt: &R, hands: &mut Hands) -> Result<Option<LegName>, Stale> {
-        let Some(lease) = hands.lease.take() else {
-            return Err(Stale);
-        };
+    // The lease that the call keeps, on this name, goes back. One that the book refuses is dropped.
+    fn release_from<R: Wait>(
+        &self,
+        rt: &R,
+        _name: LegName,
+        hands: &mut Hands,
+    ) -> Result<Option<LegName>, Stale>
+        requires { hands.old.lease ≡ Some _name }
+        ensures { hands.new.lease ≡ None }
+    {
+        let lease = hands.lease.take().unwrap();
         match self.release(rt, lease) {
             Ok(former) => Ok(former),
             Err((_, stale)) => Err(stale),
@@ -181,7 +161,9 @@ impl<G: Gate, J: Naming> Exchange<G, J> {
         lease: Lease,
         now: u64,
     ) -> Result<(), (Lease, OpenError)>
-        ensures { pass.old.steps ≤ pass.new.steps }
+        ensures steps { pass.old.steps ≤ pass.new.steps }
+        ensures octets { pass.new.octets ≡ pass.old.octets }
+        ensures lease { IfErr result (λ back. back.0 ≡ lease) }
     {
         if lease.name().peer >= self.plan.peer_count() {
             return Err((lease, OpenError::NumberBusy));
@@ -197,23 +179,26 @@ impl<G: Gate, J: Naming> Exchange<G, J> {
         opened.map(|_| ())
     }
 
-    // The far leg of an offered call is opened, under the lease that the call keeps.
+    // The far leg of an offered call is opened, under the lease that the call keeps, on this name.
     fn open_from<R: Wait>(
         &self,
         rt: &R,
         pass: &mut Pass<J>,
+        _name: LegName,
         offer: Option<&Offer>,
         hands: &mut Hands,
         now: u64,
     ) -> Result<(), OpenError>
-        ensures { pass.old.steps ≤ pass.new.steps }
+        requires { hands.old.lease ≡ Some _name }
+        ensures steps { pass.old.steps ≤ pass.new.steps }
+        ensures octets { pass.new.octets ≡ pass.old.octets }
+        ensures taken { OnOk result (hands.new.lease ≡ None) }
+        ensures kept { OnErr result (hands.new.lease ≡ hands.old.lease) }
     {
         let Some(offer) = offer else {
             return Err(OpenError::NumberBusy);
         };
-        let Some(lease) = hands.lease.take() else {
-            return Err(OpenError::NumberBusy);
-        };
+        let lease = hands.lease.take().unwrap();
         match self.open_far(rt, pass, offer, lease, now) {
             Ok(()) => Ok(()),
             Err((lease, error)) => {
@@ -223,7 +208,8 @@ impl<G: Gate, J: Naming> Exchange<G, J> {
         }
     }
 
-    // Makes a step that a call needs after its first one.
+    // Makes a step that a call needs after its first one. The pass has the credit for the media of an order, and the call has the
+    // lease that the step takes.
     fn make<R: Wait>(
         &self,
         rt: &R,
@@ -234,7 +220,12 @@ impl<G: Gate, J: Naming> Exchange<G, J> {
         octets: &[u8],
         now: u64,
     ) -> Reply
-        ensures { pass.old.steps ≤ pass.new.steps }
+        requires media { IsCovered (length octets.now) pass.old.octets (media_needed (Some need)) }
+        requires lease { (name : LegNameValue) → lease_needed (Some need) ≡ Some name → hands.old.lease ≡ Some name }
+        ensures steps { pass.old.steps ≤ pass.new.steps }
+        ensures octets { pass.old.octets ≤ pass.new.octets + handed_octets (media_needed (Some need)) }
+        ensures nothing { handed_by result ≡ [] }
+        ensures lease { hands.new.lease ≡ lease_after (Some need) result hands.old.lease }
     {
         match need {
             Need::Order(name, act) => Reply::Order(self.act(rt, pass, name, act, octets, now)),
@@ -243,17 +234,17 @@ impl<G: Gate, J: Naming> Exchange<G, J> {
             Need::Reserve(peer) => Reply::Reserve(self.reserve_into(rt, peer, hands)),
             Need::Bridge(one, other) => Reply::Bridge(self.bridge(rt, one, other)),
             Need::Partner(name) => Reply::Partner(self.partner(rt, name)),
-            Need::Release(_) => Reply::Release(self.release_from(rt, hands)),
+            Need::Release(name) => Reply::Release(self.release_from(rt, name, hands)),
             Need::Route(_) => Reply::Route(self.route(work.offer())),
-            Need::OpenOut(_) => {
-                Reply::OpenOut(self.open_from(rt, pass, work.offer(), hands, now))
+            Need::OpenOut(name) => {
+                Reply::OpenOut(self.open_from(rt, pass, name, work.offer(), hands, now))
             }
             // These are first steps, which were made.
             Need::Datagram(_) | Need::OpenIn(_) | Need::Tick(_) => Reply::Retire(false),
         }
     }
 
-    // Makes the steps that are left.
+    // Makes the steps that are left. The pass has the credit for the media that is left, and the call has the lease of its place.
     pub(crate) fn go_on<R: Wait>(
         &self,
         rt: &R,
@@ -263,8 +254,12 @@ impl<G: Gate, J: Naming> Exchange<G, J> {
         octets: &[u8],
         now: u64,
     )
+        requires media { IsCovered (length octets.now) pass.old.octets (media_left work.old.work) }
+        requires lease { hands.old.lease ≡ lease_in work.old.work }
         ensures { pass.old.steps ≤ pass.new.steps }
     {
+        media_is_carried_once();
+        leases_are_as_named();
         for _ in rt.forever() {
             let Some(need) = work.next() else {
                 return;

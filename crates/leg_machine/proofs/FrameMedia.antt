@@ -1,5 +1,5 @@
 -- Media that a full frame hands up is that frame's.
-use Rattle.std.specs.Prelude.{◌&&◌, ◌==◌, ◌+◌, length}
+use Rattle.std.specs.Prelude.{◌&&◌, ◌+◌, length}
 use Rattle.std.proofs.Common.{◌≡◌, ℕ, Bool, true, false, cond, List, Option, None, Some, refl}
 use Rattle.iax_frames.specs.FullFrame.{FullFrame}
 use Rattle.seq_window.specs.declared.judgements.Acknowledged.{Acknowledged as Judgement}
@@ -15,17 +15,15 @@ use Rattle.leg_machine.specs.Legs.{LegState}
 use Rattle.leg_machine.specs.Media.{IsMediaOf}
 use Rattle.leg_machine.specs.Messages.{message_of, is_numbered, is_inval, is_vnak}
 use Rattle.leg_machine.specs.Stages.{is_over}
-use Rattle.leg_machine.specs.Steps.{Step, full_step, inval_step, vnak_step, resend_step, nothing_sent, numbered_step, judged_step, taken_step, taken, answered, no_room, prepared}
+use Rattle.leg_machine.specs.Steps.{Step, full_step, inval_step, vnak_step, resend_step, nothing_sent, numbered_step, judged_step, taken, answered, no_room, prepared}
 use Rattle.leg_machine.specs.Working.{counts}
 use Rattle.leg_machine.specs.declared.causes.Cause.TheVariants.{CallRejected}
-use Rattle.leg_machine.specs.declared.effects.Answering.{Answering}
 use Rattle.leg_machine.specs.declared.effects.Answering.TheVariants.{Acknowledged, Answered, Silent}
 use Rattle.leg_machine.specs.declared.effects.Effect.{Effect}
 use Rattle.leg_machine.specs.declared.formats.Format.{Format}
 use Rattle.leg_machine.specs.declared.messages.Message.{Message}
 use Rattle.leg_machine.specs.declared.messages.Message.TheVariants as messages
 use Rattle.leg_machine.specs.declared.replies.Reply.{Reply}
-use Rattle.leg_machine.specs.declared.signals.Signal.{Signal}
 use Rattle.leg_machine.specs.declared.signals.Signal.TheVariants as signals
 use Rattle.leg_machine.specs.declared.stages.Stage.{Stage}
 use Rattle.leg_machine.specs.declared.stages.Stage.TheVariants as stages

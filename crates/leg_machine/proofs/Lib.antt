@@ -2,6 +2,7 @@ pub mod Again
 pub mod Finished
 pub mod FrameMedia
 pub mod Growth
+pub mod Idle
 pub mod OneTry
 pub mod Rows
 pub mod SeenFrames

@@ -1,7 +1,7 @@
 -- What a tick does to a leg ("Message Transport": retransmission; "PING").
-use Rattle.std.specs.Prelude.{ℕ, ◌+◌, not, nat_lt, nat_le, ◌==◌, ◌&&◌, Bool, false, List, [], ◌∷◌, ◌++◌, if◌then◌else◌}
+use Rattle.std.specs.Prelude.{ℕ, ◌+◌, not, nat_lt, nat_le, ◌==◌, ◌&&◌, ◌||◌, Bool, false, is_none, List, [], ◌∷◌, ◌++◌, if◌then◌else◌}
 use Rattle.iax_frames.specs.FullFrame.{FullFrame}
-use Rattle.seq_window.specs.Window.{held_count, is_full}
+use Rattle.seq_window.specs.Window.{held_count, is_full, first_due}
 use Rattle.leg_machine.specs.Legs.{LegState, entered, local_room, is_short_of_entries}
 use Rattle.leg_machine.specs.Replies.{reply_frame, outgoing, next_byte}
 use Rattle.leg_machine.specs.Stages.{is_over, is_talking, is_ended}
@@ -78,3 +78,15 @@ tick_step grown leg now =
     if is_ended leg.stage then quiet leg
     else if is_short_of_entries leg then quiet (entered leg stages.Ended)
     else due_frames grown leg now
+
+-- ---- idleness
+
+-- no held frame is due
+abbrev pub is_none_due : LegState → ℕ → Bool
+is_none_due leg now = is_none (first_due now leg.rules.retry_ms leg.window.sendings)
+
+-- A tick has nothing to do: the leg has ended, or it needn't end or hang up, and neither a held frame nor a PING is due.
+abbrev pub is_idle : LegState → ℕ → Bool
+is_idle leg now =
+    is_ended leg.stage
+    || (not (is_short_of_entries leg) && not (must_hang_up leg) && is_none_due leg now && not (must_ping leg now))

@@ -1,6 +1,6 @@
 //! The laws of a leg.
 
-ghost use Rattle.std.specs.Prelude.{◌≡◌, ◌⊎◌, ◌↔◌, ◌≤◌, ℕ, Bool, List, Option, None, Some};
+ghost use Rattle.std.specs.Prelude.{◌≡◌, ◌⊎◌, ◌↔◌, ◌≤◌, ℕ, Bool, true, List, Option, None, Some};
 ghost use Rattle.iax_frames.specs.FullFrame.{FullFrame};
 ghost use Rattle.seq_window.specs.Window.{held_count};
 ghost use Rattle.leg_machine.specs.Legs.{LegState};
@@ -9,7 +9,7 @@ ghost use Rattle.leg_machine.specs.Openings.{open_in_step, open_out_step};
 ghost use Rattle.leg_machine.specs.OrderTable.{order_refused, order_carried};
 ghost use Rattle.leg_machine.specs.Seen.{seen, kind_of, stage_after, fresh_leg, IsSeenFrame, IsSeenOpening, IsSeenOrder, IsSeenTick};
 ghost use Rattle.leg_machine.specs.Steps.{full_step};
-ghost use Rattle.leg_machine.specs.Ticks.{hang_up_step, tick_step};
+ghost use Rattle.leg_machine.specs.Ticks.{quiet, hang_up_step, tick_step, is_idle};
 ghost use Rattle.leg_machine.specs.Tries.{tries, NoneDue, IsFinished};
 ghost use Rattle.leg_machine.specs.declared.formats.Format.{Format};
 ghost use Rattle.leg_machine.specs.declared.orders.Order.{Order};
@@ -28,6 +28,11 @@ pub fn ticks_finish_their_tries()
     // After a tick the leg has ended, or nothing that it holds is due.
     ensures after_tick { (grown : Bool) (leg : LegState) (now : ℕ) → 1 ≤ leg.rules.retry_ms →
         ((tick_step grown leg now).leg.stage ≡ Ended) ⊎ NoneDue (tick_step grown leg now).leg now }
+{}
+
+/// A tick leaves an idle leg as it is, and sends nothing.
+pub fn idle_legs_stay()
+    ensures { (grown : Bool) (leg : LegState) (now : ℕ) → is_idle leg now ≡ true → tick_step grown leg now ≡ quiet leg }
 {}
 
 /// Media that a full frame hands up is that frame's own data.

@@ -1,10 +1,11 @@
 //! What a leg tells without a change.
-ghost use Rattle.std.specs.Prelude.{◌≡◌, ◌≤◌, length, option_copied, if◌then◌else◌, IfSome};
+ghost use Rattle.std.specs.Prelude.{◌≡◌, ℕ, ◌+◌, ◌^◌, ◌<◌, ◌≤◌, true, false, length, option_copied, if◌then◌else◌, IfSome};
 ghost use Rattle.std.specs.Option.{ForSome};
 ghost use Rattle.seq_window.specs.History.{IsLegal};
 ghost use Rattle.leg_machine.specs.Media.{accepts_media};
 ghost use Rattle.leg_machine.specs.Onward.{onward_of};
 ghost use Rattle.leg_machine.specs.Openings.{opening_data, called_of, calling_of};
+ghost use Rattle.leg_machine.specs.Ticks.{is_idle};
 
 use crate::formats::Format;
 use crate::legs::Leg;
@@ -47,6 +48,15 @@ impl Leg {
         ensures { result ≡ self.now.doomed }
     {
         self.machine.doomed
+    }
+
+    /// The first moment at which a tick has something to do: the leg is idle before it. The largest moment stands for
+    /// all later ones, and for none.
+    pub fn idle_until(&self) -> u64
+        ensures before { (now : ℕ) → now < result → is_idle self.now now ≡ true }
+        ensures then { result + 1 < 2 ^ 64 → is_idle self.now result ≡ false }
+    {
+        self.machine.idle_until()
     }
 
     /// The format of the call.

@@ -5,6 +5,7 @@
 mod causes;
 mod effects;
 mod formats;
+mod idleness;
 pub mod laws;
 mod leg_readers;
 mod leg_table;

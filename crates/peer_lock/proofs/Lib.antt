@@ -1,3 +1,4 @@
+pub mod AtRest
 pub mod Carrying
 pub mod Entries
 pub mod LegChanges

@@ -1,10 +1,12 @@
 -- The ticks of a peer's legs, one after another.
+use Rattle.std.specs.Prelude.{◌&&◌, All, map}
+use Rattle.iax_frames.specs.FullFrame.{spelling}
 use Rattle.std.proofs.Common.{◌≡◌, ◌≤◌, ℕ, zero, suc, ◌+◌, ◌<◌, Bool, true, false, List, [], ◌∷◌, ◌++◌, Option, Some, None, slice_get, slice_set, length, take, drop, cond, ◌==◌, ap, sym, subst, refl, ◌∙◌, arith}
 use Rattle.std.proofs.Math.Nat.{add_assoc}
 use Rattle.std.proofs.lemmas.List.{append_assoc, append-nil, length-append, take_all, drop_all, take-append-drop}
 use Rattle.leg_machine.specs.Legs.{LegState, entered, is_short_of_entries}
 use Rattle.leg_machine.specs.Stages.{is_ended}
-use Rattle.leg_machine.specs.Ticks.{Tick, quiet, sends_if, must_hang_up, hang_up_step, must_ping, pinged, ping_step, last_step, due_frames, tick_step}
+use Rattle.leg_machine.specs.Ticks.{Tick, quiet, sends_if, must_hang_up, hang_up_step, must_ping, pinged, ping_step, last_step, due_frames, tick_step, is_idle}
 use Rattle.leg_machine.specs.Tries.{tries}
 use Rattle.leg_machine.specs.declared.causes.Cause.TheVariants.{NormalClearing}
 use Rattle.leg_machine.specs.declared.replies.Reply.{Reply}
@@ -13,7 +15,8 @@ use Rattle.leg_machine.specs.declared.stages.Stage.TheVariants as stages
 use Rattle.peer_lock.specs.Legs.{NamedLeg}
 use Rattle.peer_lock.specs.Outbox.{put}
 use Rattle.peer_lock.specs.Peer.{PeerView}
-use Rattle.peer_lock.specs.Ticks.{LegsTick, TicksLegs, place_tick, legs_tick, then_ticks}
+use Rattle.peer_lock.specs.Statuses.{is_quiet, is_resting}
+use Rattle.peer_lock.specs.Ticks.{LegsTick, PlaceTick, TicksLegs, place_tick, legs_tick, then_ticks}
 use Rattle.peer_lock.proofs.Puts.{put_both, put_none}
 use Rattle.seq_window.specs.Window.{held_count}
 
@@ -251,3 +254,40 @@ pub some_at : (places : List (Option NamedLeg)) (index : ℕ) → index < length
 some_at [] index within = absurd (omega arith)
 some_at (p ∷ places) zero within = (p, refl)
 some_at (p ∷ places) (suc index) within = some_at places index (omega arith)
+
+-- ---- where all legs rest
+
+-- an idle leg stays as it is
+abbrev pub IdleLegsStay : Type 0
+IdleLegsStay = (grown : Bool) (leg : LegState) (now : ℕ) → is_idle leg now ≡ true → tick_step grown leg now ≡ quiet leg
+
+and-right : (a b : Bool) → (a && b) ≡ true → b ≡ true
+and-right true b is = is
+and-right false b is = cc
+
+resting_place : IdleLegsStay → (now : ℕ) (place : Option NamedLeg) → is_resting place now ≡ true → place_tick 0 place now ≡ record { place = place; datagrams = []; skipped = 0 }
+resting_place stay now None rests = refl
+resting_place stay now (Some named) rests =
+    ap (λ (t : Tick). record { place = Some (record { name = named.name; leg = t.leg }); datagrams = map spelling t.replies; skipped = t.skipped })
+    (stay true named.leg now (and-right (is_quiet (Some named)) (is_idle named.leg now) rests))
+
+resting_places : IdleLegsStay → (now : ℕ) (places : List (Option NamedLeg)) → All (λ place. is_resting place now ≡ true) places
+    → legs_tick [] places now ≡ record { places = places; datagrams = []; skipped = 0 }
+resting_places stay now [] all = refl
+resting_places stay now (place ∷ places) all =
+    ap (λ (first : PlaceTick). then_ticks first (legs_tick [] places now)) (resting_place stay now place (all 0 place (omega arith)))
+    ∙ ap (then_ticks (record { place = place; datagrams = []; skipped = 0 })) (resting_places stay now places (λ k d within. all (suc k) d (omega arith)))
+
+pub none_to_tick : IdleLegsStay → (start : PeerView) (now : ℕ) → length start.outbox ≤ 256 → All (λ place. is_resting place now ≡ true) start.legs.places
+    → TicksLegs start now 0 start
+none_to_tick stay start now short all = record {
+  skips = [];
+  count = ap (λ (t : LegsTick). t.skipped) (sym still);
+  legs = λ i. record start {
+    legs = record start.legs { places = (sym still i).places };
+    outbox = (put_none start.outbox short ∙ ap (λ (t : LegsTick). put start.outbox t.datagrams) (sym still)) i;
+  };
+}
+  where
+    still : legs_tick [] start.legs.places now ≡ record { places = start.legs.places; datagrams = []; skipped = 0 }
+    still = resting_places stay now start.legs.places all

@@ -1,6 +1,7 @@
 -- The legs that the arrays stand for.
-use Rattle.std.specs.Prelude.{◌≡◌, ℕ, ◌+◌, List, Option, Some, slice_get}
+use Rattle.std.specs.Prelude.{◌≡◌, ℕ, ◌+◌, ◌<◌, true, List, Option, Some, slice_get, All}
 use Rattle.peer_lock.specs.Legs.{NamedLeg, PeerLegs, AreLegs}
+use Rattle.peer_lock.specs.Statuses.{is_resting}
 use Rattle.peer_lock.specs.declared.peer_legs.PeerLegs.TheInside.{Inside}
 
 abbrev pub legs_of : Inside → PeerLegs
@@ -17,6 +18,11 @@ pub record IsIndex (legs : PeerLegs) (index : List (Option ℕ)) : Type 0 where
   pub listed : (place remote : ℕ) → HasRemote legs place remote → slice_get index remote ≡ Some (Some (legs.first + place))
   pub right : (remote number : ℕ) → slice_get index remote ≡ Some (Some number) → (place : ℕ) × (number ≡ legs.first + place) × HasRemote legs place remote
 
+-- before a moment all legs rest
+abbrev pub RestUntil : ℕ → List (Option NamedLeg) → Type 0
+RestUntil until places = (now : ℕ) → now < until → All (λ place. is_resting place now ≡ true) places
+
 pub record IsSound (a : Inside) : Type 0 where
   pub legs : AreLegs (legs_of a)
   pub index : IsIndex (legs_of a) a.by_remote
+  pub rest : RestUntil a.rest_until a.places.items

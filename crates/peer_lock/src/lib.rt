@@ -16,6 +16,7 @@ mod outboxes;
 mod pass;
 mod peer_legs;
 mod remote_index;
+mod rests;
 mod state;
 mod steps;
 mod ticks;

@@ -1,12 +1,12 @@
 //! Legs and the leases on their names.
-ghost use Rattle.std.specs.Prelude.{◌≡◌, Some};
+ghost use Rattle.std.specs.Prelude.{◌≡◌, ℕ, ◌<◌, ◌≤◌, true, Some, Ok};
 ghost use Rattle.peer_lock.specs.Peer.{offer_of};
-ghost use Rattle.peer_lock.specs.Statuses.{is_quiet, status_of};
+ghost use Rattle.peer_lock.specs.Statuses.{is_quiet, is_resting, status_of};
 
 use crate::onwards::Offer;
 use crate::steps::Status;
 use call_book::{Lease, LegName};
-use leg_machine::{ElementText, Leg};
+use leg_machine::{ElementText, Leg, MediaSent, OrderError};
 use std::marker::Model;
 
 // A leg, with the lease on its name. Contracts see the name and the leg.
@@ -44,6 +44,35 @@ impl NamedLeg {
         ensures { result ≡ is_quiet (Some self.now) }
     {
         !self.leg.stage().is_ended() && !self.leg.owes()
+    }
+
+    // Before this moment it hasn't ended, owes nothing, and a tick has nothing to do.
+    pub(crate) fn rest_until(&self) -> u64
+        ensures { (now : ℕ) → now < result → is_resting (Some self.now) now ≡ true }
+    {
+        if self.is_quiet() {
+            self.leg.idle_until()
+        } else {
+            0
+        }
+    }
+
+    // Until when the legs rest after media went out at this one, where they rested until a moment before it: only a full frame
+    // changes the leg.
+    pub(crate) fn rest_after_media(
+        &self,
+        sent: &Result<MediaSent, OrderError>,
+        rest_until: u64,
+    ) -> u64
+        ensures within { result ≤ rest_until }
+        ensures voice { sent.now ≡ Ok MediaSent.Voice → (now : ℕ) → now < result → is_resting (Some self.now) now ≡ true }
+    {
+        match sent {
+            Ok(MediaSent::Voice) => rest_until.min(self.rest_until()),
+            Ok(MediaSent::Mini(_)) => rest_until,
+            Ok(MediaSent::Quelched) => rest_until,
+            Err(_) => rest_until,
+        }
     }
 
     // The lease and the leg, where the leg has gone.

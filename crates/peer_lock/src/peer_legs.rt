@@ -8,7 +8,6 @@ ghost use Rattle.leg_machine.specs.OrderTable.{order_refused, media_refused, is_
 ghost use Rattle.leg_machine.specs.Steps.{full_step, heard_of};
 ghost use Rattle.leg_machine.specs.Ticks.{tick_step};
 ghost use Rattle.leg_machine.specs.Tie.{TakesTurn, SendsAtMostOne};
-ghost use Rattle.peer_lock.specs.Statuses.{is_quiet};
 
 use crate::named_legs::NamedLeg;
 use crate::remote_index::RemoteIndex;
@@ -28,8 +27,10 @@ pub(crate) struct PeerLegs {
     peer: u16,
     first: u16,
     // By local number, from the first on.
-    places: Vec<Option<NamedLeg>>,
+    pub(crate) places: Vec<Option<NamedLeg>>,
     by_remote: RemoteIndex,
+    // Before this moment no leg has ended or owes, and no tick has anything to do.
+    pub(crate) rest_until: u64,
 }
 
 impl Model for PeerLegs {
@@ -55,16 +56,6 @@ fn no_legs(alloc: Global, count: u16) -> Result<Vec<Option<NamedLeg>>, AllocErro
     Ok(places)
 }
 
-// Whether no leg at this place has ended or owes.
-fn is_quiet_place(place: &Option<NamedLeg>) -> bool
-    ensures { result ≡ is_quiet place.now }
-{
-    match place {
-        Some(named) => named.is_quiet(),
-        None => true,
-    }
-}
-
 impl PeerLegs {
     ghost use Rattle.peer_lock.specs.Legs.{AreLegs, leg_at, leg_named, leg_of_remote, has_remote, is_from, filled, with_place, with_leg};
 
@@ -87,6 +78,7 @@ impl PeerLegs {
             first,
             places: no_legs(alloc, count)?,
             by_remote: RemoteIndex::new(alloc)?,
+            rest_until: 0,
         })
     }
 
@@ -129,13 +121,6 @@ impl PeerLegs {
             Some(place) => place.as_ref(),
             None => None,
         }
-    }
-
-    // Whether no leg has ended and none owes.
-    pub(crate) fn are_quiet(&self) -> bool
-        ensures { IsTrue result ↔ All (λ place. is_quiet place ≡ true) self.now.places }
-    {
-        self.places.iter().all(is_quiet_place)
     }
 
     // The leg of a local number.
@@ -213,7 +198,9 @@ impl PeerLegs {
     {
         let number = lease.name().number;
         self.by_remote.note(leg.remote(), Some(number));
-        self.places[usize::from(number - self.first)] = Some(NamedLeg { lease, leg });
+        let named = NamedLeg { lease, leg };
+        self.rest_until = self.rest_until.min(named.rest_until());
+        self.places[usize::from(number - self.first)] = Some(named);
     }
 
     // The leg of a local number goes.
@@ -268,6 +255,7 @@ impl PeerLegs {
         };
         let heard = named.leg.full_into(frame, now, replies)?;
         let remote = named.leg.remote();
+        self.rest_until = self.rest_until.min(named.rest_until());
         self.by_remote.note(remote, Some(number));
         Ok(heard)
     }
@@ -306,7 +294,9 @@ impl PeerLegs {
         let Some(named) = &mut self.places[index] else {
             unreachable!()
         };
-        named.leg.order_into(order, now, replies)
+        let obeyed = named.leg.order_into(order, now, replies);
+        self.rest_until = self.rest_until.min(named.rest_until());
+        obeyed
     }
 
     // Media of 1 to 1,380 octets goes out at the leg of a local number, as `Leg::media_into` sends it.
@@ -344,7 +334,9 @@ impl PeerLegs {
         let Some(named) = &mut self.places[index] else {
             unreachable!()
         };
-        named.leg.media_into(media, now, replies)
+        let sent = named.leg.media_into(media, now, replies);
+        self.rest_until = named.rest_after_media(&sent, self.rest_until);
+        sent
     }
 
     // Time goes on for the leg at a place, the first number's being 0. What is sent is written to the empty list.
@@ -374,6 +366,7 @@ impl PeerLegs {
         let Some(named) = &mut self.places[index] else {
             return 0;
         };
+        self.rest_until = 0;
         named.leg.tick_into(now, replies)
     }
 }

@@ -47,11 +47,16 @@ impl<J: Naming> PeerState<J> {
     fn tick_legs(&mut self, now: u64) -> u32
         ensures { TicksLegs self.old now result self.new }
     {
+        leg_machine::laws::idle_legs_stay();
         let count = self.place_count();
+        if self.legs.are_resting(now) {
+            return 0;
+        }
         let mut skipped = 0;
         for index in 0..count {
             skipped += self.tick_place(index, now);
         }
+        self.legs.settle();
         skipped
     }
 

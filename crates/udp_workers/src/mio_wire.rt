@@ -1,6 +1,7 @@
 //! A wire over a UDP socket of the system.
 ghost use Rattle.std.specs.Prelude.{◌≡◌, IfOk};
 ghost use Rattle.peer_plan.specs.declared.endpoint.Endpoint.{Endpoint};
+ghost use Rattle.udp_workers.specs.declared.mio_wire.BindError.TheVariants as errors;
 
 use crate::peer_counts::PeerCounts;
 use crate::wire::{Wire, WireFault};
@@ -22,12 +23,16 @@ pub enum BindError {
 }
 
 impl From<io::Error> for BindError {
+    ghost from_gives = { λ _ e. e ≡ errors.Bind };
+
     fn from(_error: io::Error) -> BindError {
         BindError::Bind
     }
 }
 
 impl From<AllocError> for BindError {
+    ghost from_gives = { λ _ e. e ≡ errors.Memory };
+
     fn from(_error: AllocError) -> BindError {
         BindError::Memory
     }

@@ -1,7 +1,7 @@
 //! A leg and a window of which any one request for memory may be refused.
 //!
 //! Each test passes whichever request is refused, and where none is: what was refused left all as it was, and the same call then
-//! answers as it would have. `.ci/growths` refuses the requests one at a time.
+//! answers as it would have. `.ci/refusals` refuses the requests one at a time.
 use super::{ANSWERING, Event, Line, NEW_300, Tested, Wish, called, full_of, opened, plan_of};
 use iax_frames::{CallNumber, Frame, Payload};
 use leg_machine::{Digit, Heard, Judged, MediaSpan, OrderError, Signal, Stage, StepError};

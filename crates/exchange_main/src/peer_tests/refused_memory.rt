@@ -1,7 +1,7 @@
 //! A peer of which any one request for memory may be refused, and its book.
 //!
 //! The test passes whichever request is refused, and where none is: what was refused left all as it was, and the same call then
-//! answers as it would have. `.ci/growths` refuses the requests one at a time.
+//! answers as it would have. `.ci/refusals` refuses the requests one at a time.
 ghost use Rattle.std.specs.Prelude.{◌≡◌, ◌≤◌};
 ghost use Rattle.leg_machine.specs.OrderTable.{IsShortMedia};
 ghost use Rattle.peer_lock.specs.Openings.{IsOpening};

@@ -1,6 +1,6 @@
 //! A call in which any one request for memory may be refused.
 //!
-//! `rt try --test --fail-alloc N` refuses the N-th request of each test: `any_growth_refused` passes for every N.
+//! `any_growth_refused` passes whichever request is refused. `.ci/refusals` refuses the requests one at a time.
 
 use super::lines::give_all;
 use super::opened::{Scene, play_on, try_on};

@@ -8,6 +8,7 @@ use Rattle.peer_lock.proofs.LegChanges.{AreIndexed, learned, placed_is_with_leg}
 use Rattle.peer_lock.proofs.LegIndex.{placed}
 use Rattle.peer_lock.proofs.LegSearch.{IsFound, found}
 use Rattle.peer_lock.proofs.SameCall.{MayLearn, full_learns}
+use Rattle.peer_lock.proofs.AtRest.{rest_placed}
 use Rattle.peer_lock.proofs.peer_legs.PeerLegs.full.Goals as goal
 
 -- the leg before
@@ -30,7 +31,12 @@ all c =
     is.number_is c.remote-remote.ensures c.note.ensures.index c.note.ensures.within
 
 pub invariant_of-self-2 : goal.invariant_of-self-2
-invariant_of-self-2 c = let are = all c in record { legs = are.legs_are; index = are.index_is }
+invariant_of-self-2 c = let are = all c in record {
+  legs = are.legs_are;
+  index = are.index_is;
+  rest = rw c.min-self-inside.ensures
+      (rest_placed c.self.inside.rest_until c.rest_until.result c.self.inside.places.items c.place_of-index.result (Some (record { name = c.named.inside.lease; leg = c.full_into.new.self })) c.self.invariant.rest c.rest_until.ensures);
+}
 
 pub returns-clause-sound : goal.returns-clause-sound
 returns-clause-sound c = (all c).legs_are

@@ -2,6 +2,7 @@ use Rattle.std.proofs.Common.{Some, ap}
 use Rattle.peer_lock.specs.LegsInside.{legs_of}
 use Rattle.peer_lock.proofs.LegIndex.{placed}
 use Rattle.peer_lock.proofs.LegChanges.{AreIndexed, inserted}
+use Rattle.peer_lock.proofs.AtRest.{rest_placed}
 use Rattle.peer_lock.proofs.peer_legs.PeerLegs.insert.Goals as goal
 use Rattle.peer_lock.proofs.peer_legs.PeerLegs.insert.Goals.{Joined-index_mut}
 
@@ -13,7 +14,12 @@ all c =
     c.from.ensures (ap (λ n. n.number) c.name-number.ensures) c.remote.ensures c.note.ensures.index c.note.ensures.within
 
 pub invariant_of-self : goal.invariant_of-self
-invariant_of-self c = let is = all c in record { legs = is.legs_are; index = is.index_is }
+invariant_of-self c = let is = all c in record {
+  legs = is.legs_are;
+  index = is.index_is;
+  rest = rw c.min-self-inside.ensures
+      (rest_placed c.self.inside.rest_until c.rest_until.result c.self.inside.places.items c.from.result (Some (record { name = c.args.lease; leg = c.args.leg })) c.self.invariant.rest c.rest_until.ensures);
+}
 
 pub returns-clause-sound : goal.returns-clause-sound
 returns-clause-sound c = (all c).legs_are

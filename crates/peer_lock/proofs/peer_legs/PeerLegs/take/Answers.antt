@@ -4,6 +4,7 @@ use Rattle.peer_lock.specs.LegsInside.{legs_of}
 use Rattle.peer_lock.proofs.LegIndex.{placed}
 use Rattle.peer_lock.proofs.LegSearch.{leg_read}
 use Rattle.peer_lock.proofs.LegChanges.{AreIndexed, removed}
+use Rattle.peer_lock.proofs.AtRest.{rest_gone}
 use Rattle.peer_lock.proofs.peer_legs.PeerLegs.take.Goals as goal
 
 at : (c : goal.After-note) → slice_get c.self.inside.places.items c.place_of-index.result ≡ Some (Some c.in-Some.named)
@@ -19,7 +20,7 @@ all c =
     c.note.ensures.index c.note.ensures.within)
 
 pub invariant_of-self : goal.invariant_of-self
-invariant_of-self c = let is = all c in record { legs = is.legs_are; index = is.index_is }
+invariant_of-self c = let is = all c in record { legs = is.legs_are; index = is.index_is; rest = rw c.take.ensures.after (rest_gone c.self.inside.rest_until c.self.inside.places.items c.place_of-index.result c.self.invariant.rest) }
 
 pub returns-clause-leg : goal.returns-clause-leg
 returns-clause-leg c =

@@ -8,6 +8,7 @@ use Rattle.peer_lock.proofs.LegChanges.{AreIndexed, stepped, placed_is_with_leg}
 use Rattle.peer_lock.proofs.LegIndex.{placed}
 use Rattle.peer_lock.proofs.LegSearch.{IsFoundAt, found_at, none_past, none_read}
 use Rattle.peer_lock.proofs.SameCall.{IsSameCall, same_tick}
+use Rattle.peer_lock.proofs.AtRest.{rest_never}
 use Rattle.peer_lock.proofs.peer_legs.PeerLegs.tick.Goals as goal
 
 -- the leg before and after
@@ -30,7 +31,7 @@ all c =
     (is_found c).at same
 
 pub invariant_of-self-2 : goal.invariant_of-self-2
-invariant_of-self-2 c = let are = all c in record { legs = are.legs_are; index = are.index_is }
+invariant_of-self-2 c = let are = all c in record { legs = are.legs_are; index = are.index_is; rest = rest_never _ }
 
 pub returns-clause-sound : goal.returns-clause-sound
 returns-clause-sound c = (all c).legs_are

@@ -1,5 +1,9 @@
-use Rattle.std.proofs.Common.{◌≡◌, ◌≤◌, ◌<◌, ◌+◌, ◌*◌, ℕ, suc, length, subst, sym, rules, arith}
-use Rattle.peer_lock.proofs.Ticking.{AreTicked, none_ticked, more_ticked, all_ticked, next_is, some_at, ticked_count}
+use Rattle.std.specs.Prelude.{All}
+use Rattle.std.proofs.Common.{◌≡◌, ◌≤◌, ◌<◌, ◌+◌, ◌*◌, ℕ, suc, true, length, subst, sym, ap, ◌∙◌, rules, arith}
+use Rattle.peer_lock.specs.Peer.{PeerView}
+use Rattle.peer_lock.specs.Statuses.{is_resting}
+use Rattle.peer_lock.specs.Ticks.{TicksLegs}
+use Rattle.peer_lock.proofs.Ticking.{AreTicked, none_ticked, more_ticked, all_ticked, next_is, some_at, ticked_count, none_to_tick}
 use Rattle.peer_lock.proofs.state.PeerState.tick_legs.Goals as goal
 
 more : (skipped result index : ℕ) → skipped ≤ 2 * index → result ≤ 2 → skipped + result ≤ 2 * (index + 1)
@@ -27,7 +31,16 @@ loop-index-preserved g c =
       more c.loop-index.skipped c.tick_place-skipped.result c.loop-index.index c.loop-index.invariant.1 c.tick_place-skipped.ensures.few,
     )
 
+pub returns-then-are_resting : goal.returns-then-are_resting
+returns-then-are_resting g c =
+    none_to_tick c.idle_legs_stay.ensures c.args.self.now c.args.now c.place_count-count.ensures.outbox
+    (subst (λ (peer : PeerView). All (λ place. is_resting place c.args.now ≡ true) peer.legs.places) c.self.view_is (c.are_resting.ensures c.if-are_resting.true))
+
 pub returns : goal.returns
 returns g c =
-    all_ticked c.args.self.now c.loop-index.self c.args.now c.loop-index.index c.loop-index.skipped c.loop-index.invariant.0
-    (subst (λ n. n ≤ c.loop-index.index) c.place_count-count.ensures.count c.loop-index-test.false)
+    let inside = c.self-2.inside in
+    let settled : c.loop-index.self ≡ record { rules = inside.rules; legs = c.settle.new.self; outbox = inside.outbox; queue = inside.queue; accounts = inside.account } =
+    sym c.self-2.view_is ∙ ap (λ legs. record { rules = inside.rules; legs = legs; outbox = inside.outbox; queue = inside.queue; accounts = inside.account }) (sym c.settle.ensures) in
+    subst (TicksLegs c.args.self.now c.args.now c.loop-index.skipped) settled
+    (all_ticked c.args.self.now c.loop-index.self c.args.now c.loop-index.index c.loop-index.skipped c.loop-index.invariant.0
+    (subst (λ n. n ≤ c.loop-index.index) c.place_count-count.ensures.count c.loop-index-test.false))

@@ -1,0 +1,179 @@
+-- What a call has left to carry is of what was handed up, each piece once.
+use Rattle.std.proofs.Common.{◌≡◌, ℕ, ◌+◌, ◌≤◌, List, [], ◌∷◌, ◌++◌, Option, Some, None, Bool, true, false, refl, arith}
+use Rattle.std.specs.Prelude.{Ok, Err}
+use Rattle.std.specs.List.{AllByRecursion}
+use Rattle.std.proofs.lemmas.Bool.{cond_both}
+use Rattle.call_book.specs.Book.{is_same}
+use Rattle.call_book.specs.declared.leg_name.LegName.{LegName}
+use Rattle.leg_machine.specs.declared.signals.Signal.{Signal}
+use Rattle.leg_machine.specs.declared.signals.Signal.TheVariants as signals
+use Rattle.peer_lock.specs.CarriedMedia.{LiesWithin, handed_octets}
+use Rattle.peer_lock.specs.declared.errors.OrderError.TheVariants as order_errors
+use Rattle.peer_lock.specs.declared.errors.PeerError.TheVariants as peer_errors
+use Rattle.call_steps.specs.declared.acts.Act.{Act}
+use Rattle.call_steps.specs.declared.acts.Act.TheVariants as acts
+use Rattle.call_steps.specs.declared.places.Place.{Place}
+use Rattle.call_steps.specs.declared.places.Place.TheVariants as places
+use Rattle.call_steps.specs.declared.needs.Route.TheVariants as routes
+use Rattle.call_steps.specs.declared.replies.Reply.{Reply}
+use Rattle.call_steps.specs.declared.replies.Reply.TheVariants as replies
+use Rattle.call_steps.specs.MediaLeft.{media_at, media_left, media_needed, handed_by}
+use Rattle.call_steps.specs.Work.{Work, Rest, at, ended, next_at, next_of, finish, place_for, passed_on, go_on_from, go_on, after_no_room, after_status, after_look, told_at, after_told}
+
+abbrev Within : ℕ → List (LegName × Signal) → Type 0
+Within len signals = AllByRecursion (LiesWithin len) signals
+
+-- the call's media is of these signals
+record IsOf (signals : List (LegName × Signal)) (work : Work) : Type 0 where
+  within : (len : ℕ) → Within len signals → Within len (media_left work)
+  octets : handed_octets (media_left work) ≤ handed_octets signals
+
+-- ---- going on
+
+passed_on_is : (name : LegName) (signal : Signal) (rest : Rest) (further : Work) → IsOf rest.onward further
+    → IsOf ((name, signal) ∷ rest.onward) (passed_on (place_for name signal) rest further)
+passed_on_is name signals.Hangup rest further h = record { within = λ len all. h.within len all.1; octets = omega (arith, h.octets) }
+passed_on_is name (signals.Media span) rest further h = record { within = λ len all. all; octets = omega arith }
+passed_on_is name signals.Offered rest further h = record { within = λ len all. all.1; octets = omega arith }
+passed_on_is name (signals.Indicated indication) rest further h = record { within = λ len all. all.1; octets = omega arith }
+passed_on_is name signals.Answered rest further h = record { within = λ len all. all.1; octets = omega arith }
+passed_on_is name (signals.Dtmf digit) rest further h = record { within = λ len all. all.1; octets = omega arith }
+
+finish_is : (touched : Option LegName) (looks : List (ℕ × ℕ)) → IsOf [] (finish touched looks)
+finish_is (Some name) looks = record { within = λ len all. tt; octets = omega arith }
+finish_is None [] = record { within = λ len all. tt; octets = omega arith }
+finish_is None (look ∷ looks) = record { within = λ len all. tt; octets = omega arith }
+
+goes_on_from : (onward : List (LegName × Signal)) (touched : Option LegName) (looks : List (ℕ × ℕ)) → IsOf onward (go_on_from onward touched looks)
+goes_on_from [] touched looks = finish_is touched looks
+goes_on_from (up ∷ onward) touched looks =
+    passed_on_is up.0 up.1 (record { onward = onward; touched = touched; looks = looks }) (go_on_from onward touched looks) (goes_on_from onward touched looks)
+
+goes : (rest : Rest) → IsOf rest.onward (go_on rest)
+goes rest = goes_on_from rest.onward rest.touched rest.looks
+
+stays : (place : Place) (rest : Rest) → media_at place ≡ [] → IsOf rest.onward (at place rest)
+stays place rest none = record { within = λ len all. rw none all; octets = rw none (omega arith) }
+
+ends : (rest : Rest) → IsOf rest.onward ended
+ends rest = record { within = λ len all. tt; octets = omega arith }
+
+-- ---- each answer, at a place without media
+
+look_is : (name : LegName) (owes : Bool) (rest : Rest) → IsOf rest.onward (after_status name owes rest)
+look_is name true rest = stays (places.FindingPartner name) rest refl
+look_is name false rest = stays (places.Retiring name) rest refl
+
+looked_is : (reply : Reply) (name : LegName) (rest : Rest) → IsOf rest.onward (after_look reply name rest)
+looked_is (replies.Look (Some status)) name rest =
+    cond_both (is_same status.name name) (after_status status.name status.owes rest) (go_on rest) (IsOf rest.onward)
+    (λ _. look_is status.name status.owes rest) (λ _. goes rest)
+looked_is reply name rest = goes rest
+
+no_room_is : (act : Act) (partner : LegName) (rest : Rest) → IsOf rest.onward (after_no_room act partner rest)
+no_room_is (acts.Media span) partner rest = goes rest
+no_room_is act partner rest = stays (places.Dooming partner) rest refl
+
+passed_is : (reply : Reply) (partner : LegName) (act : Act) (rest : Rest) → IsOf rest.onward (told_at (places.Passing partner act) reply rest)
+passed_is (replies.Order (Err order_errors.WindowFull)) partner act rest = no_room_is act partner rest
+passed_is (replies.Order (Err order_errors.RecordFull)) partner act rest = no_room_is act partner rest
+passed_is (replies.Order (Err order_errors.Memory)) partner act rest = no_room_is act partner rest
+passed_is reply partner act rest = goes rest
+
+-- ---- each place
+
+-- after the answer the call has left what it had and what was handed up, less what was ordered
+record Keeps (place : Place) (reply : Reply) (rest : Rest) (work : Work) : Type 0 where
+  within : (len : ℕ) → Within len (media_at place ++ rest.onward) → Within len (handed_by reply) → Within len (media_left work)
+  octets : handed_octets (media_left work) + handed_octets (media_needed (next_at place)) ≤ handed_octets (media_at place ++ rest.onward) + handed_octets (handed_by reply)
+
+plain : (place : Place) (reply : Reply) (rest : Rest) (work : Work) → media_at place ≡ [] → media_needed (next_at place) ≡ [] → IsOf rest.onward work → Keeps place reply rest work
+plain place reply rest work none needs h = record {
+  within = λ len all more. h.within len (rw none at all);
+  octets = rw (none, needs) (omega (arith, h.octets));
+}
+
+-- what was handed up takes the place of what was left
+hears : (place : Place) (reply : Reply) (rest : Rest) (work : Work) → media_needed (next_at place) ≡ [] → IsOf (handed_by reply) work → Keeps place reply rest work
+hears place reply rest work needs h = record {
+  within = λ len all more. h.within len more;
+  octets = rw needs (omega (arith, h.octets));
+}
+
+passing : (partner : LegName) (act : Act) (reply : Reply) (rest : Rest) (work : Work) → IsOf rest.onward work → Keeps (places.Passing partner act) reply rest work
+passing partner (acts.Media span) reply rest work h = record { within = λ len all more. h.within len all.1; octets = omega (arith, h.octets) }
+passing partner act reply rest work h = record { within = λ len all more. h.within len all; octets = omega (arith, h.octets) }
+
+found : (name partner : LegName) (act : Act) (reply : Reply) (rest : Rest) → Keeps (places.Finding name act) reply rest (at (places.Passing partner act) rest)
+found name partner (acts.Media span) reply rest = record { within = λ len all more. all; octets = omega arith }
+found name partner act reply rest = record { within = λ len all more. all; octets = omega arith }
+
+not_found : (name : LegName) (act : Act) (reply : Reply) (rest : Rest) → Keeps (places.Finding name act) reply rest (go_on rest)
+not_found name (acts.Media span) reply rest =
+    let h = goes rest in
+    record { within = λ len all more. h.within len all.1; octets = omega (arith, h.octets) }
+not_found name act reply rest = let h = goes rest in record { within = λ len all more. h.within len all; octets = omega (arith, h.octets) }
+
+-- wherever the call stands
+told_keeps : (place : Place) (reply : Reply) (rest : Rest) → Keeps place reply rest (told_at place reply rest)
+told_keeps (places.Datagram peer) (replies.Datagram (Ok heard)) rest =
+    hears (places.Datagram peer) (replies.Datagram (Ok heard)) rest _ refl (goes (record { onward = heard.onwards.signals; touched = heard.touched; looks = rest.looks }))
+told_keeps (places.Datagram peer) (replies.Datagram (Err peer_errors.NeedsNumber)) rest = plain (places.Datagram peer) _ rest _ refl refl (stays (places.ReserveIn peer) rest refl)
+told_keeps (places.Datagram peer) reply rest = plain (places.Datagram peer) reply rest _ refl refl (ends rest)
+told_keeps (places.ReserveIn peer) (replies.Reserve (Ok name)) rest = plain (places.ReserveIn peer) _ rest _ refl refl (stays (places.OpenIn name) rest refl)
+told_keeps (places.ReserveIn peer) reply rest = plain (places.ReserveIn peer) reply rest _ refl refl (ends rest)
+told_keeps (places.OpenIn name) (replies.OpenIn (Ok heard)) rest =
+    hears (places.OpenIn name) (replies.OpenIn (Ok heard)) rest _ refl (goes (record { onward = heard.onwards.signals; touched = heard.touched; looks = rest.looks }))
+told_keeps (places.OpenIn name) reply rest = plain (places.OpenIn name) reply rest _ refl refl (stays (places.GiveBack name) rest refl)
+told_keeps (places.GiveBack name) reply rest = plain (places.GiveBack name) reply rest _ refl refl (ends rest)
+told_keeps (places.Routing offered) (replies.Route (routes.To peer)) rest = plain (places.Routing offered) _ rest _ refl refl (stays (places.ReserveOut offered peer) rest refl)
+told_keeps (places.Routing offered) (replies.Route routes.WithoutFormat) rest = plain (places.Routing offered) _ rest _ refl refl (stays (places.Rejecting offered _) rest refl)
+told_keeps (places.Routing offered) reply rest = plain (places.Routing offered) reply rest _ refl refl (stays (places.Rejecting offered _) rest refl)
+told_keeps (places.Rejecting offered cause) (replies.Order (Ok done)) rest = plain (places.Rejecting offered cause) _ rest _ refl refl (goes rest)
+told_keeps (places.Rejecting offered cause) reply rest = plain (places.Rejecting offered cause) reply rest _ refl refl (stays (places.Dooming offered) rest refl)
+told_keeps (places.ReserveOut offered peer) (replies.Reserve (Ok target)) rest = plain (places.ReserveOut offered peer) _ rest _ refl refl (stays (places.Bridging offered target) rest refl)
+told_keeps (places.ReserveOut offered peer) reply rest = plain (places.ReserveOut offered peer) reply rest _ refl refl (stays (places.Rejecting offered _) rest refl)
+told_keeps (places.Bridging offered target) (replies.Bridge (Ok done)) rest = plain (places.Bridging offered target) _ rest _ refl refl (stays (places.Accepting offered target) rest refl)
+told_keeps (places.Bridging offered target) reply rest = plain (places.Bridging offered target) reply rest _ refl refl (stays (places.Undoing offered target) rest refl)
+told_keeps (places.Accepting offered target) (replies.Order (Ok done)) rest = plain (places.Accepting offered target) _ rest _ refl refl (stays (places.OpenOut offered target) rest refl)
+told_keeps (places.Accepting offered target) reply rest = plain (places.Accepting offered target) reply rest _ refl refl (stays (places.Undoing offered target) rest refl)
+told_keeps (places.OpenOut offered target) (replies.OpenOut (Ok done)) rest = plain (places.OpenOut offered target) _ rest _ refl refl (stays (places.Checking target) rest refl)
+told_keeps (places.OpenOut offered target) reply rest = plain (places.OpenOut offered target) reply rest _ refl refl (stays (places.Undoing offered target) rest refl)
+told_keeps (places.Checking target) (replies.Partner (Some partner)) rest = plain (places.Checking target) _ rest _ refl refl (goes rest)
+told_keeps (places.Checking target) reply rest = plain (places.Checking target) reply rest _ refl refl (stays (places.Dooming target) rest refl)
+told_keeps (places.Undoing offered target) reply rest = plain (places.Undoing offered target) reply rest _ refl refl (stays (places.Dooming offered) rest refl)
+told_keeps (places.Dooming name) reply rest = plain (places.Dooming name) reply rest _ refl refl (goes rest)
+told_keeps (places.Finding name act) (replies.Partner (Some partner)) rest = found name partner act _ rest
+told_keeps (places.Finding name act) reply rest = not_found name act reply rest
+told_keeps (places.Passing partner act) reply rest = passing partner act reply rest _ (passed_is reply partner act rest)
+told_keeps (places.Looking name) reply rest = plain (places.Looking name) reply rest _ refl refl (looked_is reply name rest)
+told_keeps (places.LookingAt peer number) (replies.Look (Some status)) rest = plain (places.LookingAt peer number) _ rest _ refl refl (look_is status.name status.owes rest)
+told_keeps (places.LookingAt peer number) reply rest = plain (places.LookingAt peer number) reply rest _ refl refl (goes rest)
+told_keeps (places.FindingPartner name) (replies.Partner (Some partner)) rest = plain (places.FindingPartner name) _ rest _ refl refl (stays (places.HangingUp name partner) rest refl)
+told_keeps (places.FindingPartner name) reply rest = plain (places.FindingPartner name) reply rest _ refl refl (stays (places.Paying name) rest refl)
+told_keeps (places.HangingUp name partner) (replies.Order (Ok done)) rest = plain (places.HangingUp name partner) _ rest _ refl refl (stays (places.Paying name) rest refl)
+told_keeps (places.HangingUp name partner) (replies.Order (Err order_errors.Gone)) rest = plain (places.HangingUp name partner) _ rest _ refl refl (stays (places.Paying name) rest refl)
+told_keeps (places.HangingUp name partner) (replies.Order (Err order_errors.WrongStage)) rest = plain (places.HangingUp name partner) _ rest _ refl refl (stays (places.Paying name) rest refl)
+told_keeps (places.HangingUp name partner) reply rest = plain (places.HangingUp name partner) reply rest _ refl refl (stays (places.Retiring name) rest refl)
+told_keeps (places.Paying name) reply rest = plain (places.Paying name) reply rest _ refl refl (stays (places.Retiring name) rest refl)
+told_keeps (places.Retiring name) (replies.Retire true) rest = plain (places.Retiring name) _ rest _ refl refl (stays (places.Freeing name) rest refl)
+told_keeps (places.Retiring name) reply rest = plain (places.Retiring name) reply rest _ refl refl (goes rest)
+told_keeps (places.Freeing name) (replies.Release (Ok (Some partner))) rest = plain (places.Freeing name) _ rest _ refl refl (stays (places.Dooming partner) rest refl)
+told_keeps (places.Freeing name) reply rest = plain (places.Freeing name) reply rest _ refl refl (goes rest)
+told_keeps (places.Tick peer) (replies.Tick (Ok done)) rest = plain (places.Tick peer) _ rest _ refl refl (goes rest)
+told_keeps (places.Tick peer) reply rest = plain (places.Tick peer) reply rest _ refl refl (ends rest)
+told_keeps (places.HangUp name) (replies.Order (Ok done)) rest = plain (places.HangUp name) _ rest _ refl refl (goes rest)
+told_keeps (places.HangUp name) reply rest = plain (places.HangUp name) reply rest _ refl refl (ends rest)
+told_keeps (places.ReserveCall peer) (replies.Reserve (Ok name)) rest = plain (places.ReserveCall peer) _ rest _ refl refl (stays (places.OpenCall name) rest refl)
+told_keeps (places.ReserveCall peer) reply rest = plain (places.ReserveCall peer) reply rest _ refl refl (ends rest)
+told_keeps (places.OpenCall name) (replies.OpenOut (Ok done)) rest = plain (places.OpenCall name) _ rest _ refl refl (ends rest)
+told_keeps (places.OpenCall name) reply rest = plain (places.OpenCall name) reply rest _ refl refl (stays (places.GiveBack name) rest refl)
+told_keeps places.End reply rest = plain places.End reply rest _ refl refl (ends rest)
+
+pub left_within : (len : ℕ) (work : Work) (reply : Reply) → AllByRecursion (LiesWithin len) (media_left work) → AllByRecursion (LiesWithin len) (handed_by reply)
+    → AllByRecursion (LiesWithin len) (media_left (after_told work reply))
+left_within len work reply all more = (told_keeps work.place reply work.rest).within len all more
+
+pub left_octets : (work : Work) (reply : Reply)
+    → handed_octets (media_left (after_told work reply)) + handed_octets (media_needed (next_of work)) ≤ handed_octets (media_left work) + handed_octets (handed_by reply)
+left_octets work reply = (told_keeps work.place reply work.rest).octets
