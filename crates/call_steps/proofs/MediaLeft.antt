@@ -1,4 +1,4 @@
--- What a call has left to carry is of what was handed up, each piece once.
+-- What a call has left to carry lies where all that was handed up does, and its octets are no more than that, less what was ordered.
 use Rattle.std.proofs.Common.{◌≡◌, ℕ, ◌+◌, ◌≤◌, List, [], ◌∷◌, ◌++◌, Option, Some, None, Bool, true, false, refl, arith}
 use Rattle.std.specs.Prelude.{Ok, Err}
 use Rattle.std.specs.List.{AllByRecursion}

@@ -53,6 +53,14 @@ peer = \"east\"\n"
     Plan::read(alloc, text.as_bytes())
 }
 
+/// The octets of a text, asked for once more where memory is refused.
+pub fn octets_of(alloc: Global, text: &str) -> Result<Vec<u8>, Fail> {
+    match hex::decode(alloc, text) {
+        Ok(octets) => Ok(octets),
+        Err(_) => Ok(hex::decode(alloc, text)?),
+    }
+}
+
 // The full frame of a datagram.
 fn full_of(octets: &[u8]) -> Option<Full<'_>>
     ensures { IfSome result (λ frame. length frame.payload ≤ 1388) }
@@ -221,20 +229,15 @@ impl Tested {
         self.leg.tick_into(at, &mut self.replies)
     }
 
-    // The octets of a datagram of the last step.
-    fn octets(&self, place: usize) -> Result<String, Fail> {
-        let Some(out) = self.replies.get(place) else {
-            return Err(Fail::new("too few datagrams"));
-        };
-        Ok(hex::encode(self.alloc, out.octets())?)
-    }
-
     // These datagrams went out in the last step, and no other.
     fn said(&self, rt: &impl Abort, expected: &[&str]) -> Result<(), Fail> {
         assert_eq!(rt; self.replies.len(), expected.len());
         for (place, text) in expected.iter().enumerate() {
-            let octets = self.octets(place)?;
-            assert_eq!(rt; octets.as_str(), *text, "datagram {place}");
+            let octets = octets_of(self.alloc, text)?;
+            let Some(out) = self.replies.get(place) else {
+                return Err(Fail::new("too few datagrams"));
+            };
+            assert_eq!(rt; out.octets(), octets.as_slice(), "datagram {place}");
         }
         Ok(())
     }

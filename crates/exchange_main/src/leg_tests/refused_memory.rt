@@ -2,7 +2,9 @@
 //!
 //! Each test passes whichever request is refused, and where none is: what was refused left all as it was, and the same call then
 //! answers as it would have. `.ci/refusals` refuses the requests one at a time.
-use super::{ANSWERING, Event, Line, NEW_300, Tested, Wish, called, full_of, opened, plan_of};
+use super::{
+    ANSWERING, Event, Line, NEW_300, Tested, Wish, called, full_of, octets_of, opened, plan_of,
+};
 use iax_frames::{CallNumber, Frame, Payload};
 use leg_machine::{Digit, Heard, Judged, MediaSpan, OrderError, Signal, Stage, StepError};
 use peer_plan::PlanError;
@@ -28,14 +30,6 @@ struct WindowLook {
     expected: u8,
     held: usize,
     entries: usize,
-}
-
-// The octets of a text, asked for once more where memory is refused.
-fn octets_of(alloc: Global, text: &str) -> Result<Vec<u8>, Fail> {
-    match hex::decode(alloc, text) {
-        Ok(octets) => Ok(octets),
-        Err(_) => Ok(hex::decode(alloc, text)?),
-    }
 }
 
 fn look_at(window: &Window) -> WindowLook {
@@ -92,19 +86,6 @@ impl Tested {
         }
     }
 
-    // These datagrams went out in the last step, and no other.
-    fn said_at_last(&self, rt: &impl Abort, expected: &[&str]) -> Result<(), Fail> {
-        assert_eq!(rt; self.replies.len(), expected.len());
-        for (place, text) in expected.iter().enumerate() {
-            let octets = octets_of(self.alloc, text)?;
-            let Some(out) = self.replies.get(place) else {
-                return Err(Fail::new("too few datagrams"));
-            };
-            assert_eq!(rt; out.octets(), octets.as_slice(), "datagram {place}");
-        }
-        Ok(())
-    }
-
     // All that happens, line by line.
     fn plays_at_last(&mut self, rt: &impl Abort, lines: &[Line]) -> Result<(), Fail> {
         for line in lines {
@@ -118,7 +99,7 @@ impl Tested {
                     assert_eq!(rt; self.grants_at_last(rt, line.at, wish), *answer);
                 }
             }
-            self.said_at_last(rt, line.said)?;
+            self.said(rt, line.said)?;
             assert_eq!(rt; self.leg.stage(), line.stage);
         }
         Ok(())
@@ -201,13 +182,13 @@ fn without_room(rt: &impl Abort, alloc: Global, top: &str) -> Result<Tested, Fai
 fn goes_out(rt: &impl Abort, tested: &mut Tested, at_30: &str, at_40: &str) -> Result<(), Fail> {
     let skipped = tested.waits(30);
     if skipped == 0 {
-        return tested.said_at_last(rt, &[at_30]);
+        return tested.said(rt, &[at_30]);
     }
     assert_eq!(rt; skipped, 1);
-    tested.said_at_last(rt, &[])?;
+    tested.said(rt, &[])?;
     assert_eq!(rt; tested.leg.stage(), Stage::Up);
     assert_eq!(rt; tested.waits(40), 0);
-    tested.said_at_last(rt, &[at_40])
+    tested.said(rt, &[at_40])
 }
 
 #[test]

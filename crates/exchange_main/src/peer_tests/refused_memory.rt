@@ -8,6 +8,7 @@ ghost use Rattle.peer_lock.specs.Openings.{IsOpening};
 ghost use Rattle.peer_lock.specs.Orders.{order_octets};
 
 use super::{Desk, NEW_300, PLENTY, opened, opening_of, plan_of};
+use crate::leg_tests::octets_of;
 use call_book::Lease;
 use iax_frames::Full;
 use leg_machine::{Digit, Judged, Order, Stage};
@@ -26,14 +27,6 @@ struct Look {
     leg: Option<Status>,
     octets: u64,
     steps: u64,
-}
-
-// The octets of a text, asked for once more where memory is refused.
-fn octets_of(alloc: Global, text: &str) -> Result<Vec<u8>, Fail> {
-    match hex::decode(alloc, text) {
-        Ok(octets) => Ok(octets),
-        Err(_) => Ok(hex::decode(alloc, text)?),
-    }
 }
 
 impl<J: Naming> Desk<J> {
