@@ -7,10 +7,10 @@ use Rattle.std.proofs.lemmas.Option.{slice_get_past}
 use Rattle.call_book.specs.Book.{is_same}
 use Rattle.call_book.specs.declared.leg_name.LegName.{LegName}
 use Rattle.leg_machine.specs.Seen.{SeenLeg, frame_effect, moved, opening_effect, fresh_leg, stage_after, ordered, Lapse, lapsed}
-use Rattle.leg_machine.specs.declared.orders.OrderKind.{OrderKind}
-use Rattle.leg_machine.specs.declared.signals.MediaSpan.{MediaSpan}
-use Rattle.leg_machine.specs.declared.stages.Stage.{Stage}
-use Rattle.leg_machine.specs.declared.stages.Stage.TheVariants as stages
+use Rattle.call_signals.specs.declared.orders.OrderKind.{OrderKind}
+use Rattle.call_signals.specs.declared.signals.MediaSpan.{MediaSpan}
+use Rattle.call_signals.specs.declared.stages.Stage.{Stage}
+use Rattle.call_signals.specs.declared.stages.Stage.TheVariants as stages
 use Rattle.peer_lock.specs.Legs.{PeerLegs, NamedLeg, filled, leg_at as peer_leg_at}
 use Rattle.peer_lock.specs.Peer.{PeerStep}
 use Rattle.peer_lock.specs.Seen as peer

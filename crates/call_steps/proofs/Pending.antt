@@ -10,12 +10,12 @@ use Rattle.call_book.specs.declared.leg_name.LegName.{LegName}
 use Rattle.call_book.proofs.Changes.{IsReserved, reserved, partner_has, released_before, reserved_none, reserved_before}
 use Rattle.leg_machine.specs.Seen.{SeenFrame, AcceptsCall, RejectsCall, BreaksOff, Indicates, AnswersCall, Dials, Speaks, HangsUp, AcknowledgesAll, frame_effect, stage_after, moved, Lapse, Ends, ClosesDoomed}
 use Rattle.leg_machine.specs.Stages.{is_over}
-use Rattle.leg_machine.specs.declared.openings.Opening.{Opening}
-use Rattle.leg_machine.specs.declared.openings.Opening.TheVariants.{Offers}
-use Rattle.leg_machine.specs.declared.orders.OrderKind.{OrderKind}
-use Rattle.leg_machine.specs.declared.orders.OrderKind.TheVariants as kinds
-use Rattle.leg_machine.specs.declared.stages.Stage.{Stage}
-use Rattle.leg_machine.specs.declared.stages.Stage.TheVariants as stages
+use Rattle.call_signals.specs.declared.openings.Opening.{Opening}
+use Rattle.call_signals.specs.declared.openings.Opening.TheVariants.{Offers}
+use Rattle.call_signals.specs.declared.orders.OrderKind.{OrderKind}
+use Rattle.call_signals.specs.declared.orders.OrderKind.TheVariants as kinds
+use Rattle.call_signals.specs.declared.stages.Stage.{Stage}
+use Rattle.call_signals.specs.declared.stages.Stage.TheVariants as stages
 use Rattle.peer_lock.specs.declared.errors.OrderError.TheVariants as order_errors
 use Rattle.call_steps.specs.Acts.{act_kind}
 use Rattle.call_steps.specs.declared.needs.Need.{Need}

@@ -8,12 +8,12 @@ use Rattle.call_book.specs.Book.{Book, has_name, is_same, partner_of}
 use Rattle.call_book.specs.declared.leg_name.LegName.{LegName}
 use Rattle.leg_machine.specs.Seen.{SeenFrame, ProvesItself, FailsToProve, HangsUp, AcknowledgesAll, frame_effect, stage_after, moved, Lapse, Ends, ClosesDoomed}
 use Rattle.leg_machine.specs.Stages.{is_over}
-use Rattle.leg_machine.specs.declared.orders.OrderKind.{OrderKind}
-use Rattle.leg_machine.specs.declared.orders.OrderKind.TheVariants as kinds
-use Rattle.leg_machine.specs.declared.signals.Signal.{Signal}
-use Rattle.leg_machine.specs.declared.signals.Signal.TheVariants as signals
-use Rattle.leg_machine.specs.declared.stages.Stage.{Stage}
-use Rattle.leg_machine.specs.declared.stages.Stage.TheVariants as stages
+use Rattle.call_signals.specs.declared.orders.OrderKind.{OrderKind}
+use Rattle.call_signals.specs.declared.orders.OrderKind.TheVariants as kinds
+use Rattle.call_signals.specs.declared.signals.Signal.{Signal}
+use Rattle.call_signals.specs.declared.signals.Signal.TheVariants as signals
+use Rattle.call_signals.specs.declared.stages.Stage.{Stage}
+use Rattle.call_signals.specs.declared.stages.Stage.TheVariants as stages
 use Rattle.call_steps.specs.declared.places.Place.{Place}
 use Rattle.call_steps.specs.SeenReply.{heard}
 use Rattle.call_steps.specs.Work.{Work, Rest, at, go_on, in_hand}

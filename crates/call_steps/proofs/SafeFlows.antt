@@ -3,8 +3,8 @@ use Rattle.std.proofs.Common.{◌≡◌, ℕ, ◌≤◌, List, [], Option, Some,
 use Rattle.std.specs.Prelude.{Result, Ok, Err}
 use Rattle.call_book.specs.Book.{Book}
 use Rattle.call_book.specs.declared.leg_name.LegName.{LegName}
-use Rattle.leg_machine.specs.declared.causes.Cause.{Cause}
-use Rattle.leg_machine.specs.declared.orders.OrderKind.{OrderKind}
+use Rattle.call_signals.specs.declared.causes.Cause.{Cause}
+use Rattle.call_signals.specs.declared.orders.OrderKind.{OrderKind}
 use Rattle.peer_lock.specs.declared.errors.OrderError.{OrderError}
 use Rattle.peer_lock.specs.declared.errors.OrderError.TheVariants as order_errors
 use Rattle.call_steps.specs.declared.acts.Act.{Act}

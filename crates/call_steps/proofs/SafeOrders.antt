@@ -4,10 +4,10 @@ use Rattle.std.specs.Prelude.{not, ◌||◌}
 use Rattle.call_book.specs.Book.{Book, is_same}
 use Rattle.call_book.specs.declared.leg_name.LegName.{LegName}
 use Rattle.leg_machine.specs.Seen.{stage_after}
-use Rattle.leg_machine.specs.declared.causes.Cause.{Cause}
-use Rattle.leg_machine.specs.declared.orders.OrderKind.TheVariants as kinds
-use Rattle.leg_machine.specs.declared.stages.Stage.{Stage}
-use Rattle.leg_machine.specs.declared.stages.Stage.TheVariants as stages
+use Rattle.call_signals.specs.declared.causes.Cause.{Cause}
+use Rattle.call_signals.specs.declared.orders.OrderKind.TheVariants as kinds
+use Rattle.call_signals.specs.declared.stages.Stage.{Stage}
+use Rattle.call_signals.specs.declared.stages.Stage.TheVariants as stages
 use Rattle.peer_lock.specs.declared.errors.OrderError.TheVariants as order_errors
 use Rattle.call_steps.specs.declared.places.Place.{Place}
 use Rattle.call_steps.specs.declared.places.Place.TheVariants as places

@@ -6,11 +6,11 @@ use Rattle.std.proofs.lemmas.Bool.{cond_both}
 use Rattle.call_book.specs.Book.{Book, is_same, partner_of}
 use Rattle.call_book.specs.declared.leg_name.LegName.{LegName}
 use Rattle.leg_machine.specs.Seen.{SeenFrame, Speaks, frame_effect, opening_effect, fresh_leg, Lapse}
-use Rattle.leg_machine.specs.declared.openings.Opening.{Opening}
-use Rattle.leg_machine.specs.declared.openings.Opening.TheVariants.{Refused, Challenges, Offers}
-use Rattle.leg_machine.specs.declared.signals.MediaSpan.{MediaSpan}
-use Rattle.leg_machine.specs.declared.signals.Signal.{Signal}
-use Rattle.leg_machine.specs.declared.stages.Stage.TheVariants as stages
+use Rattle.call_signals.specs.declared.openings.Opening.{Opening}
+use Rattle.call_signals.specs.declared.openings.Opening.TheVariants.{Refused, Challenges, Offers}
+use Rattle.call_signals.specs.declared.signals.MediaSpan.{MediaSpan}
+use Rattle.call_signals.specs.declared.signals.Signal.{Signal}
+use Rattle.call_signals.specs.declared.stages.Stage.TheVariants as stages
 use Rattle.peer_lock.specs.declared.errors.OpenError.{OpenError}
 use Rattle.peer_lock.specs.declared.errors.OpenError.TheVariants as open_errors
 use Rattle.peer_lock.specs.declared.errors.PeerError.{PeerError}

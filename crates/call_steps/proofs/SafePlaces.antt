@@ -3,8 +3,8 @@ use Rattle.std.proofs.Common.{◌≡◌, ℕ, ◌≤◌, List, [], Option, Some,
 use Rattle.std.proofs.lemmas.Bool.{cond_both, cases_Bool}
 use Rattle.call_book.specs.Book.{Book, is_same, partner_of}
 use Rattle.call_book.specs.declared.leg_name.LegName.{LegName}
-use Rattle.leg_machine.specs.declared.causes.Cause.TheVariants.{UnallocatedNumber, CallRejected, NoChannelAvailable}
-use Rattle.leg_machine.specs.declared.orders.OrderKind.TheVariants as kinds
+use Rattle.call_signals.specs.declared.causes.Cause.TheVariants.{UnallocatedNumber, CallRejected, NoChannelAvailable}
+use Rattle.call_signals.specs.declared.orders.OrderKind.TheVariants as kinds
 use Rattle.peer_lock.specs.declared.steps.Status.{Status}
 use Rattle.call_steps.specs.Acts.{act_kind}
 use Rattle.call_steps.specs.declared.needs.Need.{Need}

@@ -6,8 +6,8 @@ use Rattle.std.proofs.lemmas.Bool.{cond_both, cases_Bool, true≢false}
 use Rattle.call_book.specs.Book.{Book, has_name, is_same}
 use Rattle.call_book.specs.declared.leg_name.LegName.{LegName}
 use Rattle.leg_machine.specs.Seen.{stage_after}
-use Rattle.leg_machine.specs.declared.orders.OrderKind.{OrderKind}
-use Rattle.leg_machine.specs.declared.stages.Stage.{Stage}
+use Rattle.call_signals.specs.declared.orders.OrderKind.{OrderKind}
+use Rattle.call_signals.specs.declared.stages.Stage.{Stage}
 use Rattle.peer_lock.specs.declared.errors.OrderError.{OrderError}
 use Rattle.peer_lock.specs.declared.errors.OrderError.TheVariants as order_errors
 use Rattle.call_steps.specs.declared.places.Place.{Place}

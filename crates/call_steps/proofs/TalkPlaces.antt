@@ -4,8 +4,8 @@ use Rattle.std.specs.Prelude.{Ok, Err}
 use Rattle.std.proofs.lemmas.Bool.{cond_both, true≢false}
 use Rattle.call_book.specs.Book.{is_same}
 use Rattle.call_book.specs.declared.leg_name.LegName.{LegName}
-use Rattle.leg_machine.specs.declared.signals.Signal.{Signal}
-use Rattle.leg_machine.specs.declared.signals.Signal.TheVariants as signals
+use Rattle.call_signals.specs.declared.signals.Signal.{Signal}
+use Rattle.call_signals.specs.declared.signals.Signal.TheVariants as signals
 use Rattle.peer_lock.specs.declared.errors.OrderError.TheVariants as order_errors
 use Rattle.peer_lock.specs.declared.errors.PeerError.{PeerError}
 use Rattle.peer_lock.specs.declared.errors.PeerError.TheVariants as peer_errors

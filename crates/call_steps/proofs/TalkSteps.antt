@@ -8,9 +8,9 @@ use Rattle.call_book.specs.declared.errors.BridgeError.{BridgeError}
 use Rattle.call_book.specs.declared.leg_name.LegName.{LegName}
 use Rattle.call_book.proofs.Changes.{IsBridged, bridged_by, partner_has, bridged_first, bridged_before, released_gone}
 use Rattle.leg_machine.specs.Seen.{stage_after}
-use Rattle.leg_machine.specs.declared.orders.OrderKind.TheVariants as kinds
-use Rattle.leg_machine.specs.declared.stages.Stage.{Stage}
-use Rattle.leg_machine.specs.declared.stages.Stage.TheVariants as stages
+use Rattle.call_signals.specs.declared.orders.OrderKind.TheVariants as kinds
+use Rattle.call_signals.specs.declared.stages.Stage.{Stage}
+use Rattle.call_signals.specs.declared.stages.Stage.TheVariants as stages
 use Rattle.peer_lock.specs.declared.errors.OrderError.TheVariants as order_errors
 use Rattle.call_steps.specs.declared.acts.Act.{Act}
 use Rattle.call_steps.specs.declared.acts.Act.TheVariants as acts

@@ -1,9 +1,9 @@
 -- Orders to a leg in which media is a place in the datagram that brought it.
 use Rattle.std.specs.Prelude.{ℕ, ◌≤◌, List, Option, None, Some, slice_range}
-use Rattle.leg_machine.specs.declared.orders.Order.{Order}
-use Rattle.leg_machine.specs.declared.orders.Order.TheVariants as orders
-use Rattle.leg_machine.specs.declared.orders.OrderKind.{OrderKind}
-use Rattle.leg_machine.specs.declared.orders.OrderKind.TheVariants as kinds
+use Rattle.call_signals.specs.declared.orders.Order.{Order}
+use Rattle.call_signals.specs.declared.orders.Order.TheVariants as orders
+use Rattle.call_signals.specs.declared.orders.OrderKind.{OrderKind}
+use Rattle.call_signals.specs.declared.orders.OrderKind.TheVariants as kinds
 use Rattle.call_steps.specs.declared.acts.Act.{Act}
 use Rattle.call_steps.specs.declared.acts.Act.TheVariants as acts
 

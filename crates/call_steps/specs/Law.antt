@@ -4,9 +4,9 @@ use Rattle.std.specs.List.{AllByRecursion}
 use Rattle.std.specs.FinMap.{get}
 use Rattle.call_book.specs.Book.{IsBook, IsNumberOf, has_name, is_same, partner_of}
 use Rattle.call_book.specs.declared.leg_name.LegName.{LegName}
-use Rattle.leg_machine.specs.declared.signals.Signal.{Signal}
-use Rattle.leg_machine.specs.declared.stages.Stage.{Stage}
-use Rattle.leg_machine.specs.declared.stages.Stage.TheVariants as stages
+use Rattle.call_signals.specs.declared.signals.Signal.{Signal}
+use Rattle.call_signals.specs.declared.stages.Stage.{Stage}
+use Rattle.call_signals.specs.declared.stages.Stage.TheVariants as stages
 use Rattle.peer_lock.specs.declared.errors.OpenError.TheVariants as open_errors
 use Rattle.peer_lock.specs.declared.errors.OrderError.TheVariants as order_errors
 use Rattle.peer_lock.specs.declared.errors.PeerError.TheVariants as peer_errors

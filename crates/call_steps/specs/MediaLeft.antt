@@ -1,8 +1,8 @@
 -- The media that a call still has to carry, and the media of the order that it needs next ("Mini Frames", "Meta Frames").
 use Rattle.std.specs.Prelude.{List, [], ◌∷◌, ◌++◌, Option, Some, Ok}
 use Rattle.call_book.specs.declared.leg_name.LegName.{LegName}
-use Rattle.leg_machine.specs.declared.signals.Signal.{Signal}
-use Rattle.leg_machine.specs.declared.signals.Signal.TheVariants.{Media}
+use Rattle.call_signals.specs.declared.signals.Signal.{Signal}
+use Rattle.call_signals.specs.declared.signals.Signal.TheVariants.{Media}
 use Rattle.call_steps.specs.Work.{Work}
 use Rattle.call_steps.specs.declared.acts.Act.{Act}
 use Rattle.call_steps.specs.declared.acts.Act.TheVariants as acts

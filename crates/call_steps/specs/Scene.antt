@@ -6,13 +6,13 @@ use Rattle.call_book.specs.declared.errors.ReserveError.{ReserveError}
 use Rattle.call_book.specs.declared.leg_name.LegName.{LegName}
 use Rattle.leg_machine.specs.Seen.{SeenLeg, SeenFrame, Speaks, frame_effect, opening_effect, fresh_leg, stage_after, ordered, moved, Lapse, lapsed}
 use Rattle.leg_machine.specs.Stages.{is_ended}
-use Rattle.leg_machine.specs.declared.openings.Opening.{Opening}
-use Rattle.leg_machine.specs.declared.openings.Opening.TheVariants.{Offers}
-use Rattle.leg_machine.specs.declared.orders.OrderKind.{OrderKind}
-use Rattle.leg_machine.specs.declared.signals.MediaSpan.{MediaSpan}
-use Rattle.leg_machine.specs.declared.signals.Signal.{Signal}
-use Rattle.leg_machine.specs.declared.stages.Stage.{Stage}
-use Rattle.leg_machine.specs.declared.stages.Stage.TheVariants as stages
+use Rattle.call_signals.specs.declared.openings.Opening.{Opening}
+use Rattle.call_signals.specs.declared.openings.Opening.TheVariants.{Offers}
+use Rattle.call_signals.specs.declared.orders.OrderKind.{OrderKind}
+use Rattle.call_signals.specs.declared.signals.MediaSpan.{MediaSpan}
+use Rattle.call_signals.specs.declared.signals.Signal.{Signal}
+use Rattle.call_signals.specs.declared.stages.Stage.{Stage}
+use Rattle.call_signals.specs.declared.stages.Stage.TheVariants as stages
 pub use Rattle.peer_lock.specs.Peer.{handed_up}
 pub use Rattle.peer_lock.specs.Seen.{refuses_order}
 use Rattle.peer_lock.specs.declared.errors.OpenError.{OpenError}

@@ -1,7 +1,7 @@
 -- What an answer tells the steps of a call: neither the texts of an offer, nor how much room a list has, nor how much a leg holds.
 use Rattle.std.specs.Prelude.{List, Option, None, Some, Ok}
 use Rattle.call_book.specs.declared.leg_name.LegName.{LegName}
-use Rattle.leg_machine.specs.declared.signals.Signal.{Signal}
+use Rattle.call_signals.specs.declared.signals.Signal.{Signal}
 use Rattle.peer_lock.specs.declared.steps.Status.{Status}
 use Rattle.call_steps.specs.declared.replies.Heard.{Heard}
 use Rattle.call_steps.specs.declared.replies.Reply.{Reply}

@@ -1,8 +1,8 @@
 -- Where offered calls lead.
 use Rattle.std.specs.Prelude.{◌≡◌, ℕ, ◌<◌, Bool, true, false, Option, None, Some, All, option_map, slice_get}
 use Rattle.leg_machine.specs.Formats.{has_format}
-use Rattle.leg_machine.specs.declared.rules.PeerRules.{PeerRules}
-use Rattle.peer_lock.specs.declared.onwards.Offer.{Offer}
+use Rattle.call_signals.specs.declared.rules.PeerRules.{PeerRules}
+use Rattle.peer_accounts.specs.declared.onwards.Offer.{Offer}
 use Rattle.peer_plan.specs.Plan.{PlanView, begins, IsLongest}
 use Rattle.peer_plan.specs.declared.route.Route.{Route as Prefix}
 use Rattle.call_steps.specs.declared.needs.Route.{Route}

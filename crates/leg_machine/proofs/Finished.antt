@@ -9,14 +9,14 @@ use Rattle.seq_window.specs.Window.{Sending, held_count, is_due, first_due, trie
 use Rattle.seq_window.specs.declared.judgements.Resent.{Resent}
 use Rattle.seq_window.specs.declared.judgements.Resent.TheVariants as resents
 use Rattle.leg_machine.specs.Legs.{LegState, entered, is_short_of_entries}
-use Rattle.leg_machine.specs.Stages.{is_ended}
+use Rattle.call_signals.specs.Stages.{is_ended}
 use Rattle.leg_machine.specs.Ticks.{Tick, quiet, sends_if, must_hang_up, hang_up_step, must_ping, pinged, last_step, due_frames, tick_step}
 use Rattle.leg_machine.specs.Tries.{Tried, tries, one_try, after_try, NoneDue, IsFinished}
-use Rattle.leg_machine.specs.declared.causes.Cause.TheVariants.{NormalClearing}
-use Rattle.leg_machine.specs.declared.replies.Reply.TheVariants as replies
-use Rattle.leg_machine.specs.declared.rules.PeerRules.{PeerRules}
-use Rattle.leg_machine.specs.declared.stages.Stage.{Stage}
-use Rattle.leg_machine.specs.declared.stages.Stage.TheVariants as stages
+use Rattle.call_signals.specs.declared.causes.Cause.TheVariants.{NormalClearing}
+use Rattle.call_signals.specs.declared.replies.Reply.TheVariants as replies
+use Rattle.call_signals.specs.declared.rules.PeerRules.{PeerRules}
+use Rattle.call_signals.specs.declared.stages.Stage.{Stage}
+use Rattle.call_signals.specs.declared.stages.Stage.TheVariants as stages
 use Rattle.leg_machine.proofs.Tied.{either, either_by}
 
 -- how many are due

@@ -6,12 +6,12 @@ use Rattle.std.proofs.lemmas.Bool.Decides.{nat_tests}
 use Rattle.seq_window.specs.Window.{held_count}
 use Rattle.leg_machine.specs.Legs.{LegState, entered, is_short_of_entries}
 use Rattle.leg_machine.specs.Seen.{seen as seen_leg, IsSeenTick}
-use Rattle.leg_machine.specs.Stages.{is_ended}
+use Rattle.call_signals.specs.Stages.{is_ended}
 use Rattle.leg_machine.specs.Ticks.{Tick, quiet, sends_if, must_hang_up, must_ping, pinged, last_step, due_frames, tick_step}
 use Rattle.leg_machine.specs.Tries.{tries}
-use Rattle.leg_machine.specs.declared.causes.Cause.TheVariants.{NormalClearing}
-use Rattle.leg_machine.specs.declared.replies.Reply.TheVariants as replies
-use Rattle.leg_machine.specs.declared.stages.Stage.TheVariants as stages
+use Rattle.call_signals.specs.declared.causes.Cause.TheVariants.{NormalClearing}
+use Rattle.call_signals.specs.declared.replies.Reply.TheVariants as replies
+use Rattle.call_signals.specs.declared.stages.Stage.TheVariants as stages
 use Rattle.leg_machine.specs.Tie.{SendsAtMostOne}
 use Rattle.leg_machine.proofs.SeenTicks.{tick-seen}
 use Rattle.leg_machine.proofs.Tied.{either}

@@ -9,12 +9,12 @@ use Rattle.resend_queue.specs.declared.held_frame.Held.{Held}
 use Rattle.seq_window.specs.Sequence.{byte_of}
 use Rattle.seq_window.specs.Window.{Sending, held_count, numbered_from, is_due, first_due, resent_if}
 use Rattle.leg_machine.specs.Legs.{LegState, entered, is_short_of_entries}
-use Rattle.leg_machine.specs.Stages.{is_ended}
+use Rattle.call_signals.specs.Stages.{is_ended}
 use Rattle.leg_machine.specs.Ticks.{Tick, quiet, sends_if, must_hang_up, must_ping, pinged, last_step, due_frames, tick_step, is_none_due, is_idle}
 use Rattle.leg_machine.specs.Tries.{Tried, tried, tries, one_try}
-use Rattle.leg_machine.specs.declared.causes.Cause.TheVariants.{NormalClearing}
-use Rattle.leg_machine.specs.declared.replies.Reply.TheVariants as replies
-use Rattle.leg_machine.specs.declared.stages.Stage.TheVariants as stages
+use Rattle.call_signals.specs.declared.causes.Cause.TheVariants.{NormalClearing}
+use Rattle.call_signals.specs.declared.replies.Reply.TheVariants as replies
+use Rattle.call_signals.specs.declared.stages.Stage.TheVariants as stages
 use Rattle.leg_machine.proofs.Tied.{either_by}
 
 -- what is so of an idle leg that hasn't ended

@@ -4,6 +4,7 @@ pub mod FrameMedia
 pub mod Growth
 pub mod Idle
 pub mod OneTry
+pub mod Opened
 pub mod Rows
 pub mod SeenFrames
 pub mod SeenOrders

@@ -6,20 +6,20 @@ use Rattle.leg_machine.specs.Legs.{LegState, is_short_of_entries}
 use Rattle.leg_machine.specs.Media.{media_sent, after_media}
 use Rattle.leg_machine.specs.OrderTable.{when, row_refused, row_carried, order_refused, order_carried, media_refused, media_refused_as, sending_refused, IsRefusal}
 use Rattle.leg_machine.specs.Seen.{seen, moved, ordered, kind_of, stage_after, IsSeenOrder}
-use Rattle.leg_machine.specs.Stages.{is_offered, is_linked, is_talking, is_over}
-use Rattle.leg_machine.specs.declared.causes.Cause.{Cause}
+use Rattle.call_signals.specs.Stages.{is_offered, is_linked, is_talking, is_over}
+use Rattle.call_signals.specs.declared.causes.Cause.{Cause}
 use Rattle.leg_machine.specs.declared.media.MediaSent.{MediaSent}
 use Rattle.leg_machine.specs.declared.media.MediaSent.TheVariants as media
-use Rattle.leg_machine.specs.declared.orders.Order.{Order}
-use Rattle.leg_machine.specs.declared.orders.Order.TheVariants as orders
-use Rattle.leg_machine.specs.declared.orders.OrderError.{OrderError}
-use Rattle.leg_machine.specs.declared.orders.OrderError.TheVariants as errors
-use Rattle.leg_machine.specs.declared.orders.OrderKind.{OrderKind}
-use Rattle.leg_machine.specs.declared.orders.OrderKind.TheVariants as kinds
+use Rattle.call_signals.specs.declared.orders.Order.{Order}
+use Rattle.call_signals.specs.declared.orders.Order.TheVariants as orders
+use Rattle.call_signals.specs.declared.orders.OrderError.{OrderError}
+use Rattle.call_signals.specs.declared.orders.OrderError.TheVariants as errors
+use Rattle.call_signals.specs.declared.orders.OrderKind.{OrderKind}
+use Rattle.call_signals.specs.declared.orders.OrderKind.TheVariants as kinds
 use Rattle.leg_machine.specs.declared.orders.Ordered.{Ordered}
-use Rattle.leg_machine.specs.declared.signals.Indication.{Indication}
-use Rattle.leg_machine.specs.declared.stages.Stage.{Stage}
-use Rattle.leg_machine.specs.declared.stages.Stage.TheVariants as stages
+use Rattle.call_signals.specs.declared.signals.Indication.{Indication}
+use Rattle.call_signals.specs.declared.stages.Stage.{Stage}
+use Rattle.call_signals.specs.declared.stages.Stage.TheVariants as stages
 use Rattle.leg_machine.proofs.SeenFrames.{moved-same}
 use Rattle.leg_machine.proofs.Tied.{either, either_by}
 

@@ -14,17 +14,17 @@ use Rattle.seq_window.specs.Window.{WindowState, after_receiving, judged_number,
 use Rattle.leg_machine.specs.Effects.{marked}
 use Rattle.leg_machine.specs.LegTable.{effect_of}
 use Rattle.leg_machine.specs.Legs.{LegState, entered}
-use Rattle.leg_machine.specs.Messages.{message_of, is_numbered, is_inval, is_vnak}
+use Rattle.call_signals.specs.Messages.{message_of, is_numbered, is_inval, is_vnak}
 use Rattle.leg_machine.specs.Replies.{reply_frame}
 use Rattle.leg_machine.specs.Steps.{Step, full_step, inval_step, vnak_step, resend_step, nothing_sent, numbered_step, judged_step, taken_step, taken as taken_leg, replied, answered, no_room, prepared}
 use Rattle.leg_machine.specs.Tie.{TakesTurn, numbered_frame}
 use Rattle.leg_machine.specs.Working.{stored, settled, acknowledged, learnt, counts}
-use Rattle.leg_machine.specs.declared.effects.Answering.{Answering}
-use Rattle.leg_machine.specs.declared.effects.Answering.TheVariants.{Acknowledged, Answered, Silent}
-use Rattle.leg_machine.specs.declared.effects.Effect.{Effect}
-use Rattle.leg_machine.specs.declared.effects.Mark.{Mark}
-use Rattle.leg_machine.specs.declared.effects.Mark.TheVariants as marks
-use Rattle.leg_machine.specs.declared.messages.Message.{Message}
+use Rattle.call_signals.specs.declared.effects.Answering.{Answering}
+use Rattle.call_signals.specs.declared.effects.Answering.TheVariants.{Acknowledged, Answered, Silent}
+use Rattle.call_signals.specs.declared.effects.Effect.{Effect}
+use Rattle.call_signals.specs.declared.effects.Mark.{Mark}
+use Rattle.call_signals.specs.declared.effects.Mark.TheVariants as marks
+use Rattle.call_signals.specs.declared.messages.Message.{Message}
 
 pub either : {A : Type 0} (P : A → Type 0) (b : Bool) (x y : A) → P x → P y → P (cond b x y)
 either P true x y p q = p

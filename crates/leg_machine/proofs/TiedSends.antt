@@ -11,20 +11,20 @@ use Rattle.leg_machine.specs.Legs.{LegState, entered, local_room, is_short_of_en
 use Rattle.leg_machine.specs.Media.{media_sent, after_media}
 use Rattle.leg_machine.specs.OrderTable.{order_row, row_carried, order_carried, doomed, paid}
 use Rattle.leg_machine.specs.Replies.{reply_frame, voice_frame}
-use Rattle.leg_machine.specs.Stages.{is_talking, is_ended}
+use Rattle.call_signals.specs.Stages.{is_talking, is_ended}
 use Rattle.leg_machine.specs.Tie.{SendsAtMostOne}
 use Rattle.leg_machine.specs.Ticks.{Tick, quiet, sends_if, must_hang_up, must_ping, pinged, last_step, due_frames, tick_step, is_ping_time}
 use Rattle.leg_machine.specs.Tries.{Tried, tries, one_try, after_try}
-use Rattle.leg_machine.specs.declared.causes.Cause.TheVariants.{NormalClearing}
+use Rattle.call_signals.specs.declared.causes.Cause.TheVariants.{NormalClearing}
 use Rattle.leg_machine.specs.declared.media.MediaSent.{MediaSent}
 use Rattle.leg_machine.specs.declared.media.MediaSent.TheVariants as media
-use Rattle.leg_machine.specs.declared.orders.Order.{Order}
-use Rattle.leg_machine.specs.declared.orders.Order.TheVariants.{Accept, Reject, Indicate, Answer, Dtmf, Media, Hangup, Doom, Paid}
+use Rattle.call_signals.specs.declared.orders.Order.{Order}
+use Rattle.call_signals.specs.declared.orders.Order.TheVariants.{Accept, Reject, Indicate, Answer, Dtmf, Media, Hangup, Doom, Paid}
 use Rattle.leg_machine.specs.declared.orders.Ordered.{Ordered}
-use Rattle.leg_machine.specs.declared.replies.Reply.{Reply}
-use Rattle.leg_machine.specs.declared.replies.Reply.TheVariants as replies
-use Rattle.leg_machine.specs.declared.stages.Stage.{Stage}
-use Rattle.leg_machine.specs.declared.stages.Stage.TheVariants as stages
+use Rattle.call_signals.specs.declared.replies.Reply.{Reply}
+use Rattle.call_signals.specs.declared.replies.Reply.TheVariants as replies
+use Rattle.call_signals.specs.declared.stages.Stage.{Stage}
+use Rattle.call_signals.specs.declared.stages.Stage.TheVariants as stages
 use Rattle.leg_machine.proofs.Tied.{either}
 
 -- nothing is sent

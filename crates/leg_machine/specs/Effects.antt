@@ -1,60 +1,12 @@
--- What a row of the tables says.
-use Rattle.std.specs.Prelude.{Bool, true, false, Option, None, Some, if◌then◌else◌}
+-- What a row of the tables says, and what a leg notes of it.
+pub use Rattle.call_signals.specs.Effects.{row, marking, no_effect, reply_alone, hung_up, rejected, goes_on, unless_over, is_reply}
+use Rattle.std.specs.Prelude.{true, false}
 use Rattle.leg_machine.specs.Legs.{LegState}
-use Rattle.leg_machine.specs.Stages.{is_over}
-use Rattle.leg_machine.specs.declared.causes.Cause.{Cause}
-use Rattle.leg_machine.specs.declared.effects.Answering.{Answering}
-use Rattle.leg_machine.specs.declared.effects.Answering.TheVariants.{Acknowledged, Answered, Silent}
-use Rattle.leg_machine.specs.declared.effects.Effect.{Effect}
-use Rattle.leg_machine.specs.declared.effects.Mark.{Mark}
-use Rattle.leg_machine.specs.declared.effects.Mark.TheVariants.{Nothing, Quelches, Unquelches, Authenticates}
-use Rattle.leg_machine.specs.declared.replies.Reply.{Reply}
-use Rattle.leg_machine.specs.declared.replies.Reply.TheVariants.{Hangup, Reject}
-use Rattle.leg_machine.specs.declared.signals.Signal.{Signal}
-use Rattle.leg_machine.specs.declared.signals.Signal.TheVariants as signals
-use Rattle.leg_machine.specs.declared.stages.Stage.{Stage}
-use Rattle.leg_machine.specs.declared.stages.Stage.TheVariants.{Closing}
-
--- the answer, the stage after, and what is handed up
-abbrev pub row : Answering → Stage → Option Signal → Effect
-row answer stage signal = record { answer = answer; stage = stage; signal = signal; mark = Nothing }
-
--- and what is noted
-abbrev pub marking : Answering → Stage → Mark → Effect
-marking answer stage mark = record { answer = answer; stage = stage; signal = None; mark = mark }
-
--- a frame that has no row of its own
-abbrev pub no_effect : Stage → Effect
-no_effect stage = row Acknowledged stage None
-
--- a numbered frame that is the answer; nothing else happens
-abbrev pub reply_alone : Stage → Reply → Effect
-reply_alone stage reply = if is_over stage then no_effect stage else row (Answered reply) stage None
-
--- the call is given up
-abbrev pub hung_up : Cause → Effect
-hung_up cause = row (Answered (Hangup cause)) Closing (Some signals.Hangup)
-
--- the call isn't let in
-abbrev pub rejected : Cause → Effect
-rejected cause = row (Answered (Reject cause)) Closing None
-
--- the frame is acknowledged, and something is handed up
-abbrev pub goes_on : Stage → Signal → Effect
-goes_on stage signal = row Acknowledged stage (Some signal)
-
--- handed up where the call wasn't over
-abbrev pub unless_over : Stage → Signal → Option Signal
-unless_over stage signal = if is_over stage then None else Some signal
+use Rattle.call_signals.specs.declared.effects.Mark.{Mark}
+use Rattle.call_signals.specs.declared.effects.Mark.TheVariants.{Nothing, Quelches, Unquelches, Authenticates}
 
 abbrev pub marked : LegState → Mark → LegState
 marked leg Nothing = leg
 marked leg Quelches = record leg { quelched = true }
 marked leg Unquelches = record leg { quelched = false }
 marked leg Authenticates = record leg { authenticated = true }
-
--- whether a numbered frame is the answer
-abbrev pub is_reply : Answering → Bool
-is_reply Acknowledged = false
-is_reply Silent = false
-is_reply (Answered reply) = true

@@ -1,28 +1,25 @@
 -- The table of the leg: what a taken frame does, row by row ("IAX Frames", "Control Frames", "Call Setup").
+pub use Rattle.call_signals.specs.FrameElements.{element_in}
 use Rattle.std.specs.Prelude.{ℕ, ◌+◌, List, length, map, not, nat_le, ◌&&◌, Bool, true, false, Option, None, Some, bit_and, ◌==◌, bytes_eq, if◌then◌else◌}
 use Rattle.std.specs.Char.{to_ascii_lowercase}
 use Rattle.call_auth.specs.Md5Answer.{md5_answer}
 use Rattle.iax_frames.specs.FullFrame.{FullFrame}
-use Rattle.info_elements.specs.Element.{elements_of, last_of, u16_in, u32_in}
+use Rattle.info_elements.specs.Element.{u16_in, u32_in}
 use Rattle.info_elements.specs.Numbers.{FORMAT, AUTHMETHODS, CHALLENGE, MD5_RESULT}
 use Rattle.leg_machine.specs.Effects.{row, marking, no_effect, reply_alone, hung_up, rejected, goes_on, unless_over}
-use Rattle.leg_machine.specs.Formats.{format_bit, same_format}
+use Rattle.call_signals.specs.Formats.{format_bit, same_format}
 use Rattle.leg_machine.specs.Legs.{LegState}
-use Rattle.leg_machine.specs.declared.causes.Cause.TheVariants.{NormalClearing, CallRejected}
-use Rattle.leg_machine.specs.declared.effects.Answering.TheVariants.{Acknowledged, Answered, Silent}
-use Rattle.leg_machine.specs.declared.effects.Effect.{Effect}
-use Rattle.leg_machine.specs.declared.effects.Mark.TheVariants.{Quelches, Unquelches, Authenticates}
-use Rattle.leg_machine.specs.declared.formats.Format.{Format}
-use Rattle.leg_machine.specs.declared.messages.Message.{Message}
-use Rattle.leg_machine.specs.declared.messages.Message.TheVariants as messages
-use Rattle.leg_machine.specs.declared.replies.Reply.TheVariants as replies
-use Rattle.leg_machine.specs.declared.signals.Signal.TheVariants as signals
-use Rattle.leg_machine.specs.declared.stages.Stage.{Stage}
-use Rattle.leg_machine.specs.declared.stages.Stage.TheVariants as stages
-
--- the value of the last element of a number in a frame's data
-abbrev pub element_in : FullFrame → ℕ → Option (List ℕ)
-element_in frame number = last_of number (elements_of frame.payload)
+use Rattle.call_signals.specs.declared.causes.Cause.TheVariants.{NormalClearing, CallRejected}
+use Rattle.call_signals.specs.declared.effects.Answering.TheVariants.{Acknowledged, Answered, Silent}
+use Rattle.call_signals.specs.declared.effects.Effect.{Effect}
+use Rattle.call_signals.specs.declared.effects.Mark.TheVariants.{Quelches, Unquelches, Authenticates}
+use Rattle.call_signals.specs.declared.formats.Format.{Format}
+use Rattle.call_signals.specs.declared.messages.Message.{Message}
+use Rattle.call_signals.specs.declared.messages.Message.TheVariants as messages
+use Rattle.call_signals.specs.declared.replies.Reply.TheVariants as replies
+use Rattle.call_signals.specs.declared.signals.Signal.TheVariants as signals
+use Rattle.call_signals.specs.declared.stages.Stage.{Stage}
+use Rattle.call_signals.specs.declared.stages.Stage.TheVariants as stages
 
 -- ---- Challenged
 

@@ -1,11 +1,11 @@
 -- A leg of a call, as its steps see it ("IAX Frames", "Message Transport").
 use Rattle.std.specs.Prelude.{ℕ, ◌+◌, ◌-◌, ◌/◌, ◌≤◌, Bool, ◌||◌, ◌&&◌, not, nat_lt, List, Option}
 use Rattle.seq_window.specs.Window.{WindowState, entry_count}
-use Rattle.leg_machine.specs.declared.formats.Format.{Format}
-use Rattle.leg_machine.specs.declared.rules.PeerRules.{PeerRules}
-use Rattle.leg_machine.specs.declared.stages.Stage.{Stage}
+use Rattle.call_signals.specs.declared.formats.Format.{Format}
+use Rattle.call_signals.specs.declared.rules.PeerRules.{PeerRules}
+use Rattle.call_signals.specs.declared.stages.Stage.{Stage}
 use Rattle.leg_machine.specs.declared.machine.Machine.{Machine}
-use Rattle.leg_machine.specs.Stages.{is_over}
+use Rattle.call_signals.specs.Stages.{is_over}
 
 pub record LegState : Type 0 where
   pub rules : PeerRules

@@ -5,13 +5,13 @@ use Rattle.leg_machine.specs.Legs.{LegState}
 use Rattle.leg_machine.specs.Openings.{called_of, calling_of}
 use Rattle.leg_machine.specs.OrderTable.{Carried}
 use Rattle.leg_machine.specs.Steps.{Step}
-use Rattle.leg_machine.specs.declared.outcomes.Judged.TheVariants.{Unnumbered}
-use Rattle.leg_machine.specs.declared.outcomes.Outcome.{Outcome}
-use Rattle.leg_machine.specs.declared.signals.Indication.TheVariants as indications
-use Rattle.leg_machine.specs.declared.signals.Onward.{Onward}
-use Rattle.leg_machine.specs.declared.signals.Onward.TheVariants as onwards
-use Rattle.leg_machine.specs.declared.signals.Signal.{Signal}
-use Rattle.leg_machine.specs.declared.signals.Signal.TheVariants as signals
+use Rattle.call_signals.specs.declared.outcomes.Judged.TheVariants.{Unnumbered}
+use Rattle.call_signals.specs.declared.outcomes.Outcome.{Outcome}
+use Rattle.call_signals.specs.declared.signals.Indication.TheVariants as indications
+use Rattle.call_signals.specs.declared.signals.Onward.{Onward}
+use Rattle.call_signals.specs.declared.signals.Onward.TheVariants as onwards
+use Rattle.call_signals.specs.declared.signals.Signal.{Signal}
+use Rattle.call_signals.specs.declared.signals.Signal.TheVariants as signals
 
 abbrev pub onward_of : LegState → Signal → Onward
 onward_of leg signals.Offered =

@@ -6,20 +6,20 @@ use Rattle.seq_window.specs.Window.{held_count}
 use Rattle.leg_machine.specs.Legs.{LegState, entered, local_room, is_short_of_entries}
 use Rattle.leg_machine.specs.Media.{media_sent, after_media, media_frames}
 use Rattle.leg_machine.specs.Replies.{reply_frame, outgoing, next_byte}
-use Rattle.leg_machine.specs.Stages.{is_offered, is_linked, is_talking, is_over}
+use Rattle.call_signals.specs.Stages.{is_offered, is_linked, is_talking, is_over}
 use Rattle.leg_machine.specs.Working.{sent}
-use Rattle.leg_machine.specs.declared.causes.Cause.TheVariants.{NormalClearing}
+use Rattle.call_signals.specs.declared.causes.Cause.TheVariants.{NormalClearing}
 use Rattle.leg_machine.specs.declared.media.MediaSent.{MediaSent}
 use Rattle.leg_machine.specs.declared.media.MediaSent.TheVariants.{Quelched, Voice, Mini}
-use Rattle.leg_machine.specs.declared.orders.Order.{Order}
-use Rattle.leg_machine.specs.declared.orders.Order.TheVariants.{Accept, Reject, Indicate, Answer, Dtmf, Media, Hangup, Doom, Paid}
-use Rattle.leg_machine.specs.declared.orders.OrderError.{OrderError}
-use Rattle.leg_machine.specs.declared.orders.OrderError.TheVariants as errors
+use Rattle.call_signals.specs.declared.orders.Order.{Order}
+use Rattle.call_signals.specs.declared.orders.Order.TheVariants.{Accept, Reject, Indicate, Answer, Dtmf, Media, Hangup, Doom, Paid}
+use Rattle.call_signals.specs.declared.orders.OrderError.{OrderError}
+use Rattle.call_signals.specs.declared.orders.OrderError.TheVariants as errors
 use Rattle.leg_machine.specs.declared.orders.Ordered.{Ordered}
-use Rattle.leg_machine.specs.declared.replies.Reply.{Reply}
-use Rattle.leg_machine.specs.declared.replies.Reply.TheVariants as replies
-use Rattle.leg_machine.specs.declared.stages.Stage.{Stage}
-use Rattle.leg_machine.specs.declared.stages.Stage.TheVariants as stages
+use Rattle.call_signals.specs.declared.replies.Reply.{Reply}
+use Rattle.call_signals.specs.declared.replies.Reply.TheVariants as replies
+use Rattle.call_signals.specs.declared.stages.Stage.{Stage}
+use Rattle.call_signals.specs.declared.stages.Stage.TheVariants as stages
 
 -- this frame goes out while fewer than so many are held, and the leg enters this stage
 abbrev pub ordered : Reply → Stage → ℕ → Ordered

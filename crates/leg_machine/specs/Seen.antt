@@ -1,20 +1,19 @@
 -- What callers at once see of a leg: where it stands, whether it is doomed and whether it owes; and what a frame, an order, a
 -- tick and an opening may do to that ("IAX Frames", "Call Setup").
+pub use Rattle.call_signals.specs.Orders.{kind_of}
 use Rattle.std.specs.Prelude.{◌≡◌, ℕ, ◌||◌, ◌&&◌, not, ◌⊎◌, Bool, false, Option, None, Some, if◌then◌else◌}
 use Rattle.leg_machine.specs.Legs.{LegState}
-use Rattle.leg_machine.specs.Stages.{is_over}
-use Rattle.leg_machine.specs.declared.signals.Indication.{Indication}
-use Rattle.leg_machine.specs.declared.openings.Opening.{Opening}
-use Rattle.leg_machine.specs.declared.openings.Opening.TheVariants.{Refused, Challenges, Offers}
-use Rattle.leg_machine.specs.declared.orders.Order.{Order}
-use Rattle.leg_machine.specs.declared.orders.Order.TheVariants as orders
-use Rattle.leg_machine.specs.declared.orders.OrderKind.{OrderKind}
-use Rattle.leg_machine.specs.declared.orders.OrderKind.TheVariants as kinds
-use Rattle.leg_machine.specs.declared.signals.MediaSpan.{MediaSpan}
-use Rattle.leg_machine.specs.declared.signals.Signal.{Signal}
-use Rattle.leg_machine.specs.declared.signals.Signal.TheVariants as signals
-use Rattle.leg_machine.specs.declared.stages.Stage.{Stage}
-use Rattle.leg_machine.specs.declared.stages.Stage.TheVariants as stages
+use Rattle.call_signals.specs.Stages.{is_over}
+use Rattle.call_signals.specs.declared.signals.Indication.{Indication}
+use Rattle.call_signals.specs.declared.openings.Opening.{Opening}
+use Rattle.call_signals.specs.declared.openings.Opening.TheVariants.{Refused, Challenges, Offers}
+use Rattle.call_signals.specs.declared.orders.OrderKind.{OrderKind}
+use Rattle.call_signals.specs.declared.orders.OrderKind.TheVariants as kinds
+use Rattle.call_signals.specs.declared.signals.MediaSpan.{MediaSpan}
+use Rattle.call_signals.specs.declared.signals.Signal.{Signal}
+use Rattle.call_signals.specs.declared.signals.Signal.TheVariants as signals
+use Rattle.call_signals.specs.declared.stages.Stage.{Stage}
+use Rattle.call_signals.specs.declared.stages.Stage.TheVariants as stages
 
 pub record SeenLeg : Type 0 where
   pub stage : Stage
@@ -99,18 +98,6 @@ IsSeenOpening new signal =
     (opening : Opening) × (new ≡ fresh_leg (opening_effect opening).stage) × (signal ≡ (opening_effect opening).signal)
 
 -- ---- orders
-
--- an order without the octets of its media
-abbrev pub kind_of : Order → OrderKind
-kind_of orders.Accept = kinds.Accept
-kind_of (orders.Reject cause) = kinds.Reject cause
-kind_of (orders.Indicate indication) = kinds.Indicate indication
-kind_of orders.Answer = kinds.Answer
-kind_of (orders.Dtmf digit) = kinds.Dtmf digit
-kind_of (orders.Media media) = kinds.Media
-kind_of orders.Hangup = kinds.Hangup
-kind_of orders.Doom = kinds.Doom
-kind_of orders.Paid = kinds.Paid
 
 -- the stage after an order; none: the stage is a wrong one
 abbrev pub stage_after : OrderKind → Stage → Option Stage

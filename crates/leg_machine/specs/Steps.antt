@@ -8,19 +8,19 @@ use Rattle.seq_window.specs.Window.{held_frames, is_full, judged_number, judged_
 use Rattle.leg_machine.specs.Effects.{marked, unless_over, is_reply}
 use Rattle.leg_machine.specs.LegTable.{effect_of}
 use Rattle.leg_machine.specs.Legs.{LegState, entered, with_window}
-use Rattle.leg_machine.specs.Messages.{message_of, is_numbered, is_inval, is_vnak}
+use Rattle.call_signals.specs.Messages.{message_of, is_numbered, is_inval, is_vnak}
 use Rattle.leg_machine.specs.Replies.{reply_frame, outgoing, next_byte, ack, vnak, sent_again}
 use Rattle.leg_machine.specs.Working.{learnt, acknowledged, counts, settled, recorded, heard, sent}
-use Rattle.leg_machine.specs.declared.effects.Answering.{Answering}
-use Rattle.leg_machine.specs.declared.effects.Answering.TheVariants.{Acknowledged, Answered, Silent}
-use Rattle.leg_machine.specs.declared.effects.Effect.{Effect}
-use Rattle.leg_machine.specs.declared.messages.Message.{Message}
-use Rattle.leg_machine.specs.declared.outcomes.Heard.{Heard}
-use Rattle.leg_machine.specs.declared.outcomes.Judged.{Judged}
-use Rattle.leg_machine.specs.declared.outcomes.Judged.TheVariants as judged
-use Rattle.leg_machine.specs.declared.signals.Signal.{Signal}
-use Rattle.leg_machine.specs.declared.signals.Signal.TheVariants as signals
-use Rattle.leg_machine.specs.declared.stages.Stage.TheVariants as stages
+use Rattle.call_signals.specs.declared.effects.Answering.{Answering}
+use Rattle.call_signals.specs.declared.effects.Answering.TheVariants.{Acknowledged, Answered, Silent}
+use Rattle.call_signals.specs.declared.effects.Effect.{Effect}
+use Rattle.call_signals.specs.declared.messages.Message.{Message}
+use Rattle.call_signals.specs.declared.outcomes.Heard.{Heard}
+use Rattle.call_signals.specs.declared.outcomes.Judged.{Judged}
+use Rattle.call_signals.specs.declared.outcomes.Judged.TheVariants as judged
+use Rattle.call_signals.specs.declared.signals.Signal.{Signal}
+use Rattle.call_signals.specs.declared.signals.Signal.TheVariants as signals
+use Rattle.call_signals.specs.declared.stages.Stage.TheVariants as stages
 
 -- the leg after a step, the frames that it sends, how the frame was judged, and what is handed up
 pub record Step : Type 0 where

@@ -4,13 +4,13 @@ use Rattle.iax_frames.specs.FullFrame.{FullFrame}
 use Rattle.seq_window.specs.Window.{held_count, is_full, first_due}
 use Rattle.leg_machine.specs.Legs.{LegState, entered, local_room, is_short_of_entries}
 use Rattle.leg_machine.specs.Replies.{reply_frame, outgoing, next_byte}
-use Rattle.leg_machine.specs.Stages.{is_over, is_talking, is_ended}
+use Rattle.call_signals.specs.Stages.{is_over, is_talking, is_ended}
 use Rattle.leg_machine.specs.Tries.{tries}
 use Rattle.leg_machine.specs.Working.{sent}
-use Rattle.leg_machine.specs.declared.causes.Cause.TheVariants.{NormalClearing}
-use Rattle.leg_machine.specs.declared.replies.Reply.{Reply}
-use Rattle.leg_machine.specs.declared.replies.Reply.TheVariants.{Hangup, Ping}
-use Rattle.leg_machine.specs.declared.stages.Stage.TheVariants as stages
+use Rattle.call_signals.specs.declared.causes.Cause.TheVariants.{NormalClearing}
+use Rattle.call_signals.specs.declared.replies.Reply.{Reply}
+use Rattle.call_signals.specs.declared.replies.Reply.TheVariants.{Hangup, Ping}
+use Rattle.call_signals.specs.declared.stages.Stage.TheVariants as stages
 
 -- what a tick gives; skipped: so many frames were due and had no memory
 pub record Tick : Type 0 where

@@ -9,7 +9,7 @@ use Rattle.seq_window.specs.Network.{Datagram}
 use Rattle.seq_window.specs.Sequence.{byte_of}
 use Rattle.seq_window.specs.Turn.{Turn, entries_in_turn, entries_for_reply}
 use Rattle.leg_machine.specs.Legs.{LegState}
-use Rattle.leg_machine.specs.Messages.{message_by, message_of, is_numbered, is_inval}
+use Rattle.call_signals.specs.Messages.{message_by, message_of, is_numbered, is_inval}
 use Rattle.leg_machine.specs.Working.{stored}
 
 -- the frame to be judged, where it is numbered

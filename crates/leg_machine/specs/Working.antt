@@ -6,10 +6,10 @@ use Rattle.seq_window.specs.declared.judgements.Acknowledged.{Acknowledged}
 use Rattle.seq_window.specs.declared.judgements.Acknowledged.TheVariants.{Acked, Ignored}
 use Rattle.seq_window.specs.Window.{held_count, after_acknowledgement, after_receiving, after_sending}
 use Rattle.leg_machine.specs.Legs.{LegState, entered, with_window}
-use Rattle.leg_machine.specs.Messages.{is_voice_in}
-use Rattle.leg_machine.specs.Stages.{is_closing}
-use Rattle.leg_machine.specs.declared.messages.Message.{Message}
-use Rattle.leg_machine.specs.declared.stages.Stage.TheVariants.{Ended}
+use Rattle.call_signals.specs.Messages.{is_voice_in}
+use Rattle.call_signals.specs.Stages.{is_closing}
+use Rattle.call_signals.specs.declared.messages.Message.{Message}
+use Rattle.call_signals.specs.declared.stages.Stage.TheVariants.{Ended}
 
 -- the other side's number is learnt from the first frame
 abbrev pub learnt : LegState → ℕ → LegState

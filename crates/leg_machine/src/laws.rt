@@ -11,11 +11,11 @@ ghost use Rattle.leg_machine.specs.Seen.{seen, kind_of, stage_after, fresh_leg, 
 ghost use Rattle.leg_machine.specs.Steps.{full_step};
 ghost use Rattle.leg_machine.specs.Ticks.{quiet, hang_up_step, tick_step, is_idle};
 ghost use Rattle.leg_machine.specs.Tries.{tries, NoneDue, IsFinished};
-ghost use Rattle.leg_machine.specs.declared.formats.Format.{Format};
-ghost use Rattle.leg_machine.specs.declared.orders.Order.{Order};
-ghost use Rattle.leg_machine.specs.declared.orders.OrderError.TheVariants.{WrongStage};
-ghost use Rattle.leg_machine.specs.declared.rules.PeerRules.{PeerRules};
-ghost use Rattle.leg_machine.specs.declared.stages.Stage.TheVariants.{Waiting, Ended};
+ghost use Rattle.call_signals.specs.declared.formats.Format.{Format};
+ghost use Rattle.call_signals.specs.declared.orders.Order.{Order};
+ghost use Rattle.call_signals.specs.declared.orders.OrderError.TheVariants.{WrongStage};
+ghost use Rattle.call_signals.specs.declared.rules.PeerRules.{PeerRules};
+ghost use Rattle.call_signals.specs.declared.stages.Stage.TheVariants.{Waiting, Ended};
 
 /// A tick tries as often as is due: its turns, as many as frames were held when it began, never run out before a frame is
 /// spent or none is due any more.

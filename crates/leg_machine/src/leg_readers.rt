@@ -7,12 +7,9 @@ ghost use Rattle.leg_machine.specs.Onward.{onward_of};
 ghost use Rattle.leg_machine.specs.Openings.{opening_data, called_of, calling_of};
 ghost use Rattle.leg_machine.specs.Ticks.{is_idle};
 
-use crate::formats::Format;
 use crate::legs::Leg;
 use crate::machine::Machine;
-use crate::outcomes::MediaIn;
-use crate::signals::{ElementText, Indication, MediaSpan, Onward, Signal};
-use crate::stages::Stage;
+use call_signals::{ElementText, Format, Indication, MediaIn, MediaSpan, Onward, Signal, Stage};
 use iax_frames::CallNumber;
 use info_elements::{CALLED_NUMBER, CALLING_NUMBER, last_in};
 use seq_window::{EntryView, Record, Window};

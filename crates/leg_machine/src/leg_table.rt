@@ -2,18 +2,14 @@
 ghost use Rattle.std.specs.Prelude.{◌≡◌, option_copied};
 ghost use Rattle.leg_machine.specs.LegTable as rows;
 
-use crate::causes::Cause;
-use crate::effects::{
-    Answering, Effect, Mark, goes_on, hung_up, marking, no_effect, rejected, reply_alone, row,
-    unless_over,
-};
-use crate::formats::Format;
 use crate::machine::Machine;
-use crate::messages::Message;
-use crate::replies::Reply;
-use crate::signals::{MediaSpan, Signal};
-use crate::stages::Stage;
 use call_auth::{accepts, answer};
+use call_signals::effects::{
+    goes_on, hung_up, marking, no_effect, rejected, reply_alone, row, unless_over,
+};
+use call_signals::{
+    Answering, Cause, Effect, Format, Mark, MediaSpan, Message, Reply, Signal, Stage,
+};
 use iax_frames::Full;
 use info_elements::{AUTHMETHODS, CHALLENGE, FORMAT, MD5_RESULT, last_in, u16_in, u32_in};
 

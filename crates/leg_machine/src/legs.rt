@@ -6,25 +6,20 @@ ghost use Rattle.leg_machine.specs.Legs.{is_short_of_entries};
 ghost use Rattle.leg_machine.specs.Media.{media_sent, after_media, media_frames};
 ghost use Rattle.leg_machine.specs.Openings.{open_in_step, open_out_step};
 ghost use Rattle.leg_machine.specs.OrderTable.{order_row, row_refused, row_carried, order_refused, media_refused, media_datagrams, is_voice, wants_memory, IsRefusal, IsShortMedia, order_carried};
-ghost use Rattle.leg_machine.specs.PeerRules.{IsPeerRules};
+ghost use Rattle.call_signals.specs.PeerRules.{IsPeerRules};
 ghost use Rattle.leg_machine.specs.Seen.{seen, kind_of, stage_after, fresh_leg, IsSeenFrame, IsSeenOpening, IsSeenOrder, IsSeenTick};
 ghost use Rattle.leg_machine.specs.Steps.{full_step, heard_of};
 ghost use Rattle.leg_machine.specs.Ticks.{tick_step};
 ghost use Rattle.leg_machine.specs.Tie.{TakesTurn, SendsAtMostOne, IsSending, IsSendingOrMini};
-ghost use Rattle.leg_machine.specs.declared.orders.OrderKind.TheVariants as kinds;
+ghost use Rattle.call_signals.specs.declared.orders.OrderKind.TheVariants as kinds;
 
-use crate::formats::Format;
-use crate::local_number::LocalNumber;
 use crate::machine::Machine;
 use crate::media::MediaSent;
-use crate::messages::Message;
-use crate::openings::{call_format, opening_of};
-use crate::orders::{Order, OrderError};
-use crate::outcomes::{Heard, StepError};
-use crate::replies::Replies;
-use crate::rules::PeerRules;
-use crate::stages::Stage;
 use call_auth::Challenge;
+use call_signals::openings::{call_format, opening_of};
+use call_signals::{
+    Format, Heard, LocalNumber, Message, Order, OrderError, PeerRules, Replies, Stage, StepError,
+};
 use iax_frames::{CallNumber, Full, write_mini};
 use seq_window::Window;
 use std::alloc::{AllocError, Global};

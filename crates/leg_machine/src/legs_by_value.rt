@@ -6,21 +6,19 @@ ghost use Rattle.leg_machine.specs.Legs.{is_short_of_entries};
 ghost use Rattle.leg_machine.specs.Onward.{outcome_of, order_outcome, HandsUp};
 ghost use Rattle.leg_machine.specs.Openings.{open_in_step, open_out_step};
 ghost use Rattle.leg_machine.specs.OrderTable.{order_refused, wants_memory, IsRefusal, IsShortMedia, order_carried};
-ghost use Rattle.leg_machine.specs.PeerRules.{IsPeerRules};
+ghost use Rattle.call_signals.specs.PeerRules.{IsPeerRules};
 ghost use Rattle.leg_machine.specs.Seen.{seen, kind_of, stage_after, fresh_leg, IsSeenFrame, IsSeenOpening, IsSeenOrder, IsSeenTick};
 ghost use Rattle.leg_machine.specs.Steps.{full_step};
 ghost use Rattle.leg_machine.specs.Ticks.{tick_step};
 ghost use Rattle.leg_machine.specs.Tie.{IsSending, IsSendingOrMini};
-ghost use Rattle.leg_machine.specs.declared.stages.Stage.TheVariants as stages;
+ghost use Rattle.call_signals.specs.declared.stages.Stage.TheVariants as stages;
 
-use crate::formats::Format;
 use crate::legs::Leg;
-use crate::orders::{Order, OrderError};
-use crate::outcomes::{Heard, Judged, Outcome, StepError, TickOutcome};
-use crate::replies::Replies;
-use crate::rules::PeerRules;
-use crate::signals::{Onward, Signal};
 use call_auth::Challenge;
+use call_signals::{
+    Format, Heard, Judged, Onward, Order, OrderError, Outcome, PeerRules, Replies, Signal,
+    StepError, TickOutcome,
+};
 use iax_frames::{CallNumber, Full};
 use std::alloc::{AllocError, Global};
 

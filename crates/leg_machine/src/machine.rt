@@ -6,13 +6,8 @@ ghost use Rattle.leg_machine.specs.Legs.{local_room};
 ghost use Rattle.leg_machine.specs.Replies as replies;
 ghost use Rattle.leg_machine.specs.Working as steps;
 
-use crate::formats::Format;
-use crate::local_number::LocalNumber;
-use crate::messages::Message;
-use crate::replies::{Replies, Reply};
-use crate::rules::PeerRules;
-use crate::stages::Stage;
 use call_auth::Challenge;
+use call_signals::{Format, LocalNumber, Message, PeerRules, Replies, Reply, Stage};
 use iax_frames::{CallNumber, Frame, Full, FullHead, Payload};
 use seq_window::{Acknowledged, Window};
 

@@ -6,8 +6,7 @@ ghost use Rattle.leg_machine.specs.Media as rules;
 
 use crate::leg_table::is_media;
 use crate::machine::Machine;
-use crate::replies::Replies;
-use crate::signals::MediaSpan;
+use call_signals::{MediaSpan, Replies};
 
 /// How media went out.
 #[derive(Clone, Copy, Debug, PartialEq, Eq)]

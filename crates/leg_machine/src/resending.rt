@@ -7,8 +7,7 @@ ghost use Rattle.leg_machine.specs.Steps as steps;
 ghost use Rattle.leg_machine.specs.Tries as tries;
 
 use crate::machine::Machine;
-use crate::outcomes::{Heard, Judged};
-use crate::replies::Replies;
+use call_signals::{Heard, Judged, Replies};
 use seq_window::Resent;
 
 impl Machine {

@@ -5,10 +5,8 @@ ghost use Rattle.seq_window.specs.Window.{held_count, entry_count};
 ghost use Rattle.leg_machine.specs.Legs.{is_short_of_entries};
 ghost use Rattle.leg_machine.specs.Ticks as ticks;
 
-use crate::causes::Cause;
 use crate::machine::Machine;
-use crate::replies::{Replies, Reply};
-use crate::stages::Stage;
+use call_signals::{Cause, Replies, Reply, Stage};
 
 impl Machine {
     ghost use Rattle.leg_machine.specs.Legs.{leg_of, HasRoom};

@@ -1,17 +1,14 @@
 //! What a full frame does, in its working order ("Message Transport").
 ghost use Rattle.std.specs.Prelude.{◌≡◌, ◌+◌, ◌<◌, ◌≤◌, ◌++◌, [], true, length, map};
 ghost use Rattle.iax_frames.specs.FullFrame.{spelling};
-ghost use Rattle.seq_window.specs.Window.{held_count, judged_number};
+ghost use Rattle.seq_window.specs.Window.{held_count, judged_number, judged_acknowledgement};
 ghost use Rattle.leg_machine.specs.Effects.{is_reply, marked};
 ghost use Rattle.leg_machine.specs.Steps as steps;
+ghost use Rattle.leg_machine.specs.Working.{counts};
 
-use crate::effects::{Answering, Effect, Mark, unless_over};
 use crate::machine::Machine;
-use crate::messages::Message;
-use crate::outcomes::{Heard, Judged};
-use crate::replies::Replies;
-use crate::signals::Signal;
-use crate::stages::Stage;
+use call_signals::effects::unless_over;
+use call_signals::{Answering, Effect, Heard, Judged, Mark, Message, Replies, Signal, Stage};
 use iax_frames::Full;
 use seq_window::Received;
 
@@ -134,6 +131,39 @@ impl Machine {
         }
     }
 
+    // A frame that has a number is judged by it; any other does no more.
+    fn numbered(&mut self, frame: &Full, message: &Message, now: u64, outs: &mut Replies) -> Heard
+        requires room { HasRoom 3 self.old }
+        requires short { length frame.now.payload ≤ 1388 }
+        requires more { length outs.old < 128 }
+        ensures leg { leg_of self.new ≡ (steps.numbered_step (leg_of self.old) frame.now message.now now).leg }
+        ensures replies { outs.new ≡ outs.old ++ map spelling (steps.numbered_step (leg_of self.old) frame.now message.now now).replies }
+        ensures heard { result ≡ steps.heard_of (steps.numbered_step (leg_of self.old) frame.now message.now now) }
+    {
+        if message.is_numbered() {
+            self.judge(frame, message, now, outs)
+        } else {
+            Heard {
+                judged: Judged::Unnumbered,
+                signal: None,
+            }
+        }
+    }
+
+    // The other side's number is learnt, the acknowledgement judged, and a closing leg that holds nothing has ended. Answers
+    // whether the acknowledgement counts.
+    fn prepare(&mut self, frame: &Full) -> bool
+        requires { HasRoom 4 self.old }
+        ensures leg { leg_of self.new ≡ steps.prepared (leg_of self.old) frame.now }
+        ensures room { HasRoom 3 self.new }
+        ensures counts { result ≡ counts (judged_acknowledgement self.old.window.state.history frame.now.head.iseqno) }
+    {
+        self.learn(frame.source());
+        let counts = self.acknowledge(frame.iseqno());
+        self.settle();
+        counts
+    }
+
     /// A full frame comes.
     pub fn full(&mut self, frame: &Full, now: u64, outs: &mut Replies) -> Heard
         requires room { HasRoom 4 self.old }
@@ -147,19 +177,16 @@ impl Machine {
         if message.is_inval() {
             return self.invalidate();
         }
-        self.learn(frame.source());
-        let counts = self.acknowledge(frame.iseqno());
-        self.settle();
-        if message.is_vnak() && counts {
+        let counts = self.prepare(frame);
+        if !message.is_vnak() {
+            return self.numbered(frame, &message, now, outs);
+        }
+        if counts {
             return self.resend(now, outs);
         }
-        if message.is_numbered() {
-            self.judge(frame, &message, now, outs)
-        } else {
-            Heard {
-                judged: Judged::Unnumbered,
-                signal: None,
-            }
+        Heard {
+            judged: Judged::Unnumbered,
+            signal: None,
         }
     }
 }

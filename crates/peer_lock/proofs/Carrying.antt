@@ -15,14 +15,15 @@ use Rattle.leg_machine.specs.Media.{accepts_media, IsMediaOf}
 use Rattle.leg_machine.specs.Signals.{span_len}
 use Rattle.leg_machine.specs.Stages.{is_talking}
 use Rattle.leg_machine.specs.Steps.{full_step}
-use Rattle.leg_machine.specs.declared.signals.MediaSpan.{MediaSpan}
-use Rattle.leg_machine.specs.declared.signals.Signal.{Signal}
-use Rattle.leg_machine.specs.declared.signals.Signal.TheVariants as signals
+use Rattle.call_signals.specs.declared.signals.MediaSpan.{MediaSpan}
+use Rattle.call_signals.specs.declared.signals.Signal.{Signal}
+use Rattle.call_signals.specs.declared.signals.Signal.TheVariants as signals
 use Rattle.peer_lock.specs.Arrivals.{delivered_step, datagram_step, media_at, mini_span, entries_media, entry_span, entries_len}
 use Rattle.peer_lock.specs.CarriedMedia.{LiesWithin, signal_octets, handed_octets, CarriesItsOwn}
 use Rattle.peer_lock.specs.Delivery.{Delivery, Reaches, NeedsNumber, GetsInval, NoCall, delivery}
-use Rattle.peer_lock.specs.Legs.{NamedLeg, PeerLegs, leg_of_remote}
-use Rattle.peer_lock.specs.Peer.{PeerView, PeerStep, granted, handed_up}
+use Rattle.peer_legs.specs.Legs.{NamedLeg, PeerLegs, leg_of_remote}
+use Rattle.peer_accounts.specs.Grants.{granted}
+use Rattle.peer_lock.specs.Peer.{PeerView, PeerStep, handed_up}
 use Rattle.peer_lock.proofs.Shortness.{trunk_len}
 
 -- signals that hand up media within so many octets, so many of them

@@ -4,11 +4,11 @@ use Rattle.std.proofs.Common.{◌≡◌, ◌≤◌, ℕ, suc, ◌+◌, ◌*◌, 
 use Rattle.std.proofs.lemmas.List.{append_assoc}
 use Rattle.std.proofs.Math.Nat.{add_assoc}
 use Rattle.iax_frames.specs.TrunkFrame.{head_len}
-use Rattle.leg_machine.specs.declared.signals.MediaSpan.{MediaSpan}
-use Rattle.peer_lock.specs.Accounts.{Credit, with_accepted}
+use Rattle.call_signals.specs.declared.signals.MediaSpan.{MediaSpan}
+use Rattle.peer_accounts.specs.Accounts.{Credit, with_accepted}
 use Rattle.peer_lock.specs.Arrivals.{MediaTaken, media_at, entry_span, entries_len, entries_media}
-use Rattle.peer_lock.specs.HandedUp.{HandedUp}
-use Rattle.peer_lock.specs.Legs.{leg_of_remote}
+use Rattle.peer_accounts.specs.HandedUp.{HandedUp}
+use Rattle.peer_legs.specs.Legs.{leg_of_remote}
 use Rattle.peer_lock.specs.Peer.{PeerView}
 
 -- these entries are left, of those that were to give so much

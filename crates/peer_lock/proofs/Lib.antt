@@ -1,16 +1,10 @@
-pub mod AtRest
 pub mod Carrying
+pub mod Choices
 pub mod Entries
-pub mod LegChanges
-pub mod LegIndex
-pub mod LegSearch
-pub mod LegThere
 pub mod Opened
 pub mod Packing
-pub mod Places
 pub mod Puts
 pub mod Refusing
-pub mod SameCall
 pub mod SeenArrivals
 pub mod SeenChanges
 pub mod SeenSteps

@@ -16,17 +16,19 @@ use Rattle.leg_machine.specs.LegTable.{is_media}
 use Rattle.leg_machine.specs.Signals.{span_len}
 use Rattle.leg_machine.specs.Stages.{is_talking}
 use Rattle.leg_machine.specs.Steps.{full_step}
-use Rattle.leg_machine.specs.declared.signals.MediaSpan.{MediaSpan}
-use Rattle.leg_machine.specs.declared.signals.Signal.{Signal}
-use Rattle.leg_machine.specs.declared.signals.Signal.TheVariants as signals
-use Rattle.leg_machine.specs.declared.stages.Stage.{Stage}
-use Rattle.leg_machine.specs.declared.stages.Stage.TheVariants as stages
-use Rattle.leg_machine.proofs.Tied.{either}
+use Rattle.call_signals.specs.declared.signals.MediaSpan.{MediaSpan}
+use Rattle.call_signals.specs.declared.signals.Signal.{Signal}
+use Rattle.call_signals.specs.declared.signals.Signal.TheVariants as signals
+use Rattle.call_signals.specs.declared.stages.Stage.{Stage}
+use Rattle.call_signals.specs.declared.stages.Stage.TheVariants as stages
 use Rattle.peer_lock.specs.Arrivals.{delivered_step, reached_step, datagram_step, media_at, mini_span, entries_media, entry_span}
-use Rattle.peer_lock.specs.Delivery.{Delivery, NeedsNumber, GetsInval, NoCall, delivered, unknown_call, found, if_reached, is_reached, is_new}
-use Rattle.peer_lock.specs.Legs.{NamedLeg, PeerLegs, AreLegs, leg_at, leg_of_remote}
-use Rattle.peer_lock.specs.Peer.{PeerView, PeerStep, granted, handed_up}
+use Rattle.peer_legs.specs.Finding.{found, if_reached, is_reached}
+use Rattle.peer_lock.specs.Delivery.{Delivery, NeedsNumber, GetsInval, NoCall, delivered, unknown_call, is_new}
+use Rattle.peer_legs.specs.Legs.{NamedLeg, PeerLegs, AreLegs, leg_at, leg_of_remote}
+use Rattle.peer_accounts.specs.Grants.{granted}
+use Rattle.peer_lock.specs.Peer.{PeerView, PeerStep, handed_up}
 use Rattle.peer_lock.specs.Seen.{seen_named, seen_at, Brings, IsSeenDatagram, media_up, all_media}
+use Rattle.peer_lock.proofs.Choices.{either}
 use Rattle.peer_lock.proofs.SeenChanges.{leg_turns, own_number, remote_named}
 
 -- what a leg's law says of full frames

@@ -11,29 +11,30 @@ use Rattle.leg_machine.specs.Openings.{open_in_step, open_out_step}
 use Rattle.leg_machine.specs.OrderTable.{order_refused, order_carried, wants_memory}
 use Rattle.leg_machine.specs.Seen.{SeenLeg, seen, kind_of, stage_after, fresh_leg, IsSeenOpening, IsSeenOrder, IsSeenTick}
 use Rattle.leg_machine.specs.Ticks.{tick_step}
-use Rattle.leg_machine.specs.declared.formats.Format.{Format}
+use Rattle.call_signals.specs.declared.formats.Format.{Format}
 use Rattle.leg_machine.specs.declared.media.MediaSent.{MediaSent}
 use Rattle.leg_machine.specs.declared.media.MediaSent.TheVariants as sent
-use Rattle.leg_machine.specs.declared.orders.Order.{Order}
-use Rattle.leg_machine.specs.declared.orders.Order.TheVariants as orders
-use Rattle.leg_machine.specs.declared.orders.OrderError.{OrderError as LegError}
-use Rattle.leg_machine.specs.declared.orders.OrderError.TheVariants as leg_errors
-use Rattle.leg_machine.specs.declared.rules.PeerRules.{PeerRules}
-use Rattle.leg_machine.specs.declared.stages.Stage.{Stage}
-use Rattle.leg_machine.specs.declared.stages.Stage.TheVariants.{Waiting}
-use Rattle.peer_lock.specs.Legs.{NamedLeg, PeerLegs, filled, leg_at, leg_named, if_named, with_place, with_leg}
-use Rattle.peer_lock.specs.Openings.{is_free_name, opens_in, opens_out}
+use Rattle.call_signals.specs.declared.orders.Order.{Order}
+use Rattle.call_signals.specs.declared.orders.Order.TheVariants as orders
+use Rattle.call_signals.specs.declared.orders.OrderError.{OrderError as LegError}
+use Rattle.call_signals.specs.declared.orders.OrderError.TheVariants as leg_errors
+use Rattle.call_signals.specs.declared.rules.PeerRules.{PeerRules}
+use Rattle.call_signals.specs.declared.stages.Stage.{Stage}
+use Rattle.call_signals.specs.declared.stages.Stage.TheVariants.{Waiting}
+use Rattle.peer_legs.specs.Legs.{NamedLeg, PeerLegs, filled, leg_at, leg_named, if_named, with_place, with_leg}
+use Rattle.peer_legs.specs.Legs.{is_free_name}
+use Rattle.peer_lock.specs.Openings.{opens_in, opens_out}
 use Rattle.peer_lock.specs.Orders.{order_refused_by, refused_at, from_leg_due, ordered_if, ordered_at, ordered_step, IsOrderRefusal, counted_media, short_media, queued_media, carried_media, is_full_for, with_media}
 use Rattle.peer_lock.specs.Peer.{PeerView, handed_up, with_datagram}
 use Rattle.peer_lock.specs.Seen.{SeenNamed, seen_named, seen_at, TurnsAt, OpensIn, OpensOut, Obeys, IsGone, Refuses, refuses_order, IsSeenRefusal, IsTickedAt, TicksAll, Retires}
 use Rattle.peer_lock.specs.Statuses.{is_done}
 use Rattle.peer_lock.specs.Ticks.{legs_tick, place_tick, Ticks}
-use Rattle.peer_lock.specs.declared.account.Carried.TheVariants.{Packed}
+use Rattle.peer_accounts.specs.declared.account.Carried.TheVariants.{Packed}
 use Rattle.peer_lock.specs.declared.errors.OrderError.{OrderError}
 use Rattle.peer_lock.specs.declared.errors.OrderError.TheVariants as errors
 use Rattle.peer_lock.specs.declared.steps.TickReport.{TickReport}
 use Rattle.trunk_packer.specs.Queue.{QueueEntry}
-use Rattle.leg_machine.proofs.Tied.{either}
+use Rattle.peer_lock.proofs.Choices.{either}
 use Rattle.peer_lock.proofs.SeenChanges.{named_at, none_named, seen_of_name, placed_turns, put_turns, leg_turns}
 
 -- ---- openings

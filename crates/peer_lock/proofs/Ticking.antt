@@ -8,15 +8,16 @@ use Rattle.leg_machine.specs.Legs.{LegState, entered, is_short_of_entries}
 use Rattle.leg_machine.specs.Stages.{is_ended}
 use Rattle.leg_machine.specs.Ticks.{Tick, quiet, sends_if, must_hang_up, hang_up_step, must_ping, pinged, ping_step, last_step, due_frames, tick_step, is_idle}
 use Rattle.leg_machine.specs.Tries.{tries}
-use Rattle.leg_machine.specs.declared.causes.Cause.TheVariants.{NormalClearing}
-use Rattle.leg_machine.specs.declared.replies.Reply.{Reply}
-use Rattle.leg_machine.specs.declared.replies.Reply.TheVariants as replies
-use Rattle.leg_machine.specs.declared.stages.Stage.TheVariants as stages
-use Rattle.peer_lock.specs.Legs.{NamedLeg}
+use Rattle.call_signals.specs.declared.causes.Cause.TheVariants.{NormalClearing}
+use Rattle.call_signals.specs.declared.replies.Reply.{Reply}
+use Rattle.call_signals.specs.declared.replies.Reply.TheVariants as replies
+use Rattle.call_signals.specs.declared.stages.Stage.TheVariants as stages
+use Rattle.peer_legs.specs.Legs.{NamedLeg}
 use Rattle.peer_lock.specs.Outbox.{put}
 use Rattle.peer_lock.specs.Peer.{PeerView}
-use Rattle.peer_lock.specs.Statuses.{is_quiet, is_resting}
+use Rattle.peer_legs.specs.Rests.{is_quiet, is_resting}
 use Rattle.peer_lock.specs.Ticks.{LegsTick, PlaceTick, TicksLegs, place_tick, legs_tick, then_ticks}
+use Rattle.peer_lock.proofs.Choices.{either}
 use Rattle.peer_lock.proofs.Puts.{put_both, put_none}
 use Rattle.seq_window.specs.Window.{held_count}
 
@@ -27,11 +28,6 @@ place_same (first ∷ places) zero place there = ap (λ p. p ∷ places) (cc)
 place_same (first ∷ places) (suc index) place there = ap (λ ps. first ∷ ps) (place_same places index place there)
 
 -- ---- how many frames have no memory
-
--- what is so of both is so of the one that is chosen
-either : {A : Type 0} (P : A → Type 0) (b : Bool) (x y : A) → P x → P y → P (cond b x y)
-either P true x y first second = first
-either P false x y first second = second
 
 few_sends : (grown : Bool) (leg changed : LegState) (now : ℕ) (reply : Reply) → (sends_if grown leg changed now reply).skipped ≤ 1
 few_sends true leg changed now reply = omega arith

@@ -8,13 +8,14 @@ use Rattle.iax_frames.specs.declared.datagram.Datagram.{Datagram}
 use Rattle.iax_frames.specs.declared.datagram.Datagram.TheVariants.{Full, Mini, Video, Trunk}
 use Rattle.leg_machine.specs.Media.{accepts_media}
 use Rattle.leg_machine.specs.Steps.{full_step}
-use Rattle.leg_machine.specs.declared.signals.MediaSpan.{MediaSpan}
-use Rattle.leg_machine.specs.declared.signals.Signal.{Signal}
-use Rattle.leg_machine.specs.declared.signals.Signal.TheVariants.{Media}
-use Rattle.peer_lock.specs.Accounts.{stepped, with_accepted}
+use Rattle.call_signals.specs.declared.signals.MediaSpan.{MediaSpan}
+use Rattle.call_signals.specs.declared.signals.Signal.{Signal}
+use Rattle.call_signals.specs.declared.signals.Signal.TheVariants.{Media}
+use Rattle.peer_accounts.specs.Accounts.{stepped, with_accepted}
 use Rattle.peer_lock.specs.Delivery.{Delivery, Reaches, NeedsNumber, GetsInval, NoCall, delivery, full_refused}
-use Rattle.peer_lock.specs.Legs.{PeerLegs, NamedLeg, leg_of_remote}
-use Rattle.peer_lock.specs.Peer.{PeerView, PeerStep, granted, handed_up, offer_with, leg_alone, no_leg, alone, with_datagram, with_step}
+use Rattle.peer_legs.specs.Legs.{PeerLegs, NamedLeg, leg_of_remote}
+use Rattle.peer_accounts.specs.Grants.{granted}
+use Rattle.peer_lock.specs.Peer.{PeerView, PeerStep, handed_up, offer_with, leg_alone, no_leg, alone, with_datagram, with_step}
 use Rattle.peer_lock.specs.declared.errors.PeerError.{PeerError}
 use Rattle.peer_lock.specs.declared.errors.PeerError.TheVariants as errors
 

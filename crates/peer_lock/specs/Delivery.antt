@@ -1,11 +1,12 @@
 -- Where a full frame goes ("Full Frames", "INVAL", "NEW").
-use Rattle.std.specs.Prelude.{ℕ, ◌==◌, ◌&&◌, Bool, true, false, Option, None, Some, if◌then◌else◌}
+use Rattle.std.specs.Prelude.{◌==◌, ◌&&◌, Bool, true, false, Option, None, Some, if◌then◌else◌}
 use Rattle.iax_frames.specs.FullFrame.{FullFrame}
 use Rattle.leg_machine.specs.Legs.{is_short_of_entries}
 use Rattle.leg_machine.specs.Messages.{message_of, is_numbered}
-use Rattle.leg_machine.specs.declared.messages.Message.{Message}
-use Rattle.leg_machine.specs.declared.messages.Message.TheVariants.{New}
-use Rattle.peer_lock.specs.Legs.{PeerLegs, NamedLeg, leg_at, leg_of_remote, is_from}
+use Rattle.call_signals.specs.declared.messages.Message.{Message}
+use Rattle.call_signals.specs.declared.messages.Message.TheVariants.{New}
+pub use Rattle.peer_legs.specs.Finding.{is_reached, can_reach, if_reached, found}
+use Rattle.peer_legs.specs.Legs.{PeerLegs, NamedLeg}
 use Rattle.peer_lock.specs.declared.errors.PeerError.{PeerError}
 use Rattle.peer_lock.specs.declared.errors.PeerError.TheVariants as errors
 
@@ -16,26 +17,6 @@ pub data Delivery : Type 0 where
   -- a numbered frame to a number that no leg of this call has
   GetsInval : Delivery
   NoCall : Delivery
-
--- the leg's remote number is the source, or is unknown while no leg has that one
-abbrev pub is_reached : PeerLegs → ℕ → NamedLeg → Bool
-is_reached legs source named = is_from legs named.leg.remote source
-
--- a full frame from this source may go to what stands under a number
-abbrev pub can_reach : PeerLegs → ℕ → Option NamedLeg → Bool
-can_reach legs source None = false
-can_reach legs source (Some named) = is_reached legs source named
-
-abbrev pub if_reached : PeerLegs → ℕ → Option NamedLeg → Option NamedLeg
-if_reached legs source None = None
-if_reached legs source (Some named) = if is_reached legs source named then Some named else None
-
--- with a destination the leg of that number, else the leg with that remote number
-abbrev pub found : PeerLegs → FullFrame → Option NamedLeg
-found legs frame =
-    if frame.head.destination == 0
-    then leg_of_remote legs frame.head.source
-    else if_reached legs frame.head.source (leg_at legs frame.head.destination)
 
 abbrev pub is_new : Message → Bool
 is_new New = true

@@ -1,10 +1,10 @@
 -- How the refusals of the layers below are named here.
 use Rattle.iax_frames.specs.declared.datagram.FrameError.{FrameError}
 use Rattle.iax_frames.specs.declared.datagram.FrameError.TheVariants as unread
-use Rattle.leg_machine.specs.declared.orders.OrderError.{OrderError as LegError}
-use Rattle.leg_machine.specs.declared.orders.OrderError.TheVariants as leg_errors
-use Rattle.leg_machine.specs.declared.outcomes.StepError.{StepError}
-use Rattle.leg_machine.specs.declared.outcomes.StepError.TheVariants as step_errors
+use Rattle.call_signals.specs.declared.orders.OrderError.{OrderError as LegError}
+use Rattle.call_signals.specs.declared.orders.OrderError.TheVariants as leg_errors
+use Rattle.call_signals.specs.declared.outcomes.StepError.{StepError}
+use Rattle.call_signals.specs.declared.outcomes.StepError.TheVariants as step_errors
 use Rattle.peer_lock.specs.declared.errors.OrderError.{OrderError}
 use Rattle.peer_lock.specs.declared.errors.OrderError.TheVariants as orders
 use Rattle.peer_lock.specs.declared.errors.PeerError.{PeerError}

@@ -1,7 +1,8 @@
 -- What a call of a peer makes of a step, and what it leaves where it is refused.
-use Rattle.std.specs.Prelude.{◌≡◌, [], Option, None, Some}
-use Rattle.peer_lock.specs.Accounts.{Credit, with_step}
-use Rattle.peer_lock.specs.HandedUp.{HandedUp}
+use Rattle.std.specs.Prelude.{◌≡◌, Option, None, Some}
+use Rattle.peer_accounts.specs.Accounts.{Credit, with_step}
+use Rattle.peer_accounts.specs.HandedUp.{HandedUp}
+pub use Rattle.peer_accounts.specs.HandedUp.{IsNothing}
 use Rattle.peer_lock.specs.Peer.{PeerView, PeerStep}
 use Rattle.peer_lock.specs.declared.errors.PeerError.{PeerError}
 use Rattle.peer_lock.specs.declared.errors.PeerError.TheVariants.{Memory}
@@ -14,11 +15,6 @@ pub record Makes (s : PeerStep) (new : PeerView) (result : Step) (pass_old pass_
   pub signals : onwards.signals ≡ s.signals
   pub offer : onwards.offer ≡ s.offer
   pub credit : pass_new ≡ with_step pass_old s.octets
-
--- nothing is handed up
-pub record IsNothing (onwards : HandedUp) : Type 0 where
-  pub signals : onwards.signals ≡ []
-  pub offer : onwards.offer ≡ None
 
 -- a refused call left all as it was
 pub record IsUnchanged (old new : PeerView) (pass_old pass_new : Credit) (onwards : HandedUp) : Type 0 where

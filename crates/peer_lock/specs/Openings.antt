@@ -1,14 +1,15 @@
 -- The steps of a peer in which a leg is opened ("Call Setup").
-use Rattle.std.specs.Prelude.{◌≡◌, ℕ, ◌+◌, ◌==◌, ◌&&◌, not, nat_le, nat_lt, is_some, Bool, true, List, [], Option, None, Some, length, map, if◌then◌else◌}
+use Rattle.std.specs.Prelude.{◌≡◌, ℕ, ◌==◌, not, is_some, true, List, [], Option, None, Some, map, if◌then◌else◌}
 use Rattle.call_book.specs.declared.leg_name.LegName.{LegName}
 use Rattle.iax_frames.specs.FullFrame.{FullFrame, spelling}
 use Rattle.leg_machine.specs.Messages.{message_of}
 use Rattle.leg_machine.specs.Openings.{open_in_step, open_out_step}
-use Rattle.leg_machine.specs.declared.formats.Format.{Format}
-use Rattle.leg_machine.specs.declared.outcomes.Judged.TheVariants.{Unnumbered}
-use Rattle.peer_lock.specs.Accounts.{stepped}
+use Rattle.call_signals.specs.declared.formats.Format.{Format}
+use Rattle.call_signals.specs.declared.outcomes.Judged.TheVariants.{Unnumbered}
+use Rattle.peer_accounts.specs.Accounts.{stepped}
 use Rattle.peer_lock.specs.Delivery.{is_new}
-use Rattle.peer_lock.specs.Legs.{PeerLegs, NamedLeg, leg_at, leg_of_remote, with_place}
+use Rattle.peer_legs.specs.Legs.{NamedLeg, leg_of_remote, with_place}
+pub use Rattle.peer_legs.specs.Legs.{is_free_name}
 use Rattle.peer_lock.specs.Outbox.{put}
 use Rattle.peer_lock.specs.Peer.{PeerView, PeerStep, handed_up, offer_with, leg_alone}
 use Rattle.peer_lock.specs.Unworked.{IsSoundFull}
@@ -21,12 +22,6 @@ pub record IsOpening (frame : FullFrame) : Type 0 where
   pub destination : frame.head.destination ≡ 0
   pub first : frame.head.oseqno ≡ 0
   pub new : is_new (message_of frame.head) ≡ true
-
--- the name is one of this peer's, and no leg has its number
-abbrev pub is_free_name : PeerLegs → LegName → Bool
-is_free_name legs name =
-    (name.peer == legs.peer) && (nat_le legs.first name.number && nat_lt name.number (legs.first + length legs.places))
-    && not (is_some (leg_at legs name.number))
 
 -- why no leg is opened, memory aside
 abbrev pub open_in_refused : PeerView → ℕ → LegName → ℕ → Option OpenError

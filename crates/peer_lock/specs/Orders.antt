@@ -7,16 +7,16 @@ use Rattle.leg_machine.specs.Media.{media_sent, after_media, media_frames}
 use Rattle.leg_machine.specs.OrderTable.{Carried as OrderCarried, order_refused, order_carried}
 use Rattle.leg_machine.specs.declared.media.MediaSent.{MediaSent}
 use Rattle.leg_machine.specs.declared.media.MediaSent.TheVariants as sent
-use Rattle.leg_machine.specs.declared.orders.Order.{Order}
-use Rattle.leg_machine.specs.declared.orders.Order.TheVariants as orders
-use Rattle.leg_machine.specs.declared.orders.OrderError.{OrderError as LegError}
-use Rattle.peer_lock.specs.Accounts.{stepped, carry_to}
+use Rattle.call_signals.specs.declared.orders.Order.{Order}
+use Rattle.call_signals.specs.declared.orders.Order.TheVariants as orders
+use Rattle.call_signals.specs.declared.orders.OrderError.{OrderError as LegError}
+use Rattle.peer_accounts.specs.Accounts.{stepped, carry_to}
 use Rattle.peer_lock.specs.Errors.{from_leg}
-use Rattle.peer_lock.specs.Legs.{NamedLeg, leg_named, with_leg}
+use Rattle.peer_legs.specs.Legs.{NamedLeg, leg_named, with_leg}
 use Rattle.peer_lock.specs.Outbox.{put}
 use Rattle.peer_lock.specs.Peer.{PeerView, counted, with_datagram}
-use Rattle.peer_lock.specs.declared.account.Carried.{Carried}
-use Rattle.peer_lock.specs.declared.account.Carried.TheVariants.{Packed, Queued, Dropped, Quelched}
+use Rattle.peer_accounts.specs.declared.account.Carried.{Carried}
+use Rattle.peer_accounts.specs.declared.account.Carried.TheVariants.{Packed, Queued, Dropped, Quelched}
 use Rattle.peer_lock.specs.declared.errors.OrderError.{OrderError}
 use Rattle.peer_lock.specs.declared.errors.OrderError.TheVariants as errors
 use Rattle.trunk_packer.specs.Queue.{QueueEntry, media_octets}

@@ -1,18 +1,18 @@
 -- A peer, and what its steps have in common.
-use Rattle.std.specs.Prelude.{ℕ, ◌+◌, nat_le, List, [], ◌∷◌, Option, None, Some, if◌then◌else◌}
+use Rattle.std.specs.Prelude.{ℕ, List, [], ◌∷◌, Option, None, Some}
 use Rattle.call_book.specs.declared.leg_name.LegName.{LegName}
 use Rattle.leg_machine.specs.Legs.{LegState}
 use Rattle.leg_machine.specs.Openings.{called_of, calling_of}
-use Rattle.leg_machine.specs.Signals.{span_len}
-use Rattle.leg_machine.specs.declared.outcomes.Judged.{Judged}
-use Rattle.leg_machine.specs.declared.outcomes.Judged.TheVariants.{Unnumbered}
-use Rattle.leg_machine.specs.declared.rules.PeerRules.{PeerRules}
-use Rattle.leg_machine.specs.declared.signals.Signal.{Signal}
-use Rattle.leg_machine.specs.declared.signals.Signal.TheVariants.{Offered, Media}
-use Rattle.peer_lock.specs.Accounts.{Accounts, stepped, with_accepted}
-use Rattle.peer_lock.specs.Legs.{PeerLegs, with_leg}
+use Rattle.call_signals.specs.declared.outcomes.Judged.{Judged}
+use Rattle.call_signals.specs.declared.outcomes.Judged.TheVariants.{Unnumbered}
+use Rattle.call_signals.specs.declared.rules.PeerRules.{PeerRules}
+use Rattle.call_signals.specs.declared.signals.Signal.{Signal}
+use Rattle.call_signals.specs.declared.signals.Signal.TheVariants.{Offered}
+use Rattle.peer_accounts.specs.Accounts.{Accounts, stepped, with_accepted}
+pub use Rattle.peer_accounts.specs.Grants.{Granted, granted_media, granted}
+use Rattle.peer_legs.specs.Legs.{PeerLegs, with_leg}
 use Rattle.peer_lock.specs.Outbox.{put}
-use Rattle.peer_lock.specs.declared.onwards.Offer.{Offer}
+use Rattle.peer_accounts.specs.declared.onwards.Offer.{Offer}
 use Rattle.peer_lock.specs.declared.steps.Step.{Step}
 use Rattle.trunk_packer.specs.Queue.{QueueEntry}
 
@@ -41,23 +41,7 @@ no_leg = record { judged = Unnumbered; touched = None }
 abbrev pub leg_alone : LegName → Judged → Step
 leg_alone name judged = record { judged = judged; touched = Some name }
 
--- ---- credit
-
--- what is handed up once the octet credit was looked at, and the octets that it takes
-pub record Granted : Type 0 where
-  pub signal : Option Signal
-  pub octets : ℕ
-
--- media is accepted where the peer has credit for all of it
-abbrev pub granted_media : ℕ → ℕ → Signal → ℕ → Granted
-granted_media first accepted signal octets =
-    if nat_le (accepted + octets) first
-    then record { signal = Some signal; octets = octets }
-    else record { signal = None; octets = 0 }
-
-abbrev pub granted : ℕ → ℕ → Option Signal → Granted
-granted first accepted (Some (Media span)) = granted_media first accepted (Media span) (span_len span)
-granted first accepted signal = record { signal = signal; octets = 0 }
+-- ---- what is handed up
 
 abbrev pub handed_up : LegName → Option Signal → List (LegName × Signal)
 handed_up name None = []

@@ -2,7 +2,7 @@
 use Rattle.std.specs.Prelude.{◌≡◌, ℕ, ◌+◌, ◌<◌, ◌≤◌, ◌==◌, ◌⊎◌, Bool, List, [], ◌∷◌, ◌++◌, Option, None, Some, length, map}
 use Rattle.iax_frames.specs.FullFrame.{spelling}
 use Rattle.leg_machine.specs.Ticks.{tick_step}
-use Rattle.peer_lock.specs.Legs.{NamedLeg}
+use Rattle.peer_legs.specs.Legs.{NamedLeg}
 use Rattle.peer_lock.specs.Outbox.{put}
 use Rattle.peer_lock.specs.Peer.{PeerView, counted}
 use Rattle.peer_lock.specs.declared.steps.TickReport.{TickReport}

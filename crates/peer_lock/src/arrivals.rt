@@ -2,30 +2,50 @@
 ghost use Rattle.std.specs.Prelude.{◌≡◌, ◌≢◌, ◌+◌, ◌-◌, ◌<◌, ◌≤◌, ◌⊎◌, ◌↔◌, [], length, map, true, None, Some, Err, IsSome, IfOk, IfErr, OnOk, OnErr, IfSome, IsNone, IsTrue};
 ghost use Rattle.leg_machine.specs.Legs.{is_short_of_entries};
 ghost use Rattle.leg_machine.specs.Steps.{full_step, heard_of};
-ghost use Rattle.peer_lock.specs.Accounts.{stepped, with_step as with_credit};
+ghost use Rattle.peer_accounts.specs.Accounts.{stepped, with_step as with_credit};
 ghost use Rattle.iax_frames.specs.FullFrame.{spelling};
 ghost use Rattle.peer_lock.specs.Arrivals.{reached_step, delivered_step, datagram_step, datagram_refused};
 ghost use Rattle.peer_lock.specs.Arrivals as answer;
-ghost use Rattle.peer_lock.specs.Delivery.{can_reach, is_reached, found, delivery, delivery_refused, unknown_call, full_refused, Reaches, GetsInval};
+ghost use Rattle.peer_legs.specs.Finding.{can_reach, is_reached, found};
+ghost use Rattle.peer_lock.specs.Delivery.{delivery, delivery_refused, unknown_call, full_refused, Reaches, GetsInval};
 ghost use Rattle.peer_lock.specs.Delivery as answers;
-ghost use Rattle.peer_lock.specs.Legs.{NamedLeg as NamedLegValue, leg_at, leg_of_remote, with_leg};
-ghost use Rattle.peer_lock.specs.Makes.{Makes, IsNothing, IsUnchanged, IsDue};
+ghost use Rattle.peer_legs.specs.Legs.{NamedLeg as NamedLegValue, leg_at, leg_of_remote, with_leg};
+ghost use Rattle.peer_accounts.specs.HandedUp.{IsNothing};
+ghost use Rattle.peer_lock.specs.Makes.{Makes, IsUnchanged, IsDue};
+ghost use Rattle.peer_lock.specs.Peer as spec;
 ghost use Rattle.peer_lock.specs.Peer.{handed_up, offer_with, no_leg, counted, with_datagram};
 ghost use Rattle.iax_frames.specs.declared.datagram.Datagram.{Datagram as DatagramValue};
 ghost use Rattle.peer_lock.specs.declared.errors.PeerError.{PeerError as PeerErrorValue};
 ghost use Rattle.peer_lock.specs.Unworked.{IsSoundFull, IsRefusedFull, IsCutFrame, IsSound, IsRefusedRead, IsShortDatagram, IsWorked, IsUnworked};
 
 use crate::errors::PeerError;
-use crate::named_legs::NamedLeg;
-use crate::naming::Naming;
-use crate::onwards::{Offer, Onwards};
-use crate::pass::Pass;
-use crate::peer_legs::PeerLegs;
 use crate::state::PeerState;
 use crate::steps::Step;
-use iax_frames::{CallNumber, Datagram, Full, FullHead, Out, read, write_full};
+use iax_frames::{Datagram, Full, FullHead, Out, read, write_full};
 use info_elements::elements;
-use leg_machine::{Heard, Judged, Message, Replies, Signal, StepError};
+use leg_machine::{ElementText, Judged, Message, Signal};
+use peer_accounts::{Naming, Offer, Onwards, Pass};
+use peer_legs::NamedLeg;
+
+// What the offered call of a leg asks for.
+fn offer_of(named: &NamedLeg) -> Offer
+    ensures { result ≡ spec.offer_of named.now.leg }
+{
+    let leg = named.leg();
+    let called = ElementText::new(leg.called());
+    match leg.calling() {
+        Some(calling) => Offer {
+            called,
+            calling: Some(ElementText::new(calling)),
+            format: leg.format(),
+        },
+        None => Offer {
+            called,
+            calling: None,
+            format: leg.format(),
+        },
+    }
+}
 
 // Writes what a leg hands up to the lent list, which is empty and has room for it.
 pub(crate) fn hand_up(onwards: &mut Onwards, named: &NamedLeg, signal: Option<Signal>)
@@ -40,76 +60,7 @@ pub(crate) fn hand_up(onwards: &mut Onwards, named: &NamedLeg, signal: Option<Si
     };
     onwards.push(named.name(), *signal);
     if let Signal::Offered = signal {
-        onwards.set_offer(named.offer());
-    }
-}
-
-impl PeerLegs {
-    // As `full`; the leg stands under its number still.
-    fn full_kept(
-        &mut self,
-        number: u16,
-        frame: &Full,
-        now: u64,
-        replies: &mut Replies,
-    ) -> Result<Heard, StepError>
-        requires there { can_reach self.old frame.now.head.source (leg_at self.old number) ≡ true }
-        requires short { length frame.now.payload ≤ 1388 }
-        requires empty { replies.old ≡ [] }
-        ensures leg { OnOk result ((named : NamedLegValue) → leg_at self.old number ≡ Some named → self.new ≡ with_leg self.old named.name (full_step named.leg frame.now now).leg) }
-        ensures replies { OnOk result ((named : NamedLegValue) → leg_at self.old number ≡ Some named → replies.new ≡ map spelling (full_step named.leg frame.now now).replies) }
-        ensures heard { IfOk result (λ heard. (named : NamedLegValue) → leg_at self.old number ≡ Some named → heard ≡ heard_of (full_step named.leg frame.now now)) }
-        ensures kept { OnOk result (IsSome (leg_at self.new number)) }
-        ensures there { OnOk result ((named : NamedLegValue) → leg_at self.old number ≡ Some named
-            → leg_at self.new number ≡ Some (record { name = named.name; leg = (full_step named.leg frame.now now).leg })) }
-        ensures record_full { (named : NamedLegValue) → leg_at self.old number ≡ Some named → (result ≡ Err StepError.RecordFull) ↔ (is_short_of_entries named.leg ≡ true) }
-        ensures err { OnErr result (self.new ≡ self.old) }
-    {
-        let _sound = self.count();
-        match self.full(number, frame, now, replies) {
-            Ok(heard) => Ok(heard),
-            Err(error) => Err(error),
-        }
-    }
-
-    // Whether a full frame from this source goes to the leg.
-    fn reaches(&self, source: CallNumber, named: &NamedLeg) -> bool
-        ensures { result ≡ is_reached self.now source named.now }
-    {
-        match named.leg().remote() {
-            Some(remote) => remote == source,
-            None => self.of_remote(source).is_none(),
-        }
-    }
-
-    // Whether fewer than four entries are free in the record of a number's leg.
-    pub(crate) fn is_short(&self, number: u16) -> bool
-        requires { IsSome (leg_at self.now number) }
-        ensures { (named : NamedLegValue) → leg_at self.now number ≡ Some named → result ≡ is_short_of_entries named.leg }
-    {
-        self.get(number).unwrap().leg().window().free_entries() < 4
-    }
-
-    // The local number of the leg to which a full frame goes.
-    pub(crate) fn find(&self, frame: &Full) -> Option<u16>
-        ensures some { IfSome result (λ number. leg_at self.now number ≡ found self.now frame.now) }
-        ensures reached { IfSome result (λ number. can_reach self.now frame.now.head.source (leg_at self.now number) ≡ true) }
-        ensures none { IsNone result ↔ (found self.now frame.now ≡ None) }
-    {
-        let number = frame.destination().get();
-        if number == 0 {
-            return self.of_remote(frame.source());
-        }
-        match self.get(number) {
-            Some(named) => {
-                if self.reaches(frame.source(), named) {
-                    Some(number)
-                } else {
-                    None
-                }
-            }
-            None => None,
-        }
+        onwards.set_offer(offer_of(named));
     }
 }
 

@@ -1,17 +1,16 @@
 //! A peer without its shares.
 ghost use Rattle.std.specs.Prelude.{◌≡◌, ◌+◌, ◌≤◌, option_map};
-ghost use Rattle.peer_lock.specs.Accounts.{carried};
-ghost use Rattle.peer_lock.specs.Legs.{leg_at};
+ghost use Rattle.peer_accounts.specs.Accounts.{carried};
+ghost use Rattle.peer_legs.specs.Legs.{leg_at};
 ghost use Rattle.peer_lock.specs.Statuses.{status_of};
 
-use crate::account::ClosedAccount;
-use crate::naming::Naming;
 use crate::outboxes::Outbox;
-use crate::peer_legs::PeerLegs;
 use crate::state::PeerState;
 use crate::steps::Status;
 use leg_machine::{PeerRules, Replies};
 use media_ledger::Share;
+use peer_accounts::{ClosedAccount, Naming};
+use peer_legs::PeerLegs;
 use std::alloc::Global;
 use std::marker::Model;
 use trunk_packer::Packer;
@@ -53,7 +52,7 @@ impl<J: Naming> ClosedPeer<J> {
     pub fn look(&self, number: u16) -> Option<Status>
         ensures { result ≡ option_map status_of (leg_at self.now.legs number) }
     {
-        self.legs.get(number).map(|named| named.status())
+        self.legs.get(number).map(|named| Status::of(named))
     }
 
     /// The media octets that the peer brought and that were accepted.

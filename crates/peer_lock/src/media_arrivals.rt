@@ -1,19 +1,18 @@
 //! The steps of a peer in which media comes without a full frame ("Mini Frames", "Meta Frames").
 ghost use Rattle.std.specs.Prelude.{◌≡◌, ◌≢◌, ◌+◌, ◌<◌, ◌≤◌, ◌++◌, [], length, map, IfOk, IfErr, OnOk, OnErr, None};
 ghost use Rattle.iax_frames.specs.TrunkFrame.{entry_item, head_len, is_timed};
-ghost use Rattle.peer_lock.specs.Accounts.{with_accepted};
+ghost use Rattle.peer_accounts.specs.Accounts.{with_accepted};
 ghost use Rattle.peer_lock.specs.Arrivals.{media_at, mini_media, mini_refused, trunk_media, media_step, entries_len};
-ghost use Rattle.peer_lock.specs.Legs.{leg_of_remote};
-ghost use Rattle.peer_lock.specs.Makes.{Makes, IsNothing, IsUnchanged, IsDue};
+ghost use Rattle.peer_legs.specs.Legs.{leg_of_remote};
+ghost use Rattle.peer_accounts.specs.HandedUp.{IsNothing};
+ghost use Rattle.peer_lock.specs.Makes.{Makes, IsUnchanged, IsDue};
 
 use crate::errors::PeerError;
-use crate::naming::Naming;
-use crate::onwards::Onwards;
-use crate::pass::Pass;
 use crate::state::PeerState;
 use crate::steps::Step;
 use iax_frames::{CallNumber, Mini, Trunk};
 use leg_machine::{MediaIn, MediaSpan, Signal};
+use peer_accounts::{Naming, Onwards, Pass};
 
 /// A datagram of 2,048 octets has fewer trunk entries.
 const ENTRIES: usize = 512;

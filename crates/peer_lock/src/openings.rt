@@ -2,42 +2,29 @@
 ghost use Rattle.std.specs.Prelude.{◌≡◌, ◌≢◌, ◌+◌, ◌<◌, ◌≤◌, [], length, map, None, Some, IsNone, IsTrue, ◌↔◌, true, option_copied, IfOk, IfErr, OnOk, OnErr};
 ghost use Rattle.std.specs.Option.{ForSome};
 ghost use Rattle.iax_frames.specs.FullFrame.{spelling};
-ghost use Rattle.peer_lock.specs.Accounts.{with_step as with_credit};
+ghost use Rattle.peer_accounts.specs.Accounts.{with_step as with_credit};
 ghost use Rattle.std.specs.Prelude.{ℕ};
-ghost use Rattle.peer_lock.specs.Legs.{leg_at, leg_of_remote, with_place};
-ghost use Rattle.leg_machine.specs.declared.outcomes.Judged.TheVariants.{Unnumbered};
+ghost use Rattle.peer_legs.specs.Legs.{leg_at, leg_of_remote, with_place};
+ghost use Rattle.call_signals.specs.declared.outcomes.Judged.TheVariants.{Unnumbered};
 ghost use Rattle.peer_lock.specs.Peer.{counted, handed_up, leg_alone, offer_with};
-ghost use Rattle.peer_lock.specs.Makes.{IsNothing, IsUnchanged};
-ghost use Rattle.peer_lock.specs.Openings.{IsOpening, IsOpenRefusal, is_free_name, open_in_refused, open_out_refused, opens_in, opens_out, with_opened};
+ghost use Rattle.peer_accounts.specs.HandedUp.{IsNothing};
+ghost use Rattle.peer_lock.specs.Makes.{IsUnchanged};
+ghost use Rattle.peer_legs.specs.Legs.{is_free_name};
+ghost use Rattle.peer_lock.specs.Openings.{IsOpening, IsOpenRefusal, open_in_refused, open_out_refused, opens_in, opens_out, with_opened};
 
 use crate::arrivals::hand_up;
 use crate::errors::OpenError;
-use crate::naming::Naming;
-use crate::onwards::Onwards;
-use crate::pass::Pass;
-use crate::peer_legs::PeerLegs;
 use crate::state::PeerState;
 use crate::steps::Step;
 use call_auth::Challenge;
 use call_book::{Lease, LegName};
 use iax_frames::{CallNumber, Full};
 use leg_machine::{Format, Heard, Judged, Leg};
-
-impl PeerLegs {
-    // Whether the name is one of this peer's, and no leg has its number.
-    pub(crate) fn is_free(&self, name: LegName) -> bool
-        ensures free { result ≡ is_free_name self.now name }
-    {
-        if name.peer != self.peer() || !self.has_number(name.number) {
-            return false;
-        }
-        self.get(name.number).is_none()
-    }
-}
+use peer_accounts::{Naming, Onwards, Pass};
+use peer_legs::open_in;
 
 impl<J: Naming> PeerState<J> {
     // A leg that was opened takes its place.
-    #[tactic(auto, using(crate::proofs::LegThere::placed_there))]
     fn seat(&mut self, pass: &mut Pass<J>, lease: Lease, leg: Leg)
         requires steps { self.old.accounts.steps ≢ J.first_steps }
         requires free { is_free_name self.old.legs lease ≡ true }
@@ -110,7 +97,7 @@ impl<J: Naming> PeerState<J> {
         }
         let number = self.free_number(lease.name());
         self.replies.clear();
-        match Leg::open_in_into(
+        match open_in(
             self.alloc,
             &self.rules,
             number,

@@ -2,23 +2,21 @@
 ghost use Rattle.std.specs.Prelude.{◌≡◌, ◌≢◌, ◌+◌, ◌-◌, ◌<◌, ◌≤◌, [], length, map, None, Some, Err, true, IsSome, IsTrue, ◌↔◌, IfOk, IfErr, OnOk, OnErr};
 ghost use Rattle.std.specs.Option.{ForSome};
 ghost use Rattle.leg_machine.specs.OrderTable.{IsShortMedia, is_voice, wants_memory, media_refused, order_refused, order_carried};
-ghost use Rattle.peer_lock.specs.Accounts.{with_step as with_credit};
+ghost use Rattle.peer_accounts.specs.Accounts.{with_step as with_credit};
 ghost use Rattle.leg_machine.specs.Media.{media_sent};
-ghost use Rattle.leg_machine.specs.declared.outcomes.Judged.TheVariants.{Unnumbered};
-ghost use Rattle.peer_lock.specs.Legs.{NamedLeg as NamedLegValue, leg_at, leg_named};
+ghost use Rattle.call_signals.specs.declared.outcomes.Judged.TheVariants.{Unnumbered};
+ghost use Rattle.peer_legs.specs.Legs.{NamedLeg as NamedLegValue, leg_at, leg_named};
 ghost use Rattle.peer_lock.specs.Peer.{counted, leg_alone};
 ghost use Rattle.peer_lock.specs.Orders as spec;
 ghost use Rattle.peer_lock.specs.Orders.{queued_media, counted_media, carries_media, with_order, from_leg_due, IsOrderRefusal, order_refused_by, ordered_step, order_octets};
 
-use crate::account::Carried;
 use crate::errors::OrderError;
-use crate::naming::Naming;
-use crate::pass::Pass;
 use crate::state::PeerState;
 use crate::steps::Step;
 use call_book::LegName;
 use iax_frames::{CallNumber, write_mini};
 use leg_machine::{Judged, MediaSent, Order};
+use peer_accounts::{Carried, Naming, Pass};
 
 impl<J: Naming> PeerState<J> {
     // Media waits for a trunk frame, or is dropped where the queue is full.

@@ -1,22 +1,21 @@
 //! What lies under the lock of one peer.
 ghost use Rattle.std.specs.Prelude.{◌≡◌, ◌+◌, ◌^◌, ◌<◌, ◌≤◌, [], ◌∷◌, ◌↔◌, length, replicate, option_map, None, Some, false, IfOk, IfErr, IsErr, IsNone, IfNone, IfSome, OnSome, MatchOption};
 ghost use Rattle.leg_machine.specs.PeerRules.{IsPeerRules};
-ghost use Rattle.peer_lock.specs.Accounts.{no_accounts, carried};
-ghost use Rattle.peer_lock.specs.Legs.{NamedLeg as NamedLegValue, AreLegs, leg_at, leg_named, with_place};
+ghost use Rattle.peer_accounts.specs.Accounts.{no_accounts, carried};
+ghost use Rattle.peer_legs.specs.Legs.{NamedLeg as NamedLegValue, AreLegs, leg_at, leg_named, with_place};
 ghost use Rattle.seq_window.specs.History.{IsLegal};
 ghost use Rattle.peer_lock.specs.Statuses.{IsHistory, status_of, is_done};
 ghost use Rattle.trunk_packer.specs.Queue.{media_octets};
 
-use crate::account::Account;
 use crate::closed::ClosedPeer;
-use crate::naming::Naming;
 use crate::outboxes::Outbox;
-use crate::peer_legs::PeerLegs;
 use crate::steps::Status;
 use call_book::{Lease, LegName};
 use iax_frames::Out;
 use leg_machine::{PeerRules, Replies};
 use media_ledger::Share;
+use peer_accounts::{Account, Naming};
+use peer_legs::PeerLegs;
 use seq_window::Record;
 use std::alloc::{AllocError, Global};
 use std::marker::Model;
@@ -128,7 +127,7 @@ impl<J: Naming> PeerState<J> {
     pub fn look(&self, number: u16) -> Option<Status>
         ensures { result ≡ option_map status_of (leg_at self.now.legs number) }
     {
-        self.legs.get(number).map(|named| named.status())
+        self.legs.get(number).map(|named| Status::of(named))
     }
 
     /// Gives up the leg of a name that has ended and owes nothing: its lease and its record. That is no step.

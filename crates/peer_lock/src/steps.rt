@@ -1,7 +1,10 @@
 //! What the calls of a peer answer.
+ghost use Rattle.std.specs.Prelude.{◌≡◌};
+ghost use Rattle.peer_lock.specs.Statuses.{status_of};
 
 use call_book::LegName;
 use leg_machine::{Judged, Stage};
+use peer_legs::NamedLeg;
 
 /// How a step went, beside what it handed up.
 #[derive(Clone, Copy, Debug, PartialEq, Eq)]
@@ -23,6 +26,22 @@ pub struct Status {
     pub held: usize,
     /// How many entries the leg's record has.
     pub entries: usize,
+}
+
+impl Status {
+    // How the leg stands.
+    pub(crate) fn of(named: &NamedLeg) -> Status
+        ensures { result ≡ status_of named.now }
+    {
+        let leg = named.leg();
+        Status {
+            name: named.name(),
+            stage: leg.stage(),
+            owes: leg.owes(),
+            held: leg.window().held_len(),
+            entries: leg.window().record().len(),
+        }
+    }
 }
 
 /// What a tick did.

@@ -1,17 +1,16 @@
 //! The steps of a peer in which time goes on ("Message Transport", "Meta Frames").
 ghost use Rattle.std.specs.Prelude.{◌≡◌, ◌≢◌, ◌+◌, ◌^◌, ◌<◌, ◌≤◌, ◌↔◌, ◌⊎◌, [], length, true, Option, Some, slice_get, slice_set, All, IsErr, IsTrue, IfSome, IfNone, IfOk, OnOk, OnErr};
-ghost use Rattle.peer_lock.specs.Accounts.{with_step as with_credit};
-ghost use Rattle.peer_lock.specs.Legs.{NamedLeg as NamedLegValue};
+ghost use Rattle.peer_accounts.specs.Accounts.{with_step as with_credit};
+ghost use Rattle.peer_legs.specs.Legs.{NamedLeg as NamedLegValue};
 ghost use Rattle.peer_lock.specs.Outbox.{put};
-ghost use Rattle.peer_lock.specs.Statuses.{is_quiet};
+ghost use Rattle.peer_legs.specs.Rests.{is_quiet};
 ghost use Rattle.peer_lock.specs.Ticks.{place_tick, TicksLegs, PacksOne, IsPacked, PacksMedia, Ticks};
 ghost use Rattle.trunk_packer.specs.Queue.{media_octets};
 
 use crate::errors::StepsSpent;
-use crate::naming::Naming;
-use crate::pass::Pass;
 use crate::state::PeerState;
 use crate::steps::TickReport;
+use peer_accounts::{Naming, Pass};
 
 impl<J: Naming> PeerState<J> {
     // Time goes on for the leg at a place, if there is one. Tells how many frames had no memory.

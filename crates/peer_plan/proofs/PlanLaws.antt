@@ -11,8 +11,8 @@ use Rattle.std.proofs.lemmas.List.Elements.{All-push}
 use Rattle.std.proofs.lemmas.List.Quantifiers.{all_pairs_push}
 use Rattle.std.proofs.lemmas.Slice.Eq.{bytes_eq-Decides}
 use Rattle.toml.specs.Data.{Data, integer, string, table, Items, no_items, item, Members, get_member, as_array, as_bool, as_str}
-use Rattle.leg_machine.specs.PeerRules.{IsWithin}
-use Rattle.leg_machine.specs.Formats.{lowest_format}
+use Rattle.call_signals.specs.PeerRules.{IsWithin}
+use Rattle.call_signals.specs.Formats.{lowest_format}
 use Rattle.peer_plan.specs.declared.key.Key.{Key}
 use Rattle.peer_plan.specs.declared.key.Key.TheVariants as key
 use Rattle.peer_plan.specs.declared.error.PlanError.{PlanError}

@@ -2,7 +2,7 @@
 use Rattle.std.specs.Prelude.{◌≡◌, ◌≢◌, ◌≤◌, ◌<◌, ℕ, zero, suc, ◌+◌, ◌*◌, List, [], ◌∷◌, length, map, Bool, true, ◌&&◌, ◌||◌, nat_le, nat_lt, nat_eq, Option, Some, None, ◌==◌, slice_index, All, Contains}
 use Rattle.std.specs.Char.{is_ascii_alphanumeric}
 use Rattle.std.specs.List.{list_all, starts_with, AllPairs}
-use Rattle.leg_machine.specs.PeerRules.{IsPeerRules, IsWithin}
+use Rattle.call_signals.specs.PeerRules.{IsPeerRules, IsWithin}
 use Rattle.peer_plan.specs.declared.endpoint.Endpoint.{Endpoint}
 use Rattle.peer_plan.specs.declared.peer.Peer.{Peer}
 use Rattle.peer_plan.specs.declared.route.Route.{Route}

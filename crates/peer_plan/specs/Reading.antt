@@ -4,9 +4,9 @@ use Rattle.std.specs.List.{list_all, list_any}
 use Rattle.std.specs.Str.{is_utf8, bytes_eq}
 use Rattle.toml.specs.Data.{Data, Items, no_items, item, Members, get_member, as_array, as_bool, as_str}
 use Rattle.toml.specs.Parse.{parse_document}
-use Rattle.leg_machine.specs.Credential.{is_printable}
-use Rattle.leg_machine.specs.declared.formats.Formats.{Formats}
-use Rattle.leg_machine.specs.declared.rules.PeerRules.{PeerRules}
+use Rattle.call_signals.specs.Credential.{is_printable}
+use Rattle.call_signals.specs.declared.formats.Formats.{Formats}
+use Rattle.call_signals.specs.declared.rules.PeerRules.{PeerRules}
 use Rattle.peer_plan.specs.declared.key.Key.TheVariants as key
 use Rattle.peer_plan.specs.declared.error.PlanError.{PlanError}
 use Rattle.peer_plan.specs.declared.error.PlanError.TheVariants as error

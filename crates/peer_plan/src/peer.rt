@@ -1,7 +1,7 @@
 //! A peer of a plan.
 use crate::endpoint::Endpoint;
 use crate::short_text::ShortText;
-use leg_machine::{Credential, Formats, PeerRules};
+use call_signals::{Credential, Formats, PeerRules};
 
 // What a plan says of one peer.
 #[derive(Drop)]

@@ -1,6 +1,6 @@
 //! The plan of an exchange.
 ghost use Rattle.std.specs.Prelude.{◌≡◌, ◌≢◌, ◌<◌, ◌≤◌, ◌+◌, ◌*◌, ◌^◌, length, map, All, false, IfOk, IfSome, IfNone, option_map, position, slice_get};
-ghost use Rattle.leg_machine.specs.PeerRules.{IsPeerRules, IsWithin};
+ghost use Rattle.call_signals.specs.PeerRules.{IsPeerRules, IsWithin};
 ghost use Rattle.toml.specs.View.{table_view};
 ghost use Rattle.peer_plan.specs.Fields.{Gives};
 ghost use Rattle.peer_plan.specs.Plan.{IsPlan, IsLongest, begins, range_of, counts_of, total_of};
@@ -13,7 +13,7 @@ use crate::peer::Peer;
 use crate::reading;
 use crate::route::Route;
 use crate::routing::longest;
-use leg_machine::PeerRules;
+use call_signals::PeerRules;
 use std::alloc::{AllocError, Global};
 use std::marker::Model;
 use toml::Table;

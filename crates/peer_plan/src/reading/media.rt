@@ -8,7 +8,7 @@ use crate::error::PlanError;
 use crate::key::Key;
 use crate::peer::Media;
 use crate::reading::fields::{flag_at, member};
-use leg_machine::Formats;
+use call_signals::Formats;
 use toml::{Table, Value};
 
 // The formats and the one of this name.

@@ -12,7 +12,7 @@ use crate::peer::{Limits, Peer};
 use crate::reading::fields::{list_at, number_at};
 use crate::reading::media::media;
 use crate::reading::texts::{credentials, endpoint, name_at};
-use leg_machine::PeerRules;
+use call_signals::PeerRules;
 use std::alloc::Global;
 use toml::{Table, Value};
 

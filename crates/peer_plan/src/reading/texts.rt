@@ -14,7 +14,7 @@ use crate::key::Key;
 use crate::peer::Credentials;
 use crate::reading::fields::{member, number_at};
 use crate::short_text::ShortText;
-use leg_machine::Credential;
+use call_signals::Credential;
 use toml::{Table, Value};
 
 fn is_name_octet(octet: u8) -> bool

@@ -1,6 +1,6 @@
 use Rattle.std.proofs.Common.{◌≡◌, ◌≤◌, length, arith, sym, subst, ◌∙◌}
 use Rattle.toml.specs.View.{table_view}
-use Rattle.leg_machine.specs.PeerRules.{IsWithin}
+use Rattle.call_signals.specs.PeerRules.{IsWithin}
 use Rattle.peer_plan.proofs.PlanLaws.{ArePeers, limits_sound, workers_within, passes_within, peers_sound, routes_sound, plan_sound}
 use Rattle.peer_plan.proofs.plan.plan_in.Goals as goal
 

@@ -4,7 +4,7 @@ use Rattle.iax_frames.specs.FullFrame.{spelling}
 use Rattle.leg_machine.specs.Legs.{leg_of}
 use Rattle.leg_machine.specs.Media.{media_sent, after_media, media_frames}
 use Rattle.leg_machine.specs.Seen.{seen}
-use Rattle.leg_machine.specs.Stages.{is_talking}
+use Rattle.call_signals.specs.Stages.{is_talking}
 use Rattle.leg_machine.specs.Tie.{SendsAtMostOne, SendsNumbered}
 use Rattle.leg_machine.proofs.SendingSteps.{Written, written, media-sent}
 use Rattle.leg_machine.proofs.SeenOrders.{seen-media, talking-seen}

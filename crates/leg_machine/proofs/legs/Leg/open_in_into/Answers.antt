@@ -1,24 +1,32 @@
-use Rattle.std.proofs.Common.{◌≡◌, rules}
+use Rattle.std.proofs.Common.{rules}
 use Rattle.leg_machine.specs.Legs.{leg_of}
-use Rattle.leg_machine.specs.Openings.{opening_of, opening_effect}
-use Rattle.leg_machine.proofs.SendingSteps.{Written, opened-written}
-use Rattle.leg_machine.proofs.SeenTicks.{opened-seen}
+use Rattle.leg_machine.specs.Openings.{open_in_step}
+use Rattle.leg_machine.proofs.Opened.{Opened, opened}
 use Rattle.leg_machine.proofs.legs.Leg.open_in_into.Goals as goal
 use Rattle.leg_machine.proofs.legs.Leg.open_in_into.Goals.{After-take-heard}
 
-pub returns-clause-seen : goal.returns-clause-seen
-returns-clause-seen c =
-    let effect : c.effect-effect.result ≡ opening_effect (opening_of c.args.rules.now c.args.frame.now) = search rules in
-    opened-seen c.args.rules.now c.args.number c.args.frame.now c.args.now c.args.challenge.now _ _ (leg_of c.take-heard.new.self) c.take-heard.result
-    c.requires.rules.window.0 c.take-heard.ensures.leg c.take-heard.ensures.heard effect (search rules)
+all : (c : After-take-heard) →
+    Opened (open_in_step c.args.rules.now c.args.number c.args.frame.now c.args.now c.args.challenge.now) (leg_of c.take-heard.new.self)
+    c.take-heard.new.outs c.take-heard.result
+all c =
+    opened c.args.rules.now c.args.number c.args.frame.now c.args.now c.args.challenge.now c.effect-effect.result _ (leg_of c.take-heard.new.self)
+    c.args.replies.now c.take-heard.new.outs c.take-heard.result c.requires.rules.window.0 c.take-heard.ensures.leg c.take-heard.ensures.replies
+    c.take-heard.ensures.heard c.requires.empty (search rules) (search rules)
 
-sent : (c : After-take-heard) → Written (leg_of c.take-heard.new.self) c.take-heard.new.outs
-sent c =
-    opened-written c.effect-effect.result _ (leg_of c.take-heard.new.self) c.args.frame.now c.args.now c.args.replies.now c.take-heard.new.outs
-    c.take-heard.ensures.leg c.take-heard.ensures.replies c.requires.empty (search rules)
+pub returns-clause-leg : goal.returns-clause-leg
+returns-clause-leg c = (all c).leg
+
+pub returns-clause-replies : goal.returns-clause-replies
+returns-clause-replies c = (all c).replies
+
+pub returns-clause-heard : goal.returns-clause-heard
+returns-clause-heard c = (all c).heard
+
+pub returns-clause-seen : goal.returns-clause-seen
+returns-clause-seen c = (all c).seen
 
 pub invariant_of-result : goal.invariant_of-result
-invariant_of-result c = (sent c).numbered
+invariant_of-result c = (all c).written.numbered
 
 pub returns-clause-sendings : goal.returns-clause-sendings
-returns-clause-sendings c = (sent c).sendings
+returns-clause-sendings c = (all c).written.sendings

@@ -1,7 +1,7 @@
 use Rattle.std.specs.Prelude.{All}
 use Rattle.std.proofs.Common.{◌≡◌, ◌≤◌, ◌<◌, ◌+◌, ◌*◌, ℕ, suc, true, length, subst, sym, ap, ◌∙◌, rules, arith}
 use Rattle.peer_lock.specs.Peer.{PeerView}
-use Rattle.peer_lock.specs.Statuses.{is_resting}
+use Rattle.peer_legs.specs.Rests.{is_resting}
 use Rattle.peer_lock.specs.Ticks.{TicksLegs}
 use Rattle.peer_lock.proofs.Ticking.{AreTicked, none_ticked, more_ticked, all_ticked, next_is, some_at, ticked_count, none_to_tick}
 use Rattle.peer_lock.proofs.state.PeerState.tick_legs.Goals as goal

@@ -1,5 +1,5 @@
 use Rattle.std.proofs.Common.{◌≡◌, Option, Some, slice_get, rules}
-use Rattle.peer_lock.specs.Legs.{NamedLeg}
+use Rattle.peer_legs.specs.Legs.{NamedLeg}
 use Rattle.peer_lock.specs.Ticks.{place_tick}
 use Rattle.peer_lock.proofs.Ticking.{few_at}
 use Rattle.peer_lock.proofs.state.PeerState.tick_place.Goals as goal

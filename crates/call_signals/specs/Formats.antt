@@ -1,0 +1,28 @@
+-- Formats of voice ("Media Formats").
+use Rattle.std.specs.Prelude.{ℕ, Bool, true, false, Option, None, Some, if◌then◌else◌}
+use Rattle.call_signals.specs.declared.formats.Format.{Format}
+use Rattle.call_signals.specs.declared.formats.Format.TheVariants.{Gsm, Ulaw, Alaw}
+use Rattle.call_signals.specs.declared.formats.Formats.{Formats}
+
+-- the one bit of a format
+abbrev pub format_bit : Format → ℕ
+format_bit Gsm = 0x02
+format_bit Ulaw = 0x04
+format_bit Alaw = 0x08
+
+abbrev pub has_format : Formats → Format → Bool
+has_format formats Gsm = formats.gsm
+has_format formats Ulaw = formats.ulaw
+has_format formats Alaw = formats.alaw
+
+-- the one of the lowest bit
+abbrev pub lowest_format : Formats → Option Format
+lowest_format formats =
+    if formats.gsm then Some Gsm else if formats.ulaw then Some Ulaw else if formats.alaw then Some Alaw else None
+
+-- one format twice
+abbrev pub same_format : Format → Format → Bool
+same_format Gsm Gsm = true
+same_format Ulaw Ulaw = true
+same_format Alaw Alaw = true
+same_format _ _ = false

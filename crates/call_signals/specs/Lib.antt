@@ -1,0 +1,12 @@
+pub mod Causes
+pub mod Credential
+pub mod Effects
+pub mod Formats
+pub mod FrameElements
+pub mod Messages
+pub mod Openings
+pub mod Orders
+pub mod PeerRules
+pub mod Replies
+pub mod Signals
+pub mod Stages

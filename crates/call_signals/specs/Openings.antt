@@ -1,0 +1,75 @@
+-- What becomes of a NEW that comes, by the rules of its peer ("Call Setup").
+use Rattle.std.specs.Prelude.{ℕ, Bool, false, ◌&&◌, ◌||◌, ◌==◌, is_some, List, Option, None, Some, unwrap_or, bit_and, if◌then◌else◌}
+use Rattle.iax_frames.specs.FullFrame.{FullFrame}
+use Rattle.info_elements.specs.Element.{u16_in, u32_in}
+use Rattle.info_elements.specs.Numbers.{CAPABILITY, FORMAT, VERSION}
+use Rattle.call_signals.specs.Effects.{row, rejected}
+use Rattle.call_signals.specs.Formats.{format_bit, lowest_format}
+use Rattle.call_signals.specs.FrameElements.{element_in}
+use Rattle.call_signals.specs.declared.causes.Cause.TheVariants.{CallRejected}
+use Rattle.call_signals.specs.declared.effects.Answering.TheVariants.{Answered, Silent}
+use Rattle.call_signals.specs.declared.effects.Effect.{Effect}
+use Rattle.call_signals.specs.declared.formats.Format.{Format}
+use Rattle.call_signals.specs.declared.formats.Format.TheVariants.{Gsm, Ulaw, Alaw}
+use Rattle.call_signals.specs.declared.formats.Formats.{Formats}
+use Rattle.call_signals.specs.declared.openings.Opening.{Opening}
+use Rattle.call_signals.specs.declared.openings.Opening.TheVariants.{Refused, Challenges, Offers}
+use Rattle.call_signals.specs.declared.replies.Reply.TheVariants.{AuthReq}
+use Rattle.call_signals.specs.declared.rules.PeerRules.{PeerRules}
+use Rattle.call_signals.specs.declared.signals.Signal.TheVariants as signals
+use Rattle.call_signals.specs.declared.stages.Stage.TheVariants as stages
+
+-- ---- the format of a call
+
+-- the bits of an element; none where it is absent
+abbrev pub bits_in : FullFrame → ℕ → ℕ
+bits_in frame number = unwrap_or (u32_in (element_in frame number)) 0
+
+abbrev pub has_bit : ℕ → Format → Bool
+has_bit bits format = bit_and bits (format_bit format) == format_bit format
+
+-- a format of the peer that stands in FORMAT or CAPABILITY
+abbrev pub is_common : ℕ → ℕ → Bool → Format → Bool
+is_common wanted capable of_peer format = of_peer && (has_bit wanted format || has_bit capable format)
+
+abbrev pub common_formats : Formats → ℕ → ℕ → Formats
+common_formats formats wanted capable = record {
+  gsm = is_common wanted capable formats.gsm Gsm;
+  ulaw = is_common wanted capable formats.ulaw Ulaw;
+  alaw = is_common wanted capable formats.alaw Alaw;
+}
+
+-- FORMAT where it is exactly one common bit, else the lowest common bit
+abbrev pub chosen_format : Formats → ℕ → Option Format
+chosen_format common wanted =
+    if common.gsm && (wanted == format_bit Gsm) then Some Gsm
+    else if common.ulaw && (wanted == format_bit Ulaw) then Some Ulaw
+    else if common.alaw && (wanted == format_bit Alaw) then Some Alaw
+    else lowest_format common
+
+abbrev pub call_format : Formats → FullFrame → Option Format
+call_format formats frame =
+    chosen_format (common_formats formats (bits_in frame FORMAT) (bits_in frame CAPABILITY)) (bits_in frame FORMAT)
+
+-- ---- the rows of a NEW
+
+abbrev pub is_version_2 : Option ℕ → Bool
+is_version_2 (Some version) = version == 2
+is_version_2 None = false
+
+abbrev pub opening_of : PeerRules → FullFrame → Opening
+opening_of rules frame =
+    if is_version_2 (u16_in (element_in frame VERSION)) && is_some (call_format rules.formats frame)
+    then (if is_some rules.secret then Challenges else Offers)
+    else Refused
+
+abbrev pub opening_effect : Opening → Effect
+opening_effect Refused = rejected CallRejected
+opening_effect Challenges = row (Answered AuthReq) stages.Challenged None
+opening_effect Offers = row Silent stages.Offered (Some signals.Offered)
+
+-- the challenge that goes out, if one does
+abbrev pub challenge_sent : Opening → List ℕ → Option (List ℕ)
+challenge_sent Refused challenge = None
+challenge_sent Challenges challenge = Some challenge
+challenge_sent Offers challenge = None

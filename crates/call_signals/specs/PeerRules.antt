@@ -1,0 +1,16 @@
+-- What a plan lets the rules of a peer be.
+use Rattle.std.specs.Prelude.{ℕ, ◌≤◌, IsSome}
+use Rattle.call_signals.specs.declared.rules.PeerRules.{PeerRules}
+use Rattle.call_signals.specs.Formats.{lowest_format}
+
+abbrev pub IsWithin : ℕ → ℕ → ℕ → Type 0
+IsWithin least most n = (least ≤ n) × (n ≤ most)
+
+pub record IsPeerRules (rules : PeerRules) : Type 0 where
+  pub secret_of_user : IsSome rules.secret → IsSome rules.user
+  pub some_format : IsSome (lowest_format rules.formats)
+  pub retry_ms : IsWithin 1 60000 rules.retry_ms
+  pub max_retries : rules.max_retries ≤ 20
+  pub ping_ms : rules.ping_ms ≤ 600000
+  pub record_limit : IsWithin 64 65536 rules.record_limit
+  pub window : IsWithin 1 127 rules.window

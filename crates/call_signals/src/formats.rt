@@ -1,0 +1,73 @@
+//! Formats of voice ("Media Formats").
+ghost use Rattle.std.specs.Prelude.{◌≡◌};
+ghost use Rattle.call_signals.specs.Formats.{format_bit, has_format, lowest_format, same_format};
+
+/// A format of voice.
+#[derive(Clone, Copy, Debug, PartialEq, Eq)]
+pub enum Format {
+    /// GSM.
+    Gsm,
+    /// G.711 mu-law.
+    Ulaw,
+    /// G.711 A-law.
+    Alaw,
+}
+
+impl Format {
+    /// The one bit of a FORMAT, a CAPABILITY and a voice frame's subclass: 0x02, 0x04 or 0x08.
+    pub fn bit(self) -> u32
+        ensures { result ≡ format_bit self }
+    {
+        match self {
+            Format::Gsm => 0x02,
+            Format::Ulaw => 0x04,
+            Format::Alaw => 0x08,
+        }
+    }
+
+    /// Whether both are one.
+    pub fn is(self, other: Format) -> bool
+        ensures { result ≡ same_format self other }
+    {
+        matches!(
+            (self, other),
+            (Format::Gsm, Format::Gsm) | (Format::Ulaw, Format::Ulaw) | (Format::Alaw, Format::Alaw)
+        )
+    }
+}
+
+/// Which formats there are.
+#[derive(Clone, Copy, Debug, PartialEq, Eq)]
+pub struct Formats {
+    pub gsm: bool,
+    pub ulaw: bool,
+    pub alaw: bool,
+}
+
+impl Formats {
+    /// Whether the format is one of them.
+    pub fn contains(self, format: Format) -> bool
+        ensures { result ≡ has_format self format }
+    {
+        match format {
+            Format::Gsm => self.gsm,
+            Format::Ulaw => self.ulaw,
+            Format::Alaw => self.alaw,
+        }
+    }
+
+    /// The one of the lowest bit.
+    pub fn lowest(self) -> Option<Format>
+        ensures { result ≡ lowest_format self }
+    {
+        if self.gsm {
+            Some(Format::Gsm)
+        } else if self.ulaw {
+            Some(Format::Ulaw)
+        } else if self.alaw {
+            Some(Format::Alaw)
+        } else {
+            None
+        }
+    }
+}

@@ -1,0 +1,134 @@
+//! How a leg begins: the rows of a NEW that comes ("Call Setup").
+ghost use Rattle.std.specs.Prelude.{◌≡◌, option_copied};
+ghost use Rattle.call_signals.specs.Openings as opening;
+
+use crate::causes::Cause;
+use crate::effects::{Answering, Effect, rejected, row};
+use crate::formats::{Format, Formats};
+use crate::replies::Reply;
+use crate::rules::PeerRules;
+use crate::signals::Signal;
+use crate::stages::Stage;
+use call_auth::Challenge;
+use iax_frames::Full;
+use info_elements::{CAPABILITY, FORMAT, VERSION, u16_in, u32_in};
+
+/// What becomes of a NEW.
+#[derive(Clone, Copy, Debug, PartialEq, Eq)]
+pub enum Opening {
+    /// VERSION is absent or not 2, or there is no common format.
+    Refused,
+    /// The peer has a secret, and is challenged.
+    Challenges,
+    /// The call is offered to the layer above.
+    Offers,
+}
+
+// The bits of an element; none where it is absent.
+fn bits_in(frame: &Full, number: u8) -> u32
+    ensures { result ≡ opening.bits_in frame.now number }
+{
+    u32_in(frame.payload(), number).unwrap_or(0)
+}
+
+fn has_bit(bits: u32, format: Format) -> bool
+    ensures { result ≡ opening.has_bit bits format }
+{
+    bits & format.bit() == format.bit()
+}
+
+// A format of the peer that stands in FORMAT or CAPABILITY.
+fn is_common(wanted: u32, capable: u32, of_peer: bool, format: Format) -> bool
+    ensures { result ≡ opening.is_common wanted capable of_peer format }
+{
+    let stands = has_bit(wanted, format) || has_bit(capable, format);
+    of_peer && stands
+}
+
+fn common_formats(formats: Formats, wanted: u32, capable: u32) -> Formats
+    ensures { result ≡ opening.common_formats formats wanted capable }
+{
+    Formats {
+        gsm: is_common(wanted, capable, formats.gsm, Format::Gsm),
+        ulaw: is_common(wanted, capable, formats.ulaw, Format::Ulaw),
+        alaw: is_common(wanted, capable, formats.alaw, Format::Alaw),
+    }
+}
+
+// FORMAT where it is exactly one common bit, else the lowest common bit.
+fn chosen_format(common: Formats, wanted: u32) -> Option<Format>
+    ensures { result ≡ opening.chosen_format common wanted }
+{
+    if common.gsm && wanted == 0x02 {
+        Some(Format::Gsm)
+    } else if common.ulaw && wanted == 0x04 {
+        Some(Format::Ulaw)
+    } else if common.alaw && wanted == 0x08 {
+        Some(Format::Alaw)
+    } else {
+        common.lowest()
+    }
+}
+
+/// The format of the call that a NEW asks for.
+pub fn call_format(formats: Formats, frame: &Full) -> Option<Format>
+    ensures { result ≡ opening.call_format formats frame.now }
+{
+    let wanted = bits_in(frame, FORMAT);
+    let capable = bits_in(frame, CAPABILITY);
+    chosen_format(common_formats(formats, wanted, capable), wanted)
+}
+
+fn is_version_2(version: Option<u16>) -> bool
+    ensures { result ≡ opening.is_version_2 version }
+{
+    match version {
+        Some(version) => version == 2,
+        None => false,
+    }
+}
+
+/// What becomes of a NEW.
+pub fn opening_of(rules: &PeerRules, frame: &Full) -> Opening
+    ensures { result ≡ opening.opening_of rules.now frame.now }
+{
+    let is_version_2 = is_version_2(u16_in(frame.payload(), VERSION));
+    let has_format = call_format(rules.formats, frame).is_some();
+    if is_version_2 && has_format {
+        if rules.secret.is_some() {
+            Opening::Challenges
+        } else {
+            Opening::Offers
+        }
+    } else {
+        Opening::Refused
+    }
+}
+
+impl Opening {
+    /// The row of the table.
+    pub fn effect(self) -> Effect
+        ensures { result ≡ opening.opening_effect self }
+    {
+        match self {
+            Opening::Refused => rejected(Cause::CallRejected),
+            Opening::Challenges => row(
+                Answering::Answered(Reply::AuthReq),
+                Stage::Challenged,
+                None,
+            ),
+            Opening::Offers => row(Answering::Silent, Stage::Offered, Some(Signal::Offered)),
+        }
+    }
+
+    /// The challenge that goes out, if one does.
+    pub fn challenge(self, challenge: &Challenge) -> Option<Challenge>
+        ensures { result ≡ opening.challenge_sent self challenge.now }
+    {
+        match self {
+            Opening::Refused => None,
+            Opening::Challenges => Some(challenge.copied()),
+            Opening::Offers => None,
+        }
+    }
+}

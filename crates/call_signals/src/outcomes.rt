@@ -1,0 +1,68 @@
+//! What the calls of a leg answer.
+ghost use Rattle.std.specs.Prelude.{◌≡◌};
+ghost use Rattle.call_signals.specs.declared.outcomes.StepError.TheVariants.{Memory};
+
+use crate::replies::Replies;
+use crate::signals::{Onward, Signal};
+use std::alloc::AllocError;
+
+/// How a full frame was judged ("Message Transport").
+#[derive(Clone, Copy, Debug, PartialEq, Eq)]
+pub enum Judged {
+    /// It was the next, and was recorded.
+    Taken,
+    /// It came before; an ACK answers it.
+    Repeat,
+    /// One before it is missing; a VNAK answers it.
+    Gap,
+    /// It was the next, but its answer found no room; it isn't taken.
+    NoRoom,
+    /// It has no sequence number of its own, or there is no frame.
+    Unnumbered,
+}
+
+/// What a call says, beside the datagrams that it writes to the lent list.
+#[derive(Clone, Copy, Debug, PartialEq, Eq)]
+pub struct Heard {
+    pub judged: Judged,
+    pub signal: Option<Signal>,
+}
+
+/// What a call gives: how the frame was judged, the datagrams to be sent, and what is handed up.
+#[derive(Debug, Drop)]
+pub struct Outcome {
+    pub judged: Judged,
+    pub replies: Replies,
+    pub onward: Option<Onward>,
+}
+
+/// What a tick gives: the datagrams to be sent, and how many frames were due and had no memory.
+#[derive(Debug, Drop)]
+pub struct TickOutcome {
+    pub replies: Replies,
+    pub skipped: u32,
+}
+
+/// Whether media of the other side counts.
+#[derive(Clone, Copy, Debug, PartialEq, Eq)]
+pub enum MediaIn {
+    Accepted,
+    NotYet,
+}
+
+/// Why a full frame is refused.
+#[derive(Clone, Copy, Debug, PartialEq, Eq)]
+pub enum StepError {
+    /// Fewer than four entries of the record are free.
+    RecordFull,
+    /// A request for memory was refused.
+    Memory,
+}
+
+impl From<AllocError> for StepError {
+    ghost from_gives = { λ _ e. e ≡ Memory };
+
+    fn from(_error: AllocError) -> StepError {
+        StepError::Memory
+    }
+}

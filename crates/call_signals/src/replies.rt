@@ -1,0 +1,165 @@
+//! The numbered frames that a leg sends, and the list to which a step writes its datagrams.
+ghost use Rattle.std.specs.Prelude.{◌≡◌, ◌+◌, ◌<◌, ◌≤◌, ◌^◌, [], ◌∷◌, ◌++◌, ◌==◌, length, slice_get, option_copied};
+ghost use Rattle.iax_frames.specs.FullFrame.{spelling};
+ghost use Rattle.call_signals.specs.Replies.{type_of, subclass_of, indication_subclass, timestamp_of};
+
+use crate::causes::Cause;
+use crate::formats::Format;
+use crate::signals::{Digit, Indication};
+use arrayvec::ArrayVec;
+use iax_frames::{FullHead, Out, write_full};
+use std::marker::Model;
+
+/// A numbered frame that answers another, or that an order or a tick sends.
+#[derive(Clone, Copy, Debug, PartialEq, Eq)]
+pub enum Reply {
+    AuthReq,
+    /// With the digits of the MD5 answer.
+    AuthRep([u8; 32]),
+    Accept(Format),
+    Reject(Cause),
+    Hangup(Cause),
+    /// With the octet of C and subclass as it came.
+    Unsupport(u8),
+    Ping,
+    /// With the timestamp of the PING.
+    Pong(u32),
+    /// With the timestamp of the LAGRQ.
+    LagRp(u32),
+    Indicate(Indication),
+    Answer,
+    Dtmf(Digit),
+}
+
+impl Reply {
+    /// The type of the frame.
+    pub fn frame_type(&self) -> u8
+        ensures { result ≡ type_of self.now }
+    {
+        match self {
+            Reply::Dtmf(_) => 1,
+            Reply::Indicate(_) => 4,
+            Reply::Answer => 4,
+            _ => 6,
+        }
+    }
+
+    /// The subclass, below 128.
+    pub fn subclass(&self) -> u8
+        ensures { result ≡ subclass_of self.now }
+    {
+        match self {
+            Reply::AuthReq => 8,
+            Reply::AuthRep(_) => 9,
+            Reply::Accept(_) => 7,
+            Reply::Reject(_) => 6,
+            Reply::Hangup(_) => 5,
+            Reply::Unsupport(_) => 0x21,
+            Reply::Ping => 2,
+            Reply::Pong(_) => 3,
+            Reply::LagRp(_) => 0x0c,
+            Reply::Indicate(indication) => indication.subclass(),
+            Reply::Answer => 4,
+            Reply::Dtmf(digit) => digit.get(),
+        }
+    }
+
+    /// Its own timestamp, or the present one.
+    pub fn timestamp(&self, present: u32) -> u32
+        ensures { result ≡ timestamp_of self.now present }
+    {
+        match self {
+            Reply::Pong(timestamp) => *timestamp,
+            Reply::LagRp(timestamp) => *timestamp,
+            _ => present,
+        }
+    }
+}
+
+impl Indication {
+    /// The subclass of the control frame.
+    pub fn subclass(self) -> u8
+        ensures { result ≡ indication_subclass self }
+    {
+        match self {
+            Indication::Ringing => 3,
+            Indication::Progress => 0x0e,
+            Indication::Proceeding => 0x0f,
+        }
+    }
+}
+
+/// The datagrams that one step sends, at most 128. Contracts see the octets of each.
+///
+/// The caller of a step lends an empty list, reads it, and clears it for the next step.
+#[derive(Debug, Drop)]
+pub struct Replies {
+    outs: ArrayVec<Out, 128>,
+}
+
+impl Model for Replies {
+    ghost use Rattle.std.specs.Prelude.{ℕ, List};
+
+    ghost Value = { List (List ℕ) };
+
+    ghost view = { λ r. r.outs.items };
+}
+
+impl Replies {
+    /// No datagrams.
+    pub fn new() -> Replies
+        ensures { result ≡ [] }
+    {
+        Replies {
+            outs: ArrayVec::new(),
+        }
+    }
+
+    /// Writes a full frame behind the others.
+    pub fn write(&mut self, head: &FullHead, payload: &[u8])
+        requires room { length self.old < 128 }
+        requires short { length payload.now ≤ 1388 }
+        ensures { self.new ≡ self.old ++ spelling (record { head = head.now; payload = payload.now }) ∷ [] }
+    {
+        match write_full(head, payload) {
+            Ok(out) => self.outs.push(out),
+            Err(_) => unreachable!(),
+        }
+    }
+
+    /// Adds a datagram behind the others.
+    pub fn push(&mut self, out: Out)
+        requires { length self.old < 128 }
+        ensures { self.new ≡ self.old ++ out ∷ [] }
+    {
+        self.outs.push(out);
+    }
+
+    /// Takes all datagrams out.
+    pub fn clear(&mut self)
+        ensures { self.new ≡ [] }
+    {
+        self.outs.clear();
+    }
+
+    /// How many datagrams there are.
+    pub fn len(&self) -> usize
+        ensures { result ≡ length self.now }
+    {
+        self.outs.len()
+    }
+
+    /// Whether there are none.
+    pub fn is_empty(&self) -> bool
+        ensures { result ≡ (length self.now == 0) }
+    {
+        self.outs.len() == 0
+    }
+
+    /// The datagram at a place.
+    pub fn get(&self, place: usize) -> Option<&Out>
+        ensures { option_copied result ≡ slice_get self.now place }
+    {
+        self.outs.as_slice().get(place)
+    }
+}

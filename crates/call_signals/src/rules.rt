@@ -1,0 +1,117 @@
+//! What a plan says of a peer.
+ghost use Rattle.std.specs.Prelude.{◌≡◌, ◌↔◌, IsSome, IfSome};
+ghost use Rattle.std.specs.List.{list_all};
+ghost use Rattle.call_signals.specs.Credential.{IsCredential, is_printable};
+
+use crate::formats::Formats;
+use arrayvec::ArrayVec;
+use std::marker::Model;
+
+/// A user's name or a secret: 1 to 64 octets 0x20 ..= 0x7e. Contracts see its octets.
+#[derive(Debug, Drop)]
+pub struct Credential {
+    octets: ArrayVec<u8, 64>,
+}
+
+impl Model for Credential {
+    ghost use Rattle.std.specs.Prelude.{List, ℕ};
+    ghost use Rattle.call_signals.specs.Credential.{IsCredential};
+
+    ghost Value = { List ℕ };
+
+    ghost view = { λ credential. credential.octets.items };
+
+    ghost invariant = { λ credential. IsCredential credential.octets.items };
+}
+
+impl Credential {
+    /// The credential of these octets, where they may be one. Takes no memory.
+    pub fn new(octets: &[u8]) -> Option<Credential>
+        ensures found { IsSome result ↔ IsCredential octets.now }
+        ensures value { IfSome result (λ credential. credential ≡ octets.now) }
+    {
+        if octets.is_empty() || octets.len() > 64 || !are_printable(octets) {
+            return None;
+        }
+        let mut copy = ArrayVec::new();
+        copy.try_extend_from_slice(octets).unwrap();
+        Some(Credential { octets: copy })
+    }
+
+    /// The octets, 1 to 64.
+    pub fn as_slice(&self) -> &[u8]
+        ensures value { result.now ≡ self.now }
+        ensures credential { IsCredential self.now }
+    {
+        self.octets.as_slice()
+    }
+
+    /// The same once more. Takes no memory.
+    pub fn copied(&self) -> Credential
+        ensures { result ≡ self.now }
+    {
+        let mut copy = ArrayVec::new();
+        copy.try_extend_from_slice(self.octets.as_slice()).unwrap();
+        Credential { octets: copy }
+    }
+}
+
+fn are_printable(octets: &[u8]) -> bool
+    ensures { result ≡ list_all is_printable octets.now }
+{
+    octets.iter().all(|octet| *octet >= 0x20 && *octet <= 0x7e)
+}
+
+/// The rules of one peer, as its plan has them.
+#[derive(Debug, Drop)]
+pub struct PeerRules {
+    /// The name that goes out as USERNAME.
+    pub user: Option<Credential>,
+    /// The secret of MD5 challenges, both ways. There is a user where there is a secret.
+    pub secret: Option<Credential>,
+    /// The formats that the peer may use, at least one.
+    pub formats: Formats,
+    /// Whether media goes to the peer in trunk frames.
+    pub trunk: bool,
+    /// Whether the entries of those trunk frames have timestamps.
+    pub trunk_timestamps: bool,
+    /// How long a frame waits for its acknowledgement before it goes out again: 1 ..= 60,000 milliseconds.
+    pub retry_ms: u64,
+    /// How often it goes out again: 0 ..= 20.
+    pub max_retries: u32,
+    /// How long after the last one a PING goes out: 0 ..= 600,000 milliseconds, where 0 is never.
+    pub ping_ms: u64,
+    /// How many entries a leg's record has at most: 64 ..= 65,536.
+    pub record_limit: u32,
+    /// How many frames a leg holds at most: 1 ..= 127.
+    pub window: u8,
+}
+
+impl PeerRules {
+    /// The same once more. Takes no memory.
+    pub fn copied(&self) -> PeerRules
+        ensures { result ≡ self.now }
+    {
+        PeerRules {
+            user: copied(&self.user),
+            secret: copied(&self.secret),
+            formats: self.formats,
+            trunk: self.trunk,
+            trunk_timestamps: self.trunk_timestamps,
+            retry_ms: self.retry_ms,
+            max_retries: self.max_retries,
+            ping_ms: self.ping_ms,
+            record_limit: self.record_limit,
+            window: self.window,
+        }
+    }
+}
+
+fn copied(credential: &Option<Credential>) -> Option<Credential>
+    ensures { result ≡ credential.now }
+{
+    match credential {
+        Some(credential) => Some(credential.copied()),
+        None => None,
+    }
+}

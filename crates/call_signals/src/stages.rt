@@ -1,0 +1,66 @@
+//! The stages of a leg.
+ghost use Rattle.std.specs.Prelude.{◌≡◌};
+ghost use Rattle.call_signals.specs.Stages as stages;
+
+/// Where a leg stands.
+#[derive(Clone, Copy, Debug, PartialEq, Eq)]
+pub enum Stage {
+    /// It sent a NEW, and the other side hasn't accepted the call yet.
+    Waiting,
+    /// It sent a challenge, and waits for the answer.
+    Challenged,
+    /// The other side's call is offered to the layer above.
+    Offered,
+    /// The call is accepted.
+    Linked,
+    /// The call is answered.
+    Up,
+    /// The call is over here, and frames are still held.
+    Closing,
+    /// The call is over.
+    Ended,
+}
+
+impl Stage {
+    /// Closing or Ended.
+    pub fn is_over(self) -> bool
+        ensures { result ≡ stages.is_over self }
+    {
+        matches!(self, Stage::Closing | Stage::Ended)
+    }
+
+    /// Linked or Up.
+    pub fn is_talking(self) -> bool
+        ensures { result ≡ stages.is_talking self }
+    {
+        matches!(self, Stage::Linked | Stage::Up)
+    }
+
+    /// Offered.
+    pub fn is_offered(self) -> bool
+        ensures { result ≡ stages.is_offered self }
+    {
+        matches!(self, Stage::Offered)
+    }
+
+    /// Linked.
+    pub fn is_linked(self) -> bool
+        ensures { result ≡ stages.is_linked self }
+    {
+        matches!(self, Stage::Linked)
+    }
+
+    /// Closing.
+    pub fn is_closing(self) -> bool
+        ensures { result ≡ stages.is_closing self }
+    {
+        matches!(self, Stage::Closing)
+    }
+
+    /// Ended.
+    pub fn is_ended(self) -> bool
+        ensures { result ≡ stages.is_ended self }
+    {
+        matches!(self, Stage::Ended)
+    }
+}

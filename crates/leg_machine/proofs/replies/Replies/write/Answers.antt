@@ -1,5 +1,0 @@
-use Rattle.std.proofs.Common.{◌∙◌, ◌++◌, [], ◌∷◌}
-use Rattle.leg_machine.proofs.replies.Replies.write.Goals as goal
-
-pub returns : goal.returns
-returns c = c.push.ensures.items ∙ λ i. c.self.view_is i ++ c.in-Ok.ensures.spelled.whole i ∷ []

@@ -1,0 +1,21 @@
+-- What is handed up once the octet credit of a peer was looked at ("Mini Frames", "Meta Frames").
+use Rattle.std.specs.Prelude.{ℕ, ◌+◌, nat_le, Option, None, Some, if◌then◌else◌}
+use Rattle.leg_machine.specs.Signals.{span_len}
+use Rattle.call_signals.specs.declared.signals.Signal.{Signal}
+use Rattle.call_signals.specs.declared.signals.Signal.TheVariants.{Media}
+
+-- what is handed up, and the octets of credit that it takes
+pub record Granted : Type 0 where
+  pub signal : Option Signal
+  pub octets : ℕ
+
+-- media is accepted where the peer has credit for all of it
+abbrev pub granted_media : ℕ → ℕ → Signal → ℕ → Granted
+granted_media first accepted signal octets =
+    if nat_le (accepted + octets) first
+    then record { signal = Some signal; octets = octets }
+    else record { signal = None; octets = 0 }
+
+abbrev pub granted : ℕ → ℕ → Option Signal → Granted
+granted first accepted (Some (Media span)) = granted_media first accepted (Media span) (span_len span)
+granted first accepted signal = record { signal = signal; octets = 0 }

@@ -1,0 +1,21 @@
+-- What the legs of a peer hand up in one step.
+use Rattle.std.specs.Prelude.{◌≡◌, ℕ, List, [], Option, None}
+use Rattle.call_book.specs.declared.leg_name.LegName.{LegName}
+use Rattle.call_signals.specs.declared.signals.Signal.{Signal}
+use Rattle.peer_accounts.specs.declared.onwards.Offer.{Offer}
+
+pub record HandedUp : Type 0 where
+  -- in order, each with the name of its leg
+  pub signals : List (LegName × Signal)
+  -- what an offered call asks for
+  pub offer : Option Offer
+  -- for so many signals more there is room
+  pub room : ℕ
+
+abbrev pub nothing : ℕ → HandedUp
+nothing room = record { signals = []; offer = None; room = room }
+
+-- nothing is handed up
+pub record IsNothing (onwards : HandedUp) : Type 0 where
+  pub signals : onwards.signals ≡ []
+  pub offer : onwards.offer ≡ None

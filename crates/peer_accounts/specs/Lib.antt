@@ -1,0 +1,3 @@
+pub mod Accounts
+pub mod Grants
+pub mod HandedUp

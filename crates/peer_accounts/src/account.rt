@@ -1,0 +1,187 @@
+//! The accounts of one peer, with the shares that pay for them.
+ghost use Rattle.std.specs.Prelude.{◌≡◌, ◌≢◌, ◌+◌, ◌<◌, ◌≤◌, ◌↔◌, IsTrue};
+ghost use Rattle.std.specs.Bool.{OnTrue, OnFalse};
+ghost use Rattle.peer_accounts.specs.Accounts.{no_accounts, carried, carry_to, stepped, with_accepted};
+ghost use Rattle.peer_accounts.specs.Grants.{granted};
+
+use crate::closed_account::ClosedAccount;
+use crate::naming::Naming;
+use crate::pass::Pass;
+use leg_machine::Signal;
+use media_ledger::{Share, pass_on};
+use std::marker::{Model, PhantomData};
+
+/// What became of media that was carried to a peer.
+#[derive(Clone, Copy, PartialEq, Eq, Debug)]
+pub enum Carried {
+    /// Written into a frame.
+    Packed,
+    /// Put into the trunk queue.
+    Queued,
+    /// Dropped, since the trunk queue was full.
+    Dropped,
+    /// Dropped, since the other side wants none.
+    Quelched,
+}
+
+/// The accounts of one peer. Contracts see their sums.
+#[derive(Drop)]
+pub struct Account<J: Naming> {
+    pub(crate) octets: Share<J::Octets>,
+    pub(crate) steps: Share<J::Steps>,
+    pub(crate) unspent: u64,
+    pub(crate) accepted: u64,
+    pub(crate) packed: u64,
+    pub(crate) queued: u64,
+    pub(crate) dropped: u64,
+    pub(crate) quelched: u64,
+    pub(crate) made: u64,
+    pub(crate) naming: PhantomData<J>,
+}
+
+impl<J: Naming> Model for Account<J> {
+    ghost use Rattle.std.specs.Prelude.{◌≡◌, ◌+◌, ◌<◌, ◌≤◌, ◌^◌};
+    ghost use Rattle.peer_accounts.specs.Accounts.{Accounts};
+
+    ghost Value = { Accounts };
+
+    ghost view = { λ s. record { accepted = s.accepted; packed = s.packed; queued = s.queued; dropped = s.dropped; quelched = s.quelched; steps = s.made } };
+
+    ghost invariant = { λ s. (s.octets + s.accepted ≡ J.first_octets + s.packed + s.queued + s.dropped) × (s.quelched ≤ s.dropped) × (s.octets < 2 ^ 64) × (s.unspent + s.accepted ≡ J.first_octets) × (s.steps + s.made ≡ J.first_steps) × (J.first_octets < 2 ^ 64) × (J.first_steps < 2 ^ 64) };
+}
+
+impl<J: Naming> Account<J> {
+    pub fn new(octets: Share<J::Octets>, steps: Share<J::Steps>) -> Account<J>
+        requires octets { octets ≡ J.first_octets }
+        requires steps { steps ≡ J.first_steps }
+        ensures { result ≡ no_accounts }
+    {
+        let unspent = octets.amount();
+        let _first_steps = steps.amount();
+        Account {
+            octets,
+            steps,
+            unspent,
+            accepted: 0,
+            packed: 0,
+            queued: 0,
+            dropped: 0,
+            quelched: 0,
+            made: 0,
+            naming: PhantomData,
+        }
+    }
+
+    /// Whether no step credit is left.
+    pub fn is_spent(&self) -> bool
+        ensures { IsTrue result ↔ (self.now.steps ≡ J.first_steps) }
+    {
+        self.steps.amount() == 0
+    }
+
+    /// Takes in media of n octets, and passes their credit on. Refused where the peer has less unspent credit.
+    pub fn accept(&mut self, pass: &mut Pass<J>, n: u64) -> bool
+        ensures exactly { IsTrue result ↔ (self.old.accepted + n ≤ J.first_octets) }
+        ensures counted { OnTrue result (self.new ≡ with_accepted self.old n) }
+        ensures credit { OnTrue result (pass.new ≡ record pass.old { octets = pass.old.octets + n }) }
+        ensures refused { OnFalse result ((self.new ≡ self.old) × (pass.new ≡ pass.old)) }
+    {
+        if n > self.unspent {
+            return false;
+        }
+        pass_on(&mut self.octets, &mut pass.octets, n);
+        self.unspent -= n;
+        self.accepted += n;
+        true
+    }
+
+    /// Takes the credit of n octets back from the pass, and counts what became of them.
+    pub fn carry(&mut self, pass: &mut Pass<J>, n: u64, outcome: Carried)
+        requires { n ≤ pass.old.octets }
+        ensures credit { pass.new.octets + n ≡ pass.old.octets }
+        ensures steps { pass.new.steps ≡ pass.old.steps }
+        ensures counted { self.new ≡ carry_to self.old outcome n }
+    {
+        pass_on(&mut pass.octets, &mut self.octets, n);
+        match outcome {
+            Carried::Packed => self.packed += n,
+            Carried::Queued => self.queued += n,
+            Carried::Dropped => self.dropped += n,
+            Carried::Quelched => {
+                self.dropped += n;
+                self.quelched += n;
+            }
+        }
+    }
+
+    /// Writes n queued octets into frames.
+    pub fn pack(&mut self, n: u64)
+        requires { n ≤ self.old.queued }
+        ensures packed { self.new.packed ≡ self.old.packed + n }
+        ensures queued { self.new.queued + n ≡ self.old.queued }
+        ensures others { (self.new.accepted ≡ self.old.accepted) × (self.new.dropped ≡ self.old.dropped) × (self.new.quelched ≡ self.old.quelched) × (self.new.steps ≡ self.old.steps) }
+    {
+        self.queued -= n;
+        self.packed += n;
+    }
+
+    /// Counts one step, and passes its credit on.
+    pub fn count_step(&mut self, pass: &mut Pass<J>)
+        requires { self.old.steps ≢ J.first_steps }
+        ensures counted { self.new ≡ stepped self.old }
+        ensures credit { pass.new ≡ record pass.old { steps = pass.old.steps + 1 } }
+    {
+        pass_on(&mut self.steps, &mut pass.steps, 1);
+        self.made += 1;
+    }
+
+    /// Takes in what a leg hands up: media only where there is credit for all of it, which is passed on.
+    pub fn grant(&mut self, pass: &mut Pass<J>, signal: Option<Signal>) -> Option<Signal>
+        ensures signal { result ≡ (granted J.first_octets self.old.accepted signal).signal }
+        ensures counted { self.new ≡ with_accepted self.old (granted J.first_octets self.old.accepted signal).octets }
+        ensures credit { pass.new ≡ record pass.old { octets = pass.old.octets + (granted J.first_octets self.old.accepted signal).octets } }
+    {
+        match &signal {
+            Some(Signal::Media(span)) => {
+                if self.accept(pass, span.len() as u64) {
+                    signal
+                } else {
+                    None
+                }
+            }
+            _ => signal,
+        }
+    }
+
+    /// Gives the shares up.
+    pub fn part(self) -> (ClosedAccount<J>, Share<J::Octets>, Share<J::Steps>)
+        ensures same { result.0 ≡ self }
+        ensures octets { result.1 + self.accepted ≡ J.first_octets + carried self }
+        ensures steps { result.2 + self.steps ≡ J.first_steps }
+        ensures within { self.accepted ≤ J.first_octets }
+    {
+        let Account {
+            octets,
+            steps,
+            unspent,
+            accepted,
+            packed,
+            queued,
+            dropped,
+            quelched,
+            made,
+            naming,
+        } = self;
+        let closed = ClosedAccount {
+            unspent,
+            accepted,
+            packed,
+            queued,
+            dropped,
+            quelched,
+            made,
+            naming,
+        };
+        (closed, octets, steps)
+    }
+}

@@ -1,0 +1,14 @@
+//! The accounts of a peer, the pass that its credit goes to, and the list of what is handed up.
+#![tactic(auto)]
+
+mod account;
+mod closed_account;
+mod naming;
+mod onwards;
+mod pass;
+
+pub use account::{Account, Carried};
+pub use closed_account::ClosedAccount;
+pub use naming::{Naming, Service};
+pub use onwards::{Offer, Onwards};
+pub use pass::Pass;

@@ -1,0 +1,114 @@
+//! What the legs of a peer hand up in one step.
+ghost use Rattle.std.specs.Prelude.{◌≡◌, ◌≤◌, ◌+◌, ◌<◌, ◌++◌, ◌∷◌, [], ◌==◌, length, slice_get, option_copied, Option, None, Some, OnOk, OnErr};
+
+use call_book::LegName;
+use leg_machine::{ElementText, Format, Signal};
+use std::alloc::{AllocError, Global};
+use std::marker::Model;
+
+/// What an offered call asks for ("Call Setup").
+#[derive(Drop)]
+pub struct Offer {
+    /// The number that is called, at most 255 octets; absent, it is empty.
+    pub called: ElementText,
+    /// The number that calls, at most 255 octets.
+    pub calling: Option<ElementText>,
+    /// The format of the call.
+    pub format: Format,
+}
+
+/// What the legs of a peer hand up in one step, in order, each with the leg's name; and what an offered call asks for.
+///
+/// The caller of a step lends an empty list, reads it, and clears it for the next step. Its memory stays with it.
+/// Contracts see the signals, the offer, and for how many signals more there is room.
+#[derive(Drop)]
+pub struct Onwards {
+    signals: Vec<(LegName, Signal)>,
+    offer: Option<Offer>,
+}
+
+impl Model for Onwards {
+    ghost use Rattle.std.specs.Prelude.{◌-◌, length, vec_capacity};
+    ghost use Rattle.peer_accounts.specs.HandedUp.{HandedUp};
+
+    ghost Value = { HandedUp };
+
+    ghost view = { λ o. record { signals = o.signals.items; offer = o.offer; room = vec_capacity o.signals - length o.signals.items } };
+}
+
+impl Onwards {
+    ghost use Rattle.peer_accounts.specs.HandedUp.{nothing};
+
+    /// Nothing, and no memory.
+    pub fn new(alloc: Global) -> Onwards
+        ensures { result ≡ nothing 0 }
+    {
+        Onwards {
+            signals: Vec::new(alloc),
+            offer: None,
+        }
+    }
+
+    /// Takes all of it out. The room stays.
+    pub fn clear(&mut self)
+        ensures signals { self.new.signals ≡ [] }
+        ensures offer { self.new.offer ≡ None }
+    {
+        self.signals.clear();
+        self.offer = None;
+    }
+
+    /// Room for so many signals more.
+    pub fn reserve(&mut self, signals: usize) -> Result<(), AllocError>
+        ensures signals { self.new.signals ≡ self.old.signals }
+        ensures offer { self.new.offer ≡ self.old.offer }
+        ensures room { OnOk result (signals ≤ self.new.room) }
+    {
+        self.signals.try_reserve(signals)
+    }
+
+    /// How many signals there are.
+    pub fn len(&self) -> usize
+        ensures { result ≡ length self.now.signals }
+    {
+        self.signals.len()
+    }
+
+    /// Whether there are none.
+    pub fn is_empty(&self) -> bool
+        ensures { result ≡ (length self.now.signals == 0) }
+    {
+        self.signals.len() == 0
+    }
+
+    /// The signal at a place, and the name of its leg.
+    pub fn get(&self, place: usize) -> Option<(LegName, Signal)>
+        ensures { result ≡ slice_get self.now.signals place }
+    {
+        self.signals.get(place).copied()
+    }
+
+    /// What the offered call asks for, where one is.
+    pub fn offer(&self) -> Option<&Offer>
+        ensures { option_copied result ≡ self.now.offer }
+    {
+        self.offer.as_ref()
+    }
+
+    /// Adds a signal behind the others.
+    pub fn push(&mut self, name: LegName, signal: Signal)
+        requires { 1 ≤ self.old.room }
+        ensures signals { self.new.signals ≡ self.old.signals ++ (name, signal) ∷ [] }
+        ensures offer { self.new.offer ≡ self.old.offer }
+        ensures room { self.new.room + 1 ≡ self.old.room }
+    {
+        self.signals.push_reserved((name, signal));
+    }
+
+    /// Says what the offered call asks for.
+    pub fn set_offer(&mut self, offer: Offer)
+        ensures { self.new ≡ record self.old { offer = Some offer } }
+    {
+        self.offer = Some(offer);
+    }
+}

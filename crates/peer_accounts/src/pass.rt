@@ -1,0 +1,85 @@
+//! The token of one worker or caller.
+ghost use Rattle.std.specs.Prelude.{◌≡◌};
+ghost use Rattle.peer_accounts.specs.HandedUp.{IsNothing};
+
+use crate::naming::Naming;
+use crate::onwards::Onwards;
+use media_ledger::Share;
+use std::alloc::Global;
+use std::marker::Model;
+
+/// The token of one worker or caller: the credit that peers have passed to it. Contracts see it as that credit.
+///
+/// Beside it lies the memory of a list for what steps hand up, so that a step needs no new one.
+#[derive(Drop)]
+pub struct Pass<J: Naming> {
+    pub(crate) octets: Share<J::Octets>,
+    pub(crate) steps: Share<J::Steps>,
+    onwards: Option<Onwards>,
+}
+
+impl<J: Naming> Model for Pass<J> {
+    ghost use Rattle.peer_accounts.specs.Accounts.{Credit};
+
+    ghost Value = { Credit };
+
+    ghost view = { λ p. record { octets = p.octets; steps = p.steps } };
+}
+
+impl<J: Naming> Pass<J> {
+    pub fn new(octets: Share<J::Octets>, steps: Share<J::Steps>) -> Pass<J>
+        ensures octets { result.octets ≡ octets }
+        ensures steps { result.steps ≡ steps }
+    {
+        Pass {
+            octets,
+            steps,
+            onwards: None,
+        }
+    }
+
+    pub fn octets(&self) -> u64
+        ensures { result ≡ self.now.octets }
+    {
+        self.octets.amount()
+    }
+
+    pub fn steps(&self) -> u64
+        ensures { result ≡ self.now.steps }
+    {
+        self.steps.amount()
+    }
+
+    /// An empty list for what a step hands up. It should come back by `keep`; without one that came back it is a new one, which has
+    /// no memory yet.
+    pub fn lend(&mut self, alloc: Global) -> Onwards
+        ensures nothing { IsNothing result }
+        ensures same { self.new ≡ self.old }
+    {
+        let mut onwards = match self.onwards.take() {
+            Some(onwards) => onwards,
+            None => Onwards::new(alloc),
+        };
+        onwards.clear();
+        onwards
+    }
+
+    /// Keeps the memory of a list for the next step.
+    pub fn keep(&mut self, onwards: Onwards)
+        ensures { self.new ≡ self.old }
+    {
+        self.onwards = Some(onwards);
+    }
+
+    pub fn part(self) -> (Share<J::Octets>, Share<J::Steps>)
+        ensures octets { result.0 ≡ self.octets }
+        ensures steps { result.1 ≡ self.steps }
+    {
+        let Pass {
+            octets,
+            steps,
+            onwards: _,
+        } = self;
+        (octets, steps)
+    }
+}

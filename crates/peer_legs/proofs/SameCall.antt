@@ -1,0 +1,195 @@
+-- A step of a leg keeps the leg's numbers: its own always, the other side's once it is known.
+use Rattle.std.proofs.Common.{◌≡◌, ℕ, zero, suc, ◌⊎◌, inl, inr, Bool, true, false, ◌&&◌, ◌==◌, cond, if◌then◌else◌, List, Option, Some, None, unwrap_or, refl, ◌∙◌}
+use Rattle.iax_frames.specs.FullFrame.{FullFrame}
+use Rattle.seq_window.specs.declared.judgements.Acknowledged.{Acknowledged}
+use Rattle.seq_window.specs.declared.judgements.Received.{Received}
+use Rattle.seq_window.specs.declared.judgements.Received.TheVariants as received
+use Rattle.seq_window.specs.declared.judgements.Resent.{Resent}
+use Rattle.seq_window.specs.declared.judgements.Resent.TheVariants as resents
+use Rattle.seq_window.specs.Window.{held_count, judged_acknowledgement}
+use Rattle.leg_machine.specs.Effects.{marked}
+use Rattle.leg_machine.specs.LegTable.{effect_of}
+use Rattle.leg_machine.specs.Legs.{LegState, entered, is_short_of_entries}
+use Rattle.leg_machine.specs.Media.{after_media, media_sent}
+use Rattle.leg_machine.specs.Messages.{message_of, is_inval, is_vnak}
+use Rattle.leg_machine.specs.OrderTable.{order_row, row_carried, order_carried}
+use Rattle.leg_machine.specs.Openings.{open_in_step, open_out_step, leg_for_new, leg_for_call, opening_of, opening_effect}
+use Rattle.leg_machine.specs.Steps.{Step, nothing_sent, resend_step, taken, replied, taken_step, judged_step, numbered_step, vnak_step, prepared, inval_step, message_step, full_step}
+use Rattle.leg_machine.specs.Stages.{is_closing, is_ended}
+use Rattle.leg_machine.specs.Ticks.{Tick, quiet, hang_up_step, ping_step, last_step, due_frames, tick_step}
+use Rattle.leg_machine.specs.Tries.{Tried, tries, one_try, after_try}
+use Rattle.leg_machine.specs.Working.{learnt, settled, acknowledged, counts}
+use Rattle.call_signals.specs.declared.effects.Answering.{Answering}
+use Rattle.call_signals.specs.declared.effects.Answering.TheVariants.{Acknowledged as Acks, Answered, Silent}
+use Rattle.call_signals.specs.declared.effects.Effect.{Effect}
+use Rattle.call_signals.specs.declared.effects.Mark.{Mark}
+use Rattle.call_signals.specs.declared.effects.Mark.TheVariants.{Nothing, Quelches, Unquelches, Authenticates}
+use Rattle.call_signals.specs.declared.formats.Format.{Format}
+use Rattle.call_signals.specs.declared.messages.Message.{Message}
+use Rattle.call_signals.specs.declared.messages.Message.TheVariants.{New}
+use Rattle.leg_machine.specs.declared.media.MediaSent.{MediaSent}
+use Rattle.leg_machine.specs.declared.media.MediaSent.TheVariants.{Quelched, Voice, Mini}
+use Rattle.call_signals.specs.declared.orders.Order.{Order}
+use Rattle.call_signals.specs.declared.orders.Order.TheVariants as orders
+use Rattle.leg_machine.specs.declared.orders.Ordered.{Ordered}
+use Rattle.call_signals.specs.declared.rules.PeerRules.{PeerRules}
+use Rattle.call_signals.specs.declared.stages.Stage.TheVariants.{Ended}
+
+-- the same call: both numbers are as before
+pub record IsSameCall (old new : LegState) : Type 0 where
+  pub number : new.number ≡ old.number
+  pub remote : new.remote ≡ old.remote
+
+-- the same call, in which the other side's number may have been learnt from this source
+pub record MayLearn (source : ℕ) (old new : LegState) : Type 0 where
+  pub number : new.number ≡ old.number
+  pub remote : (new.remote ≡ old.remote) ⊎ (new.remote ≡ Some (unwrap_or old.remote source))
+
+-- what is so of both is so of the one that is chosen
+chosen : {A : Type 0} (P : A → Type 0) (b : Bool) (x y : A) → P x → P y → P (cond b x y)
+chosen P true x y first second = first
+chosen P false x y first second = second
+
+same : (leg : LegState) → IsSameCall leg leg
+same leg = record { number = refl; remote = refl }
+
+both_same : (old middle new : LegState) → IsSameCall old middle → IsSameCall middle new → IsSameCall old new
+both_same old middle new first second = record { number = second.number ∙ first.number; remote = second.remote ∙ first.remote }
+
+-- ---- a full frame
+
+same_marked : (leg : LegState) (mark : Mark) → IsSameCall leg (marked leg mark)
+same_marked leg Nothing = record { number = refl; remote = refl }
+same_marked leg Quelches = record { number = refl; remote = refl }
+same_marked leg Unquelches = record { number = refl; remote = refl }
+same_marked leg Authenticates = record { number = refl; remote = refl }
+
+same_taken : (effect : Effect) (leg : LegState) (frame : FullFrame) (message : Message) → IsSameCall leg (taken effect leg frame message)
+same_taken effect leg frame message =
+    let marks = same_marked (entered leg effect.stage) effect.mark in record { number = marks.number; remote = marks.remote }
+
+same_replied : (leg : LegState) (now : ℕ) (answer : Answering) → IsSameCall leg (replied leg now answer)
+same_replied leg now (Answered reply) = record { number = refl; remote = refl }
+same_replied leg now Acks = same leg
+same_replied leg now Silent = same leg
+
+pub same_taken_step : (effect : Effect) (leg : LegState) (frame : FullFrame) (message : Message) (now : ℕ) → IsSameCall leg (taken_step effect leg frame message now).leg
+same_taken_step effect leg frame message now =
+    chosen (λ (s : Step). IsSameCall leg s.leg) _ _ _ (same leg)
+    (both_same leg (taken effect leg frame message) _ (same_taken effect leg frame message) (same_replied (taken effect leg frame message) now effect.answer))
+
+same_judged : (judged : Received) (leg : LegState) (frame : FullFrame) (message : Message) (now : ℕ) → IsSameCall leg (judged_step judged leg frame message now).leg
+same_judged received.Taken leg frame message now = same_taken_step (effect_of leg frame message) leg frame message now
+same_judged received.Repeat leg frame message now = same leg
+same_judged received.Gap leg frame message now = same leg
+
+same_numbered : (leg : LegState) (frame : FullFrame) (message : Message) (now : ℕ) → IsSameCall leg (numbered_step leg frame message now).leg
+same_numbered leg frame message now =
+    chosen (λ (s : Step). IsSameCall leg s.leg) _ _ _ (same_judged _ leg frame message now) (same leg)
+
+same_vnak : (judged : Acknowledged) (leg : LegState) (now : ℕ) → IsSameCall leg (vnak_step judged leg now).leg
+same_vnak judged leg now =
+    chosen (λ (s : Step). IsSameCall leg s.leg) (counts judged) (resend_step leg now) (nothing_sent leg) (record { number = refl; remote = refl }) (same leg)
+
+same_settled : (leg : LegState) → IsSameCall leg (settled leg)
+same_settled leg = chosen (IsSameCall leg) (is_closing leg.stage && (held_count leg.window == 0)) (entered leg Ended) leg (record { number = refl; remote = refl }) (same leg)
+
+same_prepared : (leg : LegState) (frame : FullFrame) → IsSameCall (learnt leg frame.head.source) (prepared leg frame)
+same_prepared leg frame =
+    let judged = same_settled (acknowledged (learnt leg frame.head.source) frame.head.iseqno) in record { number = judged.number; remote = judged.remote }
+
+abbrev taught_step : Message → LegState → FullFrame → ℕ → Step
+taught_step message leg frame now =
+    if is_vnak message
+    then vnak_step (judged_acknowledgement leg.window.history frame.head.iseqno) (prepared leg frame) now
+    else numbered_step (prepared leg frame) frame message now
+
+same_taught : (message : Message) (leg : LegState) (frame : FullFrame) (now : ℕ) → IsSameCall (prepared leg frame) (taught_step message leg frame now).leg
+same_taught message leg frame now =
+    let judged = judged_acknowledgement leg.window.history frame.head.iseqno in
+    chosen (λ (s : Step). IsSameCall (prepared leg frame) s.leg) (is_vnak message) (vnak_step judged (prepared leg frame) now) (numbered_step (prepared leg frame) frame message now)
+    (same_vnak judged (prepared leg frame) now) (same_numbered (prepared leg frame) frame message now)
+
+-- an INVAL teaches nothing
+message_learns : (message : Message) (leg : LegState) (frame : FullFrame) (now : ℕ) → MayLearn frame.head.source leg (message_step message leg frame now).leg
+message_learns message leg frame now =
+    let learning = both_same (learnt leg frame.head.source) (prepared leg frame) (taught_step message leg frame now).leg (same_prepared leg frame) (same_taught message leg frame now) in
+    chosen (λ (s : Step). MayLearn frame.head.source leg s.leg) (is_inval message) (inval_step leg) (taught_step message leg frame now)
+    (record { number = refl; remote = inl refl }) (record { number = learning.number; remote = inr learning.remote })
+
+pub full_learns : (leg : LegState) (frame : FullFrame) (now : ℕ) → MayLearn frame.head.source leg (full_step leg frame now).leg
+full_learns leg frame now = message_learns (message_of frame.head) leg frame now
+
+-- ---- orders
+
+same_row : (leg : LegState) (row : Option Ordered) (now : ℕ) → IsSameCall leg (row_carried leg row now).leg
+same_row leg None now = same leg
+same_row leg (Some row) now = record { number = refl; remote = refl }
+
+pub same_media : (sent : MediaSent) (leg : LegState) (media : List ℕ) (now : ℕ) → IsSameCall leg (after_media sent leg media now)
+same_media Quelched leg media now = same leg
+same_media Voice leg media now = record { number = refl; remote = refl }
+same_media (Mini timestamp) leg media now = same leg
+
+pub same_order : (leg : LegState) (order : Order) (now : ℕ) → IsSameCall leg (order_carried leg order now).leg
+same_order leg (orders.Media media) now = same_media (media_sent leg now) leg media.now now
+same_order leg orders.Doom now = record { number = refl; remote = refl }
+same_order leg orders.Paid now = record { number = refl; remote = refl }
+same_order leg orders.Accept now = same_row leg (order_row leg orders.Accept) now
+same_order leg (orders.Reject cause) now = same_row leg (order_row leg (orders.Reject cause)) now
+same_order leg (orders.Indicate i) now = same_row leg (order_row leg (orders.Indicate i)) now
+same_order leg orders.Answer now = same_row leg (order_row leg orders.Answer) now
+same_order leg (orders.Dtmf digit) now = same_row leg (order_row leg (orders.Dtmf digit)) now
+same_order leg orders.Hangup now = same_row leg (order_row leg orders.Hangup) now
+
+-- ---- a tick
+
+same_hang_up : (grown : Bool) (leg : LegState) (now : ℕ) → IsSameCall leg (hang_up_step grown leg now).leg
+same_hang_up grown leg now =
+    chosen (λ (t : Tick). IsSameCall leg t.leg) _ _ _
+    (chosen (λ (t : Tick). IsSameCall leg t.leg) grown _ _ (record { number = refl; remote = refl }) (same leg)) (same leg)
+
+same_ping : (grown : Bool) (leg : LegState) (now : ℕ) → IsSameCall leg (ping_step grown leg now).leg
+same_ping grown leg now =
+    chosen (λ (t : Tick). IsSameCall leg t.leg) _ _ _
+    (chosen (λ (t : Tick). IsSameCall leg t.leg) grown _ _ (record { number = refl; remote = refl }) (same leg)) (same leg)
+
+same_last : (grown spent : Bool) (leg : LegState) (now : ℕ) → IsSameCall leg (last_step grown spent leg now).leg
+same_last grown spent leg now =
+    chosen (λ (t : Tick). IsSameCall leg t.leg) spent _ _ (record { number = refl; remote = refl }) (same_ping grown leg now)
+
+same_one : (due : Resent) (leg : LegState) (now : ℕ) (rest : LegState → Tried) → ((l : LegState) → IsSameCall l (rest l).leg) → IsSameCall leg (one_try due leg now rest).leg
+same_one resents.Nothing leg now rest keeps = same leg
+same_one resents.Spent leg now rest keeps = same leg
+same_one (resents.Again place) leg now rest keeps =
+    let again = keeps (after_try leg place now) in record { number = again.number; remote = again.remote }
+
+same_tries : (turns : ℕ) (leg : LegState) (now : ℕ) → IsSameCall leg (tries turns leg now).leg
+same_tries zero leg now = same leg
+same_tries (suc turns) leg now = same_one _ leg now (λ l. tries turns l now) (λ l. same_tries turns l now)
+
+same_due : (grown : Bool) (leg : LegState) (now : ℕ) → IsSameCall leg (due_frames grown leg now).leg
+same_due grown leg now =
+    let hung = hang_up_step grown leg now in
+    let tried = tries (held_count leg.window) hung.leg now in
+    both_same leg tried.leg _ (both_same leg hung.leg tried.leg (same_hang_up grown leg now) (same_tries (held_count leg.window) hung.leg now))
+    (same_last grown tried.spent tried.leg now)
+
+abbrev unended_step : Bool → LegState → ℕ → Tick
+unended_step grown leg now = if is_short_of_entries leg then quiet (entered leg Ended) else due_frames grown leg now
+
+pub same_tick : (grown : Bool) (leg : LegState) (now : ℕ) → IsSameCall leg (tick_step grown leg now).leg
+same_tick grown leg now =
+    chosen (λ (t : Tick). IsSameCall leg t.leg) (is_ended leg.stage) (quiet leg) (unended_step grown leg now) (same leg)
+    (chosen (λ (t : Tick). IsSameCall leg t.leg) (is_short_of_entries leg) (quiet (entered leg Ended)) (due_frames grown leg now)
+    (record { number = refl; remote = refl }) (same_due grown leg now))
+
+-- ---- openings
+
+pub open_in_is : (rules : PeerRules) (number : ℕ) (frame : FullFrame) (now : ℕ) (challenge : List ℕ)
+    → IsSameCall (leg_for_new rules number frame now challenge) (open_in_step rules number frame now challenge).leg
+open_in_is rules number frame now challenge = same_taken_step (opening_effect (opening_of rules frame)) (leg_for_new rules number frame now challenge) frame New now
+
+pub open_out_is : (rules : PeerRules) (number : ℕ) (called : List ℕ) (calling : Option (List ℕ)) (format : Format) (now : ℕ)
+    → IsSameCall (leg_for_call rules number format now) (open_out_step rules number called calling format now).leg
+open_out_is rules number called calling format now = record { number = refl; remote = refl }

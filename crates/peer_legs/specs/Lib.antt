@@ -1,0 +1,5 @@
+pub mod Finding
+pub mod Legs
+pub mod LegsInside
+pub mod RemoteNumbers
+pub mod Rests

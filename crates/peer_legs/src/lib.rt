@@ -1,0 +1,13 @@
+//! The legs of a peer, each found by its local number and by its remote number.
+#![tactic(auto)]
+
+mod finding;
+mod named_legs;
+mod openings;
+mod peer_legs;
+mod remote_index;
+mod rests;
+
+pub use named_legs::NamedLeg;
+pub use openings::open_in;
+pub use peer_legs::PeerLegs;

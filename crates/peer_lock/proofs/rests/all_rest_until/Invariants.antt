@@ -1,6 +1,0 @@
-use Rattle.std.proofs.Common.{take}
-use Rattle.peer_lock.specs.LegsInside.{RestUntil}
-use Rattle.peer_lock.proofs.rests.all_rest_until.Given as goal
-
-abbrev pub invariant-loop-place : goal.invariant-loop-place
-invariant-loop-place l = RestUntil l.until (take l.place-index l.places)
