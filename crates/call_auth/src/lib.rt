@@ -6,6 +6,3 @@ mod md5_answer;
 
 pub use challenge::Challenge;
 pub use md5_answer::{accepts, answer};
-
-#[cfg(test)]
-mod tests;

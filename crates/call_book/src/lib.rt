@@ -12,6 +12,3 @@ pub use book::CallBook;
 pub use errors::{BridgeError, ReserveError, Stale};
 pub use lease::Lease;
 pub use leg_name::LegName;
-
-#[cfg(test)]
-mod tests;

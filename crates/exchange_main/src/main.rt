@@ -1,25 +1,10 @@
 //! The program of the exchange: `exchange_main check PLAN`, `exchange_main replay PLAN SCRIPT` and `exchange_main serve PLAN TURNS`.
 #![tactic(auto)]
 
-mod accounts;
-mod check;
-mod clock;
-mod digits;
-#[cfg(test)]
-mod leg_tests;
-mod names;
-#[cfg(test)]
-mod peer_tests;
-mod player;
-mod replay;
-mod script;
-mod serve;
-#[cfg(test)]
-mod serve_tests;
-#[cfg(test)]
-mod tests;
+ghost use Rattle.std.specs.Prelude.{◌<◌, IfSome};
 
-use std::io::Write;
+use exchange_commands::{check, replay, serve};
+use script_lines::decimal;
 use std::process::ExitCode;
 use std::rt::Files;
 use std::{env, fs, io};
@@ -59,8 +44,10 @@ fn refuse_arguments<R: Eprint + Print>(rt: &R, error: &io::Error) -> u8 {
 }
 
 // A number of turns: decimal digits, from 1 on.
-fn turns_of(word: &str) -> Option<u32> {
-    let turns = script::decimal(word.as_bytes())?;
+fn turns_of(word: &str) -> Option<u32>
+    ensures { IfSome result (λ turns. 0 < turns) }
+{
+    let turns = decimal(word.as_bytes())?;
     if turns == 0 {
         return None;
     }
@@ -84,7 +71,7 @@ fn main(rt: HostRuntime) -> ExitCode {
             let Some(plan) = octets_of(&rt, plan.as_str()) else {
                 return ExitCode::from(1);
             };
-            check::check(rt.alloc(), &plan, &mut io::writer(&rt))
+            check(rt.alloc(), &plan, &mut io::writer(&rt))
         }
         [_, command, plan, script] if command.as_str() == "replay" => {
             let Some(plan) = octets_of(&rt, plan.as_str()) else {
@@ -93,7 +80,7 @@ fn main(rt: HostRuntime) -> ExitCode {
             let Some(script) = octets_of(&rt, script.as_str()) else {
                 return ExitCode::from(1);
             };
-            replay::replay(&rt, rt.alloc(), &plan, &script, &mut io::writer(&rt))
+            replay(&rt, rt.alloc(), &plan, &script, &mut io::writer(&rt))
         }
         [_, command, plan, turns] if command.as_str() == "serve" => {
             let Some(turns) = turns_of(turns.as_str()) else {
@@ -103,7 +90,7 @@ fn main(rt: HostRuntime) -> ExitCode {
             let Some(plan) = octets_of(&rt, plan.as_str()) else {
                 return ExitCode::from(1);
             };
-            serve::serve(&rt, rt.alloc(), &plan, turns, &mut io::writer(&rt))
+            serve(&rt, rt.alloc(), &plan, turns, &mut io::writer(&rt))
         }
         _ => {
             let _ = eprintln!(rt; "{USAGE}");

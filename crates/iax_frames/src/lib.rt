@@ -23,6 +23,3 @@ pub use reading::read;
 pub use stored_frame::{Frame, Payload};
 pub use trunk_frame::{Entries, Trunk};
 pub use video_frame::Video;
-
-#[cfg(test)]
-mod tests;

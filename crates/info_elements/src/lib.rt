@@ -15,6 +15,3 @@ pub use numbers::{
 };
 pub use reading::elements;
 pub use writing::{append, append_to};
-
-#[cfg(test)]
-mod tests;

@@ -12,6 +12,3 @@ pub use share::Share;
 pub use shares::{gather, pass_on, supply};
 pub use std::sync::ledger::Blank;
 pub use supplied::{Missing, Supply, SupplyError};
-
-#[cfg(test)]
-mod tests;

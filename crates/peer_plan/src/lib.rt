@@ -18,6 +18,3 @@ pub use error::PlanError;
 pub use key::Key;
 pub use number_range::NumberRange;
 pub use plan::Plan;
-
-#[cfg(test)]
-mod tests;

@@ -6,6 +6,3 @@ mod queue;
 
 pub use held_frame::Held;
 pub use queue::{NoPlace, Resend};
-
-#[cfg(test)]
-mod tests;

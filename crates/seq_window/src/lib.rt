@@ -12,6 +12,3 @@ pub use errors::{RecordError, SendError};
 pub use history::{EntryView, FrameView, Record};
 pub use judgements::{Acknowledged, Received, Resent};
 pub use sliding_window::Window;
-
-#[cfg(test)]
-mod tests;

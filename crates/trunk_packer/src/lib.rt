@@ -6,6 +6,3 @@ mod pieces;
 mod stored;
 
 pub use packer::{Packer, QueueError};
-
-#[cfg(test)]
-mod tests;

@@ -9,14 +9,13 @@ mod running;
 mod seat;
 mod sending;
 mod sources;
-#[cfg(test)]
-mod tests;
 mod threads;
 mod turning;
 mod wire;
 mod worker;
 
 pub use mio_wire::{BindError, MioWire};
+pub use peer_counts::PeerCounts;
 pub use report::TurnReport;
 pub use seat::{Place, Post, Seat};
 pub use sources::{Challenges, Moments};

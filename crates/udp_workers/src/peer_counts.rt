@@ -1,4 +1,4 @@
-//! A count for each peer of a wire.
+//! A count for each peer of a wire, for what implements `Wire`.
 ghost use Rattle.std.specs.Prelude.{◌≡◌, ◌≢◌, Contains, IfOk, length, position};
 ghost use Rattle.peer_plan.specs.Reading.{is_endpoint};
 ghost use Rattle.peer_plan.specs.declared.endpoint.Endpoint.{Endpoint};
@@ -7,20 +7,20 @@ ghost use Rattle.udp_workers.specs.Counts.{RisesBy};
 use peer_plan::Endpoint;
 use std::alloc::{AllocError, Global};
 
-/// The endpoints of peers, and how many datagrams were for each, modulo 2^64.
+/// The endpoints of the peers of a wire, and how many datagrams were for each, modulo 2^64.
 #[derive(Drop)]
-pub(crate) struct PeerCounts {
-    pub(crate) endpoints: Vec<Endpoint>,
-    // By peer.
-    pub(crate) counts: Vec<u64>,
+pub struct PeerCounts {
+    pub endpoints: Vec<Endpoint>,
+    /// By peer.
+    pub counts: Vec<u64>,
     ghost by_peer: { length counts.items ≡ length endpoints.items },
 }
 
 impl PeerCounts {
     ghost use Rattle.udp_workers.specs.PeerCounts.{count_of};
 
-    // No datagram was for any of them yet. At an `Err` the list is dropped.
-    pub(crate) fn new(alloc: Global, endpoints: Vec<Endpoint>) -> Result<PeerCounts, AllocError>
+    /// No datagram was for any of them yet. At an `Err` the list is dropped.
+    pub fn new(alloc: Global, endpoints: Vec<Endpoint>) -> Result<PeerCounts, AllocError>
         ensures endpoints { IfOk result (λ made. made.endpoints ≡ endpoints) }
         ensures none { IfOk result (λ made. (to : Endpoint) → count_of made to ≡ 0) }
     {
@@ -28,8 +28,8 @@ impl PeerCounts {
         Ok(PeerCounts { endpoints, counts })
     }
 
-    // Counts a datagram for an endpoint.
-    pub(crate) fn count(&mut self, to: Endpoint)
+    /// Counts a datagram for an endpoint.
+    pub fn count(&mut self, to: Endpoint)
         ensures to { Contains self.old.endpoints.items to → RisesBy (count_of self.old to) (count_of self.new to) 1 }
         ensures others { (other : Endpoint) → other ≢ to → count_of self.new other ≡ count_of self.old other }
         ensures endpoints { self.new.endpoints ≡ self.old.endpoints }
@@ -39,8 +39,8 @@ impl PeerCounts {
         }
     }
 
-    // How many datagrams were for an endpoint, modulo 2^64; 0 if no peer has it.
-    pub(crate) fn get(&self, to: Endpoint) -> u64
+    /// How many datagrams were for an endpoint, modulo 2^64; 0 if no peer has it.
+    pub fn get(&self, to: Endpoint) -> u64
         ensures { result ≡ count_of self.now to }
     {
         match place_of(&self.endpoints, to) {

@@ -1,7 +1,0 @@
-use Rattle.exchange_main.proofs.tests.opened.try_on.Given as goal
-
-abbrev pub ghosts-play_named-O-Ledger : goal.ghosts-play_named-O-Ledger
-ghosts-play_named-O-Ledger g a = record { name = a.octets.name; parts = a.octets.parts }
-
-abbrev pub ghosts-play_named-T-Ledger : goal.ghosts-play_named-T-Ledger
-ghosts-play_named-T-Ledger g a = record { name = a.steps.name; parts = a.steps.parts }

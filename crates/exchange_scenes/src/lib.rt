@@ -1,0 +1,13 @@
+//! What tests of an exchange share: plans, lines that are given to an exchange, and its recovery: every leg is got rid of, and the accounts
+//! are closed.
+#![tactic(auto)]
+
+mod lines;
+pub mod plans;
+mod recovery;
+
+pub use lines::{
+    EAST_PLACE, LONGEST, WEST_PLACE, call, give_all, hang_up, hear, octets_of, place_of, status,
+    take_out, tick,
+};
+pub use recovery::{NUMBERS, recovers, settled, status_of};

@@ -1,0 +1,159 @@
+//! What holds of an exchange whatever befell it: every leg can be got rid of, a caller gets a number, and the accounts balance.
+
+use crate::lines::{EAST_PLACE, WEST_PLACE, hang_up, hear, status, tick};
+use exchange_core::{Exchange, NoGate, SettleError, Settlement};
+use peer_lock::{Naming, OrderError, Pass, Status};
+use std::sync::Wait;
+
+/// The greatest number of the plans.
+pub const NUMBERS: u16 = 8;
+
+/// A NEW for 200 from call number 99.
+const LATE_NEW: &[u8] = &[
+    0x80, 99, 0, 0, 0, 0, 0, 0, 0, 0, 6, 1, 0x0b, 2, 0, 2, 1, 3, 0x32, 0x30, 0x30, 9, 4, 0, 0, 0,
+    4, 8, 4, 0, 0, 0, 4,
+];
+
+/// How the leg of a number stands, at whatever peer. `None` where there is none.
+pub fn status_of<R: Wait, J: Naming>(
+    rt: &R,
+    exchange: &Exchange<NoGate, J>,
+    pass: &mut Pass<J>,
+    number: u16,
+) -> Option<Status> {
+    let peer = if number <= 4 { WEST_PLACE } else { EAST_PLACE };
+    status(rt, exchange, pass, peer, number)
+}
+
+// The leg hangs up, or is past that. A growth that is refused is asked for again.
+fn hangs_up<R: Wait, J: Naming>(
+    rt: &R,
+    exchange: &Exchange<NoGate, J>,
+    pass: &mut Pass<J>,
+    status: &Status,
+    now: u64,
+) -> bool {
+    for _ in 0..2 {
+        match hang_up(rt, exchange, pass, status.name, now) {
+            Some(Ok(_)) => return true,
+            Some(Err(OrderError::WrongStage)) => return true,
+            Some(Err(OrderError::Memory)) => {}
+            _ => return false,
+        }
+    }
+    true
+}
+
+// Each leg hangs up.
+fn all_hang_up<R: Wait, J: Naming>(
+    rt: &R,
+    exchange: &Exchange<NoGate, J>,
+    pass: &mut Pass<J>,
+    now: u64,
+) -> bool {
+    for number in 1..=NUMBERS {
+        if let Some(status) = status_of(rt, exchange, pass, number) {
+            if !hangs_up(rt, exchange, pass, &status, now) {
+                return false;
+            }
+        }
+    }
+    true
+}
+
+// Retries run out within twenty seconds, and nobody answers. The moment after them.
+fn wait_out<R: Wait, J: Naming>(
+    rt: &R,
+    exchange: &Exchange<NoGate, J>,
+    pass: &mut Pass<J>,
+    now: u64,
+) -> u64 {
+    let mut moment = now;
+    for _ in 0..20 {
+        moment = moment.saturating_add(1000);
+        let _west = tick(rt, exchange, pass, WEST_PLACE, moment);
+        let _east = tick(rt, exchange, pass, EAST_PLACE, moment);
+    }
+    moment
+}
+
+// How many legs have a number from the first on, to the last.
+fn legs_of<R: Wait, J: Naming>(
+    rt: &R,
+    exchange: &Exchange<NoGate, J>,
+    pass: &mut Pass<J>,
+    first: u16,
+    last: u16,
+) -> u16 {
+    let mut legs = 0u16;
+    for number in first..=last {
+        if status_of(rt, exchange, pass, number).is_some() {
+            legs = legs.saturating_add(1);
+        }
+    }
+    legs
+}
+
+// A caller is let in. A growth that is refused is asked for again.
+fn is_let_in<R: Wait, J: Naming>(
+    rt: &R,
+    exchange: &Exchange<NoGate, J>,
+    pass: &mut Pass<J>,
+    now: u64,
+) -> bool {
+    for _ in 0..2 {
+        match hear(rt, exchange, pass, WEST_PLACE, LATE_NEW, now) {
+            Some(answer) => {
+                if answer.refused.is_none() {
+                    return true;
+                }
+            }
+            None => return false,
+        }
+    }
+    false
+}
+
+/// Every leg is hung up and waited for; then none is left, and a caller gets a number. Whether all that is so.
+pub fn recovers<R: Wait, J: Naming>(
+    rt: &R,
+    exchange: &Exchange<NoGate, J>,
+    pass: &mut Pass<J>,
+    now: u64,
+) -> bool {
+    if !all_hang_up(rt, exchange, pass, now) {
+        return false;
+    }
+    let later = wait_out(rt, exchange, pass, now);
+    if legs_of(rt, exchange, pass, 1, NUMBERS) != 0 {
+        return false;
+    }
+    is_let_in(rt, exchange, pass, later) && legs_of(rt, exchange, pass, 1, 4) == 1
+}
+
+// Whether each octet was packed, is queued or was dropped.
+fn balances<J: Naming>(settlement: &Settlement<J>) -> bool {
+    let left = settlement
+        .accepted
+        .checked_sub(settlement.packed)
+        .and_then(|left| left.checked_sub(settlement.queued))
+        .and_then(|left| left.checked_sub(settlement.dropped));
+    left == Some(0)
+}
+
+/// The accounts are closed. A growth that is refused is asked for again. `None` where a pass is missing, or they don't balance.
+pub fn settled<J: Naming>(
+    exchange: Exchange<NoGate, J>,
+    passes: Vec<Pass<J>>,
+) -> Option<Settlement<J>> {
+    let settlement = match exchange.settle(passes) {
+        Ok(settlement) => settlement,
+        Err((exchange, passes, SettleError::Memory)) => exchange.settle(passes).ok()?,
+        Err(_) => return None,
+    };
+    if balances(&settlement) {
+        Some(settlement)
+    } else {
+        None
+    }
+}

@@ -1,0 +1,314 @@
+//! A leg under test: full frames, orders and ticks come, octets go out.
+ghost use Rattle.std.specs.Prelude.{◌≡◌, ◌≤◌, [], length, IfSome};
+ghost use Rattle.leg_machine.specs.OrderTable.{IsShortMedia};
+
+use call_auth::Challenge;
+use iax_frames::{CallNumber, Datagram, Full, read};
+use leg_machine::{
+    Cause, Digit, Format, Heard, Judged, Leg, Order, OrderError, Replies, Signal, Stage, StepError,
+};
+use peer_plan::{Plan, PlanError};
+use std::alloc::Global;
+use std::process::Abort;
+use std::test::Fail;
+
+/// A NEW for 200 from call number 7.
+pub const NEW_200: &str = "8007000000000000000006010b0200020103323030090400000004080400000004";
+
+/// A NEW for 300 from call number 7.
+pub const NEW_300: &str = "8007000000000000000006010b0200020103333030090400000004080400000004";
+
+/// A worker and a peer in the west, whose further lines come next.
+const WORKER_AND_WEST: &str = "[[worker]]\n\
+address = \"127.0.0.1\"\n\
+port = 4569\n\
+[[peer]]\n\
+name = \"west\"\n\
+address = \"127.0.0.1\"\n\
+port = 5001\n\
+worker = 0\n\
+formats = [\"ulaw\"]\n\
+numbers = 4\n";
+
+/// A peer in the east, whose further lines come next.
+const EAST: &str = "\n[[peer]]\n\
+name = \"east\"\n\
+address = \"127.0.0.1\"\n\
+port = 5002\n\
+worker = 0\n\
+formats = [\"ulaw\"]\n\
+numbers = 4\n";
+
+/// A route to the east.
+const ROUTE: &str = "\n[[route]]\n\
+prefix = \"3\"\n\
+peer = \"east\"\n";
+
+/// A plan of a peer in the west and one in the east, with further lines at its top and for each of both.
+pub fn plan_of(alloc: Global, top: &str, west: &str, east: &str) -> Result<Plan, PlanError> {
+    let mut text = String::new(alloc);
+    for part in [
+        "format = 2\n",
+        top,
+        "\n",
+        WORKER_AND_WEST,
+        west,
+        EAST,
+        east,
+        ROUTE,
+    ] {
+        text.push_str(part)?;
+    }
+    Plan::read(alloc, text.as_bytes())
+}
+
+/// The octets of a text, asked for once more where memory is refused.
+pub fn octets_of(alloc: Global, text: &str) -> Result<Vec<u8>, Fail> {
+    match hex::decode(alloc, text) {
+        Ok(octets) => Ok(octets),
+        Err(_) => Ok(hex::decode(alloc, text)?),
+    }
+}
+
+/// The full frame of a datagram.
+pub fn full_of(octets: &[u8]) -> Option<Full<'_>>
+    ensures { IfSome result (λ frame. length frame.payload ≤ 1388) }
+{
+    let Ok(Datagram::Full(frame)) = read(octets) else {
+        return None;
+    };
+    if frame.payload().len() > 1388 {
+        return None;
+    }
+    Some(frame)
+}
+
+/// A leg, and the list to which it writes.
+#[derive(Drop)]
+pub struct Tested {
+    pub alloc: Global,
+    pub leg: Leg,
+    pub replies: Box<Replies>,
+}
+
+/// The leg of the peer in the west that a NEW opens at moment 0, under local number 1, if there is memory for it.
+pub fn opened(alloc: Global, plan: &Plan, new: &str, challenge: &[u8]) -> Option<(Tested, Heard)> {
+    let octets = hex::decode(alloc, new).ok()?;
+    let frame = full_of(&octets)?;
+    let challenge = Challenge::new(challenge)?;
+    if frame.oseqno() != 0 {
+        return None;
+    }
+    if plan.peer_count() == 0 {
+        return None;
+    }
+    let mut replies = Box::new(alloc, Replies::new()).ok()?;
+    let number = CallNumber::new(1);
+    let (leg, heard) = Leg::open_in_into(
+        alloc,
+        plan.rules(0),
+        number,
+        &frame,
+        0,
+        &challenge,
+        &mut replies,
+    )
+    .ok()?;
+    let tested = Tested {
+        alloc,
+        leg,
+        replies,
+    };
+    Some((tested, heard))
+}
+
+/// The same, where there must be memory.
+pub fn called(
+    alloc: Global,
+    plan: &Plan,
+    new: &str,
+    challenge: &[u8],
+) -> Result<(Tested, Heard), Fail> {
+    match opened(alloc, plan, new, challenge) {
+        Some(called) => Ok(called),
+        None => Err(Fail::new("no leg was opened")),
+    }
+}
+
+/// The leg of the peer in the east that a call for 300 opens at moment 0, under local number 5.
+pub fn calling(alloc: Global, plan: &Plan) -> Result<Tested, Fail> {
+    if plan.peer_count() < 2 {
+        return Err(Fail::new("no peer in the east"));
+    }
+    let mut replies = Box::new(alloc, Replies::new())?;
+    let leg = Leg::open_out_into(
+        alloc,
+        plan.rules(1),
+        CallNumber::new(5),
+        b"300",
+        None,
+        Format::Ulaw,
+        0,
+        &mut replies,
+    )?;
+    Ok(Tested {
+        alloc,
+        leg,
+        replies,
+    })
+}
+
+/// What the layer above asks of a leg.
+#[derive(Drop)]
+pub enum Wish<'a> {
+    Accept,
+    Reject(Cause),
+    Answer,
+    /// The digit 5.
+    Digit,
+    Media(&'a [u8]),
+    Hangup,
+    Doom,
+}
+
+/// What happens to a leg, and what comes of it beside the datagrams.
+#[derive(Drop)]
+pub enum Event<'a> {
+    /// A full frame comes: how it is judged, and what is handed up.
+    Frame(&'a str, Judged, Option<Signal>),
+    /// An order is given, and refused or not.
+    Order(Wish<'a>, Result<(), OrderError>),
+}
+
+/// A line of a worked example: the moment, what happens, the datagrams that go out, and the stage after.
+#[derive(Drop)]
+pub struct Line<'a> {
+    pub at: u64,
+    pub event: Event<'a>,
+    pub said: &'a [&'a str],
+    pub stage: Stage,
+}
+
+impl Tested {
+    /// A full frame is given to the leg.
+    pub fn takes(&mut self, frame: &Full, at: u64) -> Result<Heard, StepError>
+        requires { length frame.now.payload ≤ 1388 }
+    {
+        self.replies.clear();
+        self.leg.full_into(frame, at, &mut self.replies)
+    }
+
+    /// A full frame comes.
+    pub fn hears(&mut self, at: u64, text: &str) -> Result<Heard, Fail> {
+        let octets = hex::decode(self.alloc, text)?;
+        let Some(frame) = full_of(&octets) else {
+            return Err(Fail::new("no full frame"));
+        };
+        Ok(self.takes(&frame, at)?)
+    }
+
+    /// An order is given.
+    pub fn obeys(&mut self, at: u64, order: &Order) -> Result<(), OrderError>
+        requires { IsShortMedia order.now }
+    {
+        self.replies.clear();
+        self.leg.order_into(order, at, &mut self.replies)
+    }
+
+    /// Something is asked of the leg.
+    pub fn grants(&mut self, at: u64, wish: &Wish) -> Result<(), OrderError> {
+        match wish {
+            Wish::Accept => self.obeys(at, &Order::Accept),
+            Wish::Reject(cause) => self.obeys(at, &Order::Reject(*cause)),
+            Wish::Answer => self.obeys(at, &Order::Answer),
+            Wish::Digit => self.obeys(at, &Order::Dtmf(Digit::new(0x35))),
+            Wish::Media(media) => self.sends(at, media),
+            Wish::Hangup => self.obeys(at, &Order::Hangup),
+            Wish::Doom => self.obeys(at, &Order::Doom),
+        }
+    }
+
+    /// Media is to go out.
+    pub fn sends(&mut self, at: u64, media: &[u8]) -> Result<(), OrderError> {
+        if media.is_empty() {
+            return Err(OrderError::WrongStage);
+        }
+        if media.len() > 1380 {
+            return Err(OrderError::WrongStage);
+        }
+        self.obeys(at, &Order::Media(media))
+    }
+
+    /// Time goes on. Answers how many frames had no memory.
+    pub fn waits(&mut self, at: u64) -> u32 {
+        self.replies.clear();
+        self.leg.tick_into(at, &mut self.replies)
+    }
+
+    /// These datagrams went out in the last step, and no other.
+    pub fn said(&self, rt: &impl Abort, expected: &[&str]) -> Result<(), Fail> {
+        assert_eq!(rt; self.replies.len(), expected.len());
+        for (place, text) in expected.iter().enumerate() {
+            let octets = octets_of(self.alloc, text)?;
+            let Some(out) = self.replies.get(place) else {
+                return Err(Fail::new("too few datagrams"));
+            };
+            assert_eq!(rt; out.octets(), octets.as_slice(), "datagram {place}");
+        }
+        Ok(())
+    }
+
+    /// What happens in a line, happens so.
+    pub fn happens(&mut self, rt: &impl Abort, at: u64, event: &Event) -> Result<(), Fail> {
+        match event {
+            Event::Frame(text, judged, signal) => {
+                let heard = self.hears(at, text)?;
+                assert_eq!(rt; heard.judged, *judged);
+                assert_eq!(rt; heard.signal, *signal);
+            }
+            Event::Order(wish, answer) => {
+                assert_eq!(rt; self.grants(at, wish), *answer);
+            }
+        }
+        Ok(())
+    }
+
+    /// All that happens, line by line.
+    pub fn plays(&mut self, rt: &impl Abort, lines: &[Line]) -> Result<(), Fail> {
+        for line in lines {
+            self.happens(rt, line.at, &line.event)?;
+            self.said(rt, line.said)?;
+            assert_eq!(rt; self.leg.stage(), line.stage);
+        }
+        Ok(())
+    }
+}
+
+/// A leg of a NEW for 300 accepts the call at moment 0, gets the acknowledgement, and answers at 20.
+pub const ANSWERING: [Line<'static>; 3] = [
+    Line {
+        at: 0,
+        event: Event::Order(Wish::Accept, Ok(())),
+        said: &["800100070000000000010607090400000004"],
+        stage: Stage::Linked,
+    },
+    Line {
+        at: 10,
+        event: Event::Frame("800700010000000001010604", Judged::Unnumbered, None),
+        said: &[],
+        stage: Stage::Linked,
+    },
+    Line {
+        at: 20,
+        event: Event::Order(Wish::Answer, Ok(())),
+        said: &["800100070000001401010404"],
+        stage: Stage::Up,
+    },
+];
+
+/// The leg of a NEW for 300 that answered the call.
+pub fn answered(rt: &impl Abort, alloc: Global, plan: &Plan) -> Result<Tested, Fail> {
+    let (mut tested, _) = called(alloc, plan, NEW_300, b"0")?;
+    tested.plays(rt, &ANSWERING)?;
+    Ok(tested)
+}

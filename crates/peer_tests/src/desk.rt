@@ -1,0 +1,305 @@
+//! A peer under test: datagrams come, legs are opened, time goes on, and the outbox is emptied.
+ghost use Rattle.std.specs.Prelude.{◌≡◌, ◌↔◌, IfSome, IsTrue};
+ghost use Rattle.peer_lock.specs.Openings.{IsOpening};
+ghost use Rattle.peer_lock.specs.Unworked.{IsCutFrame};
+
+use call_auth::Challenge;
+use call_book::{CallBook, Lease};
+use iax_frames::{Datagram, Full, read};
+use info_elements::elements;
+use leg_machine::{Message, Stage};
+use media_ledger::{Blank, supply};
+use peer_lock::{Naming, Onwards, OpenError, Pass, PeerError, PeerState, Step};
+use peer_plan::{Plan, PlanError};
+use std::alloc::Global;
+use std::marker::PhantomData;
+use std::process::Abort;
+use std::sync::ledger::Ledger;
+use std::test::Fail;
+
+/// A NEW for 200 from call number 7.
+pub const NEW_200: &str = "8007000000000000000006010b0200020103323030090400000004080400000004";
+
+/// A NEW for 300 from call number 7.
+pub const NEW_300: &str = "8007000000000000000006010b0200020103333030090400000004080400000004";
+
+/// More credit than any test needs.
+pub const PLENTY: u64 = 1 << 48;
+
+/// The naming of a test: each peer begins with so many octets and steps.
+pub struct Lent<O, S, const OCTETS: u64, const STEPS: u64> {
+    pub octets: PhantomData<O>,
+    pub steps: PhantomData<S>,
+}
+
+impl<O: Ledger + Send + Sync, S: Ledger + Send + Sync, const OCTETS: u64, const STEPS: u64> Naming
+    for Lent<O, S, OCTETS, STEPS> {
+    type Octets = O;
+
+    type Steps = S;
+
+    ghost first_octets = { OCTETS };
+
+    ghost first_steps = { STEPS };
+}
+
+/// A peer, with the book, the one pass, and the list of what is handed up.
+#[derive(Drop)]
+pub struct Desk<J: Naming> {
+    pub alloc: Global,
+    pub book: CallBook,
+    pub state: PeerState<J>,
+    pub pass: Pass<J>,
+    pub onwards: Onwards,
+}
+
+/// A plan of a peer in the west, whose further lines come next.
+const UNTIL_WEST: &str = "format = 1\n\
+[[worker]]\n\
+address = \"127.0.0.1\"\n\
+port = 4569\n\
+[[peer]]\n\
+name = \"west\"\n\
+address = \"127.0.0.1\"\n\
+port = 5001\n\
+worker = 0\n\
+formats = [\"ulaw\"]\n\
+numbers = 4\n";
+
+/// A peer in the east.
+const EAST: &str = "\n[[peer]]\n\
+name = \"east\"\n\
+address = \"127.0.0.1\"\n\
+port = 5002\n\
+worker = 0\n\
+formats = [\"ulaw\"]\n\
+numbers = 4\n";
+
+/// A plan of a peer in the west and one in the east, with further lines for the first.
+pub fn plan_of(alloc: Global, west: &str) -> Result<Plan, PlanError> {
+    let mut text = String::new(alloc);
+    for part in [UNTIL_WEST, west, EAST] {
+        text.push_str(part)?;
+    }
+    Plan::read(alloc, text.as_bytes())
+}
+
+/// The peer at a place of the plan, without a leg, if there is memory for the shares of its credit. For the peer and the book memory
+/// is asked for once more, where it is refused.
+pub fn opened<
+    O: Ledger + Send + Sync,
+    S: Ledger + Send + Sync,
+    const OCTETS: u64,
+    const STEPS: u64,
+>(
+    alloc: Global,
+    plan: &Plan,
+    peer: u16,
+    octets: Blank,
+    steps: Blank,
+) -> Option<Desk<Lent<O, S, OCTETS, STEPS>>>
+    requires octets { (octets.name ≡ O.name) × (octets.parts ≡ O.parts) × (octets.parts ≡ 2) }
+    requires steps { (steps.name ≡ S.name) × (steps.parts ≡ S.parts) × (steps.parts ≡ 2) }
+{
+    let (_, mut octets) = supply::<O>(alloc, octets, &[OCTETS, 0]).ok()?;
+    let (_, mut steps) = supply::<S>(alloc, steps, &[STEPS, 0]).ok()?;
+    let (no_octets, octets) = (octets.pop()?, octets.pop()?);
+    let (no_steps, steps) = (steps.pop()?, steps.pop()?);
+    if octets.amount() != OCTETS {
+        return None;
+    }
+    if steps.amount() != STEPS {
+        return None;
+    }
+    if plan.peer_count() <= peer {
+        return None;
+    }
+    let range = plan.range(peer);
+    if range.count == 0 {
+        return None;
+    }
+    if range.count > 512 {
+        return None;
+    }
+    let rules = plan.rules(peer);
+    let (first, count) = (range.first, range.count);
+    let state = match PeerState::new(alloc, peer, rules, first, count, octets, steps) {
+        Ok(state) => state,
+        Err((octets, steps, _)) => {
+            PeerState::new(alloc, peer, rules, first, count, octets, steps).ok()?
+        }
+    };
+    let book = match CallBook::new(alloc, &[4, 4], 0) {
+        Ok(book) => book,
+        Err(_) => CallBook::new(alloc, &[4, 4], 0).ok()?,
+    };
+    Some(Desk {
+        alloc,
+        book,
+        state,
+        pass: Pass::new(no_octets, no_steps),
+        onwards: Onwards::new(alloc),
+    })
+}
+
+/// The same, where there must be memory.
+pub fn desk_of<
+    O: Ledger + Send + Sync,
+    S: Ledger + Send + Sync,
+    const OCTETS: u64,
+    const STEPS: u64,
+>(
+    alloc: Global,
+    plan: &Plan,
+    peer: u16,
+    octets: Blank,
+    steps: Blank,
+) -> Result<Desk<Lent<O, S, OCTETS, STEPS>>, Fail>
+    requires octets { (octets.name ≡ O.name) × (octets.parts ≡ O.parts) × (octets.parts ≡ 2) }
+    requires steps { (steps.name ≡ S.name) × (steps.parts ≡ S.parts) × (steps.parts ≡ 2) }
+{
+    match opened(alloc, plan, peer, octets, steps) {
+        Some(desk) => Ok(desk),
+        None => Err(Fail::new("no peer")),
+    }
+}
+
+/// Whether the last element of an IAX frame passes the end.
+pub fn is_cut(frame: &Full) -> bool
+    ensures { IsTrue result ↔ IsCutFrame frame.now }
+{
+    if frame.frame_type() != 6 {
+        return false;
+    }
+    match elements(frame.payload()) {
+        Ok(_) => false,
+        Err(_) => true,
+    }
+}
+
+/// The NEW of a datagram that opens a leg.
+pub fn opening_of(octets: &[u8]) -> Option<Full<'_>>
+    ensures { IfSome result IsOpening }
+{
+    let Ok(Datagram::Full(frame)) = read(octets) else {
+        return None;
+    };
+    if frame.payload().len() > 1388 {
+        return None;
+    }
+    if frame.source().get() == 0 {
+        return None;
+    }
+    if frame.destination().get() != 0 {
+        return None;
+    }
+    if frame.oseqno() != 0 {
+        return None;
+    }
+    if is_cut(&frame) {
+        return None;
+    }
+    match Message::of(&frame) {
+        Message::New => Some(frame),
+        _ => None,
+    }
+}
+
+/// The octets of a text, asked for once more where memory is refused.
+pub fn octets_of(alloc: Global, text: &str) -> Result<Vec<u8>, Fail> {
+    match hex::decode(alloc, text) {
+        Ok(octets) => Ok(octets),
+        Err(_) => Ok(hex::decode(alloc, text)?),
+    }
+}
+
+impl<J: Naming> Desk<J> {
+    /// A datagram is given to the peer.
+    pub fn takes(&mut self, octets: &[u8], at: u64) -> Result<Step, PeerError> {
+        self.onwards.clear();
+        self.state
+            .datagram(&mut self.pass, octets, at, &mut self.onwards)
+    }
+
+    /// A datagram comes.
+    pub fn comes(&mut self, at: u64, text: &str) -> Option<Result<Step, PeerError>> {
+        let octets = hex::decode(self.alloc, text).ok()?;
+        Some(self.takes(&octets, at))
+    }
+
+    /// A NEW that came opens a leg under the lease.
+    pub fn opens(
+        &mut self,
+        text: &str,
+        lease: Lease,
+        challenge: &[u8],
+    ) -> Option<Result<Step, (Lease, OpenError)>> {
+        let octets = hex::decode(self.alloc, text).ok()?;
+        let frame = opening_of(&octets)?;
+        self.opens_for(&frame, lease, challenge)
+    }
+
+    /// The NEW opens a leg under the lease.
+    pub fn opens_for(
+        &mut self,
+        frame: &Full,
+        lease: Lease,
+        challenge: &[u8],
+    ) -> Option<Result<Step, (Lease, OpenError)>>
+        requires { IsOpening frame.now }
+    {
+        let challenge = Challenge::new(challenge)?;
+        self.onwards.clear();
+        let (pass, onwards) = (&mut self.pass, &mut self.onwards);
+        Some(
+            self.state
+                .open_in(pass, lease, frame, 0, &challenge, onwards),
+        )
+    }
+
+    /// A NEW that came opens a leg under the next lease of the book's first peer. Answers the leg's number.
+    pub fn opens_next(&mut self, text: &str, challenge: &[u8]) -> Option<u16> {
+        let Ok(lease) = self.book.reserve(0) else {
+            return None;
+        };
+        match self.opens(text, lease, challenge) {
+            Some(Ok(step)) => match step.touched {
+                Some(name) => Some(name.number),
+                None => None,
+            },
+            Some(Err(_)) => None,
+            None => None,
+        }
+    }
+
+    /// The octets of the oldest datagram of the outbox.
+    pub fn oldest(&mut self) -> Option<String> {
+        match self.state.take_out() {
+            Some(out) => match hex::encode(self.alloc, out.octets()) {
+                Ok(text) => Some(text),
+                Err(_) => None,
+            },
+            None => None,
+        }
+    }
+
+    /// These datagrams are in the outbox, and no other.
+    pub fn said(&mut self, rt: &impl Abort, expected: &[&str]) {
+        for text in expected {
+            let said = self.oldest();
+            assert!(rt; said.is_some());
+            if let Some(said) = said {
+                assert_eq!(rt; said.as_str(), *text);
+            }
+        }
+        assert!(rt; self.state.take_out().is_none());
+    }
+
+    /// The stage of the leg of a number.
+    pub fn stage(&self, number: u16) -> Option<Stage> {
+        match self.state.look(number) {
+            Some(status) => Some(status.stage),
+            None => None,
+        }
+    }
+}

@@ -1,0 +1,5 @@
+//! Tests of the plan: what is read of it, and its first fault.
+#![tactic(auto)]
+
+#[cfg(test)]
+mod plans;

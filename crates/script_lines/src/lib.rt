@@ -1,0 +1,6 @@
+//! The lines of a script for `replay`: what each asks for.
+#![tactic(auto)]
+
+mod lines;
+
+pub use lines::{Line, decimal, line_of};

@@ -1,0 +1,214 @@
+//! Datagrams as peers send them, and how they are spoilt by a fixed generator.
+
+use exchange_scenes::{LONGEST, WEST_PLACE};
+
+/// Numbers by xorshift: a fixed sequence for each seed that isn't 0.
+#[derive(Drop)]
+pub struct Dice {
+    seed: u64,
+}
+
+impl Dice {
+    pub fn new(seed: u64) -> Dice {
+        Dice { seed }
+    }
+
+    /// A number below the bound; 0 where that is 0.
+    pub fn below(&mut self, bound: u64) -> u64 {
+        self.seed ^= self.seed.wrapping_shl(13);
+        self.seed ^= self.seed >> 7;
+        self.seed ^= self.seed.wrapping_shl(17);
+        (self.seed >> 16).checked_rem(bound).unwrap_or(0)
+    }
+
+    /// A place below the bound.
+    pub fn place(&mut self, bound: usize) -> usize {
+        usize::try_from(self.below(bound as u64)).unwrap_or(0)
+    }
+}
+
+/// A datagram of at most 64 octets, and the peer that it comes from.
+#[derive(Clone, Copy)]
+pub struct Sent {
+    pub peer: u16,
+    octets: [u8; LONGEST],
+    len: usize,
+}
+
+impl Sent {
+    /// No octet yet.
+    pub fn of(peer: u16) -> Sent {
+        Sent {
+            peer,
+            octets: [0; LONGEST],
+            len: 0,
+        }
+    }
+
+    /// The octets behind those that are there; those past the 64th are left out.
+    pub fn with(self, octets: &[u8]) -> Sent {
+        let mut sent = self;
+        for octet in octets {
+            let len = sent.len;
+            if let Some(at) = sent.octets.get_mut(len) {
+                *at = *octet;
+                sent.len = len.saturating_add(1);
+            }
+        }
+        sent
+    }
+
+    pub fn octets(&self) -> &[u8] {
+        match self.octets.as_slice().split_at_checked(self.len) {
+            Some((octets, _)) => octets,
+            None => &[],
+        }
+    }
+
+    /// The octet at a place; 0 where there is none.
+    pub fn octet(&self, place: usize) -> u8 {
+        self.octets().get(place).copied().unwrap_or(0)
+    }
+
+    /// Whether it is a full frame ("Full Frames").
+    pub fn is_full(&self) -> bool {
+        self.octet(0) >= 0x80
+    }
+
+    /// The destination call number of a full frame.
+    pub fn destination(&self) -> u16 {
+        u16::from_be_bytes([self.octet(2) & 0x7f, self.octet(3)])
+    }
+
+    // One bit is turned.
+    fn with_turned_bit(self, dice: &mut Dice) -> Sent {
+        let mut sent = self;
+        let place = dice.place(sent.len);
+        let bit = dice.below(8);
+        if let Some(at) = sent.octets.get_mut(place) {
+            *at ^= 1u8.wrapping_shl(u32::try_from(bit).unwrap_or(0));
+        }
+        sent
+    }
+
+    // It ends earlier.
+    fn cut(self, dice: &mut Dice) -> Sent {
+        let len = dice.place(self.len);
+        Sent { len, ..self }
+    }
+
+    // Two octets are those of another datagram, or the peer is another.
+    fn crossed(self, other: &Sent, dice: &mut Dice) -> Sent {
+        let mut sent = self;
+        let place = dice.place(14);
+        if place >= 12 {
+            sent.peer = 1u16.saturating_sub(sent.peer);
+            return sent;
+        }
+        for near in [place, place.saturating_add(1)] {
+            if let Some(at) = sent.octets.get_mut(near) {
+                *at = other.octet(near);
+            }
+        }
+        sent
+    }
+
+    /// As it is in three of six cases; else a bit is turned, octets are cut, or fields are those of the other.
+    pub fn spoilt(self, other: &Sent, dice: &mut Dice) -> Sent {
+        match dice.below(6) {
+            0 => self.with_turned_bit(dice),
+            1 => self.cut(dice),
+            2 => self.crossed(other, dice),
+            _ => self,
+        }
+    }
+}
+
+/// What a peer knows of one of its calls, by our number of it.
+#[derive(Clone, Copy)]
+pub struct Call {
+    pub peer: u16,
+    pub number: u16,
+    /// The peer's number of the call; 0 where there is none.
+    pub source: u16,
+    /// The next OSeqno of the peer.
+    pub next: u8,
+    /// The next OSeqno that the peer expects.
+    pub expected: u8,
+}
+
+/// Type, subclass and data of what is sent on a call ("Full Frames"). What ends a call is rare among them.
+const FRAMES: [(u8, u8, &[u8]); 24] = [
+    // ACK, VNAK, PING, LAGRQ, POKE.
+    (6, 4, &[]),
+    (6, 4, &[]),
+    (6, 4, &[]),
+    (6, 4, &[]),
+    (6, 4, &[]),
+    (6, 0x12, &[]),
+    (6, 2, &[]),
+    (6, 0x0b, &[]),
+    (6, 0x1e, &[]),
+    // ACCEPT of mu-law, RINGING, ANSWER.
+    (6, 7, &[9, 4, 0, 0, 0, 4]),
+    (6, 7, &[9, 4, 0, 0, 0, 4]),
+    (4, 3, &[]),
+    (4, 4, &[]),
+    (4, 4, &[]),
+    // QUELCH, UNQUELCH, DTMF, voice.
+    (6, 0x1c, &[]),
+    (6, 0x1d, &[]),
+    (1, 0x35, &[]),
+    (1, 0x23, &[]),
+    (2, 4, &[0xee]),
+    (2, 4, &[0xff, 0xfe]),
+    // An unknown IAX frame, HANGUP, INVAL, BUSY.
+    (6, 0x3f, &[1]),
+    (6, 5, &[]),
+    (6, 0x0a, &[]),
+    (4, 5, &[]),
+];
+
+impl Call {
+    /// A full frame of the call.
+    pub fn full(&self, now: u64, dice: &mut Dice) -> Sent {
+        let (kind, subclass, octets) = match FRAMES.get(dice.place(FRAMES.len())) {
+            Some(frame) => *frame,
+            None => (6, 4, FRAMES[0].2),
+        };
+        let source = (self.source | 0x8000).to_be_bytes();
+        let timestamp = u32::try_from(now).unwrap_or(0).to_be_bytes();
+        Sent::of(self.peer)
+            .with(&source)
+            .with(&self.number.to_be_bytes())
+            .with(&timestamp)
+            .with(&[self.next, self.expected, kind, subclass])
+            .with(octets)
+    }
+
+    /// A mini frame of the call ("Mini Frames").
+    pub fn mini(&self) -> Sent {
+        Sent::of(self.peer)
+            .with(&self.source.to_be_bytes())
+            .with(&[0, 0x14, 0xaa, 0xbb, 0xcc])
+    }
+
+    /// A trunk frame of this call and another ("Meta Trunk Frames").
+    pub fn trunk(&self, other: &Call) -> Sent {
+        Sent::of(self.peer)
+            .with(&[0, 0, 1, 1, 0, 0, 0, 0x14, 0, 2])
+            .with(&self.source.to_be_bytes())
+            .with(&[0, 0x14, 0xaa, 0xbb, 0, 1])
+            .with(&other.source.to_be_bytes())
+            .with(&[0, 0x14, 0xcc])
+    }
+}
+
+/// A NEW of the west for 300.
+pub fn new_call(source: u16) -> Sent {
+    Sent::of(WEST_PLACE)
+        .with(&(source | 0x8000).to_be_bytes())
+        .with(&[0, 0, 0, 0, 0, 0, 0, 0, 6, 1])
+        .with(&[0x0b, 2, 0, 2, 1, 3, 0x33, 0x30, 0x30])
+        .with(&[9, 4, 0, 0, 0, 4, 8, 4, 0, 0, 0, 4])
+}

@@ -1,0 +1,288 @@
+//! A storm of datagrams on calls of all numbers: no leg changes but those concerned, and in the end all settles.
+
+ghost use Rattle.std.specs.Prelude.{◌≡◌, ◌+◌, ◌^◌, length};
+
+use crate::datagrams::{Call, Dice, Sent, new_call};
+use crate::legs::Legs;
+use exchange_core::{Answer, Exchange, NoGate, Refusal};
+use exchange_scenes::plans::PLAN;
+use exchange_scenes::{EAST_PLACE, WEST_PLACE, hear, recovers, settled, take_out, tick};
+use media_ledger::Blank;
+use peer_lock::{Naming, Pass, Service};
+use peer_plan::Plan;
+use std::alloc::Global;
+use std::marker::Brand;
+use std::process::Abort;
+use std::sync::Wait;
+use std::sync::ledger::Ledger;
+use std::test::*;
+
+/// How many datagrams the storm has.
+const DATAGRAMS: u64 = 100_000;
+
+/// What the peers know, and what was sent last.
+#[derive(Drop)]
+struct Peers {
+    dice: Dice,
+    // By our number, from 1 on.
+    calls: [Call; 8],
+    last: Sent,
+    late: Sent,
+}
+
+fn call_of(number: u16) -> Call {
+    Call {
+        peer: if number <= 4 { WEST_PLACE } else { EAST_PLACE },
+        number,
+        source: 0,
+        next: 0,
+        expected: 0,
+    }
+}
+
+impl Peers {
+    fn new() -> Peers {
+        Peers {
+            dice: Dice::new(0x2545_f491_4f6c_dd1d),
+            calls: [
+                call_of(1),
+                call_of(2),
+                call_of(3),
+                call_of(4),
+                call_of(5),
+                call_of(6),
+                call_of(7),
+                call_of(8),
+            ],
+            last: new_call(1),
+            late: new_call(2),
+        }
+    }
+
+    // One of the calls.
+    fn call(&mut self) -> Call {
+        let place = self.dice.place(self.calls.len());
+        self.calls.get(place).copied().unwrap_or(call_of(1))
+    }
+
+    // What one of the peers would send now.
+    fn real(&mut self, now: u64) -> Sent {
+        let call = self.call();
+        match self.dice.below(12) {
+            0 => new_call(u16::try_from(self.dice.below(40)).unwrap_or(0)),
+            1 => call.mini(),
+            2 => {
+                let other = self.call();
+                call.trunk(&other)
+            }
+            _ => call.full(now, &mut self.dice),
+        }
+    }
+
+    // The next datagram: one of the calls, as it is or spoilt; or the last one again; or one that was held up.
+    fn next(&mut self, now: u64) -> Sent {
+        let sent = match self.dice.below(16) {
+            0 => self.last,
+            1 => self.late,
+            _ => {
+                let real = self.real(now);
+                real.spoilt(&self.last, &mut self.dice)
+            }
+        };
+        if self.dice.below(16) == 0 {
+            self.late = self.last;
+        }
+        self.last = sent;
+        sent
+    }
+
+    // A peer learns from a full frame that it gets ("Message Transport").
+    fn learn(&mut self, octets: &[u8]) {
+        let [a, b, c, d, _, _, _, _, oseqno, iseqno, kind, subclass, ..] = octets else {
+            return;
+        };
+        if *a < 0x80 || *c >= 0x80 {
+            return;
+        }
+        let number = u16::from_be_bytes([*a & 0x7f, *b]);
+        let destination = u16::from_be_bytes([*c, *d]);
+        let is_numbered = *kind != 6 || !matches!(*subclass, 4 | 0x0a | 0x12);
+        if let Some(call) = self.calls.get_mut(usize::from(number.wrapping_sub(1))) {
+            call.source = if destination == 0 {
+                number.saturating_add(100)
+            } else {
+                destination
+            };
+            call.next = *iseqno;
+            call.expected = if is_numbered {
+                oseqno.wrapping_add(1)
+            } else {
+                *oseqno
+            };
+        }
+    }
+}
+
+// The peers get all that waits for them.
+fn deliver<R: Abort + Wait, J: Naming>(
+    rt: &R,
+    exchange: &Exchange<NoGate, J>,
+    pass: &mut Pass<J>,
+    peers: &mut Peers,
+) {
+    for peer in [WEST_PLACE, EAST_PLACE] {
+        for _ in 0..256 {
+            match take_out(rt, exchange, pass, peer) {
+                Some(out) => peers.learn(out.octets()),
+                None => break,
+            }
+        }
+    }
+}
+
+// These refusals no datagram meets: credit, serials and memory are ample, and a free number has no leg.
+fn is_expected(refusal: Refusal) -> bool {
+    !matches!(
+        refusal,
+        Refusal::Stranger
+            | Refusal::StepsSpent
+            | Refusal::SerialsSpent
+            | Refusal::NumberBusy
+            | Refusal::Memory
+    )
+}
+
+// A datagram comes. No leg changes but those that it concerns.
+fn hear_one<R: Abort + Wait, J: Naming>(
+    rt: &R,
+    exchange: &Exchange<NoGate, J>,
+    pass: &mut Pass<J>,
+    legs: &mut Legs,
+    sent: &Sent,
+    now: u64,
+) -> Answer {
+    let answer = hear(rt, exchange, pass, sent.peer, sent.octets(), now).expect(rt, "a peer");
+    let mut after = *legs;
+    after.look(rt, exchange, pass);
+    match answer.refused {
+        Some(refusal) => {
+            assert!(rt; is_expected(refusal), "{refusal:?}");
+            assert!(rt;
+                after.are(legs),
+                "a refused datagram changed a leg: {:?}",
+                sent.octets()
+            );
+        }
+        None => {
+            after.pair_new(legs);
+            assert!(rt;
+                after.differ_where_concerned(legs, sent),
+                "{:?}",
+                sent.octets()
+            );
+        }
+    }
+    after.part_gone();
+    *legs = after;
+    answer
+}
+
+// How much of the storm had an effect.
+#[derive(Drop)]
+struct Tally {
+    answered: u64,
+    retired: u64,
+}
+
+fn storm<R: Abort + Wait, J: Naming>(
+    rt: &R,
+    exchange: &Exchange<NoGate, J>,
+    pass: &mut Pass<J>,
+) -> Tally {
+    let mut peers = Peers::new();
+    let mut legs = Legs::none();
+    let mut tally = Tally {
+        answered: 0,
+        retired: 0,
+    };
+    for now in 0..DATAGRAMS {
+        let sent = peers.next(now);
+        let answer = hear_one(rt, exchange, pass, &mut legs, &sent, now);
+        if answer.refused.is_none() {
+            tally.answered = tally.answered.saturating_add(1);
+        }
+        tally.retired = tally.retired.saturating_add(answer.retired.len() as u64);
+        if now.is_multiple_of(250) {
+            let _west = tick(rt, exchange, pass, WEST_PLACE, now);
+            let _east = tick(rt, exchange, pass, EAST_PLACE, now);
+            legs.look(rt, exchange, pass);
+            legs.part_gone();
+        }
+        deliver(rt, exchange, pass, &mut peers);
+    }
+    tally
+}
+
+/// A hundred thousand datagrams, many of them spoilt.
+pub fn in_the_storm<R: Abort + Wait, J: Naming>(
+    rt: &R,
+    exchange: Exchange<NoGate, J>,
+    passes: Vec<Pass<J>>,
+) -> Result<(), Fail> {
+    let mut passes = passes;
+    let pass = passes.first_mut().ok_or("no pass")?;
+    let tally = storm(rt, &exchange, pass);
+    // The storm isn't all refusals.
+    assert!(rt;
+        tally.answered > DATAGRAMS / 4,
+        "{} answered",
+        tally.answered
+    );
+    assert!(rt; tally.retired > 1000, "{} retired", tally.retired);
+    assert!(rt; recovers(rt, &exchange, pass, DATAGRAMS));
+    let settlement = settled(exchange, passes).expect(rt, "balanced accounts");
+    assert!(rt; settlement.packed > 1000, "{} packed", settlement.packed);
+    Ok(())
+}
+
+// The storm on an exchange of two ledgers.
+fn storm_opened<R: Abort + Wait, J: Naming>(
+    rt: &R,
+    alloc: Global,
+    plan: Plan,
+    octets: Blank,
+    steps: Blank,
+) -> Result<(), Fail>
+    requires octets { (octets.name ≡ J.Octets.name) × (octets.parts ≡ J.Octets.parts) × (octets.parts ≡ length plan.peers + plan.passes) }
+    requires steps { (steps.name ≡ J.Steps.name) × (steps.parts ≡ J.Steps.parts) × (steps.parts ≡ length plan.peers + plan.passes) }
+    requires first { (J.first_octets ≡ 2 ^ 48) × (J.first_steps ≡ 2 ^ 48) }
+{
+    let (exchange, passes) = Exchange::<NoGate, J>::open(alloc, plan, NoGate, octets, steps)?;
+    in_the_storm(rt, exchange, passes)
+}
+
+// The same, by the ledgers that the caller names.
+fn storm_named<R: Abort + Wait, O: Ledger + Send + Sync, T: Ledger + Send + Sync>(
+    rt: &R,
+    alloc: Global,
+    plan: Plan,
+    octets: Blank,
+    steps: Blank,
+) -> Result<(), Fail>
+    requires octets { (octets.name ≡ O.name) × (octets.parts ≡ O.parts) × (octets.parts ≡ length plan.peers + plan.passes) }
+    requires steps { (steps.name ≡ T.name) × (steps.parts ≡ T.parts) × (steps.parts ≡ length plan.peers + plan.passes) }
+{
+    storm_opened::<R, Service<O, T>>(rt, alloc, plan, octets, steps)
+}
+
+// Opens an exchange of the plan, for the storm.
+fn storm_on_plan<R: Abort + Wait>(rt: &R, alloc: Global) -> Result<(), Fail> {
+    let plan = Plan::read(alloc, PLAN.as_bytes())?;
+    let parts = u64::from(plan.peer_count()) + u64::from(plan.passes());
+    storm_named::<R, Brand, Brand>(rt, alloc, plan, Blank::new(parts), Blank::new(parts))
+}
+
+#[test]
+fn storm_of_datagrams(rt: HostRuntime) -> Result<(), Fail> {
+    storm_on_plan(&rt, rt.alloc())
+}

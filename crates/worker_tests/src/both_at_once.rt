@@ -1,0 +1,179 @@
+//! Two workers are inside the sections of two peers at once.
+ghost use Rattle.std.specs.Prelude.{◌≡◌, ◌+◌, ◌^◌, length};
+
+use crate::memory_wire::MemoryWire;
+use crate::plans::TWO_WORKERS;
+use call_auth::Challenge;
+use exchange_core::{Exchange, Gate};
+use media_ledger::Blank;
+use peer_lock::{Naming, Pass, Service};
+use peer_plan::Plan;
+use std::alloc::Global;
+use std::marker::Brand;
+use std::sync::Wait;
+use std::sync::atomic::{AtomicBool, Ordering};
+use std::sync::ledger::Ledger;
+use std::test::Fail;
+use std::thread;
+use std::thread::Threads;
+use std::time::{Clock, Duration};
+use udp_workers::{Challenges, Moments, Post, Seat, Worker, run_all};
+
+// Which peers' sections were entered, and whether one waited in vain for the other.
+#[derive(Drop)]
+struct Entered {
+    west: AtomicBool,
+    east: AtomicBool,
+    in_vain: AtomicBool,
+}
+
+// Holds the first section of each peer until the other's was entered, 1,000 times a millisecond at most.
+#[derive(Drop)]
+struct Meeting<'a, R: Clock> {
+    rt: &'a R,
+    entered: &'a Entered,
+}
+
+impl<'a, R: Clock> Meeting<'a, R> {
+    fn meet(&self, own: &AtomicBool, other: &AtomicBool) {
+        if own.swap(true, Ordering::SeqCst) {
+            return;
+        }
+        for _ in 0..1000 {
+            if other.load(Ordering::SeqCst) {
+                return;
+            }
+            let _ = thread::sleep(self.rt, Duration::from_millis(1));
+        }
+        self.entered.in_vain.store(true, Ordering::SeqCst);
+    }
+}
+
+impl<'a, R: Clock> Gate for Meeting<'a, R> {
+    fn enter(&self, peer: u16) {
+        if peer == 0 {
+            self.meet(&self.entered.west, &self.entered.east);
+        } else {
+            self.meet(&self.entered.east, &self.entered.west);
+        }
+    }
+}
+
+// Moment 0.
+#[derive(Drop)]
+struct AtOnce;
+
+impl Moments for AtOnce {
+    fn now(&mut self) -> u64 {
+        0
+    }
+}
+
+// The challenge `0`.
+#[derive(Drop)]
+struct Zero(Challenge);
+
+impl Challenges for Zero {
+    fn draw(&mut self) -> Challenge {
+        self.0.copied()
+    }
+}
+
+type TestSeat<J, P> = Seat<MemoryWire, AtOnce, Zero, J, P>;
+
+// The seats of the workers of a plan, in its order, each over a wire in memory with a pass of its own.
+fn seats_of<J: Naming, P: Post>(
+    alloc: Global,
+    plan: &Plan,
+    passes: Vec<Pass<J>>,
+) -> Result<Vec<TestSeat<J, P>>, Fail>
+    requires { plan.now ≡ P.plan }
+{
+    let mut passes = passes;
+    let mut seats = Vec::new(alloc);
+    for place in 0..plan.workers().len() {
+        let (Some(pass), Some(challenge)) = (passes.pop(), Challenge::new(b"0")) else {
+            return Err(Fail::new("no pass or no challenge"));
+        };
+        let worker = Worker::new(plan, place as u16);
+        let endpoints = worker.endpoints(alloc, plan)?;
+        let wire = MemoryWire::new(alloc, endpoints, 0)?;
+        seats.push(Seat::new(worker, wire, pass, AtOnce, Zero(challenge)))?;
+    }
+    Ok(seats)
+}
+
+// Makes one turn of both workers, on an exchange of two ledgers. Gives how many workers made theirs.
+fn turn_both<J: Naming, P: Post + Send + Sync, R: Clock + Threads + Wait + Sync>(
+    rt: &R,
+    alloc: Global,
+    plan: Plan,
+    entered: &Entered,
+    octets: Blank,
+    steps: Blank,
+) -> Result<u64, Fail>
+    requires plan { plan ≡ P.plan }
+    requires octets { (octets.name ≡ J.Octets.name) × (octets.parts ≡ J.Octets.parts) × (octets.parts ≡ length plan.peers + plan.passes) }
+    requires steps { (steps.name ≡ J.Steps.name) × (steps.parts ≡ J.Steps.parts) × (steps.parts ≡ length plan.peers + plan.passes) }
+    requires first { (J.first_octets ≡ 2 ^ 48) × (J.first_steps ≡ 2 ^ 48) }
+{
+    let gate = Meeting { rt, entered };
+    let (exchange, passes) = Exchange::<_, J>::open(alloc, plan, gate, octets, steps)?;
+    let mut seats = seats_of::<J, P>(alloc, exchange.plan(), passes)?;
+    if seats.len() > 8 {
+        return Err(Fail::new("more than 8 workers"));
+    }
+    if run_all(rt, &exchange, &mut seats, 1).is_err() {
+        return Err(Fail::new("no thread"));
+    }
+    let mut turns: u64 = 0;
+    for seat in seats {
+        turns = turns.wrapping_add(seat.into_place().worker.turns());
+    }
+    Ok(turns)
+}
+
+// The same, by the ledgers that the caller names.
+fn turn_named<
+    O: Ledger + Send + Sync,
+    S: Ledger + Send + Sync,
+    P: Post + Send + Sync,
+    R: Clock + Threads + Wait + Sync,
+>(
+    rt: &R,
+    alloc: Global,
+    plan: Plan,
+    entered: &Entered,
+    octets: Blank,
+    steps: Blank,
+) -> Result<u64, Fail>
+    requires plan { plan ≡ P.plan }
+    requires octets { (octets.name ≡ O.name) × (octets.parts ≡ O.parts) × (octets.parts ≡ length plan.peers + plan.passes) }
+    requires steps { (steps.name ≡ S.name) × (steps.parts ≡ S.parts) × (steps.parts ≡ length plan.peers + plan.passes) }
+{
+    turn_both::<Service<O, S>, P, R>(rt, alloc, plan, entered, octets, steps)
+}
+
+#[test]
+fn two_peers_at_once(rt: HostRuntime) -> Result<(), Fail> {
+    let plan = Plan::read(rt.alloc(), TWO_WORKERS)?;
+    let parts = u64::from(plan.peer_count()) + u64::from(plan.passes());
+    let entered = Entered {
+        west: AtomicBool::new(false),
+        east: AtomicBool::new(false),
+        in_vain: AtomicBool::new(false),
+    };
+    let turns = turn_named::<Brand, Brand, Brand, HostRuntime>(
+        &rt,
+        rt.alloc(),
+        plan,
+        &entered,
+        Blank::new(parts),
+        Blank::new(parts),
+    )?;
+    assert_eq!(rt; turns, 2);
+    assert!(rt; entered.west.load(Ordering::SeqCst));
+    assert!(rt; entered.east.load(Ordering::SeqCst));
+    assert!(rt; !entered.in_vain.load(Ordering::SeqCst));
+    Ok(())
+}

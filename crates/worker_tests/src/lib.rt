@@ -1,0 +1,19 @@
+//! Tests of the workers, over wires in memory and over sockets on loopback, and of the program that serves.
+#![tactic(auto)]
+
+#[cfg(test)]
+mod both_at_once;
+#[cfg(test)]
+mod call;
+#[cfg(test)]
+mod failing_wire;
+#[cfg(test)]
+mod loopback;
+#[cfg(test)]
+mod memory_wire;
+#[cfg(test)]
+mod plans;
+#[cfg(test)]
+mod serving;
+#[cfg(test)]
+mod whole_call;

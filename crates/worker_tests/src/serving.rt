@@ -1,0 +1,189 @@
+//! The program serves: nobody sends, a call between two sockets of this test carries media both ways, nothing can be bound.
+use exchange_commands::serve;
+use std::net::{IpAddr, Ipv4Addr, Net, SocketAddr, UdpSocket};
+use std::process::Abort;
+use std::test::*;
+use std::thread;
+use std::time::Duration;
+
+// One worker at port 4591; a peer in the west at 5591, whose calls that begin with 3 lead to a peer in the east at 5592.
+const PLAN: &[u8] = b"format = 1\n\
+[[worker]]\n\
+address = \"127.0.0.1\"\n\
+port = 4591\n\
+[[peer]]\n\
+name = \"west\"\n\
+address = \"127.0.0.1\"\n\
+port = 5591\n\
+worker = 0\n\
+formats = [\"ulaw\"]\n\
+numbers = 4\n\
+[[peer]]\n\
+name = \"east\"\n\
+address = \"127.0.0.1\"\n\
+port = 5592\n\
+worker = 0\n\
+formats = [\"ulaw\"]\n\
+numbers = 4\n\
+[[route]]\n\
+prefix = \"3\"\n\
+peer = \"east\"\n";
+
+// The same at an endpoint that no machine has of its own.
+const ELSEWHERE: &[u8] = b"format = 1\n\
+[[worker]]\n\
+address = \"192.0.2.1\"\n\
+port = 4592\n\
+[[peer]]\n\
+name = \"west\"\n\
+address = \"127.0.0.1\"\n\
+port = 5591\n\
+worker = 0\n\
+formats = [\"ulaw\"]\n";
+
+// The west calls 300.
+const WEST_NEW: &[u8] =
+    b"\x80\x07\x00\x00\x00\x00\x00\x00\x00\x00\x06\x01\x0b\x02\x00\x02\x01\x03\x33\x30\x30\x09\x04\x00\x00\x00\x04\x08\x04\x00\x00\x00\x04";
+
+// The east accepts.
+const EAST_ACCEPT: &[u8] =
+    b"\x80\x09\x00\x05\x00\x00\x00\x03\x00\x01\x06\x07\x09\x04\x00\x00\x00\x04";
+
+// The east answers.
+const EAST_ANSWER: &[u8] = b"\x80\x09\x00\x05\x00\x00\x00\x0d\x01\x01\x04\x04";
+
+// The west has the ACCEPT and the ANSWER.
+const WEST_ACK: &[u8] = b"\x80\x07\x00\x01\x00\x00\x00\x14\x01\x02\x06\x04";
+
+// The first voice frame from the west: 1 octet of media.
+const WEST_VOICE: &[u8] = b"\x80\x07\x00\x01\x00\x00\x00\x20\x01\x02\x02\x04\xff";
+
+// The east has it.
+const EAST_ACK: &[u8] = b"\x80\x09\x00\x05\x00\x00\x00\x20\x02\x02\x06\x04";
+
+// The first voice frame from the east: 2 octets.
+const EAST_VOICE: &[u8] = b"\x80\x09\x00\x05\x00\x00\x00\x28\x02\x02\x02\x04\xee\xee";
+
+// The west has it.
+const WEST_VOICE_ACK: &[u8] = b"\x80\x07\x00\x01\x00\x00\x00\x28\x02\x03\x06\x04";
+
+// A mini frame from the west: 3 octets.
+const WEST_MINI: &[u8] = b"\x00\x07\x00\x30\xaa\xbb\xcc";
+
+// A mini frame from the east: 4 octets.
+const EAST_MINI: &[u8] = b"\x00\x09\x00\x30\xdd\xee\x00\x11";
+
+// What a datagram is: a full frame of a type and a subclass, or a mini frame; and its media or data.
+#[derive(Clone, Copy, PartialEq, Eq)]
+enum Kind {
+    Full(u8, u8),
+    Mini,
+}
+
+fn kind_of(octets: &[u8]) -> Option<Kind> {
+    let first = octets.first()?;
+    if first & 0x80 == 0 {
+        return Some(Kind::Mini);
+    }
+    Some(Kind::Full(*octets.get(10)?, *octets.get(11)?))
+}
+
+// What comes after the head of a frame: 4 octets of a mini frame, else 12.
+fn after_head(kind: Kind, octets: &[u8]) -> &[u8] {
+    let head = match kind {
+        Kind::Mini => 4,
+        Kind::Full(_, _) => 12,
+    };
+    octets.split_at(head.min(octets.len())).1
+}
+
+const NEW: Kind = Kind::Full(6, 1);
+
+const ANSWER: Kind = Kind::Full(4, 4);
+
+const VOICE: Kind = Kind::Full(2, 4);
+
+fn local(port: u16) -> SocketAddr {
+    SocketAddr::new(IpAddr::V4(Ipv4Addr::LOCALHOST), port)
+}
+
+fn socket_at<R: Net + Abort>(rt: &R, port: u16) -> UdpSocket {
+    let socket = UdpSocket::bind(rt, local(port)).expect(rt, "a socket");
+    socket
+        .set_read_timeout(Some(Duration::from_millis(100)))
+        .expect(rt, "a time limit");
+    socket
+}
+
+fn send<R: Abort>(rt: &R, socket: &UdpSocket, octets: &[u8]) {
+    let _len = socket.send_to(octets, local(4591)).expect(rt, "sent");
+}
+
+// Waits for a frame of a kind with this after its head; nothing is asked where nothing is given. Others are passed over.
+fn wait_for<R: Abort>(rt: &R, socket: &UdpSocket, wanted: Kind, after: Option<&[u8]>) {
+    let mut octets = [0u8; 2049];
+    for _ in 0..100 {
+        if let Ok((len, _)) = socket.recv_from(&mut octets) {
+            let frame = octets.split_at(len).0;
+            if kind_of(frame) == Some(wanted) {
+                if let Some(after) = after {
+                    assert!(rt; after_head(wanted, frame) == after, "what was carried");
+                }
+                return;
+            }
+        }
+    }
+    assert!(rt; false, "a frame that didn't come");
+}
+
+// Both peers of a call that carries 10 octets of media.
+fn call<R: Net + Abort>(rt: &R, west: &UdpSocket, east: &UdpSocket) {
+    send(rt, west, WEST_NEW);
+    wait_for(rt, east, NEW, None);
+    send(rt, east, EAST_ACCEPT);
+    send(rt, east, EAST_ANSWER);
+    wait_for(rt, west, ANSWER, None);
+    send(rt, west, WEST_ACK);
+    send(rt, west, WEST_VOICE);
+    wait_for(rt, east, VOICE, Some(b"\xff"));
+    send(rt, east, EAST_ACK);
+    send(rt, east, EAST_VOICE);
+    wait_for(rt, west, VOICE, Some(b"\xee\xee"));
+    send(rt, west, WEST_VOICE_ACK);
+    send(rt, west, WEST_MINI);
+    wait_for(rt, east, Kind::Mini, Some(b"\xaa\xbb\xcc"));
+    send(rt, east, EAST_MINI);
+    wait_for(rt, west, Kind::Mini, Some(b"\xdd\xee\x00\x11"));
+}
+
+#[test]
+fn nobody_sends_then_a_call_between_two_sockets(rt: HostRuntime) {
+    let mut out = Vec::new(rt.alloc());
+    assert_eq!(rt; serve(&rt, rt.alloc(), PLAN, 3, &mut out), 0);
+    assert_eq!(rt;
+        out.as_slice(),
+        b"worker 0 0 0 0 0\noctets 0 0 0 0\n".as_slice()
+    );
+
+    // Bound before the exchange is, so nothing that is sent to them is lost.
+    let west = socket_at(&rt, 5591);
+    let east = socket_at(&rt, 5592);
+    let mut out = Vec::new(rt.alloc());
+    let (status, ()) = thread::join(
+        &rt,
+        || serve(&rt, rt.alloc(), PLAN, 300, &mut out),
+        || {
+            let _ = thread::sleep(&rt, Duration::from_millis(500));
+            call(&rt, &west, &east)
+        },
+    );
+    assert_eq!(rt; status, 0);
+    assert!(rt; out.ends_with(b"\noctets 10 10 0 0\n"), "the accounts");
+}
+
+#[test]
+fn nothing_is_bound(rt: HostRuntime) {
+    let mut out = Vec::new(rt.alloc());
+    assert_eq!(rt; serve(&rt, rt.alloc(), ELSEWHERE, 3, &mut out), 1);
+    assert_eq!(rt; out.as_slice(), b"refused Bind\n".as_slice());
+}
