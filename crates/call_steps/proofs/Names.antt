@@ -1,5 +1,5 @@
 -- In every world that the steps of calls lead to, the names are held once.
-use Rattle.std.proofs.Common.{◌≡◌, ℕ, zero, suc, ◌+◌, ◌≤◌, List, [], ◌∷◌, Option, Some, None, Bool, true, false, slice_get, refl, ap, sym, subst, ◌∙◌, arith, inl, inr, ◌⊎◌}
+use Rattle.std.proofs.Common.{◌≡◌, ℕ, zero, suc, ◌+◌, ◌≤◌, List, [], ◌∷◌, Option, Some, None, Bool, true, false, cond, slice_get, refl, ap, sym, subst, ◌∙◌, arith, inl, inr, ◌⊎◌}
 use Rattle.std.specs.List.{AllByRecursion}
 use Rattle.call_book.specs.Book.{Book, IsBook, IsNumberOf, has_name, is_name_in, is_same}
 use Rattle.call_book.specs.declared.leg_name.LegName.{LegName}
@@ -8,7 +8,7 @@ use Rattle.call_steps.specs.declared.needs.Need.TheVariants as needs
 use Rattle.call_steps.specs.declared.places.Place.{Place}
 use Rattle.call_steps.specs.declared.places.Place.TheVariants as places
 use Rattle.call_steps.specs.Work.{Work, next_at, next_of, after_told, in_hand}
-use Rattle.call_steps.specs.Scene.{Leg, Choice, leg_at, Answer, answered, is_call}
+use Rattle.call_steps.specs.Scene.{Leg, Choice, is_leased, leg_at, Answer, answered, is_call}
 use Rattle.call_steps.specs.World.{World, Caller, Event, Starts, Steps, Start, ADatagram, ATick, ACall, AHangUp, work_of, scene_of, makes, steps, begins, starts, happens, run, after_answer}
 use Rattle.call_steps.specs.Law.{IsOpened, IsFresh, times, names_of, leases_of, NamesAreHeldOnce, NoneIsBusy, NoneIsOutside, NoneIsStale}
 use Rattle.call_steps.proofs.BookNames.{bit, is_same_itself, has_name_is, one_per_number}
@@ -150,10 +150,22 @@ next_opens (places.OpenCall own) name (inr is) = let same : own ≡ name = cc in
 next_opens place name (inl is) = absurd (cc)
 next_opens place name (inr is) = absurd (cc)
 
+leased_alone : (name : LegName) → is_leased (name ∷ []) name ≡ true
+leased_alone name = ap (λ (b : Bool). cond b true false) (is_same_itself name)
+
+-- a caller whose place has one lease in hand has that lease
+leased_in_hand : (world : World) → IsNamed world → (who : ℕ) (caller : Caller) (name : LegName) → slice_get world.callers who ≡ Some caller
+    → in_hand caller.work.place ≡ name ∷ [] → is_leased caller.leases name ≡ true
+leased_in_hand world h who caller name is hand = ap (λ ls. is_leased ls name) (h.leases who caller is ∙ hand) ∙ leased_alone name
+
 pub not_stale : (world : World) → IsNamed world → NoneIsStale world
-not_stale world h who caller name is next =
-    in_hand_known (beside world who) world.book world.legs name
-    (subst (λ ls. IsHeld (beside world who) (scene world.book world.legs ls)) (next_stale caller.work.place name next) (acting world who caller is h))
+not_stale world h =
+    record {
+      leased = λ who caller name is next. leased_in_hand world h who caller name is (next_stale caller.work.place name next);
+      known = λ who caller name is next.
+          in_hand_known (beside world who) world.book world.legs name
+          (subst (λ ls. IsHeld (beside world who) (scene world.book world.legs ls)) (next_stale caller.work.place name next) (acting world who caller is h));
+    }
 
 module _ (others : LegName → ℕ) (book : Book) (legs : List Leg) (name : LegName) (h : IsHeld others (scene book legs (name ∷ []))) where
   not_found : (o : Option Leg) → leg_at legs name.peer name.number ≡ o → o ≡ None
@@ -175,6 +187,8 @@ module _ (others : LegName → ℕ) (book : Book) (legs : List Leg) (name : LegN
 pub not_busy : (world : World) → IsNamed world → NoneIsBusy world
 not_busy world h =
     record {
+      leased_in = λ who caller name is next. leased_in_hand world h who caller name is (next_opens caller.work.place name (inl next));
+      leased_out = λ who caller name is next. leased_in_hand world h who caller name is (next_opens caller.work.place name (inr next));
       opens_in = λ who caller name is next. go who caller name is (next_opens caller.work.place name (inl next));
       opens_out = λ who caller name is next. go who caller name is (next_opens caller.work.place name (inr next));
     }

@@ -10,7 +10,7 @@ use Rattle.call_signals.specs.declared.stages.Stage.TheVariants as stages
 use Rattle.peer_lock.specs.declared.errors.OpenError.TheVariants as open_errors
 use Rattle.peer_lock.specs.declared.errors.OrderError.TheVariants as order_errors
 use Rattle.peer_lock.specs.declared.errors.PeerError.TheVariants as peer_errors
-use Rattle.call_steps.specs.Scene.{Leg, Choice, RefusesDatagram, RefusesOpening, RefusesOrder, RefusesTick, leg_at, leg_named, without}
+use Rattle.call_steps.specs.Scene.{Leg, Choice, RefusesDatagram, RefusesOpening, RefusesOrder, RefusesTick, is_leased, leg_at, leg_named, without}
 use Rattle.call_steps.specs.SeenReply.{seen_reply}
 use Rattle.call_steps.specs.Work.{Work, next_of, after_told, ended}
 use Rattle.call_steps.specs.World.{World, Caller, Event, Starts, Steps, run}
@@ -90,8 +90,12 @@ abbrev pub NumbersServeOne : World → Type 0
 NumbersServeOne world =
     (peer number : ℕ) (leg : Leg) → leg_at world.legs peer number ≡ Some leg → leg_at (without world.legs leg.name) peer number ≡ None
 
--- whatever caller opens a leg next, no leg has its number
+-- whatever caller opens a leg next has the lease of its name in hand, and no leg has its number
 pub record NoneIsBusy (world : World) : Type 0 where
+  pub leased_in : (who : ℕ) (caller : Caller) (name : LegName) → slice_get world.callers who ≡ Some caller
+      → next_of caller.work ≡ Some (needs.OpenIn name) → is_leased caller.leases name ≡ true
+  pub leased_out : (who : ℕ) (caller : Caller) (name : LegName) → slice_get world.callers who ≡ Some caller
+      → next_of caller.work ≡ Some (needs.OpenOut name) → is_leased caller.leases name ≡ true
   pub opens_in : (who : ℕ) (caller : Caller) (name : LegName) → slice_get world.callers who ≡ Some caller
       → next_of caller.work ≡ Some (needs.OpenIn name) → leg_at world.legs name.peer name.number ≡ None
   pub opens_out : (who : ℕ) (caller : Caller) (name : LegName) → slice_get world.callers who ≡ Some caller
@@ -104,11 +108,12 @@ pub record NoneIsOutside (world : World) : Type 0 where
   pub opens_out : (who : ℕ) (caller : Caller) (name : LegName) → slice_get world.callers who ≡ Some caller
       → next_of caller.work ≡ Some (needs.OpenOut name) → IsNumberOf world.book.counts name.peer name.number
 
--- whatever caller releases a lease next, the book has its name
-abbrev pub NoneIsStale : World → Type 0
-NoneIsStale world =
-    (who : ℕ) (caller : Caller) (name : LegName) → slice_get world.callers who ≡ Some caller
-    → next_of caller.work ≡ Some (needs.Release name) → has_name world.book name ≡ true
+-- whatever caller releases a lease next has it in hand, and the book has its name
+pub record NoneIsStale (world : World) : Type 0 where
+  pub leased : (who : ℕ) (caller : Caller) (name : LegName) → slice_get world.callers who ≡ Some caller
+      → next_of caller.work ≡ Some (needs.Release name) → is_leased caller.leases name ≡ true
+  pub known : (who : ℕ) (caller : Caller) (name : LegName) → slice_get world.callers who ≡ Some caller
+      → next_of caller.work ≡ Some (needs.Release name) → has_name world.book name ≡ true
 
 -- ---- bridges, stages and Doom
 

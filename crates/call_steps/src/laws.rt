@@ -40,11 +40,11 @@ pub fn calls_at_once()
     ensures names { InEveryRun NamesAreHeldOnce }
     // No number serves two legs.
     ensures numbers { InEveryRun NumbersServeOne }
-    // No leg is opened under a number that a leg has.
+    // Who opens a leg holds the lease of its name, and no leg has its number.
     ensures busy { InEveryRun NoneIsBusy }
     // .. nor under one that isn't of its peer.
     ensures outside { InEveryRun NoneIsOutside }
-    // No lease is released that the book doesn't know.
+    // Who releases a lease holds it, and the book knows its name.
     ensures stale { InEveryRun NoneIsStale }
     // As long as no peer's steps are spent, each leg that is neither challenged, closed nor doomed, and wasn't opened by
     // a call from outside, has a partner or is named in what some caller still has to do.
