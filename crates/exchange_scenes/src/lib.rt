@@ -7,7 +7,7 @@ pub mod plans;
 mod recovery;
 
 pub use lines::{
-    EAST_PLACE, LONGEST, WEST_PLACE, call, give_all, hang_up, hear, octets_of, place_of, status,
-    take_out, tick,
+    EAST_PLACE, LONGEST, Told, WEST_PLACE, call, give_all, hang_up, hear, heard, heard_from,
+    octets_of, place_of, status, take_out, tick, ticked,
 };
-pub use recovery::{NUMBERS, recovers, settled, status_of};
+pub use recovery::{NUMBERS, Sums, ended, recovers, settled, status_of};

@@ -4,9 +4,10 @@
 
 use call_auth::Challenge;
 use call_book::LegName;
-use exchange_core::{Answer, CallError, Exchange, Gate};
+use exchange_core::{Answer, CallError, Exchange, Gate, Refusal};
 use iax_frames::Out;
 use peer_lock::{Naming, OrderError, Pass, Status};
+use peer_plan::Endpoint;
 use script_lines::{Line, line_of};
 use std::sync::Wait;
 
@@ -47,9 +48,75 @@ pub fn hear<R: Wait, G: Gate, J: Naming>(
     if peer >= exchange.plan().peer_count() {
         return None;
     }
-    let challenge = Challenge::new(b"0")?;
     let from = exchange.plan().endpoint(peer);
+    hear_from(rt, exchange, pass, from, octets, now)
+}
+
+// A datagram comes from an endpoint, when callers are challenged by `0`.
+fn hear_from<R: Wait, G: Gate, J: Naming>(
+    rt: &R,
+    exchange: &Exchange<G, J>,
+    pass: &mut Pass<J>,
+    from: Endpoint,
+    octets: &[u8],
+    now: u64,
+) -> Option<Answer> {
+    let challenge = Challenge::new(b"0")?;
     Some(exchange.datagram(rt, pass, from, octets, now, &challenge))
+}
+
+/// What a call answered, without the legs that were taken out.
+#[derive(Clone, Copy, Debug, PartialEq, Eq)]
+pub struct Told {
+    pub refused: Option<Refusal>,
+    pub steps: u64,
+    /// How many legs were taken out.
+    pub retired: usize,
+}
+
+// What an answer tells.
+fn told_by(answer: Option<Answer>) -> Option<Told> {
+    let answer = answer?;
+    Some(Told {
+        refused: answer.refused,
+        steps: answer.steps,
+        retired: answer.retired.len(),
+    })
+}
+
+/// A datagram comes from a peer, when callers are challenged by `0`.
+pub fn heard<R: Wait, G: Gate, J: Naming>(
+    rt: &R,
+    exchange: &Exchange<G, J>,
+    pass: &mut Pass<J>,
+    peer: u16,
+    octets: &[u8],
+    now: u64,
+) -> Option<Told> {
+    told_by(hear(rt, exchange, pass, peer, octets, now))
+}
+
+/// A datagram comes from an endpoint, when callers are challenged by `0`.
+pub fn heard_from<R: Wait, G: Gate, J: Naming>(
+    rt: &R,
+    exchange: &Exchange<G, J>,
+    pass: &mut Pass<J>,
+    from: Endpoint,
+    octets: &[u8],
+    now: u64,
+) -> Option<Told> {
+    told_by(hear_from(rt, exchange, pass, from, octets, now))
+}
+
+/// Time goes on at a peer.
+pub fn ticked<R: Wait, G: Gate, J: Naming>(
+    rt: &R,
+    exchange: &Exchange<G, J>,
+    pass: &mut Pass<J>,
+    peer: u16,
+    now: u64,
+) -> Option<Told> {
+    told_by(tick(rt, exchange, pass, peer, now))
 }
 
 /// Time goes on at a peer.

@@ -1,7 +1,7 @@
 //! What holds of an exchange whatever befell it: every leg can be got rid of, a caller gets a number, and the accounts balance.
 
 use crate::lines::{EAST_PLACE, WEST_PLACE, hang_up, hear, status, tick};
-use exchange_core::{Exchange, NoGate, SettleError, Settlement};
+use exchange_core::{Exchange, Gate, NoGate, SettleError, Settlement};
 use peer_lock::{Naming, OrderError, Pass, Status};
 use std::sync::Wait;
 
@@ -141,19 +141,79 @@ fn balances<J: Naming>(settlement: &Settlement<J>) -> bool {
     left == Some(0)
 }
 
-/// The accounts are closed. A growth that is refused is asked for again. `None` where a pass is missing, or they don't balance.
-pub fn settled<J: Naming>(
-    exchange: Exchange<NoGate, J>,
+// The accounts are closed. A growth that is refused is asked for again.
+fn settled_at_last<G: Gate, J: Naming>(
+    exchange: Exchange<G, J>,
+    passes: Vec<Pass<J>>,
+) -> Result<Settlement<J>, (Exchange<G, J>, Vec<Pass<J>>, SettleError)> {
+    match exchange.settle(passes) {
+        Err((exchange, passes, SettleError::Memory)) => exchange.settle(passes),
+        settled => settled,
+    }
+}
+
+// What is handed back where a pass is missing.
+fn refused_for_a_pass<G: Gate, J: Naming>(
+    exchange: Exchange<G, J>,
+    passes: Vec<Pass<J>>,
+) -> Option<(Exchange<G, J>, Vec<Pass<J>>)> {
+    match settled_at_last(exchange, passes) {
+        Err((exchange, passes, SettleError::Missing)) => Some((exchange, passes)),
+        _ => None,
+    }
+}
+
+// The accounts stay open where a pass is missing, and all is handed back. `None` where they didn't stay open, or there is no pass.
+fn still_open<G: Gate, J: Naming>(
+    exchange: Exchange<G, J>,
+    passes: Vec<Pass<J>>,
+) -> Option<(Exchange<G, J>, Vec<Pass<J>>)> {
+    let mut passes = passes;
+    let pass = passes.pop()?;
+    let others = passes.len();
+    let (exchange, mut passes) = refused_for_a_pass(exchange, passes)?;
+    if passes.len() != others {
+        return None;
+    }
+    passes.push(pass).ok()?;
+    Some((exchange, passes))
+}
+
+/// The accounts are closed. `None` where a pass is missing, or they don't balance.
+pub fn settled<G: Gate, J: Naming>(
+    exchange: Exchange<G, J>,
     passes: Vec<Pass<J>>,
 ) -> Option<Settlement<J>> {
-    let settlement = match exchange.settle(passes) {
-        Ok(settlement) => settlement,
-        Err((exchange, passes, SettleError::Memory)) => exchange.settle(passes).ok()?,
-        Err(_) => return None,
-    };
+    let settlement = settled_at_last(exchange, passes).ok()?;
     if balances(&settlement) {
         Some(settlement)
     } else {
         None
     }
+}
+
+/// The sums of closed accounts.
+#[derive(Clone, Copy, Debug, PartialEq, Eq)]
+pub struct Sums {
+    pub peers: usize,
+    pub accepted: u64,
+    pub packed: u64,
+    pub queued: u64,
+    pub dropped: u64,
+    pub steps: u64,
+}
+
+/// The accounts are asked for with a pass fewer, which is refused, then closed with all passes. `None` where they aren't refused first, or
+/// don't balance.
+pub fn ended<G: Gate, J: Naming>(exchange: Exchange<G, J>, passes: Vec<Pass<J>>) -> Option<Sums> {
+    let (exchange, passes) = still_open(exchange, passes)?;
+    let settlement = settled(exchange, passes)?;
+    Some(Sums {
+        peers: settlement.peers.len(),
+        accepted: settlement.accepted,
+        packed: settlement.packed,
+        queued: settlement.queued,
+        dropped: settlement.dropped,
+        steps: settlement.steps,
+    })
 }

@@ -2,10 +2,11 @@
 //!
 //! `any_growth_refused` passes whichever request is refused. `.ci/refusals` refuses the requests one at a time.
 
-use crate::opened::{Scene, play_on, try_on};
+use crate::opened::{Scene, is_ended, play_on};
+use crate::same::{holds, same};
 use exchange_core::{Exchange, NoGate};
 use exchange_scenes::plans::PLAN;
-use exchange_scenes::{give_all, recovers, settled, status_of};
+use exchange_scenes::{give_all, recovers, status_of};
 use leg_machine::Stage;
 use peer_lock::{Naming, Pass};
 use peer_plan::PlanError;
@@ -30,49 +31,56 @@ tick\n";
 /// The call, then an end to it.
 pub fn call_and_end<R: Abort + Wait, J: Naming>(
     rt: &R,
-    exchange: Exchange<NoGate, J>,
-    passes: Vec<Pass<J>>,
-) -> Result<(), Fail> {
-    let mut passes = passes;
-    let pass = passes.first_mut().ok_or("no pass")?;
-    let now = give_all(rt, &exchange, pass, CALL).ok_or("a line")?;
-    assert!(rt; recovers(rt, &exchange, pass, now));
-    assert!(rt; settled(exchange, passes).is_some());
-    Ok(())
+    exchange: &Exchange<NoGate, J>,
+    pass: &mut Pass<J>,
+) {
+    let now = give_all(rt, exchange, pass, CALL).expect(rt, "the lines");
+    holds(rt, "recovery", recovers(rt, exchange, pass, now));
 }
 
-/// The call: both legs are up, and all its media went out.
+// How the leg of a number stands.
+fn stage_of<R: Wait, J: Naming>(
+    rt: &R,
+    exchange: &Exchange<NoGate, J>,
+    pass: &mut Pass<J>,
+    number: u16,
+) -> Option<Stage> {
+    match status_of(rt, exchange, pass, number) {
+        Some(status) => Some(status.stage),
+        None => None,
+    }
+}
+
+/// The call: both legs are up.
 pub fn call<R: Abort + Wait, J: Naming>(
     rt: &R,
-    exchange: Exchange<NoGate, J>,
-    passes: Vec<Pass<J>>,
-) -> Result<(), Fail> {
-    let mut passes = passes;
-    let pass = passes.first_mut().ok_or("no pass")?;
-    give_all(rt, &exchange, pass, CALL).ok_or("a line")?;
+    exchange: &Exchange<NoGate, J>,
+    pass: &mut Pass<J>,
+) {
+    holds(
+        rt,
+        "the lines",
+        give_all(rt, exchange, pass, CALL).is_some(),
+    );
     for number in [1, 5] {
-        let stage = status_of(rt, &exchange, pass, number).map(|status| status.stage);
-        assert_eq!(rt; stage, Some(Stage::Up));
+        same(rt, &stage_of(rt, exchange, pass, number), &Some(Stage::Up));
     }
-    let settlement = settled(exchange, passes).expect(rt, "balanced accounts");
-    assert_eq!(rt; settlement.accepted, 4);
-    assert_eq!(rt; settlement.packed, 4);
-    Ok(())
 }
 
+// All its media went out.
 #[test]
-fn no_growth_refused(rt: HostRuntime) -> Result<(), Fail> {
-    play_on(&rt, rt.alloc(), PLAN, Scene::Call)
+fn no_growth_refused(rt: HostRuntime) {
+    let played = play_on(&rt, rt.alloc(), PLAN, Scene::Call).expect(&rt, "an exchange");
+    let sums = played.expect(&rt, "balanced accounts");
+    same(&rt, &(sums.accepted, sums.packed), &(4, 4));
 }
 
 // An exchange that couldn't be opened is opened again.
 #[test]
-fn any_growth_refused(rt: HostRuntime) -> Result<(), Fail> {
-    match try_on(&rt, rt.alloc(), PLAN, Scene::CallAndEnd) {
-        Ok(played) => played,
-        Err(error) => {
-            assert_eq!(rt; error, PlanError::Memory);
-            play_on(&rt, rt.alloc(), PLAN, Scene::CallAndEnd)
-        }
+fn any_growth_refused(rt: HostRuntime) {
+    let mut played = play_on(&rt, rt.alloc(), PLAN, Scene::CallAndEnd);
+    if played == Err(PlanError::Memory) {
+        played = play_on(&rt, rt.alloc(), PLAN, Scene::CallAndEnd);
     }
+    holds(&rt, "balanced accounts", is_ended(played));
 }

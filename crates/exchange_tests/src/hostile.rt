@@ -1,10 +1,10 @@
 //! Datagrams from nobody, and answers that nobody takes out.
 
-use crate::opened::{Scene, play_on};
-use call_auth::Challenge;
+use crate::opened::{Scene, is_ended, play_on};
+use crate::same::{holds, same};
 use exchange_core::{Exchange, NoGate, Refusal};
 use exchange_scenes::plans::PLAN;
-use exchange_scenes::{WEST_PLACE, hear, take_out};
+use exchange_scenes::{Told, WEST_PLACE, heard, heard_from, take_out};
 use peer_lock::{Naming, Pass};
 use peer_plan::Endpoint;
 use std::process::Abort;
@@ -20,25 +20,25 @@ const TRUNK: [u8; 24] = [
 pub fn from_nobody<R: Abort + Wait, J: Naming>(
     rt: &R,
     exchange: &Exchange<NoGate, J>,
-    passes: Vec<Pass<J>>,
-) -> Result<(), Fail> {
-    let mut passes = passes;
-    let pass = passes.first_mut().ok_or("no pass")?;
-    let challenge = Challenge::new(b"0").ok_or("no challenge")?;
+    pass: &mut Pass<J>,
+) {
     let stranger = Endpoint {
         address: [127, 0, 0, 1],
         port: 9999,
     };
-    let answer = exchange.datagram(rt, pass, stranger, &TRUNK, 0, &challenge);
-    assert_eq!(rt; answer.refused, Some(Refusal::Stranger));
-    assert_eq!(rt; answer.steps, 0);
-    assert!(rt; answer.retired.is_empty());
-    Ok(())
+    let refused = Told {
+        refused: Some(Refusal::Stranger),
+        steps: 0,
+        retired: 0,
+    };
+    let told = heard_from(rt, exchange, pass, stranger, &TRUNK, 0);
+    same(rt, &told, &Some(refused));
 }
 
 #[test]
-fn stranger(rt: HostRuntime) -> Result<(), Fail> {
-    play_on(&rt, rt.alloc(), PLAN, Scene::FromNobody)
+fn stranger(rt: HostRuntime) {
+    let played = play_on(&rt, rt.alloc(), PLAN, Scene::FromNobody);
+    holds(&rt, "balanced accounts", is_ended(played));
 }
 
 /// A frame for a call that no leg has. Its answer is an INVAL.
@@ -46,28 +46,57 @@ const FOR_NO_LEG: [u8; 12] = [0x80, 7, 0, 0x63, 0, 0, 0, 0x0a, 5, 3, 6, 5];
 
 const INVAL: [u8; 12] = [0x80, 0x63, 0, 7, 0, 0, 0, 0, 0, 0, 6, 0x0a];
 
+// Each of so many frames is answered, in one step.
+fn all_answered<R: Wait, J: Naming>(
+    rt: &R,
+    exchange: &Exchange<NoGate, J>,
+    pass: &mut Pass<J>,
+    count: u32,
+) -> bool {
+    for _ in 0..count {
+        match heard(rt, exchange, pass, WEST_PLACE, &FOR_NO_LEG, 0) {
+            Some(told) => {
+                if told.refused.is_some() || told.steps != 1 {
+                    return false;
+                }
+            }
+            None => return false,
+        }
+    }
+    true
+}
+
+// How many answers wait; none where one of them isn't an INVAL.
+fn answers_waiting<R: Wait, J: Naming>(
+    rt: &R,
+    exchange: &Exchange<NoGate, J>,
+    pass: &mut Pass<J>,
+) -> Option<u32> {
+    for count in 0..300 {
+        match take_out(rt, exchange, pass, WEST_PLACE) {
+            Some(out) => {
+                if out.octets() != INVAL.as_slice() {
+                    return None;
+                }
+            }
+            None => return Some(count),
+        }
+    }
+    None
+}
+
 /// Three hundred answers, of which nobody takes any out: the outbox keeps the first 256.
 pub fn outbox_filled<R: Abort + Wait, J: Naming>(
     rt: &R,
     exchange: &Exchange<NoGate, J>,
-    passes: Vec<Pass<J>>,
-) -> Result<(), Fail> {
-    let mut passes = passes;
-    let pass = passes.first_mut().ok_or("no pass")?;
-    for _ in 0..300 {
-        let answer = hear(rt, exchange, pass, WEST_PLACE, &FOR_NO_LEG, 0).ok_or("no peer")?;
-        assert_eq!(rt; answer.refused, None);
-        assert_eq!(rt; answer.steps, 1);
-    }
-    for place in 0..256 {
-        let out = take_out(rt, exchange, pass, WEST_PLACE).ok_or("too few datagrams")?;
-        assert_eq!(rt; out.octets(), INVAL.as_slice(), "datagram {place}");
-    }
-    assert!(rt; take_out(rt, exchange, pass, WEST_PLACE).is_none());
-    Ok(())
+    pass: &mut Pass<J>,
+) {
+    holds(rt, "answers", all_answered(rt, exchange, pass, 300));
+    same(rt, &answers_waiting(rt, exchange, pass), &Some(256));
 }
 
 #[test]
-fn full_outbox(rt: HostRuntime) -> Result<(), Fail> {
-    play_on(&rt, rt.alloc(), PLAN, Scene::OutboxFilled)
+fn full_outbox(rt: HostRuntime) {
+    let played = play_on(&rt, rt.alloc(), PLAN, Scene::OutboxFilled);
+    holds(&rt, "balanced accounts", is_ended(played));
 }

@@ -8,6 +8,8 @@ mod hostile;
 #[cfg(test)]
 mod opened;
 #[cfg(test)]
+mod same;
+#[cfg(test)]
 mod settling;
 #[cfg(test)]
 mod two_peers;

@@ -3,25 +3,26 @@ ghost use Rattle.std.specs.Prelude.{◌≡◌, ◌+◌, ◌^◌, length};
 
 use crate::growths::{call, call_and_end};
 use crate::hostile::{from_nobody, outbox_filled};
-use crate::settling::one_pass_fewer;
+use crate::same::holds;
+use crate::settling::queue_filled;
 use crate::workers::two_tickers;
 use exchange_core::{Exchange, NoGate};
+use exchange_scenes::{Sums, ended};
 use media_ledger::Blank;
 use peer_lock::{Naming, Pass, Service};
 use peer_plan::{Plan, PlanError};
-use std::alloc::{AllocError, Global};
+use std::alloc::Global;
 use std::marker::Brand;
 use std::process::Abort;
 use std::sync::Wait;
 use std::sync::ledger::Ledger;
-use std::test::Fail;
 use std::thread::Threads;
 
 /// What is played on an exchange.
 #[derive(Clone, Copy)]
 pub enum Scene {
-    /// The accounts are closed with a pass fewer, then with all of them.
-    OnePassFewer,
+    /// The queue of a peer is filled, under the second of two passes.
+    QueueFilled,
     /// A call with media and a digit.
     Call,
     /// A call with media and a digit, then an end to it.
@@ -37,17 +38,30 @@ pub enum Scene {
 fn play<R: Abort + Sync + Threads + Wait, J: Naming>(
     rt: &R,
     scene: Scene,
+    exchange: &Exchange<NoGate, J>,
+    passes: &mut [Pass<J>],
+) {
+    match (scene, passes) {
+        (Scene::TwoTickers, [one, other]) => two_tickers(rt, exchange, one, other),
+        (Scene::QueueFilled, [_, pass]) => queue_filled(rt, exchange, pass),
+        (Scene::Call, [pass]) => call(rt, exchange, pass),
+        (Scene::CallAndEnd, [pass]) => call_and_end(rt, exchange, pass),
+        (Scene::FromNobody, [pass]) => from_nobody(rt, exchange, pass),
+        (Scene::OutboxFilled, [pass]) => outbox_filled(rt, exchange, pass),
+        _ => holds(rt, "as many passes as the plan says", false),
+    }
+}
+
+// The scene, then the end of the exchange.
+fn played<R: Abort + Sync + Threads + Wait, J: Naming>(
+    rt: &R,
+    scene: Scene,
     exchange: Exchange<NoGate, J>,
     passes: Vec<Pass<J>>,
-) -> Result<(), Fail> {
-    match scene {
-        Scene::OnePassFewer => one_pass_fewer(rt, exchange, passes),
-        Scene::Call => call(rt, exchange, passes),
-        Scene::CallAndEnd => call_and_end(rt, exchange, passes),
-        Scene::FromNobody => from_nobody(rt, &exchange, passes),
-        Scene::OutboxFilled => outbox_filled(rt, &exchange, passes),
-        Scene::TwoTickers => two_tickers(rt, exchange, passes),
-    }
+) -> Option<Sums> {
+    let mut passes = passes;
+    play(rt, scene, &exchange, passes.as_mut_slice());
+    ended(exchange, passes)
 }
 
 // The scene, on an exchange of two ledgers.
@@ -58,13 +72,15 @@ fn play_opened<R: Abort + Sync + Threads + Wait, J: Naming>(
     scene: Scene,
     octets: Blank,
     steps: Blank,
-) -> Result<Result<(), Fail>, AllocError>
+) -> Result<Option<Sums>, PlanError>
     requires octets { (octets.name ≡ J.Octets.name) × (octets.parts ≡ J.Octets.parts) × (octets.parts ≡ length plan.peers + plan.passes) }
     requires steps { (steps.name ≡ J.Steps.name) × (steps.parts ≡ J.Steps.parts) × (steps.parts ≡ length plan.peers + plan.passes) }
     requires first { (J.first_octets ≡ 2 ^ 48) × (J.first_steps ≡ 2 ^ 48) }
 {
-    let (exchange, passes) = Exchange::<NoGate, J>::open(alloc, plan, NoGate, octets, steps)?;
-    Ok(play(rt, scene, exchange, passes))
+    match Exchange::<NoGate, J>::open(alloc, plan, NoGate, octets, steps) {
+        Ok((exchange, passes)) => Ok(played(rt, scene, exchange, passes)),
+        Err(_) => Err(PlanError::Memory),
+    }
 }
 
 // The same, by the ledgers that the caller names.
@@ -75,39 +91,35 @@ fn play_named<R: Abort + Sync + Threads + Wait, O: Ledger + Send + Sync, T: Ledg
     scene: Scene,
     octets: Blank,
     steps: Blank,
-) -> Result<Result<(), Fail>, AllocError>
+) -> Result<Option<Sums>, PlanError>
     requires octets { (octets.name ≡ O.name) × (octets.parts ≡ O.parts) × (octets.parts ≡ length plan.peers + plan.passes) }
     requires steps { (steps.name ≡ T.name) × (steps.parts ≡ T.parts) × (steps.parts ≡ length plan.peers + plan.passes) }
 {
     play_opened::<R, Service<O, T>>(rt, alloc, plan, scene, octets, steps)
 }
 
-/// Opens an exchange of a plan, and plays the scene on it. `Err` where memory for the opening was refused, or the text is no plan.
-pub fn try_on<R: Abort + Sync + Threads + Wait>(
-    rt: &R,
-    alloc: Global,
-    plan: &str,
-    scene: Scene,
-) -> Result<Result<(), Fail>, PlanError> {
-    let plan = Plan::read(alloc, plan.as_bytes())?;
-    let parts = u64::from(plan.peer_count()) + u64::from(plan.passes());
-    let played = play_named::<R, Brand, Brand>(
-        rt,
-        alloc,
-        plan,
-        scene,
-        Blank::new(parts),
-        Blank::new(parts),
-    )?;
-    Ok(played)
-}
-
-/// Opens an exchange of a plan, and plays the scene on it.
+/// Opens an exchange of a plan, plays the scene on it, and closes its accounts, as `ended` does. `Err` where memory for the opening was
+/// refused, or the text is no plan.
 pub fn play_on<R: Abort + Sync + Threads + Wait>(
     rt: &R,
     alloc: Global,
     plan: &str,
     scene: Scene,
-) -> Result<(), Fail> {
-    try_on(rt, alloc, plan, scene)?
+) -> Result<Option<Sums>, PlanError> {
+    let plan = match Plan::read(alloc, plan.as_bytes()) {
+        Ok(plan) => plan,
+        Err(error) => return Err(error),
+    };
+    let parts = u64::from(plan.peer_count()) + u64::from(plan.passes());
+    let octets = Blank::new(parts);
+    let steps = Blank::new(parts);
+    play_named::<R, Brand, Brand>(rt, alloc, plan, scene, octets, steps)
+}
+
+/// Whether the scene was played, and the accounts balance after it.
+pub fn is_ended(played: Result<Option<Sums>, PlanError>) -> bool {
+    match played {
+        Ok(sums) => sums.is_some(),
+        Err(_) => false,
+    }
 }

@@ -1,9 +1,10 @@
 //! The accounts are closed only once every pass is back.
 
 use crate::opened::{Scene, play_on};
-use exchange_core::{Exchange, NoGate, SettleError};
+use crate::same::{holds, same};
+use exchange_core::{Exchange, NoGate};
 use exchange_scenes::plans::TWO_PASSES;
-use exchange_scenes::{EAST_PLACE, give_all, hear};
+use exchange_scenes::{EAST_PLACE, give_all, heard};
 use peer_lock::{Naming, Pass};
 use std::process::Abort;
 use std::sync::Wait;
@@ -16,49 +17,46 @@ rx east 800900050000000300010607090400000004\n\
 at 20\n\
 rx east 800900050000001401010204ff\n";
 
-// 257 mini frames of one octet follow the voice frame of an accepted call: 256 wait in the queue, one is dropped.
-fn fill_queue<R: Abort + Wait, J: Naming>(
+// So many mini frames come, and none is refused.
+fn all_taken<R: Wait, J: Naming>(
     rt: &R,
     exchange: &Exchange<NoGate, J>,
     pass: &mut Pass<J>,
-) -> Result<(), Fail> {
-    let now = give_all(rt, exchange, pass, ACCEPTED).ok_or("a line")?;
-    for _ in 0..257 {
-        let answer = hear(rt, exchange, pass, EAST_PLACE, &[0, 9, 0, 0x14, 0xaa], now);
-        assert_eq!(rt; answer.ok_or("no peer")?.refused, None);
+    count: u32,
+    now: u64,
+) -> bool {
+    for _ in 0..count {
+        match heard(rt, exchange, pass, EAST_PLACE, &[0, 9, 0, 0x14, 0xaa], now) {
+            Some(told) => {
+                if told.refused.is_some() {
+                    return false;
+                }
+            }
+            None => return false,
+        }
     }
-    Ok(())
+    true
 }
 
-/// The accounts are closed with a pass fewer, then with all of them.
-pub fn one_pass_fewer<R: Abort + Wait, J: Naming>(
+/// 257 mini frames of one octet follow the voice frame of an accepted call: 256 wait in the queue, one is dropped.
+pub fn queue_filled<R: Abort + Wait, J: Naming>(
     rt: &R,
-    exchange: Exchange<NoGate, J>,
-    passes: Vec<Pass<J>>,
-) -> Result<(), Fail> {
-    let mut passes = passes;
-    let mut pass = passes.pop().ok_or("no pass")?;
-    fill_queue(rt, &exchange, &mut pass)?;
-    assert_eq!(rt; passes.len(), 1);
-    let (exchange, mut passes) = match exchange.settle(passes) {
-        Err((exchange, passes, SettleError::Missing)) => (exchange, passes),
-        _ => Err("a pass is missing")?,
-    };
-    assert_eq!(rt; passes.len(), 1);
-    passes.push(pass)?;
-    let settlement = match exchange.settle(passes) {
-        Ok(settlement) => settlement,
-        Err(_) => Err("all passes are there")?,
-    };
-    assert_eq!(rt; settlement.accepted, 258);
-    assert_eq!(rt; settlement.packed, 1);
-    assert_eq!(rt; settlement.queued, 256);
-    assert_eq!(rt; settlement.dropped, 1);
-    assert_eq!(rt; settlement.peers.len(), 2);
-    Ok(())
+    exchange: &Exchange<NoGate, J>,
+    pass: &mut Pass<J>,
+) {
+    let now = give_all(rt, exchange, pass, ACCEPTED).expect(rt, "the lines");
+    holds(rt, "no refusal", all_taken(rt, exchange, pass, 257, now));
 }
 
+// `play_on` asks for the accounts without the pass that was used first, and they aren't closed.
 #[test]
-fn settled_with_all_passes_alone(rt: HostRuntime) -> Result<(), Fail> {
-    play_on(&rt, rt.alloc(), TWO_PASSES, Scene::OnePassFewer)
+fn settled_with_all_passes_alone(rt: HostRuntime) {
+    let played = play_on(&rt, rt.alloc(), TWO_PASSES, Scene::QueueFilled).expect(
+        &rt,
+        "an exchange",
+    );
+    let sums = played.expect(&rt, "balanced accounts");
+    same(&rt, &(sums.accepted, sums.packed), &(258, 1));
+    same(&rt, &(sums.queued, sums.dropped), &(256, 1));
+    same(&rt, &sums.peers, &2);
 }

@@ -1,12 +1,14 @@
 //! The sections of two peers at once: a tick of one is answered while a tick of the other is held inside its section.
 ghost use Rattle.std.specs.Prelude.{◌≡◌, ◌+◌, ◌^◌, length};
 
+use crate::opened::is_ended;
+use crate::same::holds;
 use exchange_core::{Exchange, Gate};
 use exchange_scenes::plans::TWO_PASSES;
-use exchange_scenes::{EAST_PLACE, WEST_PLACE, tick};
+use exchange_scenes::{EAST_PLACE, Sums, WEST_PLACE, ended, ticked};
 use media_ledger::Blank;
 use peer_lock::{Naming, Pass, Service};
-use peer_plan::Plan;
+use peer_plan::{Plan, PlanError};
 use std::alloc::Global;
 use std::marker::Brand;
 use std::process::Abort;
@@ -58,6 +60,19 @@ impl<R: Clock> Gate for HoldsWest<'_, R> {
     }
 }
 
+// Whether a tick isn't refused.
+fn is_ticked<R: Clock + Wait, J: Naming>(
+    rt: &R,
+    exchange: &Exchange<HoldsWest<'_, R>, J>,
+    pass: &mut Pass<J>,
+    peer: u16,
+) -> bool {
+    match ticked(rt, exchange, pass, peer, 0) {
+        Some(told) => told.refused.is_none(),
+        None => false,
+    }
+}
+
 // A tick of the east, once the west is held.
 fn tick_east<R: Abort + Clock + Wait, J: Naming>(
     rt: &R,
@@ -65,9 +80,16 @@ fn tick_east<R: Abort + Clock + Wait, J: Naming>(
     pass: &mut Pass<J>,
     progress: &Progress,
 ) {
-    assert!(rt; is_set_in_time(rt, &progress.west_held), "the west is held");
-    let answer = tick(rt, exchange, pass, EAST_PLACE, 0).expect(rt, "a peer");
-    assert_eq!(rt; answer.refused, None);
+    holds(
+        rt,
+        "the west is held",
+        is_set_in_time(rt, &progress.west_held),
+    );
+    holds(
+        rt,
+        "a tick of the east",
+        is_ticked(rt, exchange, pass, EAST_PLACE),
+    );
     progress.east_answered.store(true, Ordering::SeqCst);
 }
 
@@ -77,28 +99,29 @@ fn tick_west<R: Abort + Clock + Wait, J: Naming>(
     exchange: &Exchange<HoldsWest<'_, R>, J>,
     pass: &mut Pass<J>,
 ) {
-    let answer = tick(rt, exchange, pass, WEST_PLACE, 0).expect(rt, "a peer");
-    assert_eq!(rt; answer.refused, None);
+    holds(
+        rt,
+        "a tick of the west",
+        is_ticked(rt, exchange, pass, WEST_PLACE),
+    );
 }
 
 // A tick of each peer, at once.
 fn tick_both<R: Abort + Clock + Sync + Threads + Wait, J: Naming>(
     rt: &R,
     exchange: &Exchange<HoldsWest<'_, R>, J>,
-    passes: Vec<Pass<J>>,
+    passes: &mut [Pass<J>],
     progress: &Progress,
-) -> Result<(), Fail> {
-    let mut passes = passes;
-    match passes.as_mut_slice() {
+) {
+    match passes {
         [one, other] => {
             thread::join(
                 rt,
                 || tick_west(rt, exchange, one),
                 || tick_east(rt, exchange, other, progress),
             );
-            Ok(())
         }
-        _ => Err("two passes")?,
+        _ => holds(rt, "two passes", false),
     }
 }
 
@@ -109,7 +132,7 @@ fn tick_opened<R: Abort + Clock + Sync + Threads + Wait, J: Naming>(
     progress: &Progress,
     octets: Blank,
     steps: Blank,
-) -> Result<(), Fail>
+) -> Result<Option<Sums>, PlanError>
     requires octets { (octets.name ≡ J.Octets.name) × (octets.parts ≡ J.Octets.parts) × (octets.parts ≡ length plan.peers + plan.passes) }
     requires steps { (steps.name ≡ J.Steps.name) × (steps.parts ≡ J.Steps.parts) × (steps.parts ≡ length plan.peers + plan.passes) }
     requires first { (J.first_octets ≡ 2 ^ 48) × (J.first_steps ≡ 2 ^ 48) }
@@ -118,10 +141,14 @@ fn tick_opened<R: Abort + Clock + Sync + Threads + Wait, J: Naming>(
         clock: rt,
         progress,
     };
-    let (exchange, passes) = Exchange::<HoldsWest<'_, R>, J>::open(
-        alloc, plan, gate, octets, steps,
-    )?;
-    tick_both(rt, &exchange, passes, progress)
+    match Exchange::<HoldsWest<'_, R>, J>::open(alloc, plan, gate, octets, steps) {
+        Ok((exchange, passes)) => {
+            let mut passes = passes;
+            tick_both(rt, &exchange, passes.as_mut_slice(), progress);
+            Ok(ended(exchange, passes))
+        }
+        Err(_) => Err(PlanError::Memory),
+    }
 }
 
 fn tick_named<
@@ -135,7 +162,7 @@ fn tick_named<
     progress: &Progress,
     octets: Blank,
     steps: Blank,
-) -> Result<(), Fail>
+) -> Result<Option<Sums>, PlanError>
     requires octets { (octets.name ≡ O.name) × (octets.parts ≡ O.parts) × (octets.parts ≡ length plan.peers + plan.passes) }
     requires steps { (steps.name ≡ T.name) × (steps.parts ≡ T.parts) × (steps.parts ≡ length plan.peers + plan.passes) }
 {
@@ -147,8 +174,11 @@ fn tick_at_once<R: Abort + Clock + Sync + Threads + Wait>(
     rt: &R,
     alloc: Global,
     progress: &Progress,
-) -> Result<(), Fail> {
-    let plan = Plan::read(alloc, TWO_PASSES.as_bytes())?;
+) -> Result<Option<Sums>, PlanError> {
+    let plan = match Plan::read(alloc, TWO_PASSES.as_bytes()) {
+        Ok(plan) => plan,
+        Err(error) => return Err(error),
+    };
     let parts = u64::from(plan.peer_count()) + u64::from(plan.passes());
     tick_named::<R, Brand, Brand>(
         rt,
@@ -161,17 +191,22 @@ fn tick_at_once<R: Abort + Clock + Sync + Threads + Wait>(
 }
 
 #[test]
-fn two_peers_at_once(rt: HostRuntime) -> Result<(), Fail> {
+fn two_peers_at_once(rt: HostRuntime) {
     let progress = Progress {
         west_held: AtomicBool::new(false),
         east_answered: AtomicBool::new(false),
         gave_up: AtomicBool::new(false),
     };
-    tick_at_once(&rt, rt.alloc(), &progress)?;
-    assert!(rt; progress.east_answered.load(Ordering::SeqCst));
-    assert!(rt;
-        !progress.gave_up.load(Ordering::SeqCst),
-        "the east had to wait for the west"
+    let ticked = tick_at_once(&rt, rt.alloc(), &progress);
+    holds(&rt, "balanced accounts", is_ended(ticked));
+    holds(
+        &rt,
+        "the east was answered",
+        progress.east_answered.load(Ordering::SeqCst),
     );
-    Ok(())
+    holds(
+        &rt,
+        "the east didn't have to wait for the west",
+        !progress.gave_up.load(Ordering::SeqCst),
+    );
 }

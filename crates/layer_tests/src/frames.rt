@@ -1,53 +1,84 @@
 //! Frames, read and written.
+use crate::same::{holds, same, same_octets};
 use iax_frames::{
-    CallNumber, Datagram, Frame, FrameError, FullHead, Out, Payload, Trunk, append_entry, read,
-    write_full, write_mini, write_trunk,
+    CallNumber, Datagram, Frame, FrameError, Full, FullHead, Out, Payload, Trunk, append_entry,
+    read, write_full, write_mini, write_trunk,
 };
-use std::test::*;
+use std::process::Abort;
 
-#[test]
-fn malformed_datagrams(rt: HostRuntime) -> Result<(), Fail> {
-    let eleven = [0x80, 7, 0, 0, 0, 0, 0, 0, 0, 0, 6];
-    assert!(rt; matches!(read(&eleven), Err(FrameError::Short)));
-    assert!(rt; matches!(read(&[]), Err(FrameError::Short)));
-    assert!(rt; matches!(read(&[0, 0, 2, 0]), Err(FrameError::MetaCommand(2))));
-    let cut = [0, 0, 1, 0, 0, 0, 0, 0x14, 0, 1, 0, 3, 0xaa, 0xbb];
-    assert!(rt; matches!(read(&cut), Err(FrameError::EntryCut(8))));
-    match read(&[0, 0x0a, 0, 1]) {
+// Why octets aren't read.
+fn fault_of(octets: &[u8]) -> Option<FrameError> {
+    match read(octets) {
+        Ok(_) => None,
+        Err(error) => Some(error),
+    }
+}
+
+// Octets aren't read, for this reason.
+fn is_refused(rt: &impl Abort, octets: &[u8], error: FrameError) {
+    same(rt, &fault_of(octets), &Some(error));
+}
+
+// The source, the timestamp and the count of the media's octets of a mini frame.
+fn mini_of(octets: &[u8]) -> Option<(u16, u16, usize)> {
+    match read(octets) {
         Ok(Datagram::Mini(mini)) => {
-            assert_eq!(rt; mini.source().get(), 10);
-            assert_eq!(rt; mini.timestamp(), 1);
-            assert!(rt; mini.media().is_empty());
-            Ok(())
+            Some((mini.source().get(), mini.timestamp(), mini.media().len()))
         }
-        _ => Err("no mini frame")?,
+        _ => None,
     }
 }
 
 #[test]
-fn trunk_of_one_entry(rt: HostRuntime) -> Result<(), Fail> {
-    let mut out = write_trunk(20, true);
-    assert_eq!(rt; out.octets(), [0, 0, 1, 1, 0, 0, 0, 0x14].as_slice());
-    let three = CallNumber::new(3);
-    assert!(rt; append_entry(&mut out, three, 20, &[0xaa, 0xbb, 0xcc]).is_ok());
-    assert_eq!(rt;
-        out.octets(),
-        [
-            0, 0, 1, 1, 0, 0, 0, 0x14, 0, 3, 0, 3, 0, 0x14, 0xaa, 0xbb, 0xcc
-        ]
-        .as_slice()
-    );
-    match read(out.octets()) {
-        Ok(Datagram::Trunk(trunk)) => {
-            for (number, timestamp, media) in trunk.entries() {
-                assert_eq!(rt; number.get(), 3);
-                assert_eq!(rt; timestamp, Some(20));
-                assert_eq!(rt; media, [0xaa, 0xbb, 0xcc].as_slice());
-            }
-            Ok(())
+fn malformed_datagrams(rt: HostRuntime) {
+    let eleven = [0x80, 7, 0, 0, 0, 0, 0, 0, 0, 0, 6];
+    is_refused(&rt, &eleven, FrameError::Short);
+    is_refused(&rt, &[], FrameError::Short);
+    is_refused(&rt, &[0, 0, 2, 0], FrameError::MetaCommand(2));
+    let cut = [0, 0, 1, 0, 0, 0, 0, 0x14, 0, 1, 0, 3, 0xaa, 0xbb];
+    is_refused(&rt, &cut, FrameError::EntryCut(8));
+    same(&rt, &mini_of(&[0, 0x0a, 0, 1]), &Some((10, 1, 0)));
+}
+
+// Each entry of a trunk frame is of call number 3 and of 20 ms, with this media.
+fn is_each(trunk: &Trunk<'_>, media: &[u8]) -> bool {
+    for (number, timestamp, octets) in trunk.entries() {
+        if number.get() != 3 || timestamp != Some(20) || octets != media {
+            return false;
         }
-        _ => Err("no trunk frame")?,
     }
+    true
+}
+
+// Octets are a trunk frame, and each of its entries is of call number 3 and of 20 ms, with this media.
+fn is_trunk_of(octets: &[u8], media: &[u8]) -> bool {
+    match read(octets) {
+        Ok(Datagram::Trunk(trunk)) => is_each(&trunk, media),
+        _ => false,
+    }
+}
+
+// A trunk frame of 20 ms with an entry of call number 3 and this media, if it has the room.
+fn written_trunk(media: &[u8]) -> Option<Out> {
+    let mut out = write_trunk(20, true);
+    append_entry(&mut out, CallNumber::new(3), 20, media).ok()?;
+    Some(out)
+}
+
+#[test]
+fn trunk_of_one_entry(rt: HostRuntime) {
+    let empty = write_trunk(20, true);
+    same_octets(&rt, empty.octets(), &[0, 0, 1, 1, 0, 0, 0, 0x14]);
+    let media = [0xaa, 0xbb, 0xcc];
+    let out = written_trunk(&media).expect(&rt, "a trunk frame");
+    same_octets(
+        &rt,
+        out.octets(),
+        &[
+            0, 0, 1, 1, 0, 0, 0, 0x14, 0, 3, 0, 3, 0, 0x14, 0xaa, 0xbb, 0xcc,
+        ],
+    );
+    holds(&rt, "a trunk frame", is_trunk_of(out.octets(), &media));
 }
 
 #[test]
@@ -56,27 +87,28 @@ fn longest_entry(rt: HostRuntime) {
     let (most, _) = media.split_at(1386);
     let mut out = write_trunk(20, true);
     let three = CallNumber::new(3);
-    assert!(rt; append_entry(&mut out, three, 20, &media).is_err());
-    assert_eq!(rt; out.octets().len(), 8);
-    assert!(rt; append_entry(&mut out, three, 20, most).is_ok());
-    assert_eq!(rt; out.octets().len(), 1400);
-    assert_eq!(rt; out.room(), 0);
+    let refused = append_entry(&mut out, three, 20, &media).is_err();
+    holds(&rt, "too long", refused);
+    same(&rt, &out.octets().len(), &8);
+    let taken = append_entry(&mut out, three, 20, most).is_ok();
+    holds(&rt, "not too long", taken);
+    same(&rt, &out.octets().len(), &1400);
+    same(&rt, &out.room(), &0);
 }
 
 #[test]
-fn mini_written(rt: HostRuntime) -> Result<(), Fail> {
+fn mini_written(rt: HostRuntime) {
     let one = CallNumber::new(1);
-    let out = write_mini(one, 20, &[0xdd]).ok().ok_or("too long")?;
-    assert_eq!(rt; out.octets(), [0, 1, 0, 0x14, 0xdd].as_slice());
-    let long = [0u8; 1397];
-    assert!(rt; write_mini(one, 20, &long).is_err());
-    assert_eq!(rt; Out::default().octets(), [0, 1, 0, 0].as_slice());
-    Ok(())
+    let out = write_mini(one, 20, &[0xdd]).expect(&rt, "a mini frame");
+    same_octets(&rt, out.octets(), &[0, 1, 0, 0x14, 0xdd]);
+    let refused = write_mini(one, 20, &[0u8; 1397]).is_err();
+    holds(&rt, "too long", refused);
+    same_octets(&rt, Out::default().octets(), &[0, 1, 0, 0]);
 }
 
-#[test]
-fn full_written_and_read(rt: HostRuntime) -> Result<(), Fail> {
-    let head = FullHead {
+// The head of a frame that is sent again.
+fn head() -> FullHead {
+    FullHead {
         source: CallNumber::new(1),
         retransmitted: true,
         destination: CallNumber::new(7),
@@ -85,48 +117,66 @@ fn full_written_and_read(rt: HostRuntime) -> Result<(), Fail> {
         iseqno: 2,
         frame_type: 4,
         subclass: 0x82,
-    };
-    let mut out = write_full(&head, &[9]).ok().ok_or("too long")?;
-    out.append_data(&[8]);
-    assert_eq!(rt;
-        out.octets(),
-        [0x80, 1, 0x80, 7, 0, 0, 0, 0x14, 1, 2, 4, 0x82, 9, 8].as_slice()
-    );
-    match read(out.octets()) {
-        Ok(Datagram::Full(full)) => {
-            assert_eq!(rt; full.meaning(), Some(4));
-            let frame = Frame {
-                ts: full.timestamp(),
-                kind: full.frame_type(),
-                subclass: full.subclass(),
-                payload: Payload::new(full.payload()),
-            };
-            assert_eq!(rt; frame.copied().payload.as_slice(), [9, 8].as_slice());
-        }
-        _ => Err("no full frame")?,
     }
-    let long = [0u8; 1389];
-    assert!(rt; write_full(&head, &long).is_err());
-    Ok(())
+}
+
+// A full frame, written with an octet, and one more appended.
+fn written_full() -> Option<Out> {
+    let mut out = write_full(&head(), &[9]).ok()?;
+    out.append_data(&[8]);
+    Some(out)
+}
+
+// The full frame of octets.
+fn full_of(octets: &[u8]) -> Option<Full<'_>> {
+    match read(octets) {
+        Ok(Datagram::Full(full)) => Some(full),
+        _ => None,
+    }
+}
+
+// A full frame, to be kept, if its payload isn't too long for that.
+fn kept(full: &Full<'_>) -> Option<Frame> {
+    if full.payload().len() > 1388 {
+        return None;
+    }
+    Some(Frame {
+        ts: full.timestamp(),
+        kind: full.frame_type(),
+        subclass: full.subclass(),
+        payload: Payload::new(full.payload()),
+    })
 }
 
 #[test]
-fn meanings(rt: HostRuntime) -> Result<(), Fail> {
-    for (octet, meaning) in [
-        (0x82, Some(4)),
-        (0xc0, None),
-        (0x04, Some(4)),
-        (0xbf, Some(1 << 63)),
-    ] {
-        let octets = [0x80, 1, 0, 0, 0, 0, 0, 0, 0, 0, 6, octet];
-        match read(&octets) {
-            Ok(Datagram::Full(full)) => {
-                assert_eq!(rt; full.meaning(), meaning);
-            }
-            _ => Err("no full frame")?,
-        }
-    }
-    Ok(())
+fn full_written_and_read(rt: HostRuntime) {
+    let out = written_full().expect(&rt, "a full frame");
+    same_octets(
+        &rt,
+        out.octets(),
+        &[0x80, 1, 0x80, 7, 0, 0, 0, 0x14, 1, 2, 4, 0x82, 9, 8],
+    );
+    let full = full_of(out.octets()).expect(&rt, "a full frame");
+    same(&rt, &full.meaning(), &Some(4));
+    let frame = kept(&full).expect(&rt, "a frame to be kept");
+    same_octets(&rt, frame.copied().payload.as_slice(), &[9, 8]);
+    let refused = write_full(&head(), &[0u8; 1389]).is_err();
+    holds(&rt, "too long", refused);
+}
+
+// A full frame whose subclass is this octet means that.
+fn means(rt: &impl Abort, octet: u8, meaning: Option<u64>) {
+    let octets = [0x80, 1, 0, 0, 0, 0, 0, 0, 0, 0, 6, octet];
+    let full = full_of(&octets).expect(rt, "a full frame");
+    same(rt, &(octet, full.meaning()), &(octet, meaning));
+}
+
+#[test]
+fn meanings(rt: HostRuntime) {
+    means(&rt, 0x82, Some(4));
+    means(&rt, 0xc0, None);
+    means(&rt, 0x04, Some(4));
+    means(&rt, 0xbf, Some(1 << 63));
 }
 
 /// A trunk frame with timestamps, of entries with three octets and one.
@@ -163,17 +213,16 @@ fn expected_entries(count: usize) -> Result<usize, FrameError> {
     }
 }
 
+// The trunk frame, cut after so many octets, is read as it should be.
+fn reads_start(rt: &impl Abort, count: usize) {
+    let start = TRUNK.as_slice().get(..count).expect(rt, "a start");
+    let found = entries_in(start);
+    same(rt, &(count, found), &(count, expected_entries(count)));
+}
+
 #[test]
 fn truncated_trunk(rt: HostRuntime) {
     for count in 0..25 {
-        let (start, _) = TRUNK
-            .as_slice()
-            .split_at_checked(count)
-            .expect(&rt, "a start");
-        assert_eq!(rt;
-            entries_in(start),
-            expected_entries(count),
-            "{count} octets"
-        );
+        reads_start(&rt, count);
     }
 }

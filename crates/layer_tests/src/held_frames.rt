@@ -1,9 +1,9 @@
 //! Frames that wait for their acknowledgement.
+use crate::same::{holds, same};
 use iax_frames::{Frame, Payload};
 use resend_queue::{Held, NoPlace, Resend};
 use std::alloc::Global;
 use std::process::Abort;
-use std::test::*;
 
 fn held(number: u8) -> Held {
     Held {
@@ -21,51 +21,72 @@ fn held(number: u8) -> Held {
 
 // The first frame that is due at a moment, where a frame is due 1,000 ms after it went out.
 fn is_due(rt: &impl Abort, queue: &Resend, now: u64, place: Option<usize>) {
-    assert_eq!(rt; queue.due(now, 1000), place, "at {now}");
+    same(rt, &(now, queue.due(now, 1000)), &(now, place));
 }
 
 // The frame at a place has this number, and was sent again so many times.
 fn has(rt: &impl Abort, queue: &Resend, place: usize, number: u8, tries: u32) {
-    assert_eq!(rt; queue.get(place).map(|held| held.number), Some(number));
-    assert_eq!(rt; queue.get(place).map(|held| held.tries), Some(tries));
+    let held = queue.get(place).expect(rt, "a frame");
+    same(rt, &(held.number, held.tries), &(number, tries));
+}
+
+// Adds a frame under this number. Gives the number of the frame that the queue hands back, if it has no place.
+fn handed_back(queue: &mut Resend, number: u8) -> Option<u8> {
+    match queue.push(held(number)) {
+        Err((refused, NoPlace)) => Some(refused.number),
+        Ok(()) => None,
+    }
 }
 
 // A queue for two frames, which has them.
-fn full_queue(rt: &impl Abort, alloc: Global) -> Result<Resend, Fail> {
-    let mut queue = Resend::new(alloc, 2)?;
-    assert!(rt; queue.is_empty());
-    assert!(rt; queue.push(held(7)).is_ok());
-    assert!(rt; queue.push(held(8)).is_ok());
-    Ok(queue)
+fn full_queue(rt: &impl Abort, alloc: Global) -> Resend {
+    let mut queue = Resend::new(alloc, 2).expect(rt, "a queue");
+    holds(rt, "empty", queue.is_empty());
+    same(rt, &handed_back(&mut queue, 7), &None);
+    same(rt, &handed_back(&mut queue, 8), &None);
+    queue
 }
 
 #[test]
-fn no_place_for_a_third(rt: HostRuntime) -> Result<(), Fail> {
-    let mut queue = full_queue(&rt, rt.alloc())?;
-    match queue.push(held(9)) {
-        Err((refused, NoPlace)) => assert_eq!(rt; refused.number, 9),
-        Ok(()) => Err("a third frame in a queue for two")?,
-    }
-    assert_eq!(rt; queue.len(), 2);
-    Ok(())
+fn no_place_for_a_third(rt: HostRuntime) {
+    let mut queue = full_queue(&rt, rt.alloc());
+    same(&rt, &handed_back(&mut queue, 9), &Some(9));
+    same(&rt, &queue.len(), &2);
+}
+
+// The frame at a place is sent again at this moment.
+fn marks(rt: &impl Abort, queue: &mut Resend, place: usize, now: u64) {
+    assert!(rt; place < queue.len());
+    queue.mark(place, now);
+}
+
+// The frame at a place went out at this moment.
+fn touches(rt: &impl Abort, queue: &mut Resend, place: usize, now: u64) {
+    assert!(rt; place < queue.len());
+    queue.touch(place, now);
+}
+
+// The oldest frame goes.
+fn drops_first(rt: &impl Abort, queue: &mut Resend) {
+    assert!(rt; !queue.is_empty());
+    queue.drop_front(1);
 }
 
 #[test]
-fn holds_in_order(rt: HostRuntime) -> Result<(), Fail> {
-    let mut queue = full_queue(&rt, rt.alloc())?;
+fn holds_in_order(rt: HostRuntime) {
+    let mut queue = full_queue(&rt, rt.alloc());
     is_due(&rt, &queue, 999, None);
     is_due(&rt, &queue, 1000, Some(0));
-    assert_eq!(rt; queue.len(), 2);
-    queue.mark(0, 1000);
+    same(&rt, &queue.len(), &2);
+    marks(&rt, &mut queue, 0, 1000);
     is_due(&rt, &queue, 1000, Some(1));
-    assert_eq!(rt; queue.len(), 2);
-    queue.touch(1, 1000);
+    same(&rt, &queue.len(), &2);
+    touches(&rt, &mut queue, 1, 1000);
     is_due(&rt, &queue, 1999, None);
     has(&rt, &queue, 0, 7, 1);
     has(&rt, &queue, 1, 8, 0);
-    assert_eq!(rt; queue.len(), 2);
-    queue.drop_front(1);
-    assert_eq!(rt; queue.len(), 1);
+    same(&rt, &queue.len(), &2);
+    drops_first(&rt, &mut queue);
+    same(&rt, &queue.len(), &1);
     has(&rt, &queue, 0, 8, 0);
-    Ok(())
 }

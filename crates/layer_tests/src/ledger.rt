@@ -1,6 +1,7 @@
 //! Shares of a supply.
 ghost use Rattle.std.specs.Prelude.{◌≡◌};
 
+use crate::same::{holds, same};
 use media_ledger::{Blank, Missing, SupplyError, gather, pass_on, supply};
 use std::alloc::Global;
 use std::marker::Brand;
@@ -18,13 +19,13 @@ fn gathered<L: Ledger>(rt: &impl Abort, alloc: Global, blank: Blank) -> Result<u
     };
     assert!(rt; first.amount() >= 2);
     pass_on(&mut first, &mut second, 2);
-    assert_eq!(rt; first.amount(), 3);
-    assert_eq!(rt; second.amount(), 2);
+    same(rt, &first.amount(), &3);
+    same(rt, &second.amount(), &2);
     shares.push(first)?;
     let Err((mut shares, Missing)) = gather(&whole, shares) else {
         return Err(Fail::new("one share is not all"));
     };
-    assert_eq!(rt; shares.len(), 1);
+    same(rt, &shares.len(), &1);
     shares.push(second)?;
     gather(&whole, shares).map_err(|_| Fail::new("both shares are all"))
 }
@@ -42,11 +43,12 @@ fn is_too_much<L: Ledger>(alloc: Global, blank: Blank) -> bool
 #[test]
 fn ledger_supply(rt: HostRuntime) -> Result<(), Fail> {
     let sum = gathered::<Brand>(&rt, rt.alloc(), Blank::new(2))?;
-    assert_eq!(rt; sum, 5);
+    same(&rt, &sum, &5);
     Ok(())
 }
 
 #[test]
 fn ledger_supply_too_much(rt: HostRuntime) {
-    assert!(rt; is_too_much::<Brand>(rt.alloc(), Blank::new(2)));
+    let refused = is_too_much::<Brand>(rt.alloc(), Blank::new(2));
+    holds(&rt, "too much", refused);
 }

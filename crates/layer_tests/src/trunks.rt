@@ -1,34 +1,46 @@
 //! Media that waits for a trunk frame.
+ghost use Rattle.std.specs.Prelude.{◌≤◌};
+
+use crate::same::{holds, same, same_octets};
 use iax_frames::{CallNumber, Datagram, Trunk, read};
 use std::process::Abort;
-use std::test::Fail;
 use trunk_packer::{Packer, QueueError};
+
+// Queues an entry, or finds no room for it.
+fn queue(
+    packer: &mut Packer,
+    number: CallNumber,
+    timestamp: u16,
+    media: &[u8],
+) -> Result<(), QueueError> {
+    packer.queue(number, timestamp, media)
+}
+
+// Queues an entry, for which there is room.
+fn queues(rt: &impl Abort, packer: &mut Packer, number: CallNumber, timestamp: u16, media: &[u8]) {
+    same(rt, &queue(packer, number, timestamp, media), &Ok(()));
+}
+
+// Packs this frame, of four octets of media.
+fn packs(rt: &impl Abort, packer: &mut Packer, timed: bool, frame: &[u8]) {
+    let (out, octets) = packer.pack(20, timed).expect(rt, "a frame");
+    same_octets(rt, out.octets(), frame);
+    same(rt, &octets, &4);
+}
 
 // Queues two entries, and packs them into this frame.
 fn packs_two(rt: &impl Abort, packer: &mut Packer, timed: bool, frame: &[u8]) {
-    assert!(rt;
-        packer
-            .queue(CallNumber::new(3), 20, &[0xaa, 0xbb, 0xcc])
-            .is_ok()
-    );
-    assert!(rt; packer.queue(CallNumber::new(1), 20, &[0xdd]).is_ok());
-    assert_eq!(rt; packer.queued(), (2, 4));
-    match packer.pack(20, timed) {
-        Some((out, octets)) => {
-            assert_eq!(rt; out.octets(), frame);
-            assert_eq!(rt; octets, 4);
-        }
-        None => {
-            assert!(rt; false);
-        }
-    }
-    assert!(rt; packer.is_empty());
-    assert!(rt; packer.pack(20, timed).is_none());
+    queues(rt, packer, CallNumber::new(3), 20, &[0xaa, 0xbb, 0xcc]);
+    queues(rt, packer, CallNumber::new(1), 20, &[0xdd]);
+    same(rt, &packer.queued(), &(2, 4));
+    packs(rt, packer, timed, frame);
+    holds(rt, "empty", packer.is_empty());
+    holds(rt, "no frame", packer.pack(20, timed).is_none());
 }
 
 #[test]
-fn trunked_media(rt: HostRuntime) -> Result<(), Fail> {
-    let mut packer = Packer::new(rt.alloc())?;
+fn trunked_media(rt: HostRuntime) {
+    let mut packer = Packer::new(rt.alloc()).expect(&rt, "a packer");
     let timed = [
         0, 0, 1, 1, 0, 0, 0, 0x14, 0, 3, 0, 3, 0, 0x14, 0xaa, 0xbb, 0xcc, 0, 1, 0, 1, 0, 0x14, 0xdd,
     ];
@@ -37,107 +49,124 @@ fn trunked_media(rt: HostRuntime) -> Result<(), Fail> {
         0, 0, 1, 0, 0, 0, 0, 0x14, 0, 3, 0, 3, 0xaa, 0xbb, 0xcc, 0, 1, 0, 1, 0xdd,
     ];
     packs_two(&rt, &mut packer, false, &untimed);
-    Ok(())
 }
 
 // Queues 256 entries of one octet, and finds the queue full.
 fn fill_with_single_octets(rt: &impl Abort, packer: &mut Packer) {
+    let one = CallNumber::new(1);
     for _ in 0..256 {
-        assert!(rt; packer.queue(CallNumber::new(1), 0, &[0xaa]).is_ok());
+        queues(rt, packer, one, 0, &[0xaa]);
     }
-    assert_eq!(rt; packer.queued(), (256, 256));
-    assert_eq!(rt;
-        packer.queue(CallNumber::new(1), 0, &[0xaa]),
-        Err(QueueError::QueueFull)
-    );
+    same(rt, &packer.queued(), &(256, 256));
+    let full = queue(packer, one, 0, &[0xaa]);
+    same(rt, &full, &Err(QueueError::QueueFull));
 }
 
-// The octets of media in the next frame.
-fn packed(packer: &mut Packer, timed: bool) -> Option<u64> {
-    match packer.pack(0, timed) {
+// The next frame has so many octets of media, or there is none.
+fn packs_octets(rt: &impl Abort, packer: &mut Packer, timed: bool, expected: Option<u64>) {
+    let found = match packer.pack(0, timed) {
         Some((_, octets)) => Some(octets),
         None => None,
-    }
+    };
+    same(rt, &found, &expected);
 }
 
 #[test]
-fn entries_of_one_octet(rt: HostRuntime) -> Result<(), Fail> {
-    let mut packer = Packer::new(rt.alloc())?;
+fn entries_of_one_octet(rt: HostRuntime) {
+    let mut packer = Packer::new(rt.alloc()).expect(&rt, "a packer");
     fill_with_single_octets(&rt, &mut packer);
-    assert_eq!(rt; packed(&mut packer, true), Some(198));
-    assert_eq!(rt; packed(&mut packer, true), Some(58));
-    assert_eq!(rt; packed(&mut packer, true), None);
+    packs_octets(&rt, &mut packer, true, Some(198));
+    packs_octets(&rt, &mut packer, true, Some(58));
+    packs_octets(&rt, &mut packer, true, None);
     fill_with_single_octets(&rt, &mut packer);
-    assert_eq!(rt; packed(&mut packer, false), Some(256));
-    assert_eq!(rt; packed(&mut packer, false), None);
-    Ok(())
+    packs_octets(&rt, &mut packer, false, Some(256));
+    packs_octets(&rt, &mut packer, false, None);
+}
+
+// Queues as many entries of 1380 octets as there is room for, and finds no room for a further one.
+fn fill_with_1380_octets(rt: &impl Abort, packer: &mut Packer) {
+    let one = CallNumber::new(1);
+    for _ in 0..11 {
+        queues(rt, packer, one, 0, &[0xaa; 1380]);
+    }
+    let full = queue(packer, one, 0, &[0xaa; 1380]);
+    same(rt, &full, &Err(QueueError::QueueFull));
+    let long = queue(packer, one, 0, &[0xaa; 1381]);
+    same(rt, &long, &Err(QueueError::TooLong));
 }
 
 #[test]
-fn entries_of_1380_octets(rt: HostRuntime) -> Result<(), Fail> {
-    let mut packer = Packer::new(rt.alloc())?;
-    let media = [0xaa; 1380];
+fn entries_of_1380_octets(rt: HostRuntime) {
+    let mut packer = Packer::new(rt.alloc()).expect(&rt, "a packer");
+    fill_with_1380_octets(&rt, &mut packer);
     for _ in 0..11 {
-        assert!(rt; packer.queue(CallNumber::new(1), 0, &media).is_ok());
+        packs_octets(&rt, &mut packer, true, Some(1380));
     }
-    assert_eq!(rt;
-        packer.queue(CallNumber::new(1), 0, &media),
-        Err(QueueError::QueueFull)
-    );
-    assert_eq!(rt;
-        packer.queue(CallNumber::new(1), 0, &[0xaa; 1381]),
-        Err(QueueError::TooLong)
-    );
-    for _ in 0..11 {
-        assert_eq!(rt; packed(&mut packer, true), Some(1380));
-    }
-    assert!(rt; packer.is_empty());
-    Ok(())
+    holds(&rt, "empty", packer.is_empty());
 }
 
-// Checks that the entries of a frame go on from this number, each with 64 octets of it but the last, and gives the
-// number after them.
-fn numbers_after(rt: &impl Abort, trunk: &Trunk<'_>, first: u16) -> u16 {
+// Whether the media is that of this number: 64 octets of it, and one of the last number.
+fn is_media_of(number: u16, media: &[u8]) -> bool {
+    let len = if number < 256 { 64 } else { 1 };
+    if media.len() != len {
+        return false;
+    }
+    for octet in media {
+        if *octet as u16 != number % 256 {
+            return false;
+        }
+    }
+    true
+}
+
+// The number after the entries of a frame, which go on from this one.
+fn number_after(trunk: &Trunk<'_>, first: u16) -> Option<u16> {
     let mut number = first;
     for (found, timestamp, media) in trunk.entries() {
-        assert_eq!(rt; found.get(), number);
-        assert_eq!(rt; timestamp, Some(number));
-        let len = if number < 256 { 64 } else { 1 };
-        assert_eq!(rt; media.len(), len);
-        assert!(rt; media.iter().all(|octet| *octet as u16 == number % 256));
+        if found.get() != number || timestamp != Some(number) || !is_media_of(number, media) {
+            return None;
+        }
         number = number.saturating_add(1);
     }
-    number
+    Some(number)
+}
+
+// The next frame has entries from this number on; gives the number after them.
+fn packs_from(packer: &mut Packer, first: u16) -> Option<u16> {
+    let (out, _) = packer.pack(0, true)?;
+    let Ok(Datagram::Trunk(trunk)) = read(out.octets()) else {
+        return None;
+    };
+    number_after(&trunk, first)
+}
+
+// The number after the entries of so many frames.
+fn packs_frames(packer: &mut Packer, frames: u16, first: u16) -> Option<u16> {
+    let mut next = Some(first);
+    for _ in 0..frames {
+        next = packs_from(packer, next?);
+    }
+    next
+}
+
+// Queues an entry whose call number and timestamp are this number.
+fn queues_number(rt: &impl Abort, packer: &mut Packer, number: u16, media: &[u8])
+    requires { number ≤ 256 }
+{
+    queues(rt, packer, CallNumber::new(number), number, media);
 }
 
 #[test]
-fn ring_wraps(rt: HostRuntime) -> Result<(), Fail> {
-    let mut packer = Packer::new(rt.alloc())?;
+fn ring_wraps(rt: HostRuntime) {
+    let mut packer = Packer::new(rt.alloc()).expect(&rt, "a packer");
     for number in 0..256u16 {
-        let media = [number as u8; 64];
-        assert!(rt;
-            packer
-                .queue(CallNumber::new(number), number, &media)
-                .is_ok()
-        );
+        queues_number(&rt, &mut packer, number, &[number as u8; 64]);
     }
-    assert_eq!(rt; packer.queued(), (256, 16384));
-    let mut next = 0;
-    for frame in 0..14u16 {
-        let Some((out, octets)) = packer.pack(0, true) else {
-            return Err(Fail::new("a frame"));
-        };
-        if frame == 0 {
-            assert_eq!(rt; octets, 1216);
-            assert_eq!(rt; out.octets().len(), 1338);
-            assert!(rt; packer.queue(CallNumber::new(256), 256, &[0]).is_ok());
-        }
-        let Ok(Datagram::Trunk(trunk)) = read(out.octets()) else {
-            return Err(Fail::new("a trunk frame"));
-        };
-        next = numbers_after(&rt, &trunk, next);
-    }
-    assert_eq!(rt; next, 257);
-    assert!(rt; packer.is_empty());
-    Ok(())
+    same(&rt, &packer.queued(), &(256, 16384));
+    // Nineteen entries of 64 octets.
+    same(&rt, &packs_from(&mut packer, 0), &Some(19));
+    same(&rt, &packer.queued(), &(237, 15168));
+    queues_number(&rt, &mut packer, 256, &[0]);
+    same(&rt, &packs_frames(&mut packer, 13, 19), &Some(257));
+    holds(&rt, "empty", packer.is_empty());
 }

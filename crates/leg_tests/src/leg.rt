@@ -2,15 +2,15 @@
 ghost use Rattle.std.specs.Prelude.{◌≡◌, ◌≤◌, [], length, IfSome};
 ghost use Rattle.leg_machine.specs.OrderTable.{IsShortMedia};
 
+use crate::same::{same, same_octets};
 use call_auth::Challenge;
 use iax_frames::{CallNumber, Datagram, Full, read};
 use leg_machine::{
     Cause, Digit, Format, Heard, Judged, Leg, Order, OrderError, Replies, Signal, Stage, StepError,
 };
 use peer_plan::{Plan, PlanError};
-use std::alloc::Global;
+use std::alloc::{AllocError, Global};
 use std::process::Abort;
-use std::test::Fail;
 
 /// A NEW for 200 from call number 7.
 pub const NEW_200: &str = "8007000000000000000006010b0200020103323030090400000004080400000004";
@@ -44,10 +44,18 @@ const ROUTE: &str = "\n[[route]]\n\
 prefix = \"3\"\n\
 peer = \"east\"\n";
 
+// The text of such a plan.
+fn plan_text(alloc: Global, parts: &[&str]) -> Result<String, AllocError> {
+    let mut text = String::new(alloc);
+    for part in parts {
+        text.push_str(part)?;
+    }
+    Ok(text)
+}
+
 /// A plan of a peer in the west and one in the east, with further lines at its top and for each of both.
 pub fn plan_of(alloc: Global, top: &str, west: &str, east: &str) -> Result<Plan, PlanError> {
-    let mut text = String::new(alloc);
-    for part in [
+    let parts = [
         "format = 2\n",
         top,
         "\n",
@@ -56,17 +64,26 @@ pub fn plan_of(alloc: Global, top: &str, west: &str, east: &str) -> Result<Plan,
         EAST,
         east,
         ROUTE,
-    ] {
-        text.push_str(part)?;
-    }
+    ];
+    let text = plan_text(alloc, &parts)?;
     Plan::read(alloc, text.as_bytes())
 }
 
+// The same, where there must be memory.
+fn planned(rt: &impl Abort, alloc: Global, west: &str, east: &str) -> Plan {
+    plan_of(alloc, "", west, east).expect(rt, "a plan")
+}
+
+// The octets of a text, if there is memory for them.
+fn decoded(alloc: Global, text: &str) -> Option<Vec<u8>> {
+    hex::decode(alloc, text).ok()
+}
+
 /// The octets of a text, asked for once more where memory is refused.
-pub fn octets_of(alloc: Global, text: &str) -> Result<Vec<u8>, Fail> {
-    match hex::decode(alloc, text) {
-        Ok(octets) => Ok(octets),
-        Err(_) => Ok(hex::decode(alloc, text)?),
+pub fn octets_of(alloc: Global, text: &str) -> Option<Vec<u8>> {
+    match decoded(alloc, text) {
+        Some(octets) => Some(octets),
+        None => decoded(alloc, text),
     }
 }
 
@@ -91,29 +108,35 @@ pub struct Tested {
     pub replies: Box<Replies>,
 }
 
-/// The leg of the peer in the west that a NEW opens at moment 0, under local number 1, if there is memory for it.
-pub fn opened(alloc: Global, plan: &Plan, new: &str, challenge: &[u8]) -> Option<(Tested, Heard)> {
-    let octets = hex::decode(alloc, new).ok()?;
-    let frame = full_of(&octets)?;
-    let challenge = Challenge::new(challenge)?;
-    if frame.oseqno() != 0 {
+// The leg of the peer in the west that a full frame opens at moment 0, under local number 1, if there is memory for it.
+fn opened_in(
+    alloc: Global,
+    plan: &Plan,
+    frame: &Full<'_>,
+    challenge: &Challenge,
+    replies: &mut Replies,
+) -> Option<(Leg, Heard)>
+    requires short { length frame.now.payload ≤ 1388 }
+    requires empty { replies.old ≡ [] }
+{
+    if frame.oseqno() != 0 || plan.peer_count() == 0 {
         return None;
     }
-    if plan.peer_count() == 0 {
-        return None;
-    }
-    let mut replies = Box::new(alloc, Replies::new()).ok()?;
     let number = CallNumber::new(1);
-    let (leg, heard) = Leg::open_in_into(
-        alloc,
-        plan.rules(0),
-        number,
-        &frame,
-        0,
-        &challenge,
-        &mut replies,
-    )
-    .ok()?;
+    Leg::open_in_into(alloc, plan.rules(0), number, frame, 0, challenge, replies).ok()
+}
+
+// The same, with the list to which the leg writes.
+fn opened_by(
+    alloc: Global,
+    plan: &Plan,
+    frame: &Full<'_>,
+    challenge: &Challenge,
+) -> Option<(Tested, Heard)>
+    requires { length frame.now.payload ≤ 1388 }
+{
+    let mut replies = Box::new(alloc, Replies::new()).ok()?;
+    let (leg, heard) = opened_in(alloc, plan, frame, challenge, &mut replies)?;
     let tested = Tested {
         alloc,
         leg,
@@ -122,26 +145,40 @@ pub fn opened(alloc: Global, plan: &Plan, new: &str, challenge: &[u8]) -> Option
     Some((tested, heard))
 }
 
-/// The same, where there must be memory.
-pub fn called(
-    alloc: Global,
-    plan: &Plan,
-    new: &str,
-    challenge: &[u8],
-) -> Result<(Tested, Heard), Fail> {
-    match opened(alloc, plan, new, challenge) {
-        Some(called) => Ok(called),
-        None => Err(Fail::new("no leg was opened")),
-    }
+/// The leg of the peer in the west that a NEW opens at moment 0, under local number 1, if there is memory for it.
+pub fn opened(alloc: Global, plan: &Plan, new: &str, challenge: &[u8]) -> Option<(Tested, Heard)> {
+    let octets = decoded(alloc, new)?;
+    let frame = full_of(&octets)?;
+    let challenge = Challenge::new(challenge)?;
+    opened_by(alloc, plan, &frame, &challenge)
 }
 
-/// The leg of the peer in the east that a call for 300 opens at moment 0, under local number 5.
-pub fn calling(alloc: Global, plan: &Plan) -> Result<Tested, Fail> {
+/// The same, where there must be memory, under a plan with further lines for the peer in the west.
+pub fn called(
+    rt: &impl Abort,
+    alloc: Global,
+    west: &str,
+    new: &str,
+    challenge: &[u8],
+) -> (Tested, Heard) {
+    let plan = planned(rt, alloc, west, "");
+    opened(alloc, &plan, new, challenge).expect(rt, "a leg")
+}
+
+/// The leg of a NEW for 300, under such a plan.
+pub fn called_for_300(rt: &impl Abort, alloc: Global, west: &str) -> Tested {
+    let (tested, _) = called(rt, alloc, west, NEW_300, b"0");
+    tested
+}
+
+// The leg of the peer in the east that a call for 300 opens at moment 0, under local number 5, if there is memory for it.
+fn opened_out(alloc: Global, plan: &Plan, replies: &mut Replies) -> Option<Leg>
+    requires { replies.old ≡ [] }
+{
     if plan.peer_count() < 2 {
-        return Err(Fail::new("no peer in the east"));
+        return None;
     }
-    let mut replies = Box::new(alloc, Replies::new())?;
-    let leg = Leg::open_out_into(
+    Leg::open_out_into(
         alloc,
         plan.rules(1),
         CallNumber::new(5),
@@ -149,17 +186,26 @@ pub fn calling(alloc: Global, plan: &Plan) -> Result<Tested, Fail> {
         None,
         Format::Ulaw,
         0,
-        &mut replies,
-    )?;
-    Ok(Tested {
+        replies,
+    )
+    .ok()
+}
+
+/// The leg of the peer in the east that a call for 300 opens at moment 0, under local number 5, where there must be memory, under a
+/// plan with further lines for that peer.
+pub fn calling(rt: &impl Abort, alloc: Global, east: &str) -> Tested {
+    let plan = planned(rt, alloc, "", east);
+    let mut replies = Box::new(alloc, Replies::new()).expect(rt, "memory");
+    let leg = opened_out(alloc, &plan, &mut replies).expect(rt, "a leg");
+    Tested {
         alloc,
         leg,
         replies,
-    })
+    }
 }
 
 /// What the layer above asks of a leg.
-#[derive(Drop)]
+#[derive(Clone, Copy)]
 pub enum Wish<'a> {
     Accept,
     Reject(Cause),
@@ -172,7 +218,7 @@ pub enum Wish<'a> {
 }
 
 /// What happens to a leg, and what comes of it beside the datagrams.
-#[derive(Drop)]
+#[derive(Clone, Copy)]
 pub enum Event<'a> {
     /// A full frame comes: how it is judged, and what is handed up.
     Frame(&'a str, Judged, Option<Signal>),
@@ -181,7 +227,7 @@ pub enum Event<'a> {
 }
 
 /// A line of a worked example: the moment, what happens, the datagrams that go out, and the stage after.
-#[derive(Drop)]
+#[derive(Clone, Copy)]
 pub struct Line<'a> {
     pub at: u64,
     pub event: Event<'a>,
@@ -199,12 +245,10 @@ impl Tested {
     }
 
     /// A full frame comes.
-    pub fn hears(&mut self, at: u64, text: &str) -> Result<Heard, Fail> {
-        let octets = hex::decode(self.alloc, text)?;
-        let Some(frame) = full_of(&octets) else {
-            return Err(Fail::new("no full frame"));
-        };
-        Ok(self.takes(&frame, at)?)
+    pub fn hears(&mut self, rt: &impl Abort, at: u64, text: &str) -> Result<Heard, StepError> {
+        let octets = decoded(self.alloc, text).expect(rt, "octets");
+        let frame = full_of(&octets).expect(rt, "a full frame");
+        self.takes(&frame, at)
     }
 
     /// An order is given.
@@ -230,10 +274,7 @@ impl Tested {
 
     /// Media is to go out.
     pub fn sends(&mut self, at: u64, media: &[u8]) -> Result<(), OrderError> {
-        if media.is_empty() {
-            return Err(OrderError::WrongStage);
-        }
-        if media.len() > 1380 {
+        if media.is_empty() || media.len() > 1380 {
             return Err(OrderError::WrongStage);
         }
         self.obeys(at, &Order::Media(media))
@@ -245,42 +286,52 @@ impl Tested {
         self.leg.tick_into(at, &mut self.replies)
     }
 
+    // This datagram went out at this place of the last step.
+    fn said_at(&self, rt: &impl Abort, place: usize, text: &str) {
+        let octets = octets_of(self.alloc, text).expect(rt, "octets");
+        let out = self.replies.get(place).expect(rt, "a datagram");
+        same_octets(rt, out.octets(), &octets);
+    }
+
     /// These datagrams went out in the last step, and no other.
-    pub fn said(&self, rt: &impl Abort, expected: &[&str]) -> Result<(), Fail> {
-        assert_eq!(rt; self.replies.len(), expected.len());
+    pub fn said(&self, rt: &impl Abort, expected: &[&str]) {
+        same(rt, &self.replies.len(), &expected.len());
         for (place, text) in expected.iter().enumerate() {
-            let octets = octets_of(self.alloc, text)?;
-            let Some(out) = self.replies.get(place) else {
-                return Err(Fail::new("too few datagrams"));
-            };
-            assert_eq!(rt; out.octets(), octets.as_slice(), "datagram {place}");
+            self.said_at(rt, place, text);
         }
-        Ok(())
+    }
+
+    /// The leg is in this stage.
+    pub fn is_in(&self, rt: &impl Abort, stage: Stage) {
+        same(rt, &self.leg.stage(), &stage);
     }
 
     /// What happens in a line, happens so.
-    pub fn happens(&mut self, rt: &impl Abort, at: u64, event: &Event) -> Result<(), Fail> {
+    pub fn happens(&mut self, rt: &impl Abort, at: u64, event: &Event) {
         match event {
             Event::Frame(text, judged, signal) => {
-                let heard = self.hears(at, text)?;
-                assert_eq!(rt; heard.judged, *judged);
-                assert_eq!(rt; heard.signal, *signal);
+                let heard = Heard {
+                    judged: *judged,
+                    signal: *signal,
+                };
+                same(rt, &self.hears(rt, at, text), &Ok(heard));
             }
-            Event::Order(wish, answer) => {
-                assert_eq!(rt; self.grants(at, wish), *answer);
-            }
+            Event::Order(wish, answer) => same(rt, &self.grants(at, wish), answer),
         }
-        Ok(())
+    }
+
+    /// What comes of a line.
+    pub fn shows(&self, rt: &impl Abort, line: &Line) {
+        self.said(rt, line.said);
+        self.is_in(rt, line.stage);
     }
 
     /// All that happens, line by line.
-    pub fn plays(&mut self, rt: &impl Abort, lines: &[Line]) -> Result<(), Fail> {
+    pub fn plays(&mut self, rt: &impl Abort, lines: &[Line]) {
         for line in lines {
-            self.happens(rt, line.at, &line.event)?;
-            self.said(rt, line.said)?;
-            assert_eq!(rt; self.leg.stage(), line.stage);
+            self.happens(rt, line.at, &line.event);
+            self.shows(rt, line);
         }
-        Ok(())
     }
 }
 
@@ -307,8 +358,8 @@ pub const ANSWERING: [Line<'static>; 3] = [
 ];
 
 /// The leg of a NEW for 300 that answered the call.
-pub fn answered(rt: &impl Abort, alloc: Global, plan: &Plan) -> Result<Tested, Fail> {
-    let (mut tested, _) = called(alloc, plan, NEW_300, b"0")?;
-    tested.plays(rt, &ANSWERING)?;
-    Ok(tested)
+pub fn answered(rt: &impl Abort, alloc: Global) -> Tested {
+    let mut tested = called_for_300(rt, alloc, "");
+    tested.plays(rt, &ANSWERING);
+    tested
 }

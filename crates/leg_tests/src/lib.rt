@@ -10,4 +10,6 @@ mod media;
 #[cfg(test)]
 mod refused_memory;
 #[cfg(test)]
+mod same;
+#[cfg(test)]
 mod windows;

@@ -2,16 +2,18 @@
 //!
 //! Each test passes whichever request is refused, and where none is: what was refused left all as it was, and the same call then
 //! answers as it would have. `.ci/refusals` refuses the requests one at a time.
+ghost use Rattle.std.specs.Prelude.{◌≤◌, length};
+
 use crate::leg::{
-    ANSWERING, Event, Line, NEW_300, Tested, Wish, called, full_of, octets_of, opened, plan_of,
+    ANSWERING, Event, Line, NEW_300, Tested, Wish, full_of, octets_of, opened, plan_of,
 };
-use iax_frames::{CallNumber, Frame, Payload};
+use crate::same::{holds, same};
+use iax_frames::{CallNumber, Frame, Full, Payload};
 use leg_machine::{Digit, Heard, Judged, MediaSpan, OrderError, Signal, Stage, StepError};
-use peer_plan::PlanError;
+use peer_plan::{Plan, PlanError};
 use seq_window::{Acknowledged, Received, Window};
 use std::alloc::Global;
 use std::process::Abort;
-use std::test::*;
 
 /// What is seen of a leg.
 #[derive(Clone, Copy, Debug, PartialEq, Eq)]
@@ -55,25 +57,34 @@ impl Tested {
 
     // The leg is as it was before memory was refused, and nothing goes out.
     fn is_unchanged(&self, rt: &impl Abort, before: &Look) {
-        assert_eq!(rt; self.look(), *before);
-        assert!(rt; self.replies.is_empty());
+        same(rt, &self.look(), before);
+        holds(rt, "nothing goes out", self.replies.is_empty());
+    }
+
+    // A full frame is given to the leg, once more where memory is refused.
+    fn takes_at_last(
+        &mut self,
+        rt: &impl Abort,
+        frame: &Full<'_>,
+        at: u64,
+    ) -> Result<Heard, StepError>
+        requires { length frame.now.payload ≤ 1388 }
+    {
+        let before = self.look();
+        match self.takes(frame, at) {
+            Err(StepError::Memory) => {
+                self.is_unchanged(rt, &before);
+                self.takes(frame, at)
+            }
+            answer => answer,
+        }
     }
 
     // A full frame comes, once more where memory is refused.
-    fn hears_at_last(&mut self, rt: &impl Abort, at: u64, text: &str) -> Result<Heard, Fail> {
-        let octets = octets_of(self.alloc, text)?;
-        let Some(frame) = full_of(&octets) else {
-            return Err(Fail::new("no full frame"));
-        };
-        let before = self.look();
-        match self.takes(&frame, at) {
-            Ok(heard) => Ok(heard),
-            Err(error) => {
-                assert_eq!(rt; error, StepError::Memory);
-                self.is_unchanged(rt, &before);
-                Ok(self.takes(&frame, at)?)
-            }
-        }
+    fn hears_at_last(&mut self, rt: &impl Abort, at: u64, text: &str) -> Result<Heard, StepError> {
+        let octets = octets_of(self.alloc, text).expect(rt, "octets");
+        let frame = full_of(&octets).expect(rt, "a full frame");
+        self.takes_at_last(rt, &frame, at)
     }
 
     // Something is asked of the leg, once more where memory is refused.
@@ -82,53 +93,65 @@ impl Tested {
         match self.grants(at, wish) {
             Ok(()) => Ok(()),
             Err(error) => {
-                assert_eq!(rt; error, OrderError::Memory);
+                same(rt, &error, &OrderError::Memory);
                 self.is_unchanged(rt, &before);
                 self.grants(at, wish)
             }
         }
     }
 
-    // All that happens, line by line.
-    fn plays_at_last(&mut self, rt: &impl Abort, lines: &[Line]) -> Result<(), Fail> {
-        for line in lines {
-            match &line.event {
-                Event::Frame(text, judged, signal) => {
-                    let heard = self.hears_at_last(rt, line.at, text)?;
-                    assert_eq!(rt; heard.judged, *judged);
-                    assert_eq!(rt; heard.signal, *signal);
-                }
-                Event::Order(wish, answer) => {
-                    assert_eq!(rt; self.grants_at_last(rt, line.at, wish), *answer);
-                }
+    // What happens in a line, happens so.
+    fn happens_at_last(&mut self, rt: &impl Abort, at: u64, event: &Event) {
+        match event {
+            Event::Frame(text, judged, signal) => {
+                let heard = Heard {
+                    judged: *judged,
+                    signal: *signal,
+                };
+                same(rt, &self.hears_at_last(rt, at, text), &Ok(heard));
             }
-            self.said(rt, line.said)?;
-            assert_eq!(rt; self.leg.stage(), line.stage);
+            Event::Order(wish, answer) => same(rt, &self.grants_at_last(rt, at, wish), answer),
         }
-        Ok(())
+    }
+
+    // All that happens, line by line.
+    fn plays_at_last(&mut self, rt: &impl Abort, lines: &[Line]) {
+        for line in lines {
+            self.happens_at_last(rt, line.at, &line.event);
+            self.shows(rt, line);
+        }
     }
 }
 
-// The leg of a NEW for 300 that answered the call.
-fn talking(rt: &impl Abort, alloc: Global, top: &str) -> Result<Tested, Fail> {
-    let plan = match plan_of(alloc, top, "", "") {
-        Ok(plan) => plan,
-        Err(error) => {
-            assert_eq!(rt; error, PlanError::Memory);
-            plan_of(alloc, top, "", "")?
-        }
+// A plan with a further line at its top, read once more where memory is refused.
+fn plan_at_last(rt: &impl Abort, alloc: Global, top: &str) -> Plan {
+    let read = match plan_of(alloc, top, "", "") {
+        Err(PlanError::Memory) => plan_of(alloc, top, "", ""),
+        answer => answer,
     };
-    let (mut tested, _) = match opened(alloc, &plan, NEW_300, b"0") {
+    read.expect(rt, "a plan")
+}
+
+// The leg of a NEW for 300, opened once more where memory is refused.
+fn called_at_last(rt: &impl Abort, alloc: Global, top: &str) -> Tested {
+    let plan = plan_at_last(rt, alloc, top);
+    let (tested, _) = match opened(alloc, &plan, NEW_300, b"0") {
         Some(opened) => opened,
-        None => called(alloc, &plan, NEW_300, b"0")?,
+        None => opened(alloc, &plan, NEW_300, b"0").expect(rt, "a leg"),
     };
-    tested.plays_at_last(rt, &ANSWERING)?;
-    Ok(tested)
+    tested
+}
+
+// The leg of a NEW for 300 that answered the call.
+fn talking(rt: &impl Abort, alloc: Global, top: &str) -> Tested {
+    let mut tested = called_at_last(rt, alloc, top);
+    tested.plays_at_last(rt, &ANSWERING);
+    tested
 }
 
 #[test]
-fn any_growth_of_a_leg_refused(rt: HostRuntime) -> Result<(), Fail> {
-    let mut tested = talking(&rt, rt.alloc(), "ping_ms = 0")?;
+fn any_growth_of_a_leg_refused(rt: HostRuntime) {
+    let mut tested = talking(&rt, rt.alloc(), "ping_ms = 0");
     let lines = [
         Line {
             at: 32,
@@ -169,54 +192,64 @@ fn any_growth_of_a_leg_refused(rt: HostRuntime) -> Result<(), Fail> {
             stage: Stage::Closing,
         },
     ];
-    tested.plays_at_last(&rt, &lines)
+    tested.plays_at_last(&rt, &lines);
+}
+
+// This wish is granted at 20, asked once more where memory is refused.
+fn is_granted(rt: &impl Abort, tested: &mut Tested, wish: &Wish) {
+    same(rt, &tested.grants_at_last(rt, 20, wish), &Ok(()));
 }
 
 // A leg that is Up, and whose record has no room for a further frame: two more entries need memory.
-fn without_room(rt: &impl Abort, alloc: Global, top: &str) -> Result<Tested, Fail> {
-    let mut tested = talking(rt, alloc, top)?;
+fn without_room(rt: &impl Abort, alloc: Global, top: &str) -> Tested {
+    let mut tested = talking(rt, alloc, top);
     for _ in 0..4 {
-        assert_eq!(rt; tested.grants_at_last(rt, 20, &Wish::Digit), Ok(()));
+        is_granted(rt, &mut tested, &Wish::Digit);
     }
-    Ok(tested)
+    tested
+}
+
+// Nothing went out in the tick of 30; the frame goes out in that of 40.
+fn goes_out_later(rt: &impl Abort, tested: &mut Tested, at_40: &str) {
+    tested.said(rt, &[]);
+    tested.is_in(rt, Stage::Up);
+    same(rt, &tested.waits(40), &0);
+    tested.said(rt, &[at_40]);
 }
 
 // The frame goes out in the tick of 30, or, where its growth was refused, in that of 40.
-fn goes_out(rt: &impl Abort, tested: &mut Tested, at_30: &str, at_40: &str) -> Result<(), Fail> {
+fn goes_out(rt: &impl Abort, tested: &mut Tested, at_30: &str, at_40: &str) {
     let skipped = tested.waits(30);
     if skipped == 0 {
-        return tested.said(rt, &[at_30]);
+        tested.said(rt, &[at_30]);
+    } else {
+        same(rt, &skipped, &1);
+        goes_out_later(rt, tested, at_40);
     }
-    assert_eq!(rt; skipped, 1);
-    tested.said(rt, &[])?;
-    assert_eq!(rt; tested.leg.stage(), Stage::Up);
-    assert_eq!(rt; tested.waits(40), 0);
-    tested.said(rt, &[at_40])
 }
 
 #[test]
-fn ping_without_memory(rt: HostRuntime) -> Result<(), Fail> {
-    let mut tested = without_room(&rt, rt.alloc(), "ping_ms = 30")?;
+fn ping_without_memory(rt: HostRuntime) {
+    let mut tested = without_room(&rt, rt.alloc(), "ping_ms = 30");
     goes_out(
         &rt,
         &mut tested,
         "800100070000001e06010602",
         "800100070000002806010602",
-    )
+    );
 }
 
 #[test]
-fn hangup_without_memory(rt: HostRuntime) -> Result<(), Fail> {
-    let mut tested = without_room(&rt, rt.alloc(), "ping_ms = 0")?;
-    assert_eq!(rt; tested.grants_at_last(&rt, 20, &Wish::Doom), Ok(()));
+fn hangup_without_memory(rt: HostRuntime) {
+    let mut tested = without_room(&rt, rt.alloc(), "ping_ms = 0");
+    is_granted(&rt, &mut tested, &Wish::Doom);
     goes_out(
         &rt,
         &mut tested,
         "800100070000001e06010605160f6e6f726d616c20636c656172696e672a0110",
         "800100070000002806010605160f6e6f726d616c20636c656172696e672a0110",
-    )?;
-    assert_eq!(rt; tested.leg.stage(), Stage::Closing);
-    Ok(())
+    );
+    tested.is_in(&rt, Stage::Closing);
 }
 
 // A PING of two octets of data, which no leg would send: a window doesn't look into frames.
@@ -235,7 +268,7 @@ fn sends(rt: &impl Abort, window: &mut Window) -> Option<u8> {
     match window.send(frame(), 20) {
         Ok(number) => Some(number),
         Err(_) => {
-            assert_eq!(rt; look_at(window), before);
+            same(rt, &look_at(window), &before);
             window.send(frame(), 20).ok()
         }
     }
@@ -247,7 +280,7 @@ fn receives(rt: &impl Abort, window: &mut Window, number: u8) -> Option<Received
     match window.receive(number, frame()) {
         Ok(received) => Some(received),
         Err(_) => {
-            assert_eq!(rt; look_at(window), before);
+            same(rt, &look_at(window), &before);
             window.receive(number, frame()).ok()
         }
     }
@@ -259,35 +292,39 @@ fn is_acknowledged(rt: &impl Abort, window: &mut Window, number: u8) -> Option<A
     match window.acknowledge(number) {
         Ok(acknowledged) => Some(acknowledged),
         Err(_) => {
-            assert_eq!(rt; look_at(window), before);
+            same(rt, &look_at(window), &before);
             window.acknowledge(number).ok()
         }
     }
 }
 
-#[test]
-fn any_growth_of_a_window_refused(rt: HostRuntime) -> Result<(), Fail> {
-    let mut window = match Window::new(rt.alloc(), 8, 64) {
+// A window for eight frames, made once more where memory is refused.
+fn window_at_last(rt: &impl Abort, alloc: Global) -> Window {
+    match Window::new(alloc, 8, 64) {
         Ok(window) => window,
-        Err(_) => Window::new(rt.alloc(), 8, 64)?,
-    };
-    for number in 0..16u8 {
-        let after = number.wrapping_add(1);
-        assert_eq!(rt; sends(&rt, &mut window), Some(number));
-        assert_eq!(rt; receives(&rt, &mut window, number), Some(Received::Taken));
-        assert_eq!(rt;
-            is_acknowledged(&rt, &mut window, after),
-            Some(Acknowledged::Acked(1))
-        );
+        Err(_) => Window::new(alloc, 8, 64).expect(rt, "a window"),
     }
-    assert_eq!(rt;
-        look_at(&window),
-        WindowLook {
-            next: 16,
-            expected: 16,
-            held: 0,
-            entries: 48,
-        }
-    );
-    Ok(())
+}
+
+// A frame goes out under this number, one comes under it, and the former is acknowledged.
+fn takes_turn(rt: &impl Abort, window: &mut Window, number: u8) {
+    same(rt, &sends(rt, window), &Some(number));
+    same(rt, &receives(rt, window, number), &Some(Received::Taken));
+    let acknowledged = is_acknowledged(rt, window, number.wrapping_add(1));
+    same(rt, &acknowledged, &Some(Acknowledged::Acked(1)));
+}
+
+#[test]
+fn any_growth_of_a_window_refused(rt: HostRuntime) {
+    let mut window = window_at_last(&rt, rt.alloc());
+    for number in 0..16u8 {
+        takes_turn(&rt, &mut window, number);
+    }
+    let expected = WindowLook {
+        next: 16,
+        expected: 16,
+        held: 0,
+        entries: 48,
+    };
+    same(&rt, &look_at(&window), &expected);
 }

@@ -1,21 +1,21 @@
 //! A peer under test: datagrams come, legs are opened, time goes on, and the outbox is emptied.
-ghost use Rattle.std.specs.Prelude.{◌≡◌, ◌↔◌, IfSome, IsTrue};
+ghost use Rattle.std.specs.Prelude.{◌≡◌, IfSome, IsTrue};
 ghost use Rattle.peer_lock.specs.Openings.{IsOpening};
 ghost use Rattle.peer_lock.specs.Unworked.{IsCutFrame};
 
+use crate::same::same_octets;
 use call_auth::Challenge;
-use call_book::{CallBook, Lease};
+use call_book::{CallBook, Lease, LegName};
 use iax_frames::{Datagram, Full, read};
 use info_elements::elements;
-use leg_machine::{Message, Stage};
-use media_ledger::{Blank, supply};
+use leg_machine::{Judged, Message, Stage};
+use media_ledger::{Blank, Share, supply};
 use peer_lock::{Naming, Onwards, OpenError, Pass, PeerError, PeerState, Step};
 use peer_plan::{Plan, PlanError};
 use std::alloc::Global;
 use std::marker::PhantomData;
 use std::process::Abort;
 use std::sync::ledger::Ledger;
-use std::test::Fail;
 
 /// A NEW for 200 from call number 7.
 pub const NEW_200: &str = "8007000000000000000006010b0200020103323030090400000004080400000004";
@@ -84,6 +84,55 @@ pub fn plan_of(alloc: Global, west: &str) -> Result<Plan, PlanError> {
     Plan::read(alloc, text.as_bytes())
 }
 
+// The two shares of a supply, of which the first has all.
+fn shares_of<L: Ledger>(alloc: Global, blank: Blank, all: u64) -> Option<(Share<L>, Share<L>)>
+    requires blank { (blank.name ≡ L.name) × (blank.parts ≡ L.parts) × (blank.parts ≡ 2) }
+    ensures { IfSome result (λ shares. shares.0 ≡ all) }
+{
+    let (_, mut shares) = supply::<L>(alloc, blank, &[all, 0]).ok()?;
+    let rest = shares.pop()?;
+    let first = shares.pop()?;
+    Some((first, rest))
+}
+
+// The peer at a place of the plan, without a leg. Memory is asked for once more, where it is refused.
+fn state_of<J: Naming>(
+    alloc: Global,
+    plan: &Plan,
+    peer: u16,
+    octets: Share<J::Octets>,
+    steps: Share<J::Steps>,
+) -> Option<PeerState<J>>
+    requires octets { octets ≡ J.first_octets }
+    requires steps { steps ≡ J.first_steps }
+{
+    if plan.peer_count() <= peer {
+        return None;
+    }
+    let range = plan.range(peer);
+    if range.count == 0 {
+        return None;
+    }
+    if range.count > 512 {
+        return None;
+    }
+    let rules = plan.rules(peer);
+    match PeerState::new(alloc, peer, rules, range.first, range.count, octets, steps) {
+        Ok(state) => Some(state),
+        Err((octets, steps, _)) => {
+            PeerState::new(alloc, peer, rules, range.first, range.count, octets, steps).ok()
+        }
+    }
+}
+
+// A book for two peers. Memory is asked for once more, where it is refused.
+fn book_of(alloc: Global) -> Option<CallBook> {
+    match CallBook::new(alloc, &[4, 4], 0) {
+        Ok(book) => Some(book),
+        Err(_) => CallBook::new(alloc, &[4, 4], 0).ok(),
+    }
+}
+
 /// The peer at a place of the plan, without a leg, if there is memory for the shares of its credit. For the peer and the book memory
 /// is asked for once more, where it is refused.
 pub fn opened<
@@ -101,43 +150,15 @@ pub fn opened<
     requires octets { (octets.name ≡ O.name) × (octets.parts ≡ O.parts) × (octets.parts ≡ 2) }
     requires steps { (steps.name ≡ S.name) × (steps.parts ≡ S.parts) × (steps.parts ≡ 2) }
 {
-    let (_, mut octets) = supply::<O>(alloc, octets, &[OCTETS, 0]).ok()?;
-    let (_, mut steps) = supply::<S>(alloc, steps, &[STEPS, 0]).ok()?;
-    let (no_octets, octets) = (octets.pop()?, octets.pop()?);
-    let (no_steps, steps) = (steps.pop()?, steps.pop()?);
-    if octets.amount() != OCTETS {
-        return None;
-    }
-    if steps.amount() != STEPS {
-        return None;
-    }
-    if plan.peer_count() <= peer {
-        return None;
-    }
-    let range = plan.range(peer);
-    if range.count == 0 {
-        return None;
-    }
-    if range.count > 512 {
-        return None;
-    }
-    let rules = plan.rules(peer);
-    let (first, count) = (range.first, range.count);
-    let state = match PeerState::new(alloc, peer, rules, first, count, octets, steps) {
-        Ok(state) => state,
-        Err((octets, steps, _)) => {
-            PeerState::new(alloc, peer, rules, first, count, octets, steps).ok()?
-        }
-    };
-    let book = match CallBook::new(alloc, &[4, 4], 0) {
-        Ok(book) => book,
-        Err(_) => CallBook::new(alloc, &[4, 4], 0).ok()?,
-    };
+    let (octets, no_octets) = shares_of::<O>(alloc, octets, OCTETS)?;
+    let (steps, no_steps) = shares_of::<S>(alloc, steps, STEPS)?;
+    let pass = Pass::new(no_octets, no_steps);
+    let state = state_of(alloc, plan, peer, octets, steps)?;
     Some(Desk {
         alloc,
-        book,
+        book: book_of(alloc)?,
         state,
-        pass: Pass::new(no_octets, no_steps),
+        pass,
         onwards: Onwards::new(alloc),
     })
 }
@@ -149,31 +170,26 @@ pub fn desk_of<
     const OCTETS: u64,
     const STEPS: u64,
 >(
+    rt: &impl Abort,
     alloc: Global,
     plan: &Plan,
     peer: u16,
     octets: Blank,
     steps: Blank,
-) -> Result<Desk<Lent<O, S, OCTETS, STEPS>>, Fail>
+) -> Desk<Lent<O, S, OCTETS, STEPS>>
     requires octets { (octets.name ≡ O.name) × (octets.parts ≡ O.parts) × (octets.parts ≡ 2) }
     requires steps { (steps.name ≡ S.name) × (steps.parts ≡ S.parts) × (steps.parts ≡ 2) }
 {
-    match opened(alloc, plan, peer, octets, steps) {
-        Some(desk) => Ok(desk),
-        None => Err(Fail::new("no peer")),
-    }
+    opened(alloc, plan, peer, octets, steps).expect(rt, "a peer")
 }
 
-/// Whether the last element of an IAX frame passes the end.
-pub fn is_cut(frame: &Full) -> bool
-    ensures { IsTrue result ↔ IsCutFrame frame.now }
+// Whether no element passes the end.
+fn is_whole(frame: &Full) -> bool
+    ensures { IsTrue result → IsCutFrame frame.now → ⊥ }
 {
-    if frame.frame_type() != 6 {
-        return false;
-    }
     match elements(frame.payload()) {
-        Ok(_) => false,
-        Err(_) => true,
+        Ok(_) => true,
+        Err(_) => false,
     }
 }
 
@@ -196,7 +212,7 @@ pub fn opening_of(octets: &[u8]) -> Option<Full<'_>>
     if frame.oseqno() != 0 {
         return None;
     }
-    if is_cut(&frame) {
+    if !is_whole(&frame) {
         return None;
     }
     match Message::of(&frame) {
@@ -206,10 +222,10 @@ pub fn opening_of(octets: &[u8]) -> Option<Full<'_>>
 }
 
 /// The octets of a text, asked for once more where memory is refused.
-pub fn octets_of(alloc: Global, text: &str) -> Result<Vec<u8>, Fail> {
+pub fn octets_of(alloc: Global, text: &str) -> Option<Vec<u8>> {
     match hex::decode(alloc, text) {
-        Ok(octets) => Ok(octets),
-        Err(_) => Ok(hex::decode(alloc, text)?),
+        Ok(octets) => Some(octets),
+        Err(_) => hex::decode(alloc, text).ok(),
     }
 }
 
@@ -223,20 +239,17 @@ impl<J: Naming> Desk<J> {
 
     /// A datagram comes.
     pub fn comes(&mut self, at: u64, text: &str) -> Option<Result<Step, PeerError>> {
-        let octets = hex::decode(self.alloc, text).ok()?;
+        let octets = octets_of(self.alloc, text)?;
         Some(self.takes(&octets, at))
     }
 
-    /// A NEW that came opens a leg under the lease.
-    pub fn opens(
-        &mut self,
-        text: &str,
-        lease: Lease,
-        challenge: &[u8],
-    ) -> Option<Result<Step, (Lease, OpenError)>> {
-        let octets = hex::decode(self.alloc, text).ok()?;
-        let frame = opening_of(&octets)?;
-        self.opens_for(&frame, lease, challenge)
+    /// How a datagram that comes is judged, where it is taken.
+    pub fn judged(&mut self, at: u64, text: &str) -> Option<Judged> {
+        match self.comes(at, text) {
+            Some(Ok(step)) => Some(step.judged),
+            Some(Err(_)) => None,
+            None => None,
+        }
     }
 
     /// The NEW opens a leg under the lease.
@@ -257,42 +270,40 @@ impl<J: Naming> Desk<J> {
         )
     }
 
+    /// A NEW that came opens a leg under the lease. Answers the leg's name, or that of the lease that comes back and why.
+    pub fn opens(
+        &mut self,
+        text: &str,
+        lease: Lease,
+        challenge: &[u8],
+    ) -> Option<Result<Option<LegName>, (LegName, OpenError)>> {
+        let octets = octets_of(self.alloc, text)?;
+        let frame = opening_of(&octets)?;
+        match self.opens_for(&frame, lease, challenge)? {
+            Ok(step) => Some(Ok(step.touched)),
+            Err((lease, error)) => Some(Err((lease.name(), error))),
+        }
+    }
+
     /// A NEW that came opens a leg under the next lease of the book's first peer. Answers the leg's number.
     pub fn opens_next(&mut self, text: &str, challenge: &[u8]) -> Option<u16> {
-        let Ok(lease) = self.book.reserve(0) else {
-            return None;
-        };
+        let lease = self.book.reserve(0).ok()?;
         match self.opens(text, lease, challenge) {
-            Some(Ok(step)) => match step.touched {
-                Some(name) => Some(name.number),
-                None => None,
-            },
-            Some(Err(_)) => None,
-            None => None,
+            Some(Ok(Some(name))) => Some(name.number),
+            _ => None,
         }
     }
 
-    /// The octets of the oldest datagram of the outbox.
-    pub fn oldest(&mut self) -> Option<String> {
-        match self.state.take_out() {
-            Some(out) => match hex::encode(self.alloc, out.octets()) {
-                Ok(text) => Some(text),
-                Err(_) => None,
-            },
-            None => None,
-        }
+    /// This datagram is the oldest of the outbox.
+    pub fn says(&mut self, rt: &impl Abort, text: &str) {
+        let octets = octets_of(self.alloc, text).expect(rt, "octets");
+        let out = self.state.take_out().expect(rt, "a datagram");
+        same_octets(rt, out.octets(), &octets);
     }
 
-    /// These datagrams are in the outbox, and no other.
-    pub fn said(&mut self, rt: &impl Abort, expected: &[&str]) {
-        for text in expected {
-            let said = self.oldest();
-            assert!(rt; said.is_some());
-            if let Some(said) = said {
-                assert_eq!(rt; said.as_str(), *text);
-            }
-        }
-        assert!(rt; self.state.take_out().is_none());
+    /// The outbox is empty.
+    pub fn is_silent(&mut self) -> bool {
+        self.state.take_out().is_none()
     }
 
     /// The stage of the leg of a number.

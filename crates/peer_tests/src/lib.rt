@@ -9,3 +9,5 @@ mod desk;
 mod numbers;
 #[cfg(test)]
 mod refused_memory;
+#[cfg(test)]
+mod same;

@@ -2,12 +2,13 @@
 //!
 //! The test passes whichever request is refused, and where none is: what was refused left all as it was, and the same call then
 //! answers as it would have. `.ci/refusals` refuses the requests one at a time.
-ghost use Rattle.std.specs.Prelude.{◌≡◌, ◌≤◌};
+ghost use Rattle.std.specs.Prelude.{◌≡◌, ◌≤◌, OnErr};
 ghost use Rattle.leg_machine.specs.OrderTable.{IsShortMedia};
 ghost use Rattle.peer_lock.specs.Openings.{IsOpening};
 ghost use Rattle.peer_lock.specs.Orders.{order_octets};
 
 use crate::desk::{Desk, NEW_300, PLENTY, octets_of, opened, opening_of, plan_of};
+use crate::same::{holds, same};
 use call_book::Lease;
 use iax_frames::Full;
 use leg_machine::{Digit, Judged, Order, Stage};
@@ -46,111 +47,111 @@ impl<J: Naming> Desk<J> {
         match self.opens_for(frame, lease, b"0") {
             Some(Ok(_)) => true,
             Some(Err((lease, error))) => {
-                assert_eq!(rt; error, OpenError::Memory);
-                assert_eq!(rt; self.look(), before);
+                same(rt, &error, &OpenError::Memory);
+                same(rt, &self.look(), &before);
                 matches!(self.opens_for(frame, lease, b"0"), Some(Ok(_)))
             }
             None => false,
         }
     }
 
-    // A datagram comes, once more where memory is refused.
-    fn comes_at_last(&mut self, rt: &impl Abort, at: u64, text: &str) -> Result<Step, Fail> {
+    // How a datagram that comes is judged. It comes once more where memory is refused.
+    fn judged_at_last(&mut self, rt: &impl Abort, at: u64, text: &str) -> Option<Judged> {
         let octets = octets_of(self.alloc, text)?;
         let before = self.look();
         match self.takes(&octets, at) {
-            Ok(step) => Ok(step),
+            Ok(step) => Some(step.judged),
             Err(error) => {
-                assert_eq!(rt; error, PeerError::Memory);
-                assert_eq!(rt; self.look(), before);
-                assert!(rt; self.onwards.is_empty());
-                Ok(self.takes(&octets, at)?)
+                same(rt, &error, &PeerError::Memory);
+                same(rt, &self.look(), &before);
+                holds(rt, "nothing handed up", self.onwards.is_empty());
+                self.judged(at, text)
             }
         }
     }
 
+    // The leg 1 gets an order.
+    fn orders(&mut self, at: u64, order: &Order) -> Result<Step, OrderError>
+        requires media { IsShortMedia order.now }
+        requires credit { order_octets order.now ≤ self.old.pass.octets }
+        ensures { OnErr result (self.new.pass.octets ≡ self.old.pass.octets) }
+    {
+        let Some(status) = self.state.look(1) else {
+            return Err(OrderError::Gone);
+        };
+        self.state.order(&mut self.pass, status.name, order, at)
+    }
+
     // The leg 1 gets an order, once more where memory is refused.
-    fn obeys_at_last(&mut self, rt: &impl Abort, at: u64, order: &Order) -> Result<Step, OrderError>
+    fn obeys_at_last(&mut self, rt: &impl Abort, at: u64, order: &Order)
         requires media { IsShortMedia order.now }
         requires credit { order_octets order.now ≤ self.old.pass.octets }
     {
         let before = self.look();
-        let Some(status) = before.leg else {
-            return Err(OrderError::Gone);
-        };
-        match self.state.order(&mut self.pass, status.name, order, at) {
-            Ok(step) => Ok(step),
-            Err(error) => {
-                assert_eq!(rt; error, OrderError::Memory);
-                assert_eq!(rt; self.look(), before);
-                self.state.order(&mut self.pass, status.name, order, at)
-            }
+        if let Err(error) = self.orders(at, order) {
+            same(rt, &error, &OrderError::Memory);
+            same(rt, &self.look(), &before);
+            holds(rt, "obeyed at last", self.orders(at, order).is_ok());
         }
-    }
-
-    // This datagram is the oldest of the outbox.
-    fn says(&mut self, rt: &impl Abort, text: &str) -> Result<(), Fail> {
-        let octets = octets_of(self.alloc, text)?;
-        let Some(out) = self.state.take_out() else {
-            return Err(Fail::new("no datagram"));
-        };
-        assert_eq!(rt; out.octets(), octets.as_slice());
-        Ok(())
     }
 }
 
 // A NEW opens the leg 1.
-fn calls<J: Naming>(rt: &impl Abort, desk: &mut Desk<J>) -> Result<(), Fail> {
-    let octets = octets_of(desk.alloc, NEW_300)?;
-    let Some(frame) = opening_of(&octets) else {
-        return Err(Fail::new("no NEW"));
-    };
-    let Ok(lease) = desk.book.reserve(0) else {
-        return Err(Fail::new("no number"));
-    };
-    assert!(rt; desk.opens_at_last(rt, &frame, lease));
-    Ok(())
+fn calls<J: Naming>(rt: &impl Abort, desk: &mut Desk<J>) {
+    let octets = octets_of(desk.alloc, NEW_300).expect(rt, "octets");
+    let frame = opening_of(&octets).expect(rt, "a NEW");
+    let lease = desk.book.reserve(0).expect(rt, "a number");
+    holds(rt, "a leg", desk.opens_at_last(rt, &frame, lease));
 }
 
 // The call is accepted and answered, and the leg is Up.
-fn answers<J: Naming>(rt: &impl Abort, desk: &mut Desk<J>) -> Result<(), Fail> {
-    assert!(rt; desk.obeys_at_last(rt, 0, &Order::Accept).is_ok());
-    desk.says(rt, "800100070000000000010607090400000004")?;
-    let heard = desk.comes_at_last(rt, 10, "800700010000000001010604")?;
-    assert_eq!(rt; heard.judged, Judged::Unnumbered);
-    assert!(rt; desk.obeys_at_last(rt, 20, &Order::Answer).is_ok());
-    desk.says(rt, "800100070000001401010404")?;
-    assert_eq!(rt; desk.stage(1), Some(Stage::Up));
-    Ok(())
+fn answers<J: Naming>(rt: &impl Abort, desk: &mut Desk<J>) {
+    desk.obeys_at_last(rt, 0, &Order::Accept);
+    desk.says(rt, "800100070000000000010607090400000004");
+    let heard = desk.judged_at_last(rt, 10, "800700010000000001010604");
+    same(rt, &heard, &Some(Judged::Unnumbered));
+    desk.obeys_at_last(rt, 20, &Order::Answer);
+    desk.says(rt, "800100070000001401010404");
+    same(rt, &desk.stage(1), &Some(Stage::Up));
+}
+
+// A full frame comes and is taken, and this answers it.
+fn hears<J: Naming>(rt: &impl Abort, desk: &mut Desk<J>, at: u64, text: &str, answer: &str) {
+    let heard = desk.judged_at_last(rt, at, text);
+    same(rt, &heard, &Some(Judged::Taken));
+    desk.says(rt, answer);
 }
 
 // A digit and media come, and the same digit goes out.
-fn talks<J: Naming>(rt: &impl Abort, desk: &mut Desk<J>) -> Result<(), Fail> {
-    let digit = desk.comes_at_last(rt, 32, "800700010000002001020135")?;
-    assert_eq!(rt; digit.judged, Judged::Taken);
-    desk.says(rt, "800100070000002002020604")?;
-    let voice = desk.comes_at_last(rt, 40, "800700010000002802020204ff")?;
-    assert_eq!(rt; voice.judged, Judged::Taken);
-    desk.says(rt, "800100070000002802030604")?;
-    let _mini = desk.comes_at_last(rt, 50, "00070032aabb")?;
-    assert_eq!(rt; desk.pass.octets(), 3);
-    let digit = Order::Dtmf(Digit::new(0x35));
-    assert!(rt; desk.obeys_at_last(rt, 60, &digit).is_ok());
-    desk.says(rt, "800100070000003c02030135")
+fn talks<J: Naming>(rt: &impl Abort, desk: &mut Desk<J>) {
+    let ack = "800100070000002002020604";
+    hears(rt, desk, 32, "800700010000002001020135", ack);
+    let ack = "800100070000002802030604";
+    hears(rt, desk, 40, "800700010000002802020204ff", ack);
+    let mini = desk.judged_at_last(rt, 50, "00070032aabb");
+    holds(rt, "a mini frame is taken", mini.is_some());
+    same(rt, &desk.pass.octets(), &3);
+    desk.obeys_at_last(rt, 60, &Order::Dtmf(Digit::new(0x35)));
+    desk.says(rt, "800100070000003c02030135");
 }
 
 // The credit for three octets goes out with a voice frame of one, and two stay.
-fn carries<J: Naming>(rt: &impl Abort, desk: &mut Desk<J>) -> Result<(), Fail> {
+fn carries<J: Naming>(rt: &impl Abort, desk: &mut Desk<J>) {
+    sends_an_octet(rt, desk);
+    desk.says(rt, "80010007000000460303020461");
+    same(rt, &desk.pass.octets(), &2);
+    let tick = desk.state.tick(&mut desk.pass, 80);
+    holds(rt, "a tick", tick.is_ok());
+    holds(rt, "an empty outbox", desk.is_silent());
+}
+
+// An octet of media goes out, for which there is credit.
+fn sends_an_octet<J: Naming>(rt: &impl Abort, desk: &mut Desk<J>) {
     if desk.pass.octets() == 0 {
-        return Err(Fail::new("no credit"));
+        holds(rt, "credit", false);
+        return;
     }
-    let media = Order::Media(b"a");
-    assert!(rt; desk.obeys_at_last(rt, 70, &media).is_ok());
-    desk.says(rt, "80010007000000460303020461")?;
-    assert_eq!(rt; desk.pass.octets(), 2);
-    assert!(rt; desk.state.tick(&mut desk.pass, 80).is_ok());
-    assert!(rt; desk.state.take_out().is_none());
-    Ok(())
+    desk.obeys_at_last(rt, 70, &Order::Media(b"a"));
 }
 
 // The peer in the west has a whole call. None: it had no shares of the credit.
@@ -160,41 +161,38 @@ fn plays<O: Ledger + Send + Sync, S: Ledger + Send + Sync, R: Abort>(
     plan: &Plan,
     octets: Blank,
     steps: Blank,
-) -> Option<Result<(), Fail>>
+) -> Option<()>
     requires octets { (octets.name ≡ O.name) × (octets.parts ≡ O.parts) × (octets.parts ≡ 2) }
     requires steps { (steps.name ≡ S.name) × (steps.parts ≡ S.parts) × (steps.parts ≡ 2) }
 {
     let mut desk = opened::<O, S, PLENTY, PLENTY>(alloc, plan, 0, octets, steps)?;
-    Some(has_a_call(rt, &mut desk))
-}
-
-fn has_a_call<J: Naming>(rt: &impl Abort, desk: &mut Desk<J>) -> Result<(), Fail> {
-    calls(rt, desk)?;
-    answers(rt, desk)?;
-    talks(rt, desk)?;
-    carries(rt, desk)
+    calls(rt, &mut desk);
+    answers(rt, &mut desk);
+    talks(rt, &mut desk);
+    carries(rt, &mut desk);
+    Some(())
 }
 
 // The same, with ledgers of its own.
-fn played<R: Abort>(rt: &R, alloc: Global, plan: &Plan) -> Option<Result<(), Fail>> {
+fn played<R: Abort>(rt: &R, alloc: Global, plan: &Plan) -> Option<()> {
     plays::<Brand, Brand, R>(rt, alloc, plan, Blank::new(2), Blank::new(2))
 }
 
-#[test]
-fn any_growth_of_a_peer_refused(rt: HostRuntime) -> Result<(), Fail> {
-    let alloc = rt.alloc();
-    let plan = match plan_of(alloc, "") {
+// A plan, asked for once more where memory is refused.
+fn plan_at_last(rt: &impl Abort, alloc: Global) -> Plan {
+    match plan_of(alloc, "") {
         Ok(plan) => plan,
         Err(error) => {
-            assert_eq!(rt; error, PlanError::Memory);
-            plan_of(alloc, "")?
+            same(rt, &error, &PlanError::Memory);
+            plan_of(alloc, "").expect(rt, "a plan")
         }
-    };
-    if let Some(result) = played(&rt, alloc, &plan) {
-        return result;
     }
-    match played(&rt, alloc, &plan) {
-        Some(result) => result,
-        None => Err(Fail::new("no peer")),
+}
+
+#[test]
+fn any_growth_of_a_peer_refused(rt: HostRuntime) {
+    let plan = plan_at_last(&rt, rt.alloc());
+    if played(&rt, rt.alloc(), &plan).is_none() {
+        played(&rt, rt.alloc(), &plan).expect(&rt, "a peer");
     }
 }

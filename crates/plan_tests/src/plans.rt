@@ -1,11 +1,11 @@
 //! A plan is read, and asked.
-ghost use Rattle.std.specs.Prelude.{◌<◌, IfOk, length};
+ghost use Rattle.std.specs.Prelude.{◌<◌, length};
 
+use crate::same::same;
 use leg_machine::PeerRules;
 use peer_plan::{Endpoint, Key, NumberRange, Plan, PlanError};
 use std::alloc::Global;
 use std::process::Abort;
-use std::test::*;
 
 /// Two peers, the first with a secret and a narrow window; what begins with `30` leads to it, else what begins with `3` to the second.
 const PLAN: &str = "format = 2\n\
@@ -47,87 +47,82 @@ fn local(port: u16) -> Endpoint {
 }
 
 // The plan, which has two peers.
-fn plan_of(rt: &impl Abort, alloc: Global) -> Result<Plan, Fail>
-    ensures { IfOk result (λ plan. 1 < length plan.peers) }
+fn plan_of(rt: &impl Abort, alloc: Global) -> Plan
+    ensures { 1 < length result.peers }
 {
-    let plan = Plan::read(alloc, PLAN.as_bytes())?;
-    assert_eq!(rt; plan.peer_count(), 2);
-    Ok(plan)
+    let plan = Plan::read(alloc, PLAN.as_bytes()).expect(rt, "a plan");
+    assert!(rt; plan.peer_count() == 2);
+    plan
 }
 
 // A number leads there.
 fn leads(rt: &impl Abort, plan: &Plan, number: &[u8], peer: Option<u16>) {
-    assert_eq!(rt; plan.route(number), peer);
+    same(rt, &plan.route(number), &peer);
 }
 
 #[test]
-fn routes(rt: HostRuntime) -> Result<(), Fail> {
-    let plan = plan_of(&rt, rt.alloc())?;
+fn routes(rt: HostRuntime) {
+    let plan = plan_of(&rt, rt.alloc());
     leads(&rt, &plan, b"300", Some(0));
     leads(&rt, &plan, b"310", Some(1));
     leads(&rt, &plan, b"200", None);
-    Ok(())
 }
 
 #[test]
-fn workers_and_counts(rt: HostRuntime) -> Result<(), Fail> {
-    let plan = plan_of(&rt, rt.alloc())?;
-    assert_eq!(rt; plan.workers(), [local(4569)].as_slice());
-    assert_eq!(rt; plan.passes(), 1);
-    assert_eq!(rt; plan.counts(), [4, 4].as_slice());
-    Ok(())
+fn workers_and_counts(rt: HostRuntime) {
+    let plan = plan_of(&rt, rt.alloc());
+    same(&rt, &plan.workers(), &[local(4569)].as_slice());
+    same(&rt, &plan.passes(), &1);
+    same(&rt, &plan.counts(), &[4, 4].as_slice());
 }
 
 #[test]
-fn endpoints(rt: HostRuntime) -> Result<(), Fail> {
-    let plan = plan_of(&rt, rt.alloc())?;
-    assert_eq!(rt; plan.peer_of(local(5002)), Some(1));
-    assert_eq!(rt; plan.peer_of(local(5003)), None);
-    assert_eq!(rt; plan.endpoint(0), local(5001));
-    Ok(())
+fn endpoints(rt: HostRuntime) {
+    let plan = plan_of(&rt, rt.alloc());
+    same(&rt, &plan.peer_of(local(5002)), &Some(1));
+    same(&rt, &plan.peer_of(local(5003)), &None);
+    same(&rt, &plan.endpoint(0), &local(5001));
 }
 
 #[test]
-fn peers(rt: HostRuntime) -> Result<(), Fail> {
-    let plan = plan_of(&rt, rt.alloc())?;
-    assert_eq!(rt; plan.range(1), NumberRange { first: 5, count: 4 });
-    assert_eq!(rt; plan.name(0), "west");
-    assert_eq!(rt; plan.worker(1), 0);
-    Ok(())
+fn peers(rt: HostRuntime) {
+    let plan = plan_of(&rt, rt.alloc());
+    same(&rt, &plan.range(1), &NumberRange { first: 5, count: 4 });
+    same(&rt, &plan.name(0), &"west");
+    same(&rt, &plan.worker(1), &0);
 }
 
 // What is given of the rules of the peer in the west.
 fn has_what_is_given(rt: &impl Abort, rules: &PeerRules) {
-    assert!(rt; rules.user.is_some() && rules.secret.is_some());
-    assert!(rt; rules.trunk && rules.trunk_timestamps);
-    assert!(rt; rules.formats.ulaw && !rules.formats.gsm && !rules.formats.alaw);
-    assert_eq!(rt; rules.window, 1);
+    let credentials = (rules.user.is_some(), rules.secret.is_some());
+    same(rt, &credentials, &(true, true));
+    let trunk = (rules.trunk, rules.trunk_timestamps);
+    same(rt, &trunk, &(true, true));
+    let formats = (rules.formats.ulaw, rules.formats.gsm, rules.formats.alaw);
+    same(rt, &formats, &(true, false, false));
+    same(rt, &rules.window, &1);
 }
 
 // What isn't.
 fn has_the_defaults(rt: &impl Abort, rules: &PeerRules) {
-    assert_eq!(rt; rules.retry_ms, 1000);
-    assert_eq!(rt; rules.max_retries, 4);
-    assert_eq!(rt; rules.ping_ms, 20_000);
-    assert_eq!(rt; rules.record_limit, 4096);
+    same(rt, &rules.retry_ms, &1000);
+    same(rt, &rules.max_retries, &4);
+    same(rt, &rules.ping_ms, &20_000);
+    same(rt, &rules.record_limit, &4096);
 }
 
 #[test]
-fn rules(rt: HostRuntime) -> Result<(), Fail> {
-    let plan = plan_of(&rt, rt.alloc())?;
+fn rules(rt: HostRuntime) {
+    let plan = plan_of(&rt, rt.alloc());
     has_what_is_given(&rt, plan.rules(0));
     has_the_defaults(&rt, plan.rules(0));
-    assert_eq!(rt; plan.rules(1).window, 64);
-    Ok(())
+    same(&rt, &plan.rules(1).window, &64);
 }
 
 #[test]
-fn key_names(rt: HostRuntime) -> Result<(), Fail> {
-    assert_eq!(rt; Key::TrunkTimestamps.name(), "trunk_timestamps");
+fn key_names(rt: HostRuntime) {
+    same(&rt, &Key::TrunkTimestamps.name(), &"trunk_timestamps");
     let fault = PlanError::Missing(Key::RecordLimit);
-    assert_eq!(rt;
-        format!(in rt.alloc(); "{fault}")?.as_str(),
-        "Missing record_limit"
-    );
-    Ok(())
+    let text = format!(in rt.alloc(); "{fault}").expect(&rt, "memory");
+    same(&rt, &text.as_str(), &"Missing record_limit");
 }

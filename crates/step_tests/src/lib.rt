@@ -11,6 +11,8 @@ mod plain_opening;
 #[cfg(test)]
 mod plain_switch;
 #[cfg(test)]
+mod same;
+#[cfg(test)]
 mod same_answers;
 #[cfg(test)]
 mod same_steps;

@@ -1,11 +1,11 @@
 //! What a step needs to know on peers without locks: why a datagram is refused, whether it opens a leg, where a call leads.
-ghost use Rattle.std.specs.Prelude.{IsTrue};
+ghost use Rattle.std.specs.Prelude.{IfSome, IsTrue};
 ghost use Rattle.peer_lock.specs.Openings.{IsOpening};
 ghost use Rattle.peer_lock.specs.Unworked.{IsCutFrame, IsSoundFull};
 
 use call_steps::Route;
 use exchange_core::Refusal;
-use iax_frames::Full;
+use iax_frames::{Datagram, Full, read};
 use info_elements::elements;
 use leg_machine::{MediaSpan, Message};
 use peer_lock::{Offer, PeerError};
@@ -54,8 +54,8 @@ fn is_sound(frame: &Full) -> bool
     true
 }
 
-/// Whether a NEW opens a leg ("Call Setup").
-pub fn opens(frame: &Full) -> bool
+// Whether a NEW opens a leg ("Call Setup").
+fn opens(frame: &Full) -> bool
     ensures { IsTrue result → IsOpening frame.now }
 {
     if !is_sound(frame) {
@@ -71,6 +71,16 @@ pub fn opens(frame: &Full) -> bool
         Message::New => true,
         _ => false,
     }
+}
+
+/// The NEW that the octets spell. None where they open no leg.
+pub fn opening_in(octets: &[u8]) -> Option<Full<'_>>
+    ensures { IfSome result (λ frame. IsOpening frame) }
+{
+    let Ok(Datagram::Full(frame)) = read(octets) else {
+        return None;
+    };
+    if opens(&frame) { Some(frame) } else { None }
 }
 
 /// The octets of the datagram that are media.

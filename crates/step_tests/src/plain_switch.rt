@@ -2,14 +2,15 @@
 ghost use Rattle.std.specs.Prelude.{◌≤◌, length};
 ghost use Rattle.std.specs.Option.{ForSome};
 ghost use Rattle.leg_machine.specs.OrderTable.{IsShortMedia};
+ghost use Rattle.peer_lock.specs.Openings.{IsOpening};
 ghost use Rattle.peer_lock.specs.Orders.{order_octets};
 
-use crate::plain_judgements::{media_in, opens, refusal_of, route_of};
+use crate::plain_judgements::{media_in, opening_in, refusal_of, route_of};
 use call_auth::Challenge;
 use call_book::{CallBook, Lease, LegName, ReserveError, Stale};
 use call_steps::{Act, Heard, Need, Reply, Work};
 use exchange_core::{Refusal, Retired};
-use iax_frames::{Datagram, Out, read};
+use iax_frames::{Full, Out};
 use leg_machine::{Format, Order};
 use peer_lock::{
     Naming, Offer, Onwards, OpenError, OrderError, Pass, PeerError, PeerState, Status, StepsSpent,
@@ -47,6 +48,51 @@ pub struct Outcome {
     pub steps_before: u64,
 }
 
+// A peer hears a datagram.
+fn heard_by<J: Naming>(
+    alloc: Global,
+    state: &mut PeerState<J>,
+    pass: &mut Pass<J>,
+    matter: &Matter,
+) -> Result<Heard, PeerError> {
+    let mut onwards = Onwards::new(alloc);
+    match state.datagram(pass, matter.octets, matter.now, &mut onwards) {
+        Ok(step) => Ok(Heard {
+            touched: step.touched,
+            onwards,
+        }),
+        Err(error) => Err(error),
+    }
+}
+
+// A peer opens the leg of a NEW.
+fn opened_by<J: Naming>(
+    alloc: Global,
+    state: &mut PeerState<J>,
+    pass: &mut Pass<J>,
+    lease: Lease,
+    frame: &Full,
+    matter: &Matter,
+) -> Result<Heard, (Lease, OpenError)>
+    requires { IsOpening frame.now }
+{
+    let mut onwards = Onwards::new(alloc);
+    match state.open_in(
+        pass,
+        lease,
+        frame,
+        matter.now,
+        matter.challenge,
+        &mut onwards,
+    ) {
+        Ok(step) => Ok(Heard {
+            touched: step.touched,
+            onwards,
+        }),
+        Err(refused) => Err(refused),
+    }
+}
+
 impl<J: Naming> PlainSwitch<J> {
     // Nothing in hand.
     fn nothing(&self) -> Outcome {
@@ -65,20 +111,14 @@ impl<J: Naming> PlainSwitch<J> {
         matter: &Matter,
         outcome: &mut Outcome,
     ) -> Result<Heard, PeerError> {
-        let mut onwards = Onwards::new(self.alloc);
         let Some(state) = self.peers.get_mut(usize::from(peer)) else {
             return Err(PeerError::NoCall);
         };
-        match state.datagram(&mut self.pass, matter.octets, matter.now, &mut onwards) {
-            Ok(step) => Ok(Heard {
-                touched: step.touched,
-                onwards,
-            }),
-            Err(error) => {
-                outcome.refused = refusal_of(error);
-                Err(error)
-            }
+        let heard = heard_by(self.alloc, state, &mut self.pass, matter);
+        if let Err(error) = &heard {
+            outcome.refused = refusal_of(*error);
         }
+        heard
     }
 
     // The leg of a NEW is opened, under the lease in hand.
@@ -88,31 +128,17 @@ impl<J: Naming> PlainSwitch<J> {
         matter: &Matter,
         outcome: &mut Outcome,
     ) -> Result<Heard, OpenError> {
-        let mut onwards = Onwards::new(self.alloc);
-        let Ok(Datagram::Full(frame)) = read(matter.octets) else {
+        let Some(frame) = opening_in(matter.octets) else {
             return Err(OpenError::Memory);
         };
-        if !opens(&frame) {
-            return Err(OpenError::Memory);
-        }
         let Some(state) = self.peers.get_mut(usize::from(name.peer)) else {
             return Err(OpenError::NumberBusy);
         };
         let Some(lease) = outcome.lease.take() else {
             return Err(OpenError::NumberBusy);
         };
-        match state.open_in(
-            &mut self.pass,
-            lease,
-            &frame,
-            matter.now,
-            matter.challenge,
-            &mut onwards,
-        ) {
-            Ok(step) => Ok(Heard {
-                touched: step.touched,
-                onwards,
-            }),
+        match opened_by(self.alloc, state, &mut self.pass, lease, &frame, matter) {
+            Ok(heard) => Ok(heard),
             Err((lease, error)) => {
                 outcome.lease = Some(lease);
                 outcome.refused = Some(Refusal::from(error));
@@ -196,7 +222,10 @@ impl<J: Naming> PlainSwitch<J> {
         let Some(state) = self.peers.get_mut(usize::from(name.peer)) else {
             return Err(OrderError::Gone);
         };
-        state.order(&mut self.pass, name, order, now).map(|_| ())
+        match state.order(&mut self.pass, name, order, now) {
+            Ok(_) => Ok(()),
+            Err(error) => Err(error),
+        }
     }
 
     // Media goes to a leg, where the pass has credit for it.

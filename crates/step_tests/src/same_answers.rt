@@ -1,20 +1,21 @@
 //! What an exchange and peers without locks answer, send and hold is the same.
 
 use crate::plain_switch::{Outcome, PlainSwitch};
-use call_book::CallBook;
-use exchange_core::{Answer, Exchange, NoGate, Settlement};
+use crate::same::{holds, same};
+use call_book::{CallBook, LegName};
+use exchange_core::{Answer, Exchange, NoGate, Retired, Settlement};
 use exchange_scenes::{NUMBERS, status, take_out};
-use peer_lock::{ClosedPeer, Naming, Pass};
+use peer_lock::{ClosedPeer, Naming, Pass, PeerState, Status};
 use seq_window::{EntryView, FrameView, Record};
+use std::mem;
 use std::process::Abort;
 use std::sync::Wait;
-use std::test::*;
 
 fn is_same_frame(one: &FrameView<'_>, other: &FrameView<'_>) -> bool {
-    one.ts == other.ts
-        && one.kind == other.kind
-        && one.subclass == other.subclass
-        && one.payload == other.payload
+    if one.ts != other.ts || one.kind != other.kind || one.subclass != other.subclass {
+        return false;
+    }
+    one.payload == other.payload
 }
 
 fn is_same_entry(one: Option<EntryView<'_>>, other: Option<EntryView<'_>>) -> bool {
@@ -38,34 +39,65 @@ fn is_same_history(one: &Record, other: &Record) -> bool {
     true
 }
 
-/// The steps, the refusal and the legs that were taken out.
-pub fn assert_same_answer(rt: &impl Abort, answer: &Answer, outcome: &Outcome, steps: u64) {
-    assert_eq!(rt; answer.refused, outcome.refused);
-    assert_eq!(rt; Some(answer.steps), steps.checked_sub(outcome.steps_before));
-    assert_eq!(rt; answer.retired.len(), outcome.retired.len());
-    for (one, other) in answer.retired.iter().zip(outcome.retired.iter()) {
-        assert_eq!(rt; one.name, other.name);
-        assert!(rt; is_same_history(&one.history, &other.history));
+// The same legs with the same histories, in the same order.
+fn are_same_retired(some: &[Retired], others: &[Retired]) -> bool {
+    if some.len() != others.len() {
+        return false;
     }
+    for (one, other) in some.iter().zip(others.iter()) {
+        if one.name != other.name || !is_same_history(&one.history, &other.history) {
+            return false;
+        }
+    }
+    true
 }
 
-// All that waits for a peer is the same.
-fn assert_same_outbox<R: Abort + Wait, J: Naming, K: Naming>(
+/// The steps, the refusal and the legs that were taken out.
+pub fn assert_same_answer(rt: &impl Abort, answer: &Answer, outcome: &Outcome, steps: u64) {
+    same(rt, &answer.refused, &outcome.refused);
+    same(
+        rt,
+        &Some(answer.steps),
+        &steps.checked_sub(outcome.steps_before),
+    );
+    let is_same = are_same_retired(answer.retired.as_slice(), outcome.retired.as_slice());
+    holds(rt, "the same legs are taken out", is_same);
+}
+
+// Whether the oldest datagram for a peer is the same; none where none waits.
+fn is_same_out<R: Wait, J: Naming, K: Naming>(
     rt: &R,
     exchange: &Exchange<NoGate, J>,
     pass: &mut Pass<J>,
     switch: &mut PlainSwitch<K>,
     peer: u16,
-) {
+) -> Option<bool> {
+    match (take_out(rt, exchange, pass, peer), switch.take_out(peer)) {
+        (Some(one), Some(other)) => Some(one.octets() == other.octets()),
+        (None, None) => None,
+        _ => Some(false),
+    }
+}
+
+// Whether all that waits for a peer is the same.
+fn is_same_outbox<R: Wait, J: Naming, K: Naming>(
+    rt: &R,
+    exchange: &Exchange<NoGate, J>,
+    pass: &mut Pass<J>,
+    switch: &mut PlainSwitch<K>,
+    peer: u16,
+) -> bool {
     for _ in 0..257 {
-        match (take_out(rt, exchange, pass, peer), switch.take_out(peer)) {
-            (Some(one), Some(other)) => {
-                assert_eq!(rt; one.octets(), other.octets());
+        match is_same_out(rt, exchange, pass, switch, peer) {
+            Some(is_same) => {
+                if !is_same {
+                    return false;
+                }
             }
-            (None, None) => return,
-            _ => assert!(rt; false, "one sends more"),
+            None => return true,
         }
     }
+    true
 }
 
 /// All that waits for the peers is the same.
@@ -76,8 +108,22 @@ pub fn assert_same_outboxes<R: Abort + Wait, J: Naming, K: Naming>(
     switch: &mut PlainSwitch<K>,
 ) {
     for peer in [0, 1] {
-        assert_same_outbox(rt, exchange, pass, switch, peer);
+        let is_same = is_same_outbox(rt, exchange, pass, switch, peer);
+        holds(rt, "the same datagrams wait", is_same);
     }
+}
+
+// The leg of a number stands alike.
+fn assert_same_status<R: Abort + Wait, J: Naming, K: Naming>(
+    rt: &R,
+    exchange: &Exchange<NoGate, J>,
+    pass: &mut Pass<J>,
+    switch: &PlainSwitch<K>,
+    peer: u16,
+    number: u16,
+) {
+    let one = status(rt, exchange, pass, peer, number);
+    same(rt, &one, &switch.look(peer, number));
 }
 
 /// The legs of all numbers stand alike.
@@ -89,10 +135,25 @@ pub fn assert_same_statuses<R: Abort + Wait, J: Naming, K: Naming>(
 ) {
     for peer in [0, 1] {
         for number in 1..=NUMBERS {
-            let one = status(rt, exchange, pass, peer, number);
-            assert_eq!(rt; one, switch.look(peer, number));
+            assert_same_status(rt, exchange, pass, switch, peer, number);
         }
     }
+}
+
+// What a peer accepted, packed, queued, dropped and dropped for a QUELCH.
+fn octets_at<J: Naming>(peer: &ClosedPeer<J>) -> [u64; 5] {
+    [
+        peer.accepted(),
+        peer.packed(),
+        peer.queued(),
+        peer.dropped(),
+        peer.quelched(),
+    ]
+}
+
+// How the leg of a number stands at a peer.
+fn look_at<J: Naming>(peer: &ClosedPeer<J>, number: u16) -> Option<Status> {
+    peer.look(number)
 }
 
 // The accounts and legs of a peer.
@@ -101,15 +162,27 @@ fn assert_same_peer<J: Naming, K: Naming>(
     one: &ClosedPeer<J>,
     other: &ClosedPeer<K>,
 ) {
-    assert_eq!(rt; one.peer(), other.peer());
-    assert_eq!(rt; one.accepted(), other.accepted());
-    assert_eq!(rt; one.packed(), other.packed());
-    assert_eq!(rt; one.queued(), other.queued());
-    assert_eq!(rt; one.dropped(), other.dropped());
-    assert_eq!(rt; one.quelched(), other.quelched());
-    assert_eq!(rt; one.steps(), other.steps());
+    same(rt, &one.peer(), &other.peer());
+    same(rt, &octets_at(one), &octets_at(other));
+    same(rt, &one.steps(), &other.steps());
     for number in 1..=NUMBERS {
-        assert_eq!(rt; one.look(number), other.look(number));
+        same(rt, &look_at(one, number), &look_at(other, number));
+    }
+}
+
+// Both books have the name, with the same partner.
+fn assert_same_partner(rt: &impl Abort, one: &CallBook, other: &CallBook, name: LegName) {
+    holds(rt, "a name of the book", one.contains(name));
+    holds(rt, "a name of the other book", other.contains(name));
+    same(rt, &one.partner(name), &other.partner(name));
+}
+
+// Whether the books give the same name or none for the same cause.
+fn is_same_reserve(one: &mut CallBook, other: &mut CallBook, peer: u16) -> bool {
+    match (one.reserve(peer), other.reserve(peer)) {
+        (Ok(a), Ok(b)) => a.name() == b.name(),
+        (Err(a), Err(b)) => a == b,
+        _ => false,
     }
 }
 
@@ -121,70 +194,61 @@ fn assert_same_book<J: Naming>(
     peer: &ClosedPeer<J>,
 ) {
     for number in 1..=NUMBERS {
-        if let Some(status) = peer.look(number) {
-            assert!(rt; one.contains(status.name));
-            assert!(rt; other.contains(status.name));
-            assert_eq!(rt; one.partner(status.name), other.partner(status.name));
+        if let Some(status) = look_at(peer, number) {
+            assert_same_partner(rt, one, other, status.name);
         }
     }
     for _ in 0..=NUMBERS {
-        match (one.reserve(peer.peer()), other.reserve(peer.peer())) {
-            (Ok(a), Ok(b)) => {
-                assert_eq!(rt; a.name(), b.name());
-            }
-            (Err(a), Err(b)) => {
-                assert_eq!(rt; a, b);
-            }
-            _ => assert!(rt; false, "one book has more numbers"),
-        }
+        let is_same = is_same_reserve(one, other, peer.peer());
+        holds(rt, "the same name", is_same);
     }
 }
 
-/// The book, the peers and the sums are the same.
-pub fn assert_same_end<J: Naming, K: Naming>(
+// The peer and its book are the same; gives its accounts.
+fn assert_same_state<J: Naming, K: Naming>(
     rt: &impl Abort,
-    settlement: Settlement<J>,
-    switch: PlainSwitch<K>,
-) -> Result<(), Fail> {
-    let Settlement {
-        mut book,
-        peers,
-        accepted,
-        packed,
-        queued,
-        dropped,
-        quelched,
-        steps,
-    } = settlement;
-    let PlainSwitch {
-        alloc: _,
-        peers: states,
-        book: mut other_book,
-        pass,
-    } = switch;
-    assert_eq!(rt; peers.len(), states.len());
-    assert_eq!(rt; steps, pass.steps());
-    let mut sums = [0, 0, 0, pass.octets(), 0];
-    for (one, state) in peers.iter().zip(states.into_iter()) {
-        let (other, _, _) = state.part();
-        assert_same_peer(rt, one, &other);
-        assert_same_book(rt, &mut book, &mut other_book, one);
-        add_to(&mut sums, &other);
-    }
-    assert_eq!(rt; sums, [accepted, packed, queued, dropped, quelched]);
-    Ok(())
+    book: &mut CallBook,
+    other_book: &mut CallBook,
+    peer: &ClosedPeer<J>,
+    state: PeerState<K>,
+) -> [u64; 5] {
+    let (other, _, _) = state.part();
+    assert_same_peer(rt, peer, &other);
+    assert_same_book(rt, book, other_book, peer);
+    octets_at(&other)
 }
 
 // The accounts of a peer are added to the sums.
-fn add_to<K: Naming>(sums: &mut [u64; 5], peer: &ClosedPeer<K>) {
-    let more = [
-        peer.accepted(),
-        peer.packed(),
-        peer.queued(),
-        peer.dropped(),
-        peer.quelched(),
-    ];
+fn add_to(sums: &mut [u64; 5], more: &[u64; 5]) {
     for (sum, amount) in sums.iter_mut().zip(more.iter()) {
         *sum = sum.wrapping_add(*amount);
     }
+}
+
+// The sums over all peers and the pass.
+fn sums_of<J: Naming>(settlement: &Settlement<J>) -> [u64; 5] {
+    [
+        settlement.accepted,
+        settlement.packed,
+        settlement.queued,
+        settlement.dropped,
+        settlement.quelched,
+    ]
+}
+
+/// The book, the peers and the sums are the same. The peers are no longer in the switch then.
+pub fn assert_same_end<J: Naming, K: Naming>(
+    rt: &impl Abort,
+    settlement: &mut Settlement<J>,
+    switch: &mut PlainSwitch<K>,
+) {
+    let mut sums = [0, 0, 0, switch.pass.octets(), 0];
+    let states = mem::replace(&mut switch.peers, Vec::new(switch.alloc));
+    same(rt, &settlement.peers.len(), &states.len());
+    same(rt, &settlement.steps, &switch.pass.steps());
+    for (peer, state) in settlement.peers.iter().zip(states.into_iter()) {
+        let octets = assert_same_state(rt, &mut settlement.book, &mut switch.book, peer, state);
+        add_to(&mut sums, &octets);
+    }
+    same(rt, &sums, &sums_of(settlement));
 }

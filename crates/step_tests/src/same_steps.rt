@@ -3,7 +3,8 @@ ghost use Rattle.std.specs.Prelude.{◌≡◌, ◌+◌, ◌^◌, length};
 
 use crate::joined_lines::JOINED;
 use crate::plain_opening::plain_switch;
-use crate::plain_switch::{Matter, PlainSwitch};
+use crate::plain_switch::{Matter, Outcome, PlainSwitch};
+use crate::same::{holds, same};
 use crate::same_answers::{
     assert_same_answer, assert_same_end, assert_same_outboxes, assert_same_statuses,
 };
@@ -12,7 +13,7 @@ use call_book::LegName;
 use call_steps::Work;
 use exchange_core::{CallError, Exchange, NoGate, Refusal};
 use exchange_scenes::plans::PLAN;
-use exchange_scenes::{LONGEST, call, hang_up, hear, octets_of, place_of, status, tick};
+use exchange_scenes::{LONGEST, call, hang_up, hear, octets_of, place_of, settled, status, tick};
 use media_ledger::Blank;
 use peer_lock::{Naming, Pass, Service};
 use peer_plan::Plan;
@@ -23,11 +24,6 @@ use std::process::Abort;
 use std::sync::Wait;
 use std::sync::ledger::Ledger;
 use std::test::*;
-
-// The challenge `0`.
-fn zero(rt: &impl Abort) -> Challenge {
-    Challenge::new(b"0").expect(rt, "a challenge")
-}
 
 // A datagram or a call at a moment.
 fn matter<'a>(
@@ -44,6 +40,20 @@ fn matter<'a>(
     }
 }
 
+// Makes the steps on the peers without locks, when callers are challenged by `0`.
+fn run_beside<K: Naming>(
+    rt: &impl Abort,
+    switch: &mut PlainSwitch<K>,
+    plan: &Plan,
+    work: Work,
+    octets: &[u8],
+    called: &[u8],
+    now: u64,
+) -> Outcome {
+    let challenge = Challenge::new(b"0").expect(rt, "a challenge");
+    switch.run(plan, work, &matter(octets, called, &challenge, now))
+}
+
 fn same_datagram<R: Abort + Wait, J: Naming, K: Naming>(
     rt: &R,
     exchange: &Exchange<NoGate, J>,
@@ -54,10 +64,18 @@ fn same_datagram<R: Abort + Wait, J: Naming, K: Naming>(
     now: u64,
 ) {
     let answer = hear(rt, exchange, pass, peer, octets, now).expect(rt, "a peer");
-    let challenge = zero(rt);
-    let about = matter(octets, &[], &challenge, now);
-    let outcome = switch.run(exchange.plan(), Work::of_datagram(peer), &about);
+    let work = Work::of_datagram(peer);
+    let outcome = run_beside(rt, switch, exchange.plan(), work, octets, &[], now);
     assert_same_answer(rt, &answer, &outcome, switch.pass.steps());
+}
+
+// The steps of a tick, for each leg of a peer of the plan.
+fn tick_of(plan: &Plan, peer: u16) -> Option<Work> {
+    if peer >= plan.peer_count() {
+        return None;
+    }
+    let range = plan.range(peer);
+    Some(Work::of_tick(peer, range.first, range.count))
 }
 
 fn same_tick<R: Abort + Wait, J: Naming, K: Naming>(
@@ -68,13 +86,9 @@ fn same_tick<R: Abort + Wait, J: Naming, K: Naming>(
     peer: u16,
     now: u64,
 ) {
-    assert!(rt; peer < exchange.plan().peer_count(), "a peer of the plan");
     let answer = tick(rt, exchange, pass, peer, now).expect(rt, "a peer");
-    let challenge = zero(rt);
-    let about = matter(&[], &[], &challenge, now);
-    let range = exchange.plan().range(peer);
-    let work = Work::of_tick(peer, range.first, range.count);
-    let outcome = switch.run(exchange.plan(), work, &about);
+    let work = tick_of(exchange.plan(), peer).expect(rt, "a peer of the plan");
+    let outcome = run_beside(rt, switch, exchange.plan(), work, &[], &[], now);
     assert_same_answer(rt, &answer, &outcome, switch.pass.steps());
 }
 
@@ -90,6 +104,27 @@ fn refusal_of(error: CallError) -> Option<Refusal> {
     }
 }
 
+// What a call to a peer comes to on the peers without locks.
+fn call_beside<K: Naming>(
+    rt: &impl Abort,
+    switch: &mut PlainSwitch<K>,
+    plan: &Plan,
+    peer: u16,
+    called: &[u8],
+    now: u64,
+) -> Option<Refusal> {
+    let outcome = run_beside(rt, switch, plan, Work::of_call(peer), &[], called, now);
+    outcome.refused
+}
+
+// The name of the leg of a number on the peers without locks.
+fn name_beside<K: Naming>(switch: &PlainSwitch<K>, peer: u16, number: u16) -> Option<LegName> {
+    match switch.look(peer, number) {
+        Some(status) => Some(status.name),
+        None => None,
+    }
+}
+
 // A number of more than 64 octets isn't called at all.
 fn same_call<R: Abort + Wait, J: Naming, K: Naming>(
     rt: &R,
@@ -102,26 +137,21 @@ fn same_call<R: Abort + Wait, J: Naming, K: Naming>(
 ) {
     let called_at = call(rt, exchange, pass, peer, called, now).expect(rt, "a peer");
     if called.len() > 64 {
-        assert_eq!(rt; called_at, Err(CallError::BadNumber));
+        same(rt, &called_at, &Err(CallError::BadNumber));
         return;
     }
-    let challenge = zero(rt);
-    let about = matter(&[], called, &challenge, now);
-    let outcome = switch.run(exchange.plan(), Work::of_call(peer), &about);
+    let refused = call_beside(rt, switch, exchange.plan(), peer, called, now);
     match called_at {
         Ok(name) => {
-            assert_eq!(rt; outcome.refused, None);
-            let opened = switch.look(peer, name.number).map(|status| status.name);
-            assert_eq!(rt; opened, Some(name));
+            same(rt, &refused, &None);
+            same(rt, &name_beside(switch, peer, name.number), &Some(name));
         }
-        Err(error) => {
-            assert_eq!(rt; outcome.refused, refusal_of(error));
-        }
+        Err(error) => same(rt, &refused, &refusal_of(error)),
     }
 }
 
 // The leg of a number at one of two peers.
-fn name_of<R: Abort + Wait, J: Naming>(
+fn name_of<R: Wait, J: Naming>(
     rt: &R,
     exchange: &Exchange<NoGate, J>,
     pass: &mut Pass<J>,
@@ -136,6 +166,27 @@ fn name_of<R: Abort + Wait, J: Naming>(
     None
 }
 
+// A leg of both hangs up.
+fn same_hang_up_of<R: Abort + Wait, J: Naming, K: Naming>(
+    rt: &R,
+    exchange: &Exchange<NoGate, J>,
+    pass: &mut Pass<J>,
+    switch: &mut PlainSwitch<K>,
+    name: LegName,
+    now: u64,
+) {
+    let hung_up = hang_up(rt, exchange, pass, name, now).expect(rt, "a peer");
+    let work = Work::of_hang_up(name);
+    let outcome = run_beside(rt, switch, exchange.plan(), work, &[], &[], now);
+    match hung_up {
+        Ok(answer) => {
+            same(rt, &outcome.order_refused, &None);
+            assert_same_answer(rt, &answer, &outcome, switch.pass.steps());
+        }
+        Err(error) => same(rt, &outcome.order_refused, &Some(error)),
+    }
+}
+
 // A number without a leg isn't hung up.
 fn same_hang_up<R: Abort + Wait, J: Naming, K: Naming>(
     rt: &R,
@@ -145,22 +196,24 @@ fn same_hang_up<R: Abort + Wait, J: Naming, K: Naming>(
     number: u64,
     now: u64,
 ) {
-    let Some(name) = name_of(rt, exchange, pass, number) else {
-        return;
-    };
-    let hung_up = hang_up(rt, exchange, pass, name, now).expect(rt, "a peer");
-    let challenge = zero(rt);
-    let about = matter(&[], &[], &challenge, now);
-    let outcome = switch.run(exchange.plan(), Work::of_hang_up(name), &about);
-    match hung_up {
-        Ok(answer) => {
-            assert_eq!(rt; outcome.order_refused, None);
-            assert_same_answer(rt, &answer, &outcome, switch.pass.steps());
-        }
-        Err(error) => {
-            assert_eq!(rt; outcome.order_refused, Some(error));
-        }
+    if let Some(name) = name_of(rt, exchange, pass, number) {
+        same_hang_up_of(rt, exchange, pass, switch, name, now);
     }
+}
+
+// A datagram in hexadecimal digits, on both.
+fn same_digits<R: Abort + Wait, J: Naming, K: Naming>(
+    rt: &R,
+    exchange: &Exchange<NoGate, J>,
+    pass: &mut Pass<J>,
+    switch: &mut PlainSwitch<K>,
+    peer: u16,
+    digits: &[u8],
+    now: u64,
+) {
+    let mut room = [0; LONGEST];
+    let octets = octets_of(digits, &mut room).expect(rt, "a datagram");
+    same_datagram(rt, exchange, pass, switch, peer, octets, now);
 }
 
 // One line, on both.
@@ -174,9 +227,7 @@ fn same_line<R: Abort + Wait, J: Naming, K: Naming>(
 ) {
     match line_of(line.as_bytes()) {
         Some(Line::Rx(name, digits)) => {
-            let mut room = [0; LONGEST];
-            let octets = octets_of(digits, &mut room).expect(rt, "a datagram");
-            same_datagram(rt, exchange, pass, switch, place_of(name), octets, now);
+            same_digits(rt, exchange, pass, switch, place_of(name), digits, now);
         }
         Some(Line::Call(name, number)) => {
             same_call(rt, exchange, pass, switch, place_of(name), number, now);
@@ -187,7 +238,7 @@ fn same_line<R: Abort + Wait, J: Naming, K: Naming>(
                 same_tick(rt, exchange, pass, switch, peer, now);
             }
         }
-        _ => assert!(rt; false, "no event: {line}"),
+        _ => holds(rt, line, false),
     }
 }
 
@@ -212,6 +263,29 @@ fn same_lines<R: Abort + Wait, J: Naming, K: Naming>(
     }
 }
 
+// The joined lines, on an exchange and on peers without locks beside it.
+fn same_beside<R: Abort + Wait, J: Naming, K: Naming>(
+    rt: &R,
+    exchange: Exchange<NoGate, J>,
+    passes: Vec<Pass<J>>,
+    switch: &mut PlainSwitch<K>,
+    first: usize,
+) -> bool {
+    let mut passes = passes;
+    match passes.first_mut() {
+        Some(pass) => same_lines(rt, &exchange, pass, switch, first),
+        None => holds(rt, "a pass", false),
+    }
+    match settled(exchange, passes) {
+        Some(settlement) => {
+            let mut settlement = settlement;
+            assert_same_end(rt, &mut settlement, switch);
+            true
+        }
+        None => false,
+    }
+}
+
 fn same_opened<R: Abort + Wait, J: Naming, K: Naming>(
     rt: &R,
     alloc: Global,
@@ -220,20 +294,17 @@ fn same_opened<R: Abort + Wait, J: Naming, K: Naming>(
     first: usize,
     octets: Blank,
     steps: Blank,
-) -> Result<(), Fail>
+) -> bool
     requires octets { (octets.name ≡ K.Octets.name) × (octets.parts ≡ K.Octets.parts) × (octets.parts ≡ 3) }
     requires steps { (steps.name ≡ K.Steps.name) × (steps.parts ≡ K.Steps.parts) × (steps.parts ≡ 3) }
     requires first { (K.first_octets ≡ 2 ^ 48) × (K.first_steps ≡ 2 ^ 48) }
 {
-    let mut switch = plain_switch::<K>(alloc, exchange.plan(), octets, steps)?;
-    let mut passes = passes;
-    let Some(pass) = passes.first_mut() else {
-        return Err("no pass")?;
-    };
-    same_lines(rt, &exchange, pass, &mut switch, first);
-    match exchange.settle(passes) {
-        Ok(settlement) => assert_same_end(rt, settlement, switch),
-        Err(_) => Err("all passes are there")?,
+    match plain_switch::<K>(alloc, exchange.plan(), octets, steps) {
+        Some(switch) => {
+            let mut switch = switch;
+            same_beside(rt, exchange, passes, &mut switch, first)
+        }
+        None => false,
     }
 }
 
@@ -245,21 +316,21 @@ fn same_named<R: Abort + Wait, J: Naming, O: Ledger + Send + Sync, T: Ledger + S
     first: usize,
     octets: Blank,
     steps: Blank,
-) -> Result<(), Fail>
+) -> bool
     requires octets { (octets.name ≡ O.name) × (octets.parts ≡ O.parts) × (octets.parts ≡ 3) }
     requires steps { (steps.name ≡ T.name) × (steps.parts ≡ T.parts) × (steps.parts ≡ 3) }
 {
     same_opened::<R, J, Service<O, T>>(rt, alloc, exchange, passes, first, octets, steps)
 }
 
-/// The joined lines from one on, then those before it, on an exchange and beside it.
-pub fn same_steps<R: Abort + Wait, J: Naming>(
+// The joined lines from one on, then those before it, on an exchange and beside it.
+fn same_steps<R: Abort + Wait, J: Naming>(
     rt: &R,
     alloc: Global,
     exchange: Exchange<NoGate, J>,
     passes: Vec<Pass<J>>,
     first: usize,
-) -> Result<(), Fail> {
+) -> bool {
     same_named::<R, J, Brand, Brand>(
         rt,
         alloc,
@@ -279,13 +350,15 @@ fn lines_opened<R: Abort + Wait, J: Naming>(
     first: usize,
     octets: Blank,
     steps: Blank,
-) -> Result<(), Fail>
+) -> bool
     requires octets { (octets.name ≡ J.Octets.name) × (octets.parts ≡ J.Octets.parts) × (octets.parts ≡ length plan.peers + plan.passes) }
     requires steps { (steps.name ≡ J.Steps.name) × (steps.parts ≡ J.Steps.parts) × (steps.parts ≡ length plan.peers + plan.passes) }
     requires first { (J.first_octets ≡ 2 ^ 48) × (J.first_steps ≡ 2 ^ 48) }
 {
-    let (exchange, passes) = Exchange::<NoGate, J>::open(alloc, plan, NoGate, octets, steps)?;
-    same_steps(rt, alloc, exchange, passes, first)
+    match Exchange::<NoGate, J>::open(alloc, plan, NoGate, octets, steps) {
+        Ok((exchange, passes)) => same_steps(rt, alloc, exchange, passes, first),
+        Err(_) => false,
+    }
 }
 
 // The same, by the ledgers that the caller names.
@@ -296,7 +369,7 @@ fn lines_named<R: Abort + Wait, O: Ledger + Send + Sync, T: Ledger + Send + Sync
     first: usize,
     octets: Blank,
     steps: Blank,
-) -> Result<(), Fail>
+) -> bool
     requires octets { (octets.name ≡ O.name) × (octets.parts ≡ O.parts) × (octets.parts ≡ length plan.peers + plan.passes) }
     requires steps { (steps.name ≡ T.name) × (steps.parts ≡ T.parts) × (steps.parts ≡ length plan.peers + plan.passes) }
 {
@@ -304,16 +377,18 @@ fn lines_named<R: Abort + Wait, O: Ledger + Send + Sync, T: Ledger + Send + Sync
 }
 
 // The joined lines from one on, on an exchange of the plan that is opened for them.
-fn lines_on_plan<R: Abort + Wait>(rt: &R, alloc: Global, first: usize) -> Result<(), Fail> {
-    let plan = Plan::read(alloc, PLAN.as_bytes())?;
+fn lines_on_plan<R: Abort + Wait>(rt: &R, alloc: Global, first: usize) -> bool {
+    let Ok(plan) = Plan::read(alloc, PLAN.as_bytes()) else {
+        return false;
+    };
     let parts = u64::from(plan.peer_count()) + u64::from(plan.passes());
     lines_named::<R, Brand, Brand>(rt, alloc, plan, first, Blank::new(parts), Blank::new(parts))
 }
 
 #[test]
-fn same_steps_as_named(rt: HostRuntime) -> Result<(), Fail> {
+fn same_steps_as_named(rt: HostRuntime) {
     for first in 0..JOINED.len() {
-        lines_on_plan(&rt, rt.alloc(), first)?;
+        let is_ended = lines_on_plan(&rt, rt.alloc(), first);
+        holds(&rt, "balanced accounts", is_ended);
     }
-    Ok(())
 }

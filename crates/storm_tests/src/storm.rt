@@ -4,12 +4,14 @@ ghost use Rattle.std.specs.Prelude.{◌≡◌, ◌+◌, ◌^◌, length};
 
 use crate::datagrams::{Call, Dice, Sent, new_call};
 use crate::legs::Legs;
-use exchange_core::{Answer, Exchange, NoGate, Refusal};
+use exchange_core::{Exchange, NoGate, Refusal};
 use exchange_scenes::plans::PLAN;
-use exchange_scenes::{EAST_PLACE, WEST_PLACE, hear, recovers, settled, take_out, tick};
+use exchange_scenes::{
+    EAST_PLACE, Sums, Told, WEST_PLACE, ended, heard, recovers, take_out, ticked,
+};
 use media_ledger::Blank;
 use peer_lock::{Naming, Pass, Service};
-use peer_plan::Plan;
+use peer_plan::{Plan, PlanError};
 use std::alloc::Global;
 use std::marker::Brand;
 use std::process::Abort;
@@ -123,20 +125,31 @@ impl Peers {
     }
 }
 
+// A peer gets all that waits for it.
+fn deliver_to<R: Wait, J: Naming>(
+    rt: &R,
+    exchange: &Exchange<NoGate, J>,
+    pass: &mut Pass<J>,
+    peers: &mut Peers,
+    peer: u16,
+) {
+    for _ in 0..256 {
+        match take_out(rt, exchange, pass, peer) {
+            Some(out) => peers.learn(out.octets()),
+            None => return,
+        }
+    }
+}
+
 // The peers get all that waits for them.
-fn deliver<R: Abort + Wait, J: Naming>(
+fn deliver<R: Wait, J: Naming>(
     rt: &R,
     exchange: &Exchange<NoGate, J>,
     pass: &mut Pass<J>,
     peers: &mut Peers,
 ) {
     for peer in [WEST_PLACE, EAST_PLACE] {
-        for _ in 0..256 {
-            match take_out(rt, exchange, pass, peer) {
-                Some(out) => peers.learn(out.octets()),
-                None => break,
-            }
-        }
+        deliver_to(rt, exchange, pass, peers, peer);
     }
 }
 
@@ -152,6 +165,36 @@ fn is_expected(refusal: Refusal) -> bool {
     )
 }
 
+// A datagram may meet this refusal.
+fn assert_expected(rt: &impl Abort, refusal: Refusal) {
+    assert!(rt; is_expected(refusal), "{refusal:?}");
+}
+
+// This holds of a datagram.
+fn holds(rt: &impl Abort, what: &str, sent: &Sent, is_so: bool) {
+    assert!(rt; is_so, "{what}: {:?}", sent.octets());
+}
+
+// The legs did as the answer of a datagram allows.
+fn assert_allowed(rt: &impl Abort, after: &mut Legs, before: &Legs, sent: &Sent, told: Told) {
+    match told.refused {
+        Some(refusal) => {
+            assert_expected(rt, refusal);
+            holds(
+                rt,
+                "a refused datagram changes no leg",
+                sent,
+                after.are(before),
+            );
+        }
+        None => {
+            after.pair_new(before);
+            let is_so = after.differ_where_concerned(before, sent);
+            holds(rt, "only legs that are concerned change", sent, is_so);
+        }
+    }
+}
+
 // A datagram comes. No leg changes but those that it concerns.
 fn hear_one<R: Abort + Wait, J: Naming>(
     rt: &R,
@@ -160,40 +203,48 @@ fn hear_one<R: Abort + Wait, J: Naming>(
     legs: &mut Legs,
     sent: &Sent,
     now: u64,
-) -> Answer {
-    let answer = hear(rt, exchange, pass, sent.peer, sent.octets(), now).expect(rt, "a peer");
+) -> Told {
+    let told = heard(rt, exchange, pass, sent.peer, sent.octets(), now).expect(rt, "a peer");
     let mut after = *legs;
     after.look(rt, exchange, pass);
-    match answer.refused {
-        Some(refusal) => {
-            assert!(rt; is_expected(refusal), "{refusal:?}");
-            assert!(rt;
-                after.are(legs),
-                "a refused datagram changed a leg: {:?}",
-                sent.octets()
-            );
-        }
-        None => {
-            after.pair_new(legs);
-            assert!(rt;
-                after.differ_where_concerned(legs, sent),
-                "{:?}",
-                sent.octets()
-            );
-        }
-    }
+    assert_allowed(rt, &mut after, legs, sent, told);
     after.part_gone();
     *legs = after;
-    answer
+    told
 }
 
-// How much of the storm had an effect.
+/// How much of the storm had an effect.
 #[derive(Drop)]
 struct Tally {
     answered: u64,
     retired: u64,
 }
 
+impl Tally {
+    // A datagram more.
+    fn count(&mut self, told: Told) {
+        if told.refused.is_none() {
+            self.answered = self.answered.saturating_add(1);
+        }
+        self.retired = self.retired.saturating_add(told.retired as u64);
+    }
+}
+
+// Time goes on at both peers.
+fn tick_both<R: Wait, J: Naming>(
+    rt: &R,
+    exchange: &Exchange<NoGate, J>,
+    pass: &mut Pass<J>,
+    legs: &mut Legs,
+    now: u64,
+) {
+    let _west = ticked(rt, exchange, pass, WEST_PLACE, now);
+    let _east = ticked(rt, exchange, pass, EAST_PLACE, now);
+    legs.look(rt, exchange, pass);
+    legs.part_gone();
+}
+
+/// A hundred thousand datagrams, many of them spoilt.
 fn storm<R: Abort + Wait, J: Naming>(
     rt: &R,
     exchange: &Exchange<NoGate, J>,
@@ -207,42 +258,45 @@ fn storm<R: Abort + Wait, J: Naming>(
     };
     for now in 0..DATAGRAMS {
         let sent = peers.next(now);
-        let answer = hear_one(rt, exchange, pass, &mut legs, &sent, now);
-        if answer.refused.is_none() {
-            tally.answered = tally.answered.saturating_add(1);
-        }
-        tally.retired = tally.retired.saturating_add(answer.retired.len() as u64);
+        let told = hear_one(rt, exchange, pass, &mut legs, &sent, now);
+        tally.count(told);
         if now.is_multiple_of(250) {
-            let _west = tick(rt, exchange, pass, WEST_PLACE, now);
-            let _east = tick(rt, exchange, pass, EAST_PLACE, now);
-            legs.look(rt, exchange, pass);
-            legs.part_gone();
+            tick_both(rt, exchange, pass, &mut legs, now);
         }
         deliver(rt, exchange, pass, &mut peers);
     }
     tally
 }
 
-/// A hundred thousand datagrams, many of them spoilt.
-pub fn in_the_storm<R: Abort + Wait, J: Naming>(
+// The storm, then an end to all calls.
+fn storm_and_end<R: Abort + Wait, J: Naming>(
+    rt: &R,
+    exchange: &Exchange<NoGate, J>,
+    passes: &mut [Pass<J>],
+) {
+    let pass = passes.first_mut().expect(rt, "a pass");
+    let tally = storm(rt, exchange, pass);
+    // The storm isn't all refusals.
+    more_than(rt, "answered", tally.answered, DATAGRAMS / 4);
+    more_than(rt, "retired", tally.retired, 1000);
+    let is_so = recovers(rt, exchange, pass, DATAGRAMS);
+    assert!(rt; is_so, "recovery");
+}
+
+// The storm, then the end of the exchange.
+fn in_the_storm<R: Abort + Wait, J: Naming>(
     rt: &R,
     exchange: Exchange<NoGate, J>,
     passes: Vec<Pass<J>>,
-) -> Result<(), Fail> {
+) -> Option<Sums> {
     let mut passes = passes;
-    let pass = passes.first_mut().ok_or("no pass")?;
-    let tally = storm(rt, &exchange, pass);
-    // The storm isn't all refusals.
-    assert!(rt;
-        tally.answered > DATAGRAMS / 4,
-        "{} answered",
-        tally.answered
-    );
-    assert!(rt; tally.retired > 1000, "{} retired", tally.retired);
-    assert!(rt; recovers(rt, &exchange, pass, DATAGRAMS));
-    let settlement = settled(exchange, passes).expect(rt, "balanced accounts");
-    assert!(rt; settlement.packed > 1000, "{} packed", settlement.packed);
-    Ok(())
+    storm_and_end(rt, &exchange, passes.as_mut_slice());
+    ended(exchange, passes)
+}
+
+// More than so many.
+fn more_than(rt: &impl Abort, what: &str, count: u64, least: u64) {
+    assert!(rt; count > least, "{count} {what}");
 }
 
 // The storm on an exchange of two ledgers.
@@ -252,13 +306,15 @@ fn storm_opened<R: Abort + Wait, J: Naming>(
     plan: Plan,
     octets: Blank,
     steps: Blank,
-) -> Result<(), Fail>
+) -> Result<Option<Sums>, PlanError>
     requires octets { (octets.name ≡ J.Octets.name) × (octets.parts ≡ J.Octets.parts) × (octets.parts ≡ length plan.peers + plan.passes) }
     requires steps { (steps.name ≡ J.Steps.name) × (steps.parts ≡ J.Steps.parts) × (steps.parts ≡ length plan.peers + plan.passes) }
     requires first { (J.first_octets ≡ 2 ^ 48) × (J.first_steps ≡ 2 ^ 48) }
 {
-    let (exchange, passes) = Exchange::<NoGate, J>::open(alloc, plan, NoGate, octets, steps)?;
-    in_the_storm(rt, exchange, passes)
+    match Exchange::<NoGate, J>::open(alloc, plan, NoGate, octets, steps) {
+        Ok((exchange, passes)) => Ok(in_the_storm(rt, exchange, passes)),
+        Err(_) => Err(PlanError::Memory),
+    }
 }
 
 // The same, by the ledgers that the caller names.
@@ -268,7 +324,7 @@ fn storm_named<R: Abort + Wait, O: Ledger + Send + Sync, T: Ledger + Send + Sync
     plan: Plan,
     octets: Blank,
     steps: Blank,
-) -> Result<(), Fail>
+) -> Result<Option<Sums>, PlanError>
     requires octets { (octets.name ≡ O.name) × (octets.parts ≡ O.parts) × (octets.parts ≡ length plan.peers + plan.passes) }
     requires steps { (steps.name ≡ T.name) × (steps.parts ≡ T.parts) × (steps.parts ≡ length plan.peers + plan.passes) }
 {
@@ -276,13 +332,18 @@ fn storm_named<R: Abort + Wait, O: Ledger + Send + Sync, T: Ledger + Send + Sync
 }
 
 // Opens an exchange of the plan, for the storm.
-fn storm_on_plan<R: Abort + Wait>(rt: &R, alloc: Global) -> Result<(), Fail> {
-    let plan = Plan::read(alloc, PLAN.as_bytes())?;
+fn storm_on_plan<R: Abort + Wait>(rt: &R, alloc: Global) -> Result<Option<Sums>, PlanError> {
+    let plan = match Plan::read(alloc, PLAN.as_bytes()) {
+        Ok(plan) => plan,
+        Err(error) => return Err(error),
+    };
     let parts = u64::from(plan.peer_count()) + u64::from(plan.passes());
     storm_named::<R, Brand, Brand>(rt, alloc, plan, Blank::new(parts), Blank::new(parts))
 }
 
 #[test]
-fn storm_of_datagrams(rt: HostRuntime) -> Result<(), Fail> {
-    storm_on_plan(&rt, rt.alloc())
+fn storm_of_datagrams(rt: HostRuntime) {
+    let played = storm_on_plan(&rt, rt.alloc()).expect(&rt, "an exchange");
+    let sums = played.expect(&rt, "balanced accounts");
+    more_than(&rt, "packed", sums.packed, 1000);
 }

@@ -1,8 +1,9 @@
 //! Two workers are inside the sections of two peers at once.
-ghost use Rattle.std.specs.Prelude.{◌≡◌, ◌+◌, ◌^◌, length};
+ghost use Rattle.std.specs.Prelude.{◌≡◌, ◌+◌, ◌^◌, ◌<◌, length};
 
 use crate::memory_wire::MemoryWire;
 use crate::plans::TWO_WORKERS;
+use crate::same::{holds, same};
 use call_auth::Challenge;
 use exchange_core::{Exchange, Gate};
 use media_ledger::Blank;
@@ -13,7 +14,7 @@ use std::marker::Brand;
 use std::sync::Wait;
 use std::sync::atomic::{AtomicBool, Ordering};
 use std::sync::ledger::Ledger;
-use std::test::Fail;
+use std::test::*;
 use std::thread;
 use std::thread::Threads;
 use std::time::{Clock, Duration};
@@ -81,26 +82,47 @@ impl Challenges for Zero {
 
 type TestSeat<J, P> = Seat<MemoryWire, AtOnce, Zero, J, P>;
 
-// The seats of the workers of a plan, in its order, each over a wire in memory with a pass of its own.
+// The seat of the worker at a place of a plan, over a wire in memory.
+fn seat_of<J: Naming, P: Post>(
+    alloc: Global,
+    plan: &Plan,
+    place: u16,
+    pass: Pass<J>,
+) -> Option<TestSeat<J, P>>
+    requires plan { plan.now ≡ P.plan }
+    requires place { place < length plan.now.workers }
+{
+    let challenge = Challenge::new(b"0")?;
+    let worker = Worker::new(plan, place);
+    let endpoints = worker.endpoints(alloc, plan).ok()?;
+    let wire = MemoryWire::new(alloc, endpoints, 0).ok()?;
+    Some(Seat::new(worker, wire, pass, AtOnce, Zero(challenge)))
+}
+
+// The seats of the workers of a plan, in its order, each with a pass of its own.
 fn seats_of<J: Naming, P: Post>(
     alloc: Global,
     plan: &Plan,
     passes: Vec<Pass<J>>,
-) -> Result<Vec<TestSeat<J, P>>, Fail>
+) -> Option<Vec<TestSeat<J, P>>>
     requires { plan.now ≡ P.plan }
 {
     let mut passes = passes;
     let mut seats = Vec::new(alloc);
     for place in 0..plan.workers().len() {
-        let (Some(pass), Some(challenge)) = (passes.pop(), Challenge::new(b"0")) else {
-            return Err(Fail::new("no pass or no challenge"));
-        };
-        let worker = Worker::new(plan, place as u16);
-        let endpoints = worker.endpoints(alloc, plan)?;
-        let wire = MemoryWire::new(alloc, endpoints, 0)?;
-        seats.push(Seat::new(worker, wire, pass, AtOnce, Zero(challenge)))?;
+        let seat = seat_of(alloc, plan, place as u16, passes.pop()?)?;
+        seats.push(seat).ok()?;
     }
-    Ok(seats)
+    Some(seats)
+}
+
+// How many turns the workers of these seats made.
+fn turns_of<J: Naming, P: Post>(seats: Vec<TestSeat<J, P>>) -> u64 {
+    let mut turns: u64 = 0;
+    for seat in seats {
+        turns = turns.wrapping_add(seat.into_place().worker.turns());
+    }
+    turns
 }
 
 // Makes one turn of both workers, on an exchange of two ledgers. Gives how many workers made theirs.
@@ -111,26 +133,21 @@ fn turn_both<J: Naming, P: Post + Send + Sync, R: Clock + Threads + Wait + Sync>
     entered: &Entered,
     octets: Blank,
     steps: Blank,
-) -> Result<u64, Fail>
+) -> Option<u64>
     requires plan { plan ≡ P.plan }
     requires octets { (octets.name ≡ J.Octets.name) × (octets.parts ≡ J.Octets.parts) × (octets.parts ≡ length plan.peers + plan.passes) }
     requires steps { (steps.name ≡ J.Steps.name) × (steps.parts ≡ J.Steps.parts) × (steps.parts ≡ length plan.peers + plan.passes) }
     requires first { (J.first_octets ≡ 2 ^ 48) × (J.first_steps ≡ 2 ^ 48) }
 {
     let gate = Meeting { rt, entered };
-    let (exchange, passes) = Exchange::<_, J>::open(alloc, plan, gate, octets, steps)?;
+    let opened = Exchange::<_, J>::open(alloc, plan, gate, octets, steps);
+    let (exchange, passes) = opened.ok()?;
     let mut seats = seats_of::<J, P>(alloc, exchange.plan(), passes)?;
     if seats.len() > 8 {
-        return Err(Fail::new("more than 8 workers"));
+        return None;
     }
-    if run_all(rt, &exchange, &mut seats, 1).is_err() {
-        return Err(Fail::new("no thread"));
-    }
-    let mut turns: u64 = 0;
-    for seat in seats {
-        turns = turns.wrapping_add(seat.into_place().worker.turns());
-    }
-    Ok(turns)
+    run_all(rt, &exchange, &mut seats, 1).ok()?;
+    Some(turns_of(seats))
 }
 
 // The same, by the ledgers that the caller names.
@@ -139,14 +156,7 @@ fn turn_named<
     S: Ledger + Send + Sync,
     P: Post + Send + Sync,
     R: Clock + Threads + Wait + Sync,
->(
-    rt: &R,
-    alloc: Global,
-    plan: Plan,
-    entered: &Entered,
-    octets: Blank,
-    steps: Blank,
-) -> Result<u64, Fail>
+>(rt: &R, alloc: Global, plan: Plan, entered: &Entered, octets: Blank, steps: Blank) -> Option<u64>
     requires plan { plan ≡ P.plan }
     requires octets { (octets.name ≡ O.name) × (octets.parts ≡ O.parts) × (octets.parts ≡ length plan.peers + plan.passes) }
     requires steps { (steps.name ≡ S.name) × (steps.parts ≡ S.parts) × (steps.parts ≡ length plan.peers + plan.passes) }
@@ -155,25 +165,25 @@ fn turn_named<
 }
 
 #[test]
-fn two_peers_at_once(rt: HostRuntime) -> Result<(), Fail> {
-    let plan = Plan::read(rt.alloc(), TWO_WORKERS)?;
+fn two_peers_at_once(rt: HostRuntime) {
+    let plan = Plan::read(rt.alloc(), TWO_WORKERS).expect(&rt, "a plan");
     let parts = u64::from(plan.peer_count()) + u64::from(plan.passes());
     let entered = Entered {
         west: AtomicBool::new(false),
         east: AtomicBool::new(false),
         in_vain: AtomicBool::new(false),
     };
+    let (octets, steps) = (Blank::new(parts), Blank::new(parts));
     let turns = turn_named::<Brand, Brand, Brand, HostRuntime>(
         &rt,
         rt.alloc(),
         plan,
         &entered,
-        Blank::new(parts),
-        Blank::new(parts),
-    )?;
-    assert_eq!(rt; turns, 2);
-    assert!(rt; entered.west.load(Ordering::SeqCst));
-    assert!(rt; entered.east.load(Ordering::SeqCst));
-    assert!(rt; !entered.in_vain.load(Ordering::SeqCst));
-    Ok(())
+        octets,
+        steps,
+    );
+    same(&rt, &turns, &Some(2));
+    holds(&rt, "in the west", entered.west.load(Ordering::SeqCst));
+    holds(&rt, "in the east", entered.east.load(Ordering::SeqCst));
+    holds(&rt, "met", !entered.in_vain.load(Ordering::SeqCst));
 }

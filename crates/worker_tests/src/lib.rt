@@ -14,6 +14,8 @@ mod memory_wire;
 #[cfg(test)]
 mod plans;
 #[cfg(test)]
+mod same;
+#[cfg(test)]
 mod serving;
 #[cfg(test)]
 mod whole_call;

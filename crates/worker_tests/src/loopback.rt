@@ -4,6 +4,7 @@ ghost use Rattle.udp_workers.specs.MioWire.{peers_of as wire_peers};
 ghost use Rattle.udp_workers.specs.Served.{AreEndpoints, peers_of};
 
 use crate::plans::{EAST, ONE_WORKER, WEST};
+use crate::same::same;
 use call_auth::Challenge;
 use exchange_core::{Exchange, NoGate};
 use media_ledger::Blank;
@@ -15,7 +16,7 @@ use std::marker::Brand;
 use std::net::{IpAddr, Ipv4Addr, Net, SocketAddr};
 use std::sync::Wait;
 use std::sync::ledger::Ledger;
-use std::test::Fail;
+use std::test::*;
 use udp_workers::{MioWire, Wire, Worker};
 
 // A NEW for 200, for which the plan has no route.
@@ -62,41 +63,54 @@ fn turn_until_rejected<J: Naming, R: Wait>(
     false
 }
 
-// A socket at the endpoint of the peer in the west sends its NEW. Gives whether it was rejected, and how many datagrams the wire
-// was given for the peer in the west and for the one in the east.
-fn call_200<J: Naming, R: Net + Wait>(
+// A socket at the endpoint of the peer in the west, which has sent its NEW.
+fn caller_at<R: Net>(rt: &R, at: Endpoint) -> Option<UdpSocket> {
+    let caller = UdpSocket::bind(rt, address(WEST)).ok()?;
+    let _len = caller.send_to(NEW_FOR_200, address(at)).ok()?;
+    Some(caller)
+}
+
+// The only worker of a plan hears the caller. Gives whether the call was rejected, and how many datagrams the wire was given for the
+// peer in the west and for the one in the east.
+fn call_worker<J: Naming, R: Net + Wait>(
     rt: &R,
     alloc: Global,
-    plan: Plan,
-    octets: Blank,
-    steps: Blank,
-) -> Result<(bool, u64, u64), Fail>
-    requires octets { (octets.name ≡ J.Octets.name) × (octets.parts ≡ J.Octets.parts) × (octets.parts ≡ length plan.peers + plan.passes) }
-    requires steps { (steps.name ≡ J.Steps.name) × (steps.parts ≡ J.Steps.parts) × (steps.parts ≡ length plan.peers + plan.passes) }
-    requires first { (J.first_octets ≡ 2 ^ 48) × (J.first_steps ≡ 2 ^ 48) }
-{
-    let (Some(challenge), Some(&at)) = (Challenge::new(b"0"), plan.workers().first()) else {
-        return Err(Fail::new("no challenge or no worker"));
-    };
-    let mut worker = Worker::new(&plan, 0);
-    let endpoints = worker.endpoints(alloc, &plan)?;
-    let mut wire = MioWire::bind(rt, alloc, at, endpoints)?;
-    let caller = UdpSocket::bind(rt, address(WEST))?;
-    let (exchange, mut passes) = Exchange::<NoGate, J>::open(alloc, plan, NoGate, octets, steps)?;
-    let Some(pass) = passes.first_mut() else {
-        return Err(Fail::new("no pass"));
-    };
-    let _len = caller.send_to(NEW_FOR_200, address(at))?;
+    exchange: &Exchange<NoGate, J>,
+    pass: &mut Pass<J>,
+) -> Option<(bool, u64, u64)> {
+    let challenge = Challenge::new(b"0")?;
+    let at = *exchange.plan().workers().first()?;
+    let mut worker = Worker::new(exchange.plan(), 0);
+    let endpoints = worker.endpoints(alloc, exchange.plan()).ok()?;
+    let mut wire = MioWire::bind(rt, alloc, at, endpoints).ok()?;
+    let caller = caller_at(rt, at)?;
     let rejected = turn_until_rejected(
         rt,
-        &exchange,
+        exchange,
         pass,
         &mut worker,
         &mut wire,
         &caller,
         &challenge,
     );
-    Ok((rejected, wire.given_to(WEST), wire.given_to(EAST)))
+    Some((rejected, wire.given_to(WEST), wire.given_to(EAST)))
+}
+
+// The same, on an exchange of two ledgers.
+fn call_200<J: Naming, R: Net + Wait>(
+    rt: &R,
+    alloc: Global,
+    plan: Plan,
+    octets: Blank,
+    steps: Blank,
+) -> Option<(bool, u64, u64)>
+    requires octets { (octets.name ≡ J.Octets.name) × (octets.parts ≡ J.Octets.parts) × (octets.parts ≡ length plan.peers + plan.passes) }
+    requires steps { (steps.name ≡ J.Steps.name) × (steps.parts ≡ J.Steps.parts) × (steps.parts ≡ length plan.peers + plan.passes) }
+    requires first { (J.first_octets ≡ 2 ^ 48) × (J.first_steps ≡ 2 ^ 48) }
+{
+    let opened = Exchange::<NoGate, J>::open(alloc, plan, NoGate, octets, steps);
+    let (exchange, mut passes) = opened.ok()?;
+    call_worker(rt, alloc, &exchange, passes.first_mut()?)
 }
 
 // The same, by the ledgers that the caller names.
@@ -106,7 +120,7 @@ fn call_named<O: Ledger + Send + Sync, S: Ledger + Send + Sync, R: Net + Wait>(
     plan: Plan,
     octets: Blank,
     steps: Blank,
-) -> Result<(bool, u64, u64), Fail>
+) -> Option<(bool, u64, u64)>
     requires octets { (octets.name ≡ O.name) × (octets.parts ≡ O.parts) × (octets.parts ≡ length plan.peers + plan.passes) }
     requires steps { (steps.name ≡ S.name) × (steps.parts ≡ S.parts) × (steps.parts ≡ length plan.peers + plan.passes) }
 {
@@ -114,18 +128,10 @@ fn call_named<O: Ledger + Send + Sync, S: Ledger + Send + Sync, R: Net + Wait>(
 }
 
 #[test]
-fn reject_on_loopback(rt: HostRuntime) -> Result<(), Fail> {
-    let plan = Plan::read(rt.alloc(), ONE_WORKER)?;
+fn reject_on_loopback(rt: HostRuntime) {
+    let plan = Plan::read(rt.alloc(), ONE_WORKER).expect(&rt, "a plan");
     let parts = u64::from(plan.peer_count()) + u64::from(plan.passes());
-    let (rejected, to_west, to_east) = call_named::<Brand, Brand, HostRuntime>(
-        &rt,
-        rt.alloc(),
-        plan,
-        Blank::new(parts),
-        Blank::new(parts),
-    )?;
-    assert!(rt; rejected);
-    assert_eq!(rt; to_west, 1);
-    assert_eq!(rt; to_east, 0);
-    Ok(())
+    let (octets, steps) = (Blank::new(parts), Blank::new(parts));
+    let called = call_named::<Brand, Brand, HostRuntime>(&rt, rt.alloc(), plan, octets, steps);
+    same(&rt, &called, &Some((true, 1, 0)));
 }

@@ -1,4 +1,5 @@
 //! The program serves: nobody sends, a call between two sockets of this test carries media both ways, nothing can be bound.
+use crate::same::{holds, same, same_octets};
 use exchange_commands::serve;
 use std::net::{IpAddr, Ipv4Addr, Net, SocketAddr, UdpSocket};
 use std::process::Abort;
@@ -119,21 +120,28 @@ fn send<R: Abort>(rt: &R, socket: &UdpSocket, octets: &[u8]) {
     let _len = socket.send_to(octets, local(4591)).expect(rt, "sent");
 }
 
+// The next datagram at the socket, if one comes in time and is a frame of this kind: what it has after its head.
+fn next_of<'a>(socket: &UdpSocket, wanted: Kind, octets: &'a mut [u8; 2049]) -> Option<&'a [u8]> {
+    let (len, _) = socket.recv_from(octets).ok()?;
+    let frame = octets.split_at(len).0;
+    if kind_of(frame) != Some(wanted) {
+        return None;
+    }
+    Some(after_head(wanted, frame))
+}
+
 // Waits for a frame of a kind with this after its head; nothing is asked where nothing is given. Others are passed over.
 fn wait_for<R: Abort>(rt: &R, socket: &UdpSocket, wanted: Kind, after: Option<&[u8]>) {
     let mut octets = [0u8; 2049];
     for _ in 0..100 {
-        if let Ok((len, _)) = socket.recv_from(&mut octets) {
-            let frame = octets.split_at(len).0;
-            if kind_of(frame) == Some(wanted) {
-                if let Some(after) = after {
-                    assert!(rt; after_head(wanted, frame) == after, "what was carried");
-                }
-                return;
+        if let Some(carried) = next_of(socket, wanted, &mut octets) {
+            if let Some(after) = after {
+                same_octets(rt, carried, after);
             }
+            return;
         }
     }
-    assert!(rt; false, "a frame that didn't come");
+    holds(rt, "a frame comes", false);
 }
 
 // Both peers of a call that carries 10 octets of media.
@@ -159,11 +167,8 @@ fn call<R: Net + Abort>(rt: &R, west: &UdpSocket, east: &UdpSocket) {
 #[test]
 fn nobody_sends_then_a_call_between_two_sockets(rt: HostRuntime) {
     let mut out = Vec::new(rt.alloc());
-    assert_eq!(rt; serve(&rt, rt.alloc(), PLAN, 3, &mut out), 0);
-    assert_eq!(rt;
-        out.as_slice(),
-        b"worker 0 0 0 0 0\noctets 0 0 0 0\n".as_slice()
-    );
+    same(&rt, &serve(&rt, rt.alloc(), PLAN, 3, &mut out), &0);
+    same_octets(&rt, &out, b"worker 0 0 0 0 0\noctets 0 0 0 0\n");
 
     // Bound before the exchange is, so nothing that is sent to them is lost.
     let west = socket_at(&rt, 5591);
@@ -177,13 +182,14 @@ fn nobody_sends_then_a_call_between_two_sockets(rt: HostRuntime) {
             call(&rt, &west, &east)
         },
     );
-    assert_eq!(rt; status, 0);
-    assert!(rt; out.ends_with(b"\noctets 10 10 0 0\n"), "the accounts");
+    same(&rt, &status, &0);
+    let is_balanced = out.ends_with(b"\noctets 10 10 0 0\n");
+    holds(&rt, "the accounts", is_balanced);
 }
 
 #[test]
 fn nothing_is_bound(rt: HostRuntime) {
     let mut out = Vec::new(rt.alloc());
-    assert_eq!(rt; serve(&rt, rt.alloc(), ELSEWHERE, 3, &mut out), 1);
-    assert_eq!(rt; out.as_slice(), b"refused Bind\n".as_slice());
+    same(&rt, &serve(&rt, rt.alloc(), ELSEWHERE, 3, &mut out), &1);
+    same_octets(&rt, &out, b"refused Bind\n");
 }

@@ -5,6 +5,7 @@ ghost use Rattle.udp_workers.specs.Served.{AreEndpoints, peers_of};
 use crate::call::{ARRIVALS, TO_EAST, TO_WEST};
 use crate::memory_wire::{MemoryWire, Sent};
 use crate::plans::{EAST, ONE_WORKER, WEST};
+use crate::same::{holds, same};
 use call_auth::Challenge;
 use exchange_core::{Exchange, NoGate};
 use media_ledger::Blank;
@@ -14,7 +15,7 @@ use std::alloc::Global;
 use std::marker::Brand;
 use std::sync::Wait;
 use std::sync::ledger::Ledger;
-use std::test::Fail;
+use std::test::*;
 use udp_workers::{TurnReport, Wire, Worker};
 
 /// What a call over a wire in memory came to.
@@ -75,6 +76,31 @@ fn play_arrivals<J: Naming, R: Wait>(
     (sum, counted)
 }
 
+// Whether the accounts of an exchange are settled, and accepted octets are those packed, queued and dropped.
+fn balances<J: Naming>(exchange: Exchange<NoGate, J>, passes: Vec<Pass<J>>) -> bool {
+    match exchange.settle(passes) {
+        Ok(s) => s.accepted == s.packed.wrapping_add(s.queued).wrapping_add(s.dropped),
+        Err(_) => false,
+    }
+}
+
+// The only worker of a plan plays the call with the exchange's first pass.
+fn play_worker<J: Naming, R: Wait>(
+    rt: &R,
+    alloc: Global,
+    exchange: &Exchange<NoGate, J>,
+    pass: &mut Pass<J>,
+    fails_at: u64,
+) -> Option<(TurnReport, bool, MemoryWire)> {
+    let challenge = Challenge::new(b"0")?;
+    let _workers = exchange.plan().workers();
+    let mut worker = Worker::new(exchange.plan(), 0);
+    let endpoints = worker.endpoints(alloc, exchange.plan()).ok()?;
+    let mut wire = MemoryWire::new(alloc, endpoints, fails_at).ok()?;
+    let (report, counted) = play_arrivals(rt, exchange, pass, &mut worker, &mut wire, &challenge);
+    Some((report, counted, wire))
+}
+
 // The call over a wire that fails at one of its calls, on an exchange of two ledgers.
 fn play<J: Naming, R: Wait>(
     rt: &R,
@@ -83,34 +109,22 @@ fn play<J: Naming, R: Wait>(
     fails_at: u64,
     octets: Blank,
     steps: Blank,
-) -> Result<Played, Fail>
+) -> Option<Played>
     requires octets { (octets.name ≡ J.Octets.name) × (octets.parts ≡ J.Octets.parts) × (octets.parts ≡ length plan.peers + plan.passes) }
     requires steps { (steps.name ≡ J.Steps.name) × (steps.parts ≡ J.Steps.parts) × (steps.parts ≡ length plan.peers + plan.passes) }
     requires first { (J.first_octets ≡ 2 ^ 48) × (J.first_steps ≡ 2 ^ 48) }
 {
-    let Some(challenge) = Challenge::new(b"0") else {
-        return Err(Fail::new("no challenge"));
-    };
-    let _workers = plan.workers();
-    let mut worker = Worker::new(&plan, 0);
-    let endpoints = worker.endpoints(alloc, &plan)?;
-    let mut wire = MemoryWire::new(alloc, endpoints, fails_at)?;
-    let (exchange, mut passes) = Exchange::<NoGate, J>::open(alloc, plan, NoGate, octets, steps)?;
-    let Some(pass) = passes.first_mut() else {
-        return Err(Fail::new("no pass"));
-    };
-    let (report, counted) = play_arrivals(rt, &exchange, pass, &mut worker, &mut wire, &challenge);
-    let balances = match exchange.settle(passes) {
-        Ok(s) => s.accepted == s.packed.wrapping_add(s.queued).wrapping_add(s.dropped),
-        Err(_) => false,
-    };
-    Ok(Played {
+    let opened = Exchange::<NoGate, J>::open(alloc, plan, NoGate, octets, steps);
+    let (exchange, mut passes) = opened.ok()?;
+    let pass = passes.first_mut()?;
+    let (report, counted, wire) = play_worker(rt, alloc, &exchange, pass, fails_at)?;
+    Some(Played {
         report,
         to_west: wire.given_to(WEST),
         to_east: wire.given_to(EAST),
         sent: wire.into_sent(),
         counted,
-        balances,
+        balances: balances(exchange, passes),
     })
 }
 
@@ -122,7 +136,7 @@ fn play_named<O: Ledger + Send + Sync, S: Ledger + Send + Sync, R: Wait>(
     fails_at: u64,
     octets: Blank,
     steps: Blank,
-) -> Result<Played, Fail>
+) -> Option<Played>
     requires octets { (octets.name ≡ O.name) × (octets.parts ≡ O.parts) × (octets.parts ≡ length plan.peers + plan.passes) }
     requires steps { (steps.name ≡ S.name) × (steps.parts ≡ S.parts) × (steps.parts ≡ length plan.peers + plan.passes) }
 {
@@ -130,8 +144,8 @@ fn play_named<O: Ledger + Send + Sync, S: Ledger + Send + Sync, R: Wait>(
 }
 
 /// The call over a wire in memory that fails at its call of this place; at 0 never.
-pub fn play_over<R: Wait>(rt: &R, alloc: Global, fails_at: u64) -> Result<Played, Fail> {
-    let plan = Plan::read(alloc, ONE_WORKER)?;
+pub fn play_over<R: Wait>(rt: &R, alloc: Global, fails_at: u64) -> Option<Played> {
+    let plan = Plan::read(alloc, ONE_WORKER).ok()?;
     let parts = u64::from(plan.peer_count()) + u64::from(plan.passes());
     play_named::<Brand, Brand, R>(
         rt,
@@ -148,11 +162,7 @@ fn went(sent: &[Sent], to: Endpoint, wanted: &[&[u8]]) -> bool {
     let mut found: usize = 0;
     for datagram in sent {
         if datagram.to == to {
-            let same = match wanted.get(found) {
-                Some(octets) => datagram.octets.as_slice() == *octets,
-                None => false,
-            };
-            if !same {
+            if !is_at(wanted, found, &datagram.octets) {
                 return false;
             }
             found = found.saturating_add(1);
@@ -161,20 +171,29 @@ fn went(sent: &[Sent], to: Endpoint, wanted: &[&[u8]]) -> bool {
     found == wanted.len()
 }
 
+// Whether these octets are wanted at this place.
+fn is_at(wanted: &[&[u8]], place: usize, octets: &[u8]) -> bool {
+    match wanted.get(place) {
+        Some(wanted) => octets == *wanted,
+        None => false,
+    }
+}
+
 #[test]
-fn whole_call_over_a_wire(rt: HostRuntime) -> Result<(), Fail> {
-    let played = play_over(&rt, rt.alloc(), 0)?;
-    assert_eq!(rt; played.report.received, 7);
-    assert_eq!(rt; played.report.refused, 0);
-    assert_eq!(rt; played.report.sent, 7);
-    assert_eq!(rt; played.report.lost, 0);
-    assert_eq!(rt; played.report.faults, 0);
-    assert_eq!(rt; played.report.retired, 2);
-    assert!(rt; went(&played.sent, WEST, &TO_WEST), "to the west");
-    assert!(rt; went(&played.sent, EAST, &TO_EAST), "to the east");
-    assert_eq!(rt; played.to_west, 3);
-    assert_eq!(rt; played.to_east, 4);
-    assert!(rt; played.counted);
-    assert!(rt; played.balances);
-    Ok(())
+fn whole_call_over_a_wire(rt: HostRuntime) {
+    let played = play_over(&rt, rt.alloc(), 0).expect(&rt, "a call");
+    let expected = TurnReport {
+        received: 7,
+        refused: 0,
+        sent: 7,
+        lost: 0,
+        faults: 0,
+        retired: 2,
+    };
+    same(&rt, &played.report, &expected);
+    holds(&rt, "to the west", went(&played.sent, WEST, &TO_WEST));
+    holds(&rt, "to the east", went(&played.sent, EAST, &TO_EAST));
+    same(&rt, &(played.to_west, played.to_east), &(3, 4));
+    holds(&rt, "counted", played.counted);
+    holds(&rt, "balances", played.balances);
 }
