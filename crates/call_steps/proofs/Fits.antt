@@ -123,8 +123,10 @@ module _ (others : LegName → ℕ) where
 
     tick_fits : (peer : ℕ) (rest : Rest) (choice : Choice) → IsHeld others (scene book legs []) → Fits (places.Tick peer) rest (at_tick (scene book legs []) peer choice)
     tick_fits peer rest RefusesTick h = record { held = h; leases = refl }
-    tick_fits peer rest (Lapses lapses) h =
+    tick_fits peer rest (Lapses lapses false) h =
         record { held = same_names others (scene book legs []) (all_lapsed peer lapses legs) (names_lapsed peer lapses legs) h; leases = sym (go_on_hand rest) }
+    tick_fits peer rest (Lapses lapses true) h =
+        record { held = same_names others (scene book legs []) (all_lapsed peer lapses legs) (names_lapsed peer lapses legs) h; leases = refl }
     tick_fits peer rest choice h = record { held = h; leases = sym (go_on_hand rest) }
 
     -- ---- openings

@@ -1,5 +1,5 @@
 -- The lease in a call's hand is the one that its steps name.
-use Rattle.std.proofs.Common.{◌≡◌, [], Some, None, true, refl, ap}
+use Rattle.std.proofs.Common.{◌≡◌, [], Some, None, true, false, refl, ap}
 use Rattle.std.specs.Prelude.{Ok, Err}
 use Rattle.std.proofs.lemmas.Bool.{cond_both}
 use Rattle.call_book.specs.Book.{is_same}
@@ -82,7 +82,7 @@ told_after (places.Retiring name) (replies.Retire true) rest = refl
 told_after (places.Retiring name) reply rest = goes rest
 told_after (places.Freeing name) (replies.Release (Ok (Some partner))) rest = refl
 told_after (places.Freeing name) reply rest = goes rest
-told_after (places.Tick peer) (replies.Tick (Ok done)) rest = goes rest
+told_after (places.Tick peer) (replies.Tick (Ok false)) rest = goes rest
 told_after (places.Tick peer) reply rest = refl
 told_after (places.HangUp name) (replies.Order (Ok done)) rest = goes rest
 told_after (places.HangUp name) reply rest = refl

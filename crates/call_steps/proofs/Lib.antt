@@ -25,3 +25,4 @@ mod PeerSteps
 mod Numbers
 mod MediaLeft
 mod Leases
+mod Beginnings

@@ -369,14 +369,14 @@ none_past legs number le = ap (option_map seen_named) none
       | inr e ↦ rw e refl
     ]
 
-pub tick_is : (old new : PeerLegs) (scene : Scene) (called : Bool) → Sees scene.legs old → peer.TicksAll old new
-    → IsWorldStep scene (needs.Tick old.peer) called old new (replies.Tick (Ok tt)) scene.leases
-tick_is old new scene called sees t =
+pub tick_is : (old new : PeerLegs) (quiet : Bool) (scene : Scene) (called : Bool) → Sees scene.legs old → peer.TicksAll old new
+    → IsWorldStep scene (needs.Tick old.peer) called old new (replies.Tick (Ok quiet)) scene.leases
+tick_is old new quiet scene called sees t =
     let count = old.first + length old.places in
     let lapses = lapses_from old new t.each 0 count in
     let done = all_from old new t.each 0 count scene.legs (λ number le. sees number) in
-    world_step scene (needs.Tick old.peer) called old new (replies.Tick (Ok tt)) scene.leases (Lapses lapses)
-    (answer (record scene { legs = all_lapsed old.peer lapses scene.legs }) (replies.Tick (Ok tt))) refl refl
+    world_step scene (needs.Tick old.peer) called old new (replies.Tick (Ok quiet)) scene.leases (Lapses lapses quiet)
+    (answer (record scene { legs = all_lapsed old.peer lapses scene.legs }) (replies.Tick (Ok quiet))) refl refl
     (record {
       sees = λ number. subst (λ (peer : ℕ). option_map look_of (leg_at (all_lapsed old.peer lapses scene.legs) peer number) ≡ seen_at new number) (sym t.peer)
           (elim (cases_Bool (nat_lt number count)) [

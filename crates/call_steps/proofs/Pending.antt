@@ -170,7 +170,7 @@ module _ (p : LegName) (s : Scene) where
 
   tick_keeps : (peer : ℕ) (choice : Choice) → Keeps p false s (at_tick s peer choice)
   tick_keeps peer RefusesTick = stays false s.leases _ refl
-  tick_keeps peer (Lapses lapses) = record { not_pending = λ _ h. none_pending_lapses p peer lapses s.legs h; partners = λ x q has. has }
+  tick_keeps peer (Lapses lapses quiet) = record { not_pending = λ _ h. none_pending_lapses p peer lapses s.legs h; partners = λ x q has. has }
   tick_keeps peer choice = stays false s.leases _ refl
 
   retire_keeps : (name : LegName) (choice : Choice) → Keeps p false s (at_retire s name choice)

@@ -253,10 +253,17 @@ module _ (others_care others_fresh beside : LegName → ℕ) (few : (x : LegName
       onward : Flows (places.Tick peer) rest (go_on rest)
       onward = flows_on (places.Tick peer) rest (λ x. omega arith)
 
+      over : Flows (places.Tick peer) rest ended
+      over = quiet (places.Tick peer) rest ended refl (λ x. omega arith) (λ x. omega arith)
+
       go : (choice : Choice) → SafeAnswer (places.Tick peer) rest (at_tick (scene book legs []) peer choice)
-      go RefusesTick = flows_safe others_care others_fresh beside few book legs (places.Tick peer) rest [] ended b (quiet (places.Tick peer) rest ended refl (λ x. omega arith) (λ x. omega arith))
-      go (Lapses lapses) =
+      go RefusesTick = flows_safe others_care others_fresh beside few book legs (places.Tick peer) rest [] ended b over
+      go (Lapses lapses false) =
           unchanged others_care others_fresh beside few book legs (places.Tick peer) rest (all_lapsed peer lapses legs) [] (go_on rest) b onward.goes
           (lapses_cover (seen others_care others_fresh beside few book legs (go_on rest)) peer lapses legs
           (more_care others_care others_fresh beside few book legs (at (places.Tick peer) rest) (go_on rest) onward.care b.covered))
+      go (Lapses lapses true) =
+          unchanged others_care others_fresh beside few book legs (places.Tick peer) rest (all_lapsed peer lapses legs) [] ended b over.goes
+          (lapses_cover (seen others_care others_fresh beside few book legs ended) peer lapses legs
+          (more_care others_care others_fresh beside few book legs (at (places.Tick peer) rest) ended over.care b.covered))
       go choice = flows_safe others_care others_fresh beside few book legs (places.Tick peer) rest [] (go_on rest) b onward

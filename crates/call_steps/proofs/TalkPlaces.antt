@@ -175,7 +175,8 @@ free_plain (replies.Release (Err stale)) rest = go_on_plain rest
 free_plain reply rest = go_on_plain rest
 
 tick_plain : (reply : Reply) (rest : Rest) → is_plain (after_tick reply rest).place ≡ true
-tick_plain (replies.Tick (Ok done)) rest = go_on_plain rest
+tick_plain (replies.Tick (Ok false)) rest = go_on_plain rest
+tick_plain (replies.Tick (Ok true)) rest = refl
 tick_plain (replies.Tick (Err spent)) rest = refl
 tick_plain reply rest = refl
 

@@ -8,4 +8,5 @@ pub mod Scene
 pub mod World
 pub mod MediaLeft
 pub mod Leases
+pub mod Beginnings
 pub mod Law

@@ -60,8 +60,8 @@ pub data Choice : Type 0 where
   Brings : (number : ℕ) (frame : SeenFrame) → Choice
   -- datagram: it has media for the legs with these numbers
   HasMedia : (media : List (ℕ × MediaSpan)) → Choice
-  -- tick: what happens to the legs with these numbers
-  Lapses : (lapses : List (ℕ × Lapse)) → Choice
+  -- tick: what happens to the legs with these numbers, and whether there is none to be finished then
+  Lapses : (lapses : List (ℕ × Lapse)) (quiet : Bool) → Choice
   Opens : (opening : Opening) → Choice
   LeadsTo : (route : Route) → Choice
 
@@ -152,9 +152,9 @@ all_lapsed peer (lapse ∷ lapses) legs =
 
 abbrev pub at_tick : Scene → ℕ → Choice → Answer
 at_tick scene peer RefusesTick = answer scene (replies.Tick (Err (record {})))
-at_tick scene peer (Lapses lapses) =
-    answer (record scene { legs = all_lapsed peer lapses scene.legs }) (replies.Tick (Ok tt))
-at_tick scene peer choice = answer scene (replies.Tick (Ok tt))
+at_tick scene peer (Lapses lapses quiet) =
+    answer (record scene { legs = all_lapsed peer lapses scene.legs }) (replies.Tick (Ok quiet))
+at_tick scene peer choice = answer scene (replies.Tick (Ok false))
 
 -- ---- openings
 

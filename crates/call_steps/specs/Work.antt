@@ -226,8 +226,9 @@ abbrev pub after_free : Reply → Rest → Work
 after_free (replies.Release (Ok (Some partner))) rest = at (places.Dooming partner) rest
 after_free reply rest = go_on rest
 
+-- where no leg has ended and none owes, there is none to be finished
 abbrev pub after_tick : Reply → Rest → Work
-after_tick (replies.Tick (Ok done)) rest = go_on rest
+after_tick (replies.Tick (Ok false)) rest = go_on rest
 after_tick reply rest = ended
 
 abbrev pub after_hang_up : Reply → Rest → Work

@@ -255,7 +255,7 @@ impl Work {
         ensures { self.new ≡ record self.old { work = work.after_tick reply.now self.old.work.rest } }
     {
         match reply {
-            Reply::Tick(Ok(())) => self.go_on(),
+            Reply::Tick(Ok(false)) => self.go_on(),
             _ => self.end(),
         }
     }

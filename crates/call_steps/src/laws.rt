@@ -22,6 +22,7 @@ ghost use Rattle.peer_lock.specs.declared.errors.OrderError.TheVariants.{Memory}
 ghost use Rattle.peer_lock.specs.declared.errors.PeerError.{PeerError};
 ghost use Rattle.peer_lock.specs.declared.steps.TickReport.{TickReport};
 ghost use Rattle.call_steps.specs.Acts.{act_kind};
+ghost use Rattle.call_steps.specs.Beginnings.{Beginning, beginning_at, is_over, is_answer, is_made, is_refusal};
 ghost use Rattle.call_steps.specs.Leases.{lease_in, lease_needed, lease_after};
 ghost use Rattle.call_steps.specs.MediaLeft.{media_left, media_needed, handed_by};
 ghost use Rattle.call_steps.specs.Scene.{Scene, is_leased, dropped, leg_at as world_leg_at, without};
@@ -96,7 +97,7 @@ pub fn peers_steps_are_the_worlds()
         IsWorldStep scene (needs.Order name act) called peer.legs peer.legs (replies.Order (Err error)) scene.leases }
     ensures ticks { (old new : PeerView) (now : ℕ) (report : TickReport) (scene : Scene) (called : Bool) →
         AreLegs old.legs → Ticks old now report new → Sees scene.legs old.legs →
-        IsWorldStep scene (needs.Tick old.legs.peer) called old.legs new.legs (replies.Tick (Ok tt)) scene.leases }
+        IsWorldStep scene (needs.Tick old.legs.peer) called old.legs new.legs (replies.Tick (Ok report.is_quiet)) scene.leases }
     ensures refused_ticks { (legs : PeerLegs) (scene : Scene) (called : Bool) → Sees scene.legs legs →
         IsWorldStep scene (needs.Tick legs.peer) called legs legs (replies.Tick (Err (record {}))) scene.leases }
     ensures looks { (legs : PeerLegs) (number : ℕ) (scene : Scene) (called : Bool) → Sees scene.legs legs →
@@ -135,4 +136,20 @@ pub fn media_is_carried_once()
 pub fn leases_are_as_named()
     ensures needed { (work : Work) (name : LegName) → lease_needed (next_of work) ≡ Some name → lease_in work ≡ Some name }
     ensures after { (work : Work) (reply : Reply) → lease_in (after_told work reply) ≡ lease_after (next_of work) reply (lease_in work) }
+{}
+
+/// How a call begins. Until a step of a peer is made it stands at one of the first places of its kind. A step that is refused there
+/// ends it: it makes no step of a peer any more, and at most gives a lease back.
+pub fn refused_calls_end()
+    // The first step that is made, and none but that, leads past the beginning.
+    ensures made { (work : Work) (reply : Reply) → is_answer (next_of work) reply ≡ true → is_made reply ≡ true →
+        beginning_at (after_told work reply).place ≡ None }
+    ensures goes_on { (work : Work) (reply : Reply) (begun : Beginning) → is_answer (next_of work) reply ≡ true → beginning_at work.place ≡ Some begun →
+        is_made reply ≡ false → is_refusal reply ≡ false → beginning_at (after_told work reply).place ≡ Some begun }
+    ensures past { (work : Work) (reply : Reply) → beginning_at work.place ≡ None → beginning_at (after_told work reply).place ≡ None }
+    ensures refused { (work : Work) (reply : Reply) (begun : Beginning) → is_answer (next_of work) reply ≡ true → beginning_at work.place ≡ Some begun →
+        is_refusal reply ≡ true → is_over (after_told work reply).place ≡ true }
+    // Nothing follows.
+    ensures over { (work : Work) (reply : Reply) → is_over work.place ≡ true → is_over (after_told work reply).place ≡ true }
+    ensures nothing { (work : Work) (reply : Reply) → is_over work.place ≡ true → is_answer (next_of work) reply ≡ true → is_made reply ≡ false }
 {}

@@ -18,7 +18,8 @@ pub enum Reply {
     OpenIn(Result<Heard, OpenError>),
     OpenOut(Result<(), OpenError>),
     Order(Result<(), OrderError>),
-    Tick(Result<(), StepsSpent>),
+    /// Whether no leg of the peer has ended and none owes.
+    Tick(Result<bool, StepsSpent>),
     /// How the leg of a number stands, if there is one.
     Look(Option<Status>),
     /// Whether the leg was taken out.

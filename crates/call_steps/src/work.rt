@@ -1,5 +1,6 @@
 //! The steps of one call.
-ghost use Rattle.std.specs.Prelude.{◌≡◌, ◌+◌, ◌≤◌, ◌^◌, [], Option, None, Some, option_copied, Ok};
+ghost use Rattle.std.specs.Prelude.{◌≡◌, ◌+◌, ◌≤◌, ◌^◌, [], Option, None, Some, option_copied, is_some, Ok};
+ghost use Rattle.call_steps.specs.Beginnings.{beginning_at};
 ghost use Rattle.call_steps.specs.Work as work;
 
 use crate::needs::Need;
@@ -125,6 +126,18 @@ impl Work {
             numbers_left: _,
         } = self;
         onwards
+    }
+
+    /// Whether no step of a peer was made yet, and none was refused.
+    pub fn is_beginning(&self) -> bool
+        ensures { result ≡ is_some (beginning_at self.now.work.place) }
+    {
+        match self.place {
+            Place::Datagram(_) | Place::ReserveIn(_) | Place::OpenIn(_) => true,
+            Place::Tick(_) | Place::HangUp(_) => true,
+            Place::ReserveCall(_) | Place::OpenCall(_) => true,
+            _ => false,
+        }
     }
 
     // Where the call stands.

@@ -34,22 +34,18 @@ covers_need within covered len credit work need next left =
     let all = covered work in
     subst (λ o. IsCovered len credit (media_needed o)) next (record { within = within len work left.within; octets = omega (arith, left.octets) })
 
--- what is left after an answer that handed up nothing
-pub covers_rest : KeepsWithin → KeepsOctets → (len old new : ℕ) (work after : Work) (need : Need) (reply : Reply) → next_of work ≡ Some need → handed_by reply ≡ []
-    → after ≡ after_told work reply → old ≤ new + handed_octets (media_needed (Some need)) → IsCovered len old (media_left work) → IsCovered len new (media_left after)
-covers_rest within octets len old new work after need reply next nothing told enough left =
+-- what is left after an answer: no more credit is gone than the order took, and what was handed up has its own
+pub covers_rest : KeepsWithin → KeepsOctets → (len old new : ℕ) (work after : Work) (need : Need) (reply : Reply) → next_of work ≡ Some need
+    → AllByRecursion (LiesWithin len) (handed_by reply) → after ≡ after_told work reply
+    → old + handed_octets (handed_by reply) ≤ new + handed_octets (media_needed (Some need)) → IsCovered len old (media_left work) → IsCovered len new (media_left after)
+covers_rest within octets len old new work after need reply next up told enough left =
     let less = octets work reply in
-    let none : handed_octets (handed_by reply) ≡ 0 = ap handed_octets nothing in
     let needed : handed_octets (media_needed (next_of work)) ≡ handed_octets (media_needed (Some need)) = ap (λ o. handed_octets (media_needed o)) next in
-    rw told (record { within = within len work reply left.within (rw nothing tt); octets = omega (arith, left.octets) })
+    rw told (record { within = within len work reply left.within up; octets = omega (arith, left.octets) })
 
--- what is left after the first answer of a call that had none
-pub covers_first : KeepsWithin → KeepsOctets → (len credit : ℕ) (work after : Work) (reply : Reply) → media_left work ≡ [] → after ≡ after_told work reply
-    → IsCovered len credit (handed_by reply) → IsCovered len credit (media_left after)
-covers_first within octets len credit work after reply begun told up =
-    let less = octets work reply in
-    let none : handed_octets (media_left work) ≡ 0 = ap handed_octets begun in
-    rw told (record { within = within len work reply (rw begun tt) up.within; octets = omega (arith, up.octets) })
+-- a call begins with none
+pub covers_none : (len credit : ℕ) (work : Work) → media_left work ≡ [] → IsCovered len credit (media_left work)
+covers_none len credit work begun = rw begun (record { within = tt; octets = omega arith })
 
 -- ---- the lease
 
@@ -61,7 +57,3 @@ pub leaves_lease : LeavesLease → (work after : Work) (need : Need) (reply : Re
     → old ≡ lease_in work → new ≡ lease_after (Some need) reply old → new ≡ lease_in after
 leaves_lease law work after need reply old new next told own made =
     made ∙ ap (lease_after (Some need) reply) own ∙ ap (λ o. lease_after o reply (lease_in work)) (sym next) ∙ sym (law work reply) ∙ ap lease_in (sym told)
-
--- it has none after the first answer, where that leaves none
-pub leaves_none : LeavesLease → (work after : Work) (reply : Reply) → after ≡ after_told work reply → lease_after (next_of work) reply (lease_in work) ≡ None → None ≡ lease_in after
-leaves_none law work after reply told none = sym (ap lease_in told ∙ law work reply ∙ none)

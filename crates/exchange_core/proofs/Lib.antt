@@ -3,3 +3,4 @@ pub mod Pops
 mod Starting
 mod Media
 mod Carrying
+mod FirstSteps

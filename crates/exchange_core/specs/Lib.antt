@@ -1,4 +1,6 @@
 pub mod Covered
+pub mod Denials
+pub mod FirstSteps
 pub mod Newcomers
 pub mod Numbers
 pub mod Refusals

@@ -35,13 +35,11 @@ abbrev pub from_reserve : ReserveError → Refusal
 from_reserve reserve_errors.SerialsSpent = refusals.SerialsSpent
 from_reserve reserve_errors.NoNumber = refusals.NoNumber
 
--- of a call that goes out, whose leg has no remote number yet
-abbrev pub call_from_open : OpenError → CallError
-call_from_open open_errors.StepsSpent = call_errors.StepsSpent
-call_from_open open_errors.NumberBusy = call_errors.NumberBusy
-call_from_open open_errors.RemoteBusy = call_errors.NumberBusy
-call_from_open open_errors.Memory = call_errors.Memory
-
-abbrev pub call_from_reserve : ReserveError → CallError
-call_from_reserve reserve_errors.SerialsSpent = call_errors.SerialsSpent
-call_from_reserve reserve_errors.NoNumber = call_errors.NoNumber
+-- as a datagram's refusal is named; a number that can't be called is none
+abbrev pub from_call : CallError → Option Refusal
+from_call call_errors.BadNumber = None
+from_call call_errors.SerialsSpent = Some refusals.SerialsSpent
+from_call call_errors.NoNumber = Some refusals.NoNumber
+from_call call_errors.StepsSpent = Some refusals.StepsSpent
+from_call call_errors.NumberBusy = Some refusals.NumberBusy
+from_call call_errors.Memory = Some refusals.Memory

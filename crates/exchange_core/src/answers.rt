@@ -1,7 +1,7 @@
 //! What the calls of an exchange answer.
-ghost use Rattle.std.specs.Prelude.{◌≡◌, ◌≢◌};
+ghost use Rattle.std.specs.Prelude.{◌≡◌};
 ghost use Rattle.peer_lock.specs.Statuses.{IsHistory};
-ghost use Rattle.exchange_core.specs.Refusals.{from_peer, from_open, from_reserve, call_from_open, call_from_reserve};
+ghost use Rattle.exchange_core.specs.Refusals.{from_peer, from_open, from_reserve};
 
 use call_book::{LegName, ReserveError};
 use peer_lock::{OpenError, PeerError};
@@ -121,30 +121,4 @@ pub enum CallError {
     NumberBusy,
     /// A request for memory was refused.
     Memory,
-}
-
-impl CallError {
-    /// Why a leg that has no remote number yet wasn't opened.
-    pub(crate) fn of_opening(error: OpenError) -> CallError
-        requires { error ≢ OpenError.RemoteBusy }
-        ensures { result ≡ call_from_open error }
-    {
-        match error {
-            OpenError::StepsSpent => CallError::StepsSpent,
-            OpenError::NumberBusy => CallError::NumberBusy,
-            OpenError::RemoteBusy => unreachable!(),
-            OpenError::Memory => CallError::Memory,
-        }
-    }
-}
-
-impl From<ReserveError> for CallError {
-    ghost from_gives = { λ of e. e ≡ call_from_reserve of };
-
-    fn from(error: ReserveError) -> CallError {
-        match error {
-            ReserveError::SerialsSpent => CallError::SerialsSpent,
-            ReserveError::NoNumber => CallError::NoNumber,
-        }
-    }
 }

@@ -2,19 +2,22 @@
 #![tactic(auto)]
 
 mod answers;
-mod arrivals;
 mod book_sections;
-mod calling;
-mod calls;
+mod denials;
+mod driver;
 mod exchange;
 mod gates;
+mod hands;
 pub mod laws;
+mod leg_openings;
+mod making;
 mod opening;
 mod order_sections;
+mod outside;
 mod parting;
-mod sections;
+mod peer_sections;
+mod routing;
 mod settlement;
-mod working;
 
 pub use answers::{Answer, CallError, Refusal, Retired};
 pub use exchange::Exchange;

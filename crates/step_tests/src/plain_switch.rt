@@ -274,12 +274,13 @@ impl<J: Naming> PlainSwitch<J> {
         obeyed
     }
 
-    fn tick(&mut self, peer: u16, now: u64, outcome: &mut Outcome) -> Result<(), StepsSpent> {
+    // Tells whether there is no leg to be finished.
+    fn tick(&mut self, peer: u16, now: u64, outcome: &mut Outcome) -> Result<bool, StepsSpent> {
         let Some(state) = self.peers.get_mut(usize::from(peer)) else {
             return Err(StepsSpent);
         };
         match state.tick(&mut self.pass, now) {
-            Ok(_) => Ok(()),
+            Ok(report) => Ok(report.is_quiet),
             Err(spent) => {
                 outcome.refused = Some(Refusal::StepsSpent);
                 Err(spent)

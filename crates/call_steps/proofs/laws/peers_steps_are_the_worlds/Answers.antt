@@ -49,7 +49,7 @@ returns-clause-refused_orders c peer credit name act order now error scene calle
 
 pub returns-clause-ticks : goal.returns-clause-ticks
 returns-clause-ticks c old new now report scene called are ticks sees =
-    tick_is old.legs new.legs scene called sees (c.steps_are_seen.ensures.ticks old new now report are ticks)
+    tick_is old.legs new.legs report.is_quiet scene called sees (c.steps_are_seen.ensures.ticks old new now report are ticks)
 
 pub returns-clause-refused_ticks : goal.returns-clause-refused_ticks
 returns-clause-refused_ticks c legs scene called sees =

@@ -1,0 +1,58 @@
+use Rattle.std.proofs.Common.{◌≡◌, Some, true, length, sym, ap, subst, ◌∙◌, arith}
+use Rattle.call_steps.specs.Beginnings.{beginning_at, is_answer}
+use Rattle.call_steps.specs.Leases.{lease_needed}
+use Rattle.call_steps.specs.Work.{next_of}
+use Rattle.exchange_core.specs.Denials.{noted}
+use Rattle.exchange_core.specs.FirstSteps.{InPlan, IsOpened, KeepsPeer}
+use Rattle.exchange_core.specs.Newcomers.{SpellsOpening}
+use Rattle.exchange_core.proofs.Carrying.{covers_need, covers_rest, leaves_lease}
+use Rattle.exchange_core.proofs.FirstSteps.{under_way, next_in_plan, stays_in_plan, opened_here, opens_after, stands_on}
+use Rattle.exchange_core.proofs.exchange.Exchange.run.Goals as goal
+
+pub make-reply-requires-clause-media : goal.make-reply-requires-clause-media
+make-reply-requires-clause-media g c lifetimes lives =
+    let law = c.media_is_carried_once.ensures in
+    covers_need law.needed law.covered (length c.args.given.now.octets.now) c.loop.pass.octets c.loop.work.work c.in-Some-next.need (sym c.next-in-loop.ensures ∙ c.in-Some-next.is)
+    c.loop.invariant.2
+
+pub make-reply-requires-clause-lease : goal.make-reply-requires-clause-lease
+make-reply-requires-clause-lease g c lifetimes lives = λ name takes.
+    c.loop.invariant.3
+    ∙ c.leases_are_as_named.ensures.needed c.loop.work.work name (ap lease_needed (sym c.next-in-loop.ensures ∙ c.in-Some-next.is) ∙ takes)
+
+pub make-reply-requires-clause-peer : goal.make-reply-requires-clause-peer
+make-reply-requires-clause-peer g c lifetimes lives =
+    subst (InPlan (length c.args.self.now.peers)) (sym c.next-in-loop.ensures ∙ c.in-Some-next.is)
+    (next_in_plan (length c.args.self.now.peers) c.loop.work.work.place c.loop.invariant.5)
+
+pub make-reply-requires-clause-opening : goal.make-reply-requires-clause-opening
+make-reply-requires-clause-opening g c lifetimes lives = λ opened.
+    let here = opened_here c.loop.work.work.place (subst IsOpened (sym (sym c.next-in-loop.ensures ∙ c.in-Some-next.is)) opened) in
+    (c.loop.invariant.6 here.0, c.requires.challenge (c.loop.invariant.4.before _ here.1).0)
+
+pub loop-preserved : goal.loop-preserved
+loop-preserved g c =
+    let carried = c.media_is_carried_once.ensures in
+    let begins = c.refused_calls_end.ensures in
+    let need : next_of c.loop.work.work ≡ Some c.in-Some-next.need = sym c.next-in-loop.ensures ∙ c.in-Some-next.is in
+    let answers : is_answer (next_of c.loop.work.work) c.make-reply.result ≡ true = ap (λ o. is_answer o c.make-reply.result) need ∙ c.make-reply.ensures.answer in
+    let keeps : KeepsPeer (next_of c.loop.work.work) c.make-reply.result = subst (λ o. KeepsPeer o c.make-reply.result) (sym need) c.make-reply.ensures.peer in
+    let denial = c.note.ensures.denial ∙ ap (noted (beginning_at c.loop.work.work.place) c.make-reply.result) c.make-reply.ensures.denial in (
+      tt,
+      tt,
+      covers_rest carried.within carried.octets (length c.args.given.now.octets.now) c.loop.pass.octets c.make-reply.new.pass.octets c.loop.work.work c.told.new.self.work
+          c.in-Some-next.need c.make-reply.result need c.make-reply.ensures.within c.told.ensures.work c.make-reply.ensures.octets c.loop.invariant.2,
+      c.note.ensures.lease
+          ∙ leaves_lease c.leases_are_as_named.ensures.after c.loop.work.work c.told.new.self.work c.in-Some-next.need c.make-reply.result c.loop.hands.lease
+          c.make-reply.new.hands.lease need c.told.ensures.work c.loop.invariant.3 c.make-reply.ensures.lease,
+      under_way begins.made begins.goes_on begins.past begins.refused begins.over begins.nothing c.args.work.now.work.place c.args.pass.now c.loop.pass
+          c.make-reply.new.pass c.loop.work.work c.told.new.self.work c.make-reply.result c.loop.hands.denial c.note.new.self.denial answers c.make-reply.ensures.made
+          c.make-reply.ensures.unmade c.make-reply.ensures.no_remote c.told.ensures.work denial c.loop.invariant.4,
+      stays_in_plan begins.made begins.past (length c.args.self.now.peers) c.loop.work.work c.told.new.self.work c.make-reply.result c.told.ensures.work keeps
+          c.loop.invariant.5,
+      opens_after begins.made begins.past c.loop.work.work c.told.new.self.work c.make-reply.result (SpellsOpening c.args.given.now.octets.now) c.told.ensures.work
+          c.loop.invariant.6 c.make-reply.ensures.opening,
+      stands_on c.args.work.now.work.place c.args.pass.now c.loop.pass c.make-reply.new.pass c.loop.work.work c.told.new.self.work c.make-reply.result
+          c.loop.hands.denial c.note.new.self.denial c.loop.hands.named c.note.new.self.named answers keeps c.make-reply.ensures.opened c.make-reply.ensures.unmade
+          c.told.ensures.work denial (c.note.ensures.named ∙ c.make-reply.ensures.named) c.loop.invariant.7,
+    )

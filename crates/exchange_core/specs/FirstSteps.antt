@@ -1,0 +1,57 @@
+-- What the first steps of a call ask for, and what they leave to the next.
+use Rattle.std.specs.Prelude.{◌≡◌, ℕ, ◌<◌, Option, None, Some, Ok, Err, IsSome, IfSome}
+use Rattle.call_book.specs.declared.leg_name.LegName.{LegName}
+use Rattle.peer_lock.specs.Accounts.{Credit, with_step}
+use Rattle.peer_lock.specs.declared.errors.PeerError.TheVariants as peer_errors
+use Rattle.call_steps.specs.declared.needs.Need.{Need}
+use Rattle.call_steps.specs.declared.needs.Need.TheVariants as needs
+use Rattle.call_steps.specs.declared.places.Place.{Place}
+use Rattle.call_steps.specs.declared.places.Place.TheVariants as places
+use Rattle.call_steps.specs.declared.replies.Reply.{Reply}
+use Rattle.call_steps.specs.declared.replies.Reply.TheVariants as replies
+use Rattle.exchange_core.specs.declared.denials.Denial.{Denial}
+
+-- a call begins here, at one of so many peers
+abbrev pub StartsInPlan : ℕ → Place → Type 0
+StartsInPlan peers (places.Datagram peer) = peer < peers
+StartsInPlan peers (places.Tick peer) = peer < peers
+StartsInPlan peers (places.HangUp name) = Unit {0}
+StartsInPlan peers (places.ReserveCall peer) = Unit {0}
+StartsInPlan peers place = ⊥
+
+-- a datagram, a tick and the leg of a NEW are of one of so many peers
+abbrev pub InPlan : ℕ → Option Need → Type 0
+InPlan peers (Some (needs.Datagram peer)) = peer < peers
+InPlan peers (Some (needs.Tick peer)) = peer < peers
+InPlan peers (Some (needs.OpenIn name)) = name.peer < peers
+InPlan peers need = Unit {0}
+
+-- the leg of a NEW that came is opened
+abbrev pub IsOpened : Option Need → Type 0
+IsOpened (Some (needs.OpenIn name)) = Unit {0}
+IsOpened need = ⊥
+
+-- the datagram needs a number for its leg
+abbrev pub IsOpeningDue : Reply → Type 0
+IsOpeningDue (replies.Datagram (Err peer_errors.NeedsNumber)) = Unit {0}
+IsOpeningDue reply = ⊥
+
+-- a name is one of the peer that was asked for
+abbrev pub KeepsPeer : Option Need → Reply → Type 0
+KeepsPeer (Some (needs.Reserve peer)) (replies.Reserve (Ok name)) = name.peer ≡ peer
+KeepsPeer need reply = Unit {0}
+
+-- the last name that the book gave
+abbrev pub named_after : Reply → Option LegName → Option LegName
+named_after (replies.Reserve (Ok name)) named = Some name
+named_after reply named = named
+
+-- a leg was opened by a NEW of ours
+abbrev pub IsOpenedOut : Reply → Type 0
+IsOpenedOut (replies.OpenOut (Ok done)) = Unit {0}
+IsOpenedOut reply = ⊥
+
+-- the call that began here made one step without media, at a leg of its peer under the last name that the book gave, unless it is denied
+abbrev pub CallIsMade : Place → Credit → Credit → Option Denial → Option LegName → Type 0
+CallIsMade (places.ReserveCall peer) first now None named = (now ≡ with_step first 0) × IsSome named × IfSome named (λ name. name.peer ≡ peer)
+CallIsMade start first now denial named = Unit {0}

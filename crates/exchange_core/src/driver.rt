@@ -1,0 +1,51 @@
+//! The steps of a call, as its table names them, from the first until nothing is left to be done.
+ghost use Rattle.std.specs.Option.{ForSome};
+ghost use Rattle.std.specs.Prelude.{◌≡◌, ◌+◌, ◌<◌, ◌≤◌, [], None, Some, length, IsSome, MatchOption};
+ghost use Rattle.call_steps.specs.Beginnings.{OfDatagram, beginning_at};
+ghost use Rattle.call_steps.specs.Leases.{lease_in};
+ghost use Rattle.call_steps.specs.MediaLeft.{media_left};
+ghost use Rattle.exchange_core.specs.Denials.{Denies};
+ghost use Rattle.exchange_core.specs.FirstSteps.{CallIsMade, StartsInPlan};
+ghost use Rattle.exchange_core.specs.Numbers.{IsCalled};
+
+use crate::exchange::Exchange;
+use crate::gates::Gate;
+use crate::hands::{Given, Hands};
+use call_steps::Work;
+use call_steps::laws::{leases_are_as_named, media_is_carried_once, refused_calls_end};
+use peer_lock::{Naming, Pass};
+use std::sync::Wait;
+
+impl<G: Gate, J: Naming> Exchange<G, J> {
+    // Makes the steps of a call that begins so: each that its table names, and tells the table what it answered. Either a step of a
+    // peer was made, or the call is refused, and none was.
+    pub(crate) fn run<R: Wait>(
+        &self,
+        rt: &R,
+        pass: &mut Pass<J>,
+        work: &mut Work,
+        given: &Given<'_, '_, '_>,
+        hands: &mut Hands,
+    )
+        requires peer { StartsInPlan (length self.now.peers) work.old.work.place }
+        requires nothing { (media_left work.old.work ≡ []) × (hands.old.lease ≡ None) × (hands.old.denial ≡ None) }
+        requires challenge { beginning_at work.old.work.place ≡ Some OfDatagram → IsSome given.now.challenge }
+        requires called { ForSome given.now.called (λ text. IsCalled text.now) }
+        ensures steps { MatchOption hands.new.denial (pass.old.steps + 1 ≤ pass.new.steps) (λ why. (pass.new ≡ pass.old) × Denies (beginning_at work.old.work.place) why) }
+        // It keeps no lease.
+        ensures lease { hands.new.lease ≡ None }
+        ensures call { CallIsMade work.old.work.place pass.old pass.new hands.new.denial hands.new.named }
+    {
+        media_is_carried_once();
+        leases_are_as_named();
+        refused_calls_end();
+        for _ in rt.forever() {
+            let Some(need) = work.next() else {
+                return;
+            };
+            let reply = self.make(rt, pass, work, need, given, hands);
+            hands.note(work, &reply);
+            work.told(reply);
+        }
+    }
+}

@@ -1,0 +1,78 @@
+//! What a call was given, and what it has in its hands.
+ghost use Rattle.std.specs.Prelude.{◌≡◌, [], None};
+ghost use Rattle.call_steps.specs.Beginnings.{beginning_at};
+ghost use Rattle.exchange_core.specs.Denials.{noted};
+
+use crate::answers::Retired;
+use crate::denials::Denial;
+use call_auth::Challenge;
+use call_book::{Lease, LegName};
+use call_steps::{Reply, Work};
+use std::alloc::Global;
+
+// What a call was given from outside.
+#[derive(Clone, Copy)]
+pub(crate) struct Given<'o, 'c, 'n> {
+    // The datagram; without octets where the call isn't one of a datagram.
+    pub(crate) octets: &'o [u8],
+    // For the leg that a datagram opens.
+    pub(crate) challenge: Option<&'c Challenge>,
+    // The number that is called from outside.
+    pub(crate) called: Option<&'n [u8]>,
+    // The moment.
+    pub(crate) now: u64,
+}
+
+impl Given<'_, '_, '_> {
+    // A call with nothing but its moment.
+    pub(crate) fn moment<'o, 'c, 'n>(now: u64) -> Given<'o, 'c, 'n>
+        ensures octets { result.octets.now ≡ [] }
+        ensures challenge { result.challenge ≡ None }
+        ensures called { result.called ≡ None }
+        ensures now { result.now ≡ now }
+    {
+        Given {
+            octets: &[],
+            challenge: None,
+            called: None,
+            now,
+        }
+    }
+}
+
+// What a call has in its hands: a lease at most, the last name that the book gave it, the legs that it took out, and why it is
+// refused, if it is.
+#[derive(Drop)]
+pub(crate) struct Hands {
+    pub(crate) lease: Option<Lease>,
+    pub(crate) named: Option<LegName>,
+    pub(crate) retired: Vec<Retired>,
+    pub(crate) denial: Option<Denial>,
+}
+
+impl Hands {
+    pub(crate) fn empty(alloc: Global) -> Hands
+        ensures lease { result.lease ≡ None }
+        ensures denial { result.denial ≡ None }
+        ensures retired { result.retired.items ≡ [] }
+    {
+        Hands {
+            lease: None,
+            named: None,
+            retired: Vec::new(alloc),
+            denial: None,
+        }
+    }
+
+    // Notes why the call is refused, where this is the answer to a first step of it.
+    pub(crate) fn note(&mut self, work: &Work, reply: &Reply)
+        ensures denial { self.new.denial ≡ noted (beginning_at work.now.work.place) reply.now self.old.denial }
+        ensures lease { self.new.lease ≡ self.old.lease }
+        ensures named { self.new.named ≡ self.old.named }
+        ensures retired { self.new.retired ≡ self.old.retired }
+    {
+        if work.is_beginning() {
+            self.denial = Denial::of(reply);
+        }
+    }
+}

@@ -1,0 +1,184 @@
+//! The openings of legs: by a NEW that came, of a far leg, and of a call from outside.
+ghost use Rattle.std.specs.Option.{ForSome};
+ghost use Rattle.std.specs.Prelude.{◌≡◌, ◌≢◌, ◌+◌, ◌<◌, length, None, Some, Err, option_map, slice_get, IfOk, IfErr, IsSome, OnOk, OnErr};
+ghost use Rattle.call_signals.specs.Formats.{lowest_format};
+ghost use Rattle.exchange_core.specs.Covered.{TakesCredit};
+ghost use Rattle.exchange_core.specs.Newcomers.{SpellsOpening};
+ghost use Rattle.exchange_core.specs.Numbers.{IsCalled};
+ghost use Rattle.peer_lock.specs.Accounts.{with_step};
+ghost use Rattle.peer_lock.specs.Openings.{IsOpening};
+
+use crate::exchange::Exchange;
+use crate::gates::Gate;
+use crate::hands::{Given, Hands};
+use call_book::{Lease, LegName};
+use call_steps::Heard;
+use iax_frames::{Datagram, Full, read};
+use leg_machine::Format;
+use peer_lock::{Naming, Offer, OpenError, Pass, Step};
+use std::sync::Wait;
+
+// The NEW that the octets spell.
+fn opening_in(octets: &[u8]) -> Full<'_>
+    requires { SpellsOpening octets.now }
+    ensures { IsOpening result }
+{
+    match read(octets) {
+        Ok(Datagram::Full(frame)) => frame,
+        _ => unreachable!(),
+    }
+}
+
+impl<G: Gate, J: Naming> Exchange<G, J> {
+    // The lowest format of a peer.
+    fn lowest_format(&self, peer: u16) -> Format
+        requires { peer < length self.now.peers }
+        ensures { option_map (λ peer. lowest_format peer.rules.formats) (slice_get self.now.peers peer) ≡ Some (Some result) }
+    {
+        match self.plan.rules(peer).formats.lowest() {
+            Some(format) => format,
+            None => unreachable!(),
+        }
+    }
+
+    // A call from outside goes out under a lease, in the lowest format of its peer.
+    fn open_called<R: Wait>(
+        &self,
+        rt: &R,
+        pass: &mut Pass<J>,
+        lease: Lease,
+        called: &[u8],
+        now: u64,
+    ) -> Result<Step, (Lease, OpenError)>
+        requires peer { lease.peer < length self.now.peers }
+        requires called { IsCalled called.now }
+        ensures credit { OnOk result (pass.new ≡ with_step pass.old 0) }
+        ensures refused { OnErr result (pass.new ≡ pass.old) }
+        ensures lease { IfErr result (λ back. back.0 ≡ lease) }
+        ensures no_remote { IfErr result (λ back. back.1 ≢ OpenError.RemoteBusy) }
+    {
+        let format = self.lowest_format(lease.name().peer);
+        self.open_out(rt, pass, lease, called, None, format, now)
+    }
+
+    // The far leg of an offered call is opened under a lease, with what is offered.
+    fn open_far<R: Wait>(
+        &self,
+        rt: &R,
+        pass: &mut Pass<J>,
+        lease: Lease,
+        offer: &Offer,
+        now: u64,
+    ) -> Result<Step, (Lease, OpenError)>
+        requires peer { lease.peer < length self.now.peers }
+        ensures credit { OnOk result (pass.new ≡ with_step pass.old 0) }
+        ensures refused { OnErr result (pass.new ≡ pass.old) }
+        ensures lease { IfErr result (λ back. back.0 ≡ lease) }
+        ensures no_remote { IfErr result (λ back. back.1 ≢ OpenError.RemoteBusy) }
+    {
+        let called = offer.called.as_slice();
+        match &offer.calling {
+            Some(calling) => {
+                let calling = Some(calling.as_slice());
+                self.open_out(rt, pass, lease, called, calling, offer.format, now)
+            }
+            None => self.open_out(rt, pass, lease, called, None, offer.format, now),
+        }
+    }
+
+    // A leg is opened under a lease: that of a call from outside, where there is one, else the far leg of what is offered.
+    fn open_under<R: Wait>(
+        &self,
+        rt: &R,
+        pass: &mut Pass<J>,
+        lease: Lease,
+        offer: Option<&Offer>,
+        called: Option<&[u8]>,
+        now: u64,
+    ) -> Result<Step, (Lease, OpenError)>
+        requires called { ForSome called (λ text. IsCalled text.now) }
+        ensures credit { OnOk result (pass.new ≡ with_step pass.old 0) }
+        ensures refused { OnErr result (pass.new ≡ pass.old) }
+        ensures lease { IfErr result (λ back. back.0 ≡ lease) }
+        ensures no_remote { IfErr result (λ back. back.1 ≢ OpenError.RemoteBusy) }
+    {
+        if lease.name().peer >= self.plan.peer_count() {
+            return Err((lease, OpenError::NumberBusy));
+        }
+        match called {
+            Some(called) => self.open_called(rt, pass, lease, called, now),
+            None => match offer {
+                Some(offer) => self.open_far(rt, pass, lease, offer, now),
+                None => Err((lease, OpenError::NumberBusy)),
+            },
+        }
+    }
+
+    // A leg is opened under the lease that the call keeps, on this name.
+    pub(crate) fn open_from<R: Wait>(
+        &self,
+        rt: &R,
+        pass: &mut Pass<J>,
+        _name: LegName,
+        offer: Option<&Offer>,
+        given: &Given<'_, '_, '_>,
+        hands: &mut Hands,
+    ) -> Result<(), OpenError>
+        requires lease { hands.old.lease ≡ Some _name }
+        requires called { ForSome given.now.called (λ text. IsCalled text.now) }
+        ensures credit { OnOk result (pass.new ≡ with_step pass.old 0) }
+        ensures refused { OnErr result (pass.new ≡ pass.old) }
+        ensures taken { OnOk result (hands.new.lease ≡ None) }
+        ensures kept { OnErr result (hands.new.lease ≡ hands.old.lease) }
+        ensures no_remote { result ≢ Err OpenError.RemoteBusy }
+        ensures denial { hands.new.denial ≡ hands.old.denial }
+        ensures named { hands.new.named ≡ hands.old.named }
+    {
+        let lease = hands.lease.take().unwrap();
+        match self.open_under(rt, pass, lease, offer, given.called, given.now) {
+            Ok(_) => Ok(()),
+            Err((lease, error)) => {
+                hands.lease = Some(lease);
+                Err(error)
+            }
+        }
+    }
+
+    // The NEW that the datagram spells opens its leg under the lease that the call keeps, on this name.
+    pub(crate) fn open_given<R: Wait>(
+        &self,
+        rt: &R,
+        pass: &mut Pass<J>,
+        _name: LegName,
+        given: &Given<'_, '_, '_>,
+        hands: &mut Hands,
+    ) -> Result<Heard, OpenError>
+        requires lease { hands.old.lease ≡ Some _name }
+        requires peer { _name.peer < length self.now.peers }
+        requires opening { SpellsOpening given.now.octets.now }
+        requires challenge { IsSome given.now.challenge }
+        ensures steps { OnOk result (pass.new.steps ≡ pass.old.steps + 1) }
+        ensures media { IfOk result (λ heard. TakesCredit (length given.entry.now.octets.now) pass.old pass.new heard.onwards.signals) }
+        ensures refused { OnErr result (pass.new ≡ pass.old) }
+        ensures taken { OnOk result (hands.new.lease ≡ None) }
+        ensures kept { OnErr result (hands.new.lease ≡ hands.old.lease) }
+        ensures denial { hands.new.denial ≡ hands.old.denial }
+        ensures named { hands.new.named ≡ hands.old.named }
+    {
+        let challenge = given.challenge.unwrap();
+        let frame = opening_in(given.octets);
+        let lease = hands.lease.take().unwrap();
+        let mut onwards = pass.lend(self.alloc);
+        match self.open_in(rt, pass, lease, &frame, given.now, challenge, &mut onwards) {
+            Ok(step) => Ok(Heard {
+                touched: step.touched,
+                onwards,
+            }),
+            Err((lease, error)) => {
+                pass.keep(onwards);
+                hands.lease = Some(lease);
+                Err(error)
+            }
+        }
+    }
+}

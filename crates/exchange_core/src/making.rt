@@ -1,0 +1,230 @@
+//! Each step that a call can need, made as it is named.
+ghost use Rattle.std.specs.Option.{ForSome};
+ghost use Rattle.std.specs.List.{AllByRecursion};
+ghost use Rattle.std.specs.Prelude.{◌≡◌, ◌≢◌, ◌+◌, ◌<◌, ◌≤◌, length, None, Some, Err, true, false, IfOk, IfErr, IsSome, OnOk, OnErr};
+ghost use Rattle.call_book.specs.declared.leg_name.LegName.{LegName as LegNameValue};
+ghost use Rattle.call_steps.specs.Beginnings.{is_answer, is_made};
+ghost use Rattle.call_steps.specs.Leases.{lease_needed, lease_after};
+ghost use Rattle.call_steps.specs.MediaLeft.{media_of, media_needed, handed_by};
+ghost use Rattle.call_steps.specs.declared.needs.Need.TheVariants as needs;
+ghost use Rattle.call_steps.specs.declared.replies.Reply.TheVariants as replies;
+ghost use Rattle.exchange_core.specs.Covered.{IsCovered, TakesCredit};
+ghost use Rattle.exchange_core.specs.FirstSteps.{InPlan, IsOpened, IsOpenedOut, IsOpeningDue, KeepsPeer, named_after};
+ghost use Rattle.exchange_core.specs.Newcomers.{SpellsOpening};
+ghost use Rattle.exchange_core.specs.Numbers.{IsCalled};
+ghost use Rattle.leg_machine.specs.OrderTable.{IsShortMedia};
+ghost use Rattle.peer_lock.specs.Accounts.{with_step};
+ghost use Rattle.peer_lock.specs.CarriedMedia.{LiesWithin, handed_octets};
+ghost use Rattle.peer_lock.specs.Orders.{order_octets};
+
+use crate::answers::Retired;
+use crate::exchange::Exchange;
+use crate::gates::Gate;
+use crate::hands::{Given, Hands};
+use call_book::{LegName, ReserveError, Stale};
+use call_steps::{Act, Heard, Need, Reply, Work};
+use leg_machine::Order;
+use peer_lock::{Naming, OpenError, OrderError, Pass, PeerError, Status, StepsSpent};
+use std::sync::Wait;
+
+impl<G: Gate, J: Naming> Exchange<G, J> {
+    // The datagram goes to its peer.
+    fn hear_given<R: Wait>(
+        &self,
+        rt: &R,
+        pass: &mut Pass<J>,
+        peer: u16,
+        given: &Given<'_, '_, '_>,
+    ) -> Result<Heard, PeerError>
+        requires peer { peer < length self.now.peers }
+        ensures steps { OnOk result (pass.new.steps ≡ pass.old.steps + 1) }
+        ensures media { IfOk result (λ heard. TakesCredit (length given.entry.now.octets.now) pass.old pass.new heard.onwards.signals) }
+        ensures refused { OnErr result (pass.new ≡ pass.old) }
+        ensures needs { IfErr result (λ error. error ≡ PeerError.NeedsNumber → SpellsOpening given.entry.now.octets.now) }
+    {
+        let mut onwards = pass.lend(self.alloc);
+        match self.hear(rt, pass, peer, given.octets, given.now, &mut onwards) {
+            Ok(step) => Ok(Heard {
+                touched: step.touched,
+                onwards,
+            }),
+            Err(error) => {
+                pass.keep(onwards);
+                Err(error)
+            }
+        }
+    }
+
+    // Time goes on at a peer. Tells whether there is no leg to be finished.
+    fn tick_given<R: Wait>(
+        &self,
+        rt: &R,
+        pass: &mut Pass<J>,
+        peer: u16,
+        now: u64,
+    ) -> Result<bool, StepsSpent>
+        requires { peer < length self.now.peers }
+        ensures credit { OnOk result (pass.new ≡ with_step pass.old 0) }
+        ensures refused { OnErr result (pass.new ≡ pass.old) }
+    {
+        Ok(self.tick_peer(rt, pass, peer, now)?.is_quiet)
+    }
+
+    // The leg of a name gets an order. None has it where its peer isn't of the plan.
+    fn obey<R: Wait>(
+        &self,
+        rt: &R,
+        pass: &mut Pass<J>,
+        name: LegName,
+        order: &Order,
+        now: u64,
+    ) -> Result<(), OrderError>
+        requires media { IsShortMedia order.now }
+        requires credit { order_octets order.now ≤ pass.old.octets }
+        ensures steps { OnOk result (pass.new.steps ≡ pass.old.steps + 1) }
+        ensures octets { OnOk result (pass.new.octets + order_octets order.now ≡ pass.old.octets) }
+        ensures refused { OnErr result (pass.new ≡ pass.old) }
+    {
+        if name.peer >= self.plan.peer_count() {
+            return Err(OrderError::Gone);
+        }
+        self.order(rt, pass, name, order, now).map(|_| ())
+    }
+
+    // The leg of a name gets an order with the octets of its media, for which the pass has the credit.
+    fn act<R: Wait>(
+        &self,
+        rt: &R,
+        pass: &mut Pass<J>,
+        name: LegName,
+        act: Act,
+        octets: &[u8],
+        now: u64,
+    ) -> Result<(), OrderError>
+        requires media { IsCovered (length octets.now) pass.old.octets (media_of name act) }
+        ensures steps { OnOk result (pass.new.steps ≡ pass.old.steps + 1) }
+        ensures octets { OnOk result (pass.new.octets + handed_octets (media_of name act) ≡ pass.old.octets) }
+        ensures refused { OnErr result (pass.new ≡ pass.old) }
+    {
+        self.obey(rt, pass, name, &act.order(octets), now)
+    }
+
+    // How the leg of a number stands.
+    fn look_at<R: Wait>(&self, rt: &R, pass: &mut Pass<J>, peer: u16, number: u16) -> Option<Status>
+        ensures { pass.new ≡ pass.old }
+    {
+        if peer >= self.plan.peer_count() {
+            return None;
+        }
+        self.status(rt, pass, peer, number)
+    }
+
+    // Takes a leg out, where there is memory for its place in the answer.
+    fn retire_into<R: Wait>(&self, rt: &R, name: LegName, hands: &mut Hands) -> bool
+        ensures lease { hands.new.lease ≡ lease_after (Some (needs.Retire name)) (replies.Retire result) hands.old.lease }
+        ensures denial { hands.new.denial ≡ hands.old.denial }
+        ensures named { hands.new.named ≡ hands.old.named }
+    {
+        if name.peer >= self.plan.peer_count() {
+            return false;
+        }
+        if hands.retired.try_reserve(1).is_err() {
+            return false;
+        }
+        let Some((lease, history)) = self.retire(rt, name) else {
+            return false;
+        };
+        hands.retired.push_reserved(Retired { name, history });
+        hands.lease = Some(lease);
+        true
+    }
+
+    // A new name, whose lease the call keeps.
+    fn reserve_into<R: Wait>(
+        &self,
+        rt: &R,
+        peer: u16,
+        hands: &mut Hands,
+    ) -> Result<LegName, ReserveError>
+        ensures peer { IfOk result (λ name. name.peer ≡ peer) }
+        ensures lease { hands.new.lease ≡ lease_after (Some (needs.Reserve peer)) (replies.Reserve result) hands.old.lease }
+        ensures denial { hands.new.denial ≡ hands.old.denial }
+        ensures named { hands.new.named ≡ named_after (replies.Reserve result) hands.old.named }
+    {
+        let lease = self.reserve(rt, peer)?;
+        let name = lease.name();
+        hands.lease = Some(lease);
+        hands.named = Some(name);
+        Ok(name)
+    }
+
+    // The lease that the call keeps, on this name, goes back. One that the book refuses is dropped.
+    fn release_from<R: Wait>(
+        &self,
+        rt: &R,
+        _name: LegName,
+        hands: &mut Hands,
+    ) -> Result<Option<LegName>, Stale>
+        requires { hands.old.lease ≡ Some _name }
+        ensures lease { hands.new.lease ≡ None }
+        ensures denial { hands.new.denial ≡ hands.old.denial }
+        ensures named { hands.new.named ≡ hands.old.named }
+    {
+        let lease = hands.lease.take().unwrap();
+        match self.release(rt, lease) {
+            Ok(former) => Ok(former),
+            Err((_, stale)) => Err(stale),
+        }
+    }
+
+    // Makes the step that the call needs, and nothing else. The pass has the credit for the media of an order, and the call has the
+    // lease that the step takes, and what a first step asks for.
+    pub(crate) fn make<R: Wait>(
+        &self,
+        rt: &R,
+        pass: &mut Pass<J>,
+        work: &Work,
+        need: Need,
+        given: &Given<'_, '_, '_>,
+        hands: &mut Hands,
+    ) -> Reply
+        requires media { IsCovered (length given.now.octets.now) pass.old.octets (media_needed (Some need)) }
+        requires lease { (name : LegNameValue) → lease_needed (Some need) ≡ Some name → hands.old.lease ≡ Some name }
+        requires called { ForSome given.now.called (λ text. IsCalled text.now) }
+        requires peer { InPlan (length self.now.peers) (Some need) }
+        requires opening { IsOpened (Some need) → SpellsOpening given.now.octets.now × IsSome given.now.challenge }
+        ensures answer { is_answer (Some need) result ≡ true }
+        // A step of a peer is made exactly where the answer says so.
+        ensures made { is_made result ≡ true → pass.new.steps ≡ pass.old.steps + 1 }
+        ensures unmade { is_made result ≡ false → pass.new ≡ pass.old }
+        ensures within { AllByRecursion (LiesWithin (length given.entry.now.octets.now)) (handed_by result) }
+        ensures octets { pass.old.octets + handed_octets (handed_by result) ≤ pass.new.octets + handed_octets (media_needed (Some need)) }
+        ensures lease { hands.new.lease ≡ lease_after (Some need) result hands.old.lease }
+        ensures denial { hands.new.denial ≡ hands.old.denial }
+        ensures named { hands.new.named ≡ named_after result hands.old.named }
+        ensures opened { IsOpenedOut result → pass.new ≡ with_step pass.old 0 }
+        ensures peer { KeepsPeer (Some need) result }
+        ensures opening { IsOpeningDue result → SpellsOpening given.entry.now.octets.now }
+        ensures no_remote { result ≢ replies.OpenOut (Err OpenError.RemoteBusy) }
+    {
+        let now = given.now;
+        match need {
+            Need::Datagram(peer) => Reply::Datagram(self.hear_given(rt, pass, peer, given)),
+            Need::OpenIn(name) => Reply::OpenIn(self.open_given(rt, pass, name, given, hands)),
+            Need::OpenOut(name) => {
+                Reply::OpenOut(self.open_from(rt, pass, name, work.offer(), given, hands))
+            }
+            Need::Order(name, act) => {
+                Reply::Order(self.act(rt, pass, name, act, given.octets, now))
+            }
+            Need::Tick(peer) => Reply::Tick(self.tick_given(rt, pass, peer, now)),
+            Need::Look(peer, number) => Reply::Look(self.look_at(rt, pass, peer, number)),
+            Need::Retire(name) => Reply::Retire(self.retire_into(rt, name, hands)),
+            Need::Reserve(peer) => Reply::Reserve(self.reserve_into(rt, peer, hands)),
+            Need::Bridge(one, other) => Reply::Bridge(self.bridge(rt, one, other)),
+            Need::Partner(name) => Reply::Partner(self.partner(rt, name)),
+            Need::Release(name) => Reply::Release(self.release_from(rt, name, hands)),
+            Need::Route(_) => Reply::Route(self.route(work.offer())),
+        }
+    }
+}

@@ -1,0 +1,167 @@
+//! The calls of workers and callers.
+ghost use Rattle.std.specs.Prelude.{◌≡◌, ◌≢◌, ◌+◌, ◌<◌, ◌≤◌, ◌↔◌, Err, None, IfNone, IfOk, IsSome, IsTrue, OnOk, OnErr, length};
+ghost use Rattle.exchange_core.specs.Numbers.{IsCalled};
+ghost use Rattle.peer_lock.specs.Accounts.{with_step};
+
+use crate::answers::{Answer, CallError, Refusal};
+use crate::exchange::Exchange;
+use crate::gates::Gate;
+use crate::hands::{Given, Hands};
+use call_auth::Challenge;
+use call_book::LegName;
+use call_steps::Work;
+use peer_lock::{Naming, OrderError, Pass};
+use peer_plan::Endpoint;
+use std::sync::Wait;
+
+// Whether the text is a number that may be called.
+fn is_called(text: &[u8]) -> bool
+    ensures { IsTrue result ↔ IsCalled text.now }
+{
+    if text.is_empty() {
+        return false;
+    }
+    if text.len() > 64 {
+        return false;
+    }
+    text.iter().all(|octet| octet.is_ascii_graphic())
+}
+
+impl<G: Gate, J: Naming> Exchange<G, J> {
+    /// A datagram comes from an endpoint: the step of its peer, then what follows from it.
+    ///
+    /// Where it is refused, no step was made.
+    pub fn datagram<R: Wait>(
+        &self,
+        rt: &R,
+        pass: &mut Pass<J>,
+        from: Endpoint,
+        octets: &[u8],
+        now: u64,
+        challenge: &Challenge,
+    ) -> Answer
+        ensures steps { pass.new.steps ≡ pass.old.steps + result.steps }
+        ensures some { IfNone result.refused (1 ≤ result.steps) }
+        ensures refused { IsSome result.refused → (result.steps ≡ 0) × (pass.new ≡ pass.old) }
+    {
+        let first = pass.steps();
+        let mut hands = Hands::empty(self.alloc);
+        let Some(peer) = self.plan.peer_of(from) else {
+            return Answer {
+                steps: 0,
+                refused: Some(Refusal::Stranger),
+                retired: hands.retired,
+            };
+        };
+        let given = Given {
+            octets,
+            challenge: Some(challenge),
+            called: None,
+            now,
+        };
+        let mut work = Work::of_datagram(peer);
+        self.run(rt, pass, &mut work, &given, &mut hands);
+        if let Some(onwards) = work.into_onwards() {
+            pass.keep(onwards);
+        }
+        let refused = match hands.denial {
+            Some(denial) => Some(denial.of_datagram()),
+            None => None,
+        };
+        Answer {
+            steps: pass.steps() - first,
+            refused,
+            retired: hands.retired,
+        }
+    }
+
+    /// Time goes on at a peer of the plan: its step, then each of its legs that has ended is finished, by ascending number.
+    ///
+    /// Where it is refused, no step was made.
+    pub fn tick<R: Wait>(&self, rt: &R, pass: &mut Pass<J>, peer: u16, now: u64) -> Answer
+        requires { peer < length self.now.peers }
+        ensures steps { pass.new.steps ≡ pass.old.steps + result.steps }
+        ensures some { IfNone result.refused (1 ≤ result.steps) }
+        ensures refused { IsSome result.refused → (result.steps ≡ 0) × (pass.new ≡ pass.old) }
+    {
+        let first = pass.steps();
+        let range = self.plan.range(peer);
+        let mut work = Work::of_tick(peer, range.first, range.count);
+        let mut hands = Hands::empty(self.alloc);
+        self.run(rt, pass, &mut work, &Given::moment(now), &mut hands);
+        let refused = match hands.denial {
+            Some(denial) => Some(denial.of_tick()),
+            None => None,
+        };
+        Answer {
+            steps: pass.steps() - first,
+            refused,
+            retired: hands.retired,
+        }
+    }
+
+    /// A call goes out to a peer of the plan, for a number of 1 to 64 octets 0x21 ..= 0x7e: one step. Its format is the lowest of
+    /// the peer's.
+    ///
+    /// Refusals are looked for in the order of `CallError`; then no step was made.
+    pub fn call<R: Wait>(
+        &self,
+        rt: &R,
+        pass: &mut Pass<J>,
+        peer: u16,
+        called: &[u8],
+        now: u64,
+    ) -> Result<LegName, CallError>
+        requires { peer < length self.now.peers }
+        ensures called { OnOk result (IsCalled called.now) }
+        ensures bad { (IsCalled called.now → ⊥) → result ≡ Err CallError.BadNumber }
+        ensures good { IsCalled called.now → result ≢ Err CallError.BadNumber }
+        ensures name { IfOk result (λ name. name.peer ≡ peer) }
+        ensures steps { OnOk result (pass.new ≡ with_step pass.old 0) }
+        ensures refused { OnErr result (pass.new ≡ pass.old) }
+    {
+        if !is_called(called) {
+            return Err(CallError::BadNumber);
+        }
+        let given = Given {
+            called: Some(called),
+            ..Given::moment(now)
+        };
+        let mut work = Work::of_call(peer);
+        let mut hands = Hands::empty(self.alloc);
+        self.run(rt, pass, &mut work, &given, &mut hands);
+        match hands.denial {
+            Some(denial) => Err(denial.of_call()),
+            None => Ok(hands.named.unwrap()),
+        }
+    }
+
+    /// Hangs up the leg of a name, whose peer is of the plan, and finishes it.
+    ///
+    /// Where it is refused, no step was made.
+    pub fn hang_up<R: Wait>(
+        &self,
+        rt: &R,
+        pass: &mut Pass<J>,
+        name: LegName,
+        now: u64,
+    ) -> Result<Answer, OrderError>
+        requires { name.peer < length self.now.peers }
+        ensures steps { IfOk result (λ answer. pass.new.steps ≡ pass.old.steps + answer.steps) }
+        ensures some { IfOk result (λ answer. (1 ≤ answer.steps) × (answer.refused ≡ None)) }
+        ensures refused { OnErr result (pass.new ≡ pass.old) }
+    {
+        let first = pass.steps();
+        let mut work = Work::of_hang_up(name);
+        let mut hands = Hands::empty(self.alloc);
+        self.run(rt, pass, &mut work, &Given::moment(now), &mut hands);
+        if let Some(denial) = hands.denial {
+            return Err(denial.of_hang_up());
+        }
+        Ok(Answer {
+            steps: pass.steps() - first,
+            refused: None,
+            retired: hands.retired,
+        })
+    }
+}

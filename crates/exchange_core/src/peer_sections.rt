@@ -1,0 +1,124 @@
+//! The locked sections of peers: each takes one peer's lock, and makes at most one step.
+ghost use Rattle.std.specs.Prelude.{◌≡◌, ◌≢◌, ℕ, ◌+◌, ◌<◌, ◌≤◌, Some, length, IfOk, IfErr, OnOk, OnErr};
+ghost use Rattle.std.specs.Option.{ForSome};
+ghost use Rattle.exchange_core.specs.Covered.{TakesCredit};
+ghost use Rattle.exchange_core.specs.Newcomers.{SpellsOpening};
+ghost use Rattle.peer_lock.specs.Accounts.{with_step};
+ghost use Rattle.peer_lock.specs.Makes.{IsNothing};
+ghost use Rattle.peer_lock.specs.Openings.{IsOpening};
+
+use crate::exchange::Exchange;
+use crate::gates::Gate;
+use call_auth::Challenge;
+use call_book::Lease;
+use iax_frames::{Full, Out};
+use leg_machine::Format;
+use peer_lock::laws::media_is_the_datagrams;
+use peer_lock::{Naming, Onwards, OpenError, Pass, PeerError, Status, Step};
+use std::sync::Wait;
+
+impl<G: Gate, J: Naming> Exchange<G, J> {
+    /// The oldest datagram for a peer of the plan: a frame that was written for it.
+    pub fn take_out<R: Wait>(&self, rt: &R, _pass: &mut Pass<J>, peer: u16) -> Option<Out>
+        requires { peer < length self.now.peers }
+        ensures { _pass.new ≡ _pass.old }
+    {
+        let mut state = self.peers[usize::from(peer)].lock(rt);
+        self.gate.enter(peer);
+        state.take_out()
+    }
+
+    /// How the leg of a local number of a peer of the plan stands, where there is one.
+    pub fn status<R: Wait>(
+        &self,
+        rt: &R,
+        _pass: &mut Pass<J>,
+        peer: u16,
+        number: u16,
+    ) -> Option<Status>
+        requires { peer < length self.now.peers }
+        ensures { _pass.new ≡ _pass.old }
+    {
+        let state = self.peers[usize::from(peer)].lock(rt);
+        self.gate.enter(peer);
+        state.look(number)
+    }
+
+    // A datagram comes from a peer. What is handed up is written to the list, which is empty.
+    pub(crate) fn hear<R: Wait>(
+        &self,
+        rt: &R,
+        pass: &mut Pass<J>,
+        from: u16,
+        octets: &[u8],
+        now: u64,
+        onwards: &mut Onwards,
+    ) -> Result<Step, PeerError>
+        requires peer { from < length self.now.peers }
+        requires nothing { IsNothing onwards.old }
+        ensures steps { OnOk result (pass.new.steps ≡ pass.old.steps + 1) }
+        ensures octets { OnOk result (pass.old.octets ≤ pass.new.octets) }
+        ensures media { OnOk result (TakesCredit (length octets.now) pass.old pass.new onwards.new.signals) }
+        ensures refused { OnErr result ((pass.new ≡ pass.old) × IsNothing onwards.new) }
+        // It needs a number only where it spells a NEW that opens a leg.
+        ensures needs { IfErr result (λ error. error ≡ PeerError.NeedsNumber → SpellsOpening octets.now) }
+    {
+        media_is_the_datagrams();
+        let mut state = self.peers[usize::from(from)].lock(rt);
+        self.gate.enter(from);
+        state.datagram(pass, octets, now, onwards)
+    }
+
+    // A NEW that came from a peer opens a leg, under the lease. What is handed up is written to the list, which is empty.
+    pub(crate) fn open_in<R: Wait>(
+        &self,
+        rt: &R,
+        pass: &mut Pass<J>,
+        lease: Lease,
+        frame: &Full,
+        now: u64,
+        challenge: &Challenge,
+        onwards: &mut Onwards,
+    ) -> Result<Step, (Lease, OpenError)>
+        requires peer { lease.peer < length self.now.peers }
+        requires opening { IsOpening frame.now }
+        requires nothing { IsNothing onwards.old }
+        ensures credit { OnOk result (pass.new ≡ with_step pass.old 0) }
+        // What opens a leg has no media.
+        ensures media { (len : ℕ) → OnOk result (TakesCredit len pass.old pass.new onwards.new.signals) }
+        ensures touched { IfOk result (λ step. step.touched ≡ Some lease) }
+        ensures lease { IfErr result (λ back. back.0 ≡ lease) }
+        ensures refused { OnErr result ((pass.new ≡ pass.old) × IsNothing onwards.new) }
+    {
+        let peer = lease.name().peer;
+        let mut state = self.peers[usize::from(peer)].lock(rt);
+        self.gate.enter(peer);
+        state.open_in(pass, lease, frame, now, challenge, onwards)
+    }
+
+    // A call goes out to a peer under the lease, for a number of at most 255 octets.
+    pub(crate) fn open_out<R: Wait>(
+        &self,
+        rt: &R,
+        pass: &mut Pass<J>,
+        lease: Lease,
+        called: &[u8],
+        calling: Option<&[u8]>,
+        format: Format,
+        now: u64,
+    ) -> Result<Step, (Lease, OpenError)>
+        requires peer { lease.peer < length self.now.peers }
+        requires called { length called.now ≤ 255 }
+        requires calling { ForSome calling (λ text. length text.now ≤ 255) }
+        ensures credit { OnOk result (pass.new ≡ with_step pass.old 0) }
+        ensures touched { IfOk result (λ step. step.touched ≡ Some lease) }
+        ensures lease { IfErr result (λ back. back.0 ≡ lease) }
+        ensures no_remote { IfErr result (λ back. back.1 ≢ OpenError.RemoteBusy) }
+        ensures refused { OnErr result (pass.new ≡ pass.old) }
+    {
+        let peer = lease.name().peer;
+        let mut state = self.peers[usize::from(peer)].lock(rt);
+        self.gate.enter(peer);
+        state.open_out(pass, lease, called, calling, format, now)
+    }
+}
