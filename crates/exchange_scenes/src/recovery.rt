@@ -1,4 +1,4 @@
-//! What holds of an exchange whatever befell it: every leg can be got rid of, a caller gets a number, and the accounts balance.
+//! What holds of an exchange whatever befell it: every leg can be got rid of, callers get all numbers, and the accounts balance.
 
 use crate::lines::{EAST_PLACE, WEST_PLACE, hang_up, hear, status, tick};
 use exchange_core::{Exchange, Gate, NoGate, SettleError, Settlement};
@@ -8,10 +8,10 @@ use std::sync::Wait;
 /// The greatest number of the plans.
 pub const NUMBERS: u16 = 8;
 
-/// A NEW for 200 from call number 99.
-const LATE_NEW: &[u8] = &[
-    0x80, 99, 0, 0, 0, 0, 0, 0, 0, 0, 6, 1, 0x0b, 2, 0, 2, 1, 3, 0x32, 0x30, 0x30, 9, 4, 0, 0, 0,
-    4, 8, 4, 0, 0, 0, 4,
+/// A NEW for 200 from call number 0.
+const LATE_NEW: [u8; 33] = [
+    0x80, 0, 0, 0, 0, 0, 0, 0, 0, 0, 6, 1, 0x0b, 2, 0, 2, 1, 3, 0x32, 0x30, 0x30, 9, 4, 0, 0, 0, 4,
+    8, 4, 0, 0, 0, 4,
 ];
 
 /// How the leg of a number stands, at whatever peer. `None` where there is none.
@@ -94,15 +94,19 @@ fn legs_of<R: Wait, J: Naming>(
     legs
 }
 
-// A caller is let in. A growth that is refused is asked for again.
+// A caller from this call number of a peer is let in. A growth that is refused is asked for again.
 fn is_let_in<R: Wait, J: Naming>(
     rt: &R,
     exchange: &Exchange<NoGate, J>,
     pass: &mut Pass<J>,
+    peer: u16,
+    source: u8,
     now: u64,
 ) -> bool {
+    let mut octets = LATE_NEW;
+    octets[1] = source;
     for _ in 0..2 {
-        match hear(rt, exchange, pass, WEST_PLACE, LATE_NEW, now) {
+        match hear(rt, exchange, pass, peer, &octets, now) {
             Some(answer) => {
                 if answer.refused.is_none() {
                     return true;
@@ -114,7 +118,24 @@ fn is_let_in<R: Wait, J: Naming>(
     false
 }
 
-/// Every leg is hung up and waited for; then none is left, and a caller gets a number. Whether all that is so.
+// Four callers of a peer are let in, as many as it has numbers.
+fn all_are_let_in<R: Wait, J: Naming>(
+    rt: &R,
+    exchange: &Exchange<NoGate, J>,
+    pass: &mut Pass<J>,
+    peer: u16,
+    now: u64,
+) -> bool {
+    for source in 96..100 {
+        if !is_let_in(rt, exchange, pass, peer, source, now) {
+            return false;
+        }
+    }
+    true
+}
+
+/// Every leg is hung up and waited for; then none is left, and callers get every number of both peers, so that no lease was kept.
+/// Whether all that is so.
 pub fn recovers<R: Wait, J: Naming>(
     rt: &R,
     exchange: &Exchange<NoGate, J>,
@@ -128,7 +149,9 @@ pub fn recovers<R: Wait, J: Naming>(
     if legs_of(rt, exchange, pass, 1, NUMBERS) != 0 {
         return false;
     }
-    is_let_in(rt, exchange, pass, later) && legs_of(rt, exchange, pass, 1, 4) == 1
+    all_are_let_in(rt, exchange, pass, WEST_PLACE, later)
+        && all_are_let_in(rt, exchange, pass, EAST_PLACE, later)
+        && legs_of(rt, exchange, pass, 1, NUMBERS) == NUMBERS
 }
 
 // Whether each octet was packed, is queued or was dropped.
