@@ -44,8 +44,7 @@ impl<G: Gate, J: Naming> Exchange<G, J> {
                 return;
             };
             let reply = self.make(rt, pass, work, need, given, hands);
-            hands.note(work, &reply);
-            work.told(reply);
+            hands.tell(work, reply);
         }
     }
 }

@@ -1,6 +1,7 @@
 //! What a call was given, and what it has in its hands.
 ghost use Rattle.std.specs.Prelude.{◌≡◌, [], None};
 ghost use Rattle.call_steps.specs.Beginnings.{beginning_at};
+ghost use Rattle.call_steps.specs.Work.{after_told};
 ghost use Rattle.exchange_core.specs.Denials.{noted};
 
 use crate::answers::Retired;
@@ -64,15 +65,17 @@ impl Hands {
         }
     }
 
-    // Notes why the call is refused, where this is the answer to a first step of it.
-    pub(crate) fn note(&mut self, work: &Work, reply: &Reply)
-        ensures denial { self.new.denial ≡ noted (beginning_at work.now.work.place) reply.now self.old.denial }
+    // Tells the steps of the call an answer, and notes why the call is refused, where this is the answer to a first step of it.
+    pub(crate) fn tell(&mut self, work: &mut Work, reply: Reply)
+        ensures work { work.new.work ≡ after_told work.old.work reply }
+        ensures denial { self.new.denial ≡ noted (beginning_at work.old.work.place) reply self.old.denial }
         ensures lease { self.new.lease ≡ self.old.lease }
         ensures named { self.new.named ≡ self.old.named }
         ensures retired { self.new.retired ≡ self.old.retired }
     {
         if work.is_beginning() {
-            self.denial = Denial::of(reply);
+            self.denial = Denial::of(&reply);
         }
+        work.told(reply);
     }
 }

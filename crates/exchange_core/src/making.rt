@@ -1,14 +1,14 @@
 //! Each step that a call can need, made as it is named.
 ghost use Rattle.std.specs.Option.{ForSome};
 ghost use Rattle.std.specs.List.{AllByRecursion};
-ghost use Rattle.std.specs.Prelude.{◌≡◌, ◌≢◌, ◌+◌, ◌<◌, ◌≤◌, length, None, Some, Err, true, false, IfOk, IfErr, IsSome, OnOk, OnErr};
+ghost use Rattle.std.specs.Prelude.{◌≡◌, ◌≢◌, ◌+◌, ◌<◌, ◌≤◌, length, Option, None, Some, Err, true, false, IfOk, IsSome, OnOk, OnErr};
 ghost use Rattle.call_book.specs.declared.leg_name.LegName.{LegName as LegNameValue};
 ghost use Rattle.call_steps.specs.Beginnings.{is_answer, is_made};
 ghost use Rattle.call_steps.specs.Leases.{lease_needed, lease_after};
 ghost use Rattle.call_steps.specs.MediaLeft.{media_of, media_needed, handed_by};
 ghost use Rattle.call_steps.specs.declared.needs.Need.TheVariants as needs;
 ghost use Rattle.call_steps.specs.declared.replies.Reply.TheVariants as replies;
-ghost use Rattle.exchange_core.specs.Covered.{IsCovered, TakesCredit};
+ghost use Rattle.exchange_core.specs.Covered.{IsCovered};
 ghost use Rattle.exchange_core.specs.FirstSteps.{InPlan, IsOpened, IsOpenedOut, IsOpeningDue, KeepsPeer, named_after};
 ghost use Rattle.exchange_core.specs.Newcomers.{SpellsOpening};
 ghost use Rattle.exchange_core.specs.Numbers.{IsCalled};
@@ -24,33 +24,38 @@ use crate::hands::{Given, Hands};
 use call_book::{LegName, ReserveError, Stale};
 use call_steps::{Act, Heard, Need, Reply, Work};
 use leg_machine::Order;
-use peer_lock::{Naming, OpenError, OrderError, Pass, PeerError, Status, StepsSpent};
+use peer_lock::{Naming, OpenError, OrderError, Pass, Status, StepsSpent};
 use std::sync::Wait;
 
 impl<G: Gate, J: Naming> Exchange<G, J> {
-    // The datagram goes to its peer.
+    // The datagram goes to its peer. The answer is made where it is handed on, since a list that is moved once more costs a copy.
     fn hear_given<R: Wait>(
         &self,
         rt: &R,
         pass: &mut Pass<J>,
         peer: u16,
         given: &Given<'_, '_, '_>,
-    ) -> Result<Heard, PeerError>
+    ) -> Reply
         requires peer { peer < length self.now.peers }
-        ensures steps { OnOk result (pass.new.steps ≡ pass.old.steps + 1) }
-        ensures media { IfOk result (λ heard. TakesCredit (length given.entry.now.octets.now) pass.old pass.new heard.onwards.signals) }
-        ensures refused { OnErr result (pass.new ≡ pass.old) }
-        ensures needs { IfErr result (λ error. error ≡ PeerError.NeedsNumber → SpellsOpening given.entry.now.octets.now) }
+        ensures answer { is_answer (Some (needs.Datagram peer)) result ≡ true }
+        ensures made { is_made result ≡ true → pass.new.steps ≡ pass.old.steps + 1 }
+        ensures unmade { is_made result ≡ false → pass.new ≡ pass.old }
+        ensures within { AllByRecursion (LiesWithin (length given.entry.now.octets.now)) (handed_by result) }
+        ensures octets { pass.old.octets + handed_octets (handed_by result) ≤ pass.new.octets }
+        ensures opening { IsOpeningDue result → SpellsOpening given.entry.now.octets.now }
+        ensures named { (named : Option LegNameValue) → named_after result named ≡ named }
+        ensures not_out { IsOpenedOut result → ⊥ }
+        ensures no_remote { result ≢ replies.OpenOut (Err OpenError.RemoteBusy) }
     {
         let mut onwards = pass.lend(self.alloc);
         match self.hear(rt, pass, peer, given.octets, given.now, &mut onwards) {
-            Ok(step) => Ok(Heard {
+            Ok(step) => Reply::Datagram(Ok(Heard {
                 touched: step.touched,
                 onwards,
-            }),
+            })),
             Err(error) => {
                 pass.keep(onwards);
-                Err(error)
+                Reply::Datagram(Err(error))
             }
         }
     }
@@ -209,7 +214,7 @@ impl<G: Gate, J: Naming> Exchange<G, J> {
     {
         let now = given.now;
         match need {
-            Need::Datagram(peer) => Reply::Datagram(self.hear_given(rt, pass, peer, given)),
+            Need::Datagram(peer) => self.hear_given(rt, pass, peer, given),
             Need::OpenIn(name) => Reply::OpenIn(self.open_given(rt, pass, name, given, hands)),
             Need::OpenOut(name) => {
                 Reply::OpenOut(self.open_from(rt, pass, name, work.offer(), given, hands))

@@ -37,22 +37,22 @@ loop-preserved g c =
     let need : next_of c.loop.work.work ≡ Some c.in-Some-next.need = sym c.next-in-loop.ensures ∙ c.in-Some-next.is in
     let answers : is_answer (next_of c.loop.work.work) c.make-reply.result ≡ true = ap (λ o. is_answer o c.make-reply.result) need ∙ c.make-reply.ensures.answer in
     let keeps : KeepsPeer (next_of c.loop.work.work) c.make-reply.result = subst (λ o. KeepsPeer o c.make-reply.result) (sym need) c.make-reply.ensures.peer in
-    let denial = c.note.ensures.denial ∙ ap (noted (beginning_at c.loop.work.work.place) c.make-reply.result) c.make-reply.ensures.denial in (
+    let denial = c.tell.ensures.denial ∙ ap (noted (beginning_at c.loop.work.work.place) c.make-reply.result) c.make-reply.ensures.denial in (
       tt,
       tt,
-      covers_rest carried.within carried.octets (length c.args.given.now.octets.now) c.loop.pass.octets c.make-reply.new.pass.octets c.loop.work.work c.told.new.self.work
-          c.in-Some-next.need c.make-reply.result need c.make-reply.ensures.within c.told.ensures.work c.make-reply.ensures.octets c.loop.invariant.2,
-      c.note.ensures.lease
-          ∙ leaves_lease c.leases_are_as_named.ensures.after c.loop.work.work c.told.new.self.work c.in-Some-next.need c.make-reply.result c.loop.hands.lease
-          c.make-reply.new.hands.lease need c.told.ensures.work c.loop.invariant.3 c.make-reply.ensures.lease,
+      covers_rest carried.within carried.octets (length c.args.given.now.octets.now) c.loop.pass.octets c.make-reply.new.pass.octets c.loop.work.work c.tell.new.work.work
+          c.in-Some-next.need c.make-reply.result need c.make-reply.ensures.within c.tell.ensures.work c.make-reply.ensures.octets c.loop.invariant.2,
+      c.tell.ensures.lease
+          ∙ leaves_lease c.leases_are_as_named.ensures.after c.loop.work.work c.tell.new.work.work c.in-Some-next.need c.make-reply.result c.loop.hands.lease
+          c.make-reply.new.hands.lease need c.tell.ensures.work c.loop.invariant.3 c.make-reply.ensures.lease,
       under_way begins.made begins.goes_on begins.past begins.refused begins.over begins.nothing c.args.work.now.work.place c.args.pass.now c.loop.pass
-          c.make-reply.new.pass c.loop.work.work c.told.new.self.work c.make-reply.result c.loop.hands.denial c.note.new.self.denial answers c.make-reply.ensures.made
-          c.make-reply.ensures.unmade c.make-reply.ensures.no_remote c.told.ensures.work denial c.loop.invariant.4,
-      stays_in_plan begins.made begins.past (length c.args.self.now.peers) c.loop.work.work c.told.new.self.work c.make-reply.result c.told.ensures.work keeps
+          c.make-reply.new.pass c.loop.work.work c.tell.new.work.work c.make-reply.result c.loop.hands.denial c.tell.new.self.denial answers c.make-reply.ensures.made
+          c.make-reply.ensures.unmade c.make-reply.ensures.no_remote c.tell.ensures.work denial c.loop.invariant.4,
+      stays_in_plan begins.made begins.past (length c.args.self.now.peers) c.loop.work.work c.tell.new.work.work c.make-reply.result c.tell.ensures.work keeps
           c.loop.invariant.5,
-      opens_after begins.made begins.past c.loop.work.work c.told.new.self.work c.make-reply.result (SpellsOpening c.args.given.now.octets.now) c.told.ensures.work
+      opens_after begins.made begins.past c.loop.work.work c.tell.new.work.work c.make-reply.result (SpellsOpening c.args.given.now.octets.now) c.tell.ensures.work
           c.loop.invariant.6 c.make-reply.ensures.opening,
-      stands_on c.args.work.now.work.place c.args.pass.now c.loop.pass c.make-reply.new.pass c.loop.work.work c.told.new.self.work c.make-reply.result
-          c.loop.hands.denial c.note.new.self.denial c.loop.hands.named c.note.new.self.named answers keeps c.make-reply.ensures.opened c.make-reply.ensures.unmade
-          c.told.ensures.work denial (c.note.ensures.named ∙ c.make-reply.ensures.named) c.loop.invariant.7,
+      stands_on c.args.work.now.work.place c.args.pass.now c.loop.pass c.make-reply.new.pass c.loop.work.work c.tell.new.work.work c.make-reply.result
+          c.loop.hands.denial c.tell.new.self.denial c.loop.hands.named c.tell.new.self.named answers keeps c.make-reply.ensures.opened c.make-reply.ensures.unmade
+          c.tell.ensures.work denial (c.tell.ensures.named ∙ c.make-reply.ensures.named) c.loop.invariant.7,
     )
