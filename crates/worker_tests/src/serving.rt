@@ -1,11 +1,12 @@
-//! The program serves: nobody sends, a call between two sockets of this test carries media both ways, nothing can be bound.
+//! The program serves: nobody sends, a call between two sockets of this test carries media both ways, callers are challenged, nothing
+//! can be bound.
 use crate::same::{holds, same, same_octets};
 use exchange_commands::serve;
 use std::net::{IpAddr, Ipv4Addr, Net, SocketAddr, UdpSocket};
 use std::process::Abort;
 use std::test::*;
 use std::thread;
-use std::time::Duration;
+use std::time::{Clock, Duration, Instant};
 
 // One worker at port 4591; a peer in the west at 5591, whose calls that begin with 3 lead to a peer in the east at 5592.
 const PLAN: &[u8] = b"format = 1\n\
@@ -41,6 +42,28 @@ address = \"127.0.0.1\"\n\
 port = 5591\n\
 worker = 0\n\
 formats = [\"ulaw\"]\n";
+
+// One worker at port 4593; a peer at 5593 whose callers are challenged.
+const WITH_SECRET: &[u8] = b"format = 1\n\
+[[worker]]\n\
+address = \"127.0.0.1\"\n\
+port = 4593\n\
+[[peer]]\n\
+name = \"west\"\n\
+address = \"127.0.0.1\"\n\
+port = 5593\n\
+worker = 0\n\
+formats = [\"ulaw\"]\n\
+user = \"alpha\"\n\
+secret = \"bc\"\n";
+
+// Alpha calls 300, from call number 7.
+const ALPHA_NEW: &[u8] =
+    b"\x80\x07\x00\x00\x00\x00\x00\x00\x00\x00\x06\x01\x0b\x02\x00\x02\x06\x05alpha\x01\x03\x33\x30\x30\x09\x04\x00\x00\x00\x04\x08\x04\x00\x00\x00\x04";
+
+// .. and from call number 8.
+const OTHER_ALPHA_NEW: &[u8] =
+    b"\x80\x08\x00\x00\x00\x00\x00\x00\x00\x00\x06\x01\x0b\x02\x00\x02\x06\x05alpha\x01\x03\x33\x30\x30\x09\x04\x00\x00\x00\x04\x08\x04\x00\x00\x00\x04";
 
 // The west calls 300.
 const WEST_NEW: &[u8] =
@@ -100,6 +123,8 @@ fn after_head(kind: Kind, octets: &[u8]) -> &[u8] {
 
 const NEW: Kind = Kind::Full(6, 1);
 
+const AUTHREQ: Kind = Kind::Full(6, 8);
+
 const ANSWER: Kind = Kind::Full(4, 4);
 
 const VOICE: Kind = Kind::Full(2, 4);
@@ -116,8 +141,12 @@ fn socket_at<R: Net + Abort>(rt: &R, port: u16) -> UdpSocket {
     socket
 }
 
+fn send_to<R: Abort>(rt: &R, socket: &UdpSocket, port: u16, octets: &[u8]) {
+    let _len = socket.send_to(octets, local(port)).expect(rt, "sent");
+}
+
 fn send<R: Abort>(rt: &R, socket: &UdpSocket, octets: &[u8]) {
-    let _len = socket.send_to(octets, local(4591)).expect(rt, "sent");
+    send_to(rt, socket, 4591, octets);
 }
 
 // The next datagram at the socket, if one comes in time and is a frame of this kind: what it has after its head.
@@ -183,8 +212,61 @@ fn nobody_sends_then_a_call_between_two_sockets(rt: HostRuntime) {
         },
     );
     same(&rt, &status, &0);
-    let is_balanced = out.ends_with(b"\noctets 10 10 0 0\n");
-    holds(&rt, "the accounts", is_balanced);
+    // Ten datagrams came; more than that went out, none was lost, and nothing failed.
+    let is_told = out.starts_with(b"worker 0 10 1") && out.ends_with(b" 0 0\noctets 10 10 0 0\n");
+    holds(&rt, "the report and the accounts", is_told);
+}
+
+// The octets of the next frame of a kind, if it comes in time, and how many they are.
+fn next_len(socket: &UdpSocket, wanted: Kind, octets: &mut [u8; 2049]) -> Option<usize> {
+    let (len, _) = socket.recv_from(octets).ok()?;
+    if kind_of(octets.split_at(len).0) == Some(wanted) {
+        Some(len)
+    } else {
+        None
+    }
+}
+
+// Waits for a challenge, and gives how long the datagram is. Other datagrams are passed over.
+fn challenge_len<R: Abort>(rt: &R, socket: &UdpSocket, octets: &mut [u8; 2049]) -> usize {
+    for _ in 0..100 {
+        if let Some(len) = next_len(socket, AUTHREQ, octets) {
+            return len;
+        }
+    }
+    panic!(rt; "no challenge comes")
+}
+
+// Two callers are challenged, and the challenges go out again after a second.
+fn two_challenges<R: Clock + Net + Abort>(rt: &R, west: &UdpSocket) {
+    let mut one = [0u8; 2049];
+    let mut other = [0u8; 2049];
+    send_to(rt, west, 4593, ALPHA_NEW);
+    let one_len = challenge_len(rt, west, &mut one);
+    let asked = Instant::now(rt).expect(rt, "a moment");
+    send_to(rt, west, 4593, OTHER_ALPHA_NEW);
+    let other_len = challenge_len(rt, west, &mut other);
+    let digits = after_head(AUTHREQ, one.get(..one_len).unwrap_or(&[]));
+    let other_digits = after_head(AUTHREQ, other.get(..other_len).unwrap_or(&[]));
+    holds(rt, "other digits", digits != other_digits);
+    let _again = challenge_len(rt, west, &mut one);
+    let passed = asked.elapsed(rt).expect(rt, "a moment").as_millis();
+    holds(rt, "about a second", 300 <= passed && passed < 10_000);
+}
+
+#[test]
+fn challenges_differ_and_are_sent_again_after_a_second(rt: HostRuntime) {
+    let west = socket_at(&rt, 5593);
+    let mut out = Vec::new(rt.alloc());
+    let (status, ()) = thread::join(
+        &rt,
+        || serve(&rt, rt.alloc(), WITH_SECRET, 150, &mut out),
+        || {
+            let _ = thread::sleep(&rt, Duration::from_millis(500));
+            two_challenges(&rt, &west)
+        },
+    );
+    same(&rt, &status, &0);
 }
 
 #[test]
