@@ -138,10 +138,10 @@ pub fn leases_are_as_named()
     ensures after { (work : Work) (reply : Reply) → lease_in (after_told work reply) ≡ lease_after (next_of work) reply (lease_in work) }
 {}
 
-/// How a call begins. Until a step of a peer is made it stands at one of the first places of its kind. A step that is refused there
-/// ends it: it makes no step of a peer any more, and at most gives a lease back.
+/// How a call begins. Until a step of a peer is made, or any step is refused, it stands at one of the first places of its kind. A step
+/// that is refused there ends it: it makes no step of a peer any more, and at most gives a lease back.
 pub fn refused_calls_end()
-    // The first step that is made, and none but that, leads past the beginning.
+    // A step of a peer that is made leads past the beginning, and nothing leads back.
     ensures made { (work : Work) (reply : Reply) → is_answer (next_of work) reply ≡ true → is_made reply ≡ true →
         beginning_at (after_told work reply).place ≡ None }
     ensures goes_on { (work : Work) (reply : Reply) (begun : Beginning) → is_answer (next_of work) reply ≡ true → beginning_at work.place ≡ Some begun →

@@ -28,7 +28,7 @@ use peer_lock::{Naming, OpenError, OrderError, Pass, Status, StepsSpent};
 use std::sync::Wait;
 
 impl<G: Gate, J: Naming> Exchange<G, J> {
-    // The datagram goes to its peer. The answer is made where it is handed on, since a list that is moved once more costs a copy.
+    // The datagram goes to its peer.
     fn hear_given<R: Wait>(
         &self,
         rt: &R,
