@@ -1,0 +1,6 @@
+use Rattle.std.proofs.Common.{◌≡◌, take}
+use Rattle.trails.proofs.trail.Trail.of.Given as goal
+
+-- the items so far
+abbrev pub invariant-loop-item : goal.invariant-loop-item
+invariant-loop-item g l = l.trail ≡ take l.item-index l.items
