@@ -1,0 +1,57 @@
+-- What a pass has noted.
+use Rattle.std.specs.Prelude.{◌≡◌, ℕ, List, [], ◌∷◌, ◌++◌, ◌+◌, Result, Ok, Err}
+use Rattle.peer_accounts.specs.Accounts.{Credit}
+use Rattle.peer_lock.specs.Peer.{PeerView}
+use Rattle.call_signals.specs.declared.orders.Order.{Order}
+use Rattle.call_signals.specs.declared.orders.Order.TheVariants as orders
+use Rattle.noted_steps.specs.declared.made.Made.{Made}
+use Rattle.noted_steps.specs.declared.made.Made.TheVariants as mades
+
+-- the credit of a pass, the steps that it began with, and what was made under it since, in order
+pub record Noted : Type 0 where
+  pub credit : Credit
+  pub begun : ℕ
+  pub made : List Made
+
+-- a step was made where it wasn't refused
+abbrev pub if_made : {A E : Type 0} → Result A E → ℕ
+if_made (Ok made) = 1
+if_made (Err refusal) = 0
+
+-- how many steps of a peer it is
+abbrev pub steps_of : Made → ℕ
+steps_of (mades.Datagram peer octets now answer onwards) = if_made answer
+steps_of (mades.OpenIn peer name head payload now challenge answer onwards) = if_made answer
+steps_of (mades.OpenOut peer name called calling format now answer) = if_made answer
+steps_of (mades.Order peer name order media now answer) = if_made answer
+steps_of (mades.Tick peer now answer) = if_made answer
+steps_of made = 0
+
+-- how many steps of peers were made
+abbrev pub steps_in : List Made → ℕ
+steps_in [] = 0
+steps_in (made ∷ rest) = steps_of made + steps_in rest
+
+-- .. and this more was made
+abbrev pub note : Made → Noted → Noted
+note made pass = record pass { made = pass.made ++ made ∷ [] }
+
+-- an answer without the lease that came back
+abbrev pub without_lease : {A E L : Type 0} → Result A (L × E) → Result A E
+without_lease (Ok made) = Ok made
+without_lease (Err back) = Err back.1
+
+-- the octets of an order's media
+abbrev pub media_of : Order → List ℕ
+media_of (orders.Media media) = media.now
+media_of order = []
+
+-- a peer's place in the plan, and its state
+pub record Peer : Type 0 where
+  pub number : ℕ
+  pub state : PeerView
+
+-- .. and this more was made, whatever it did to the credit
+pub record Notes (step : Made) (old new : Noted) : Type 0 where
+  pub made : new.made ≡ old.made ++ step ∷ []
+  pub begun : new.begun ≡ old.begun

@@ -1,0 +1,13 @@
+//! The states that lie behind locks, whose every step is noted under the pass that it is made with.
+#![tactic(auto)]
+
+mod made;
+mod noted_book;
+mod noted_peer;
+mod pass;
+mod peer_steps;
+
+pub use made::{Made, Octets};
+pub use noted_book::NotedBook;
+pub use noted_peer::NotedPeer;
+pub use pass::Pass;

@@ -1,0 +1,51 @@
+//! What is noted of a step.
+
+use call_auth::Challenge;
+use call_book::{BridgeError, LegName, ReserveError, Stale};
+use iax_frames::FullHead;
+use leg_machine::{Format, OrderKind};
+use peer_lock::{Onwards, OpenError, OrderError, PeerError, Status, Step, StepsSpent, TickReport};
+use trails::{Seen, Trail};
+
+/// Octets that were looked at.
+pub type Octets = Trail<u8>;
+
+/// What was asked of a locked state, and what it answered. A peer is its place in the plan; moments are in milliseconds.
+#[derive(Drop)]
+pub enum Made {
+    /// A datagram came to a peer: its octets, the moment, the answer, and what was handed up.
+    Datagram(u16, Octets, u64, Result<Step, PeerError>, Seen<Onwards>),
+    /// A NEW that came opens a leg of a peer: the name, the frame's head and data, the moment, the challenge, the answer, and what
+    /// was handed up.
+    OpenIn(
+        u16,
+        LegName,
+        FullHead,
+        Octets,
+        u64,
+        Seen<Challenge>,
+        Result<Step, OpenError>,
+        Seen<Onwards>,
+    ),
+    /// A NEW of ours opens a leg of a peer: the name, the number that is called, the one that calls, the format, the moment, and the
+    /// answer.
+    OpenOut(u16, LegName, Octets, Option<Octets>, Format, u64, Result<Step, OpenError>),
+    /// A leg of a peer gets an order: the leg's name, the order with its media, the moment, and the answer.
+    Order(u16, LegName, OrderKind, Octets, u64, Result<Step, OrderError>),
+    /// Time goes on at a peer: the moment, and the answer.
+    Tick(u16, u64, Result<TickReport, StepsSpent>),
+    /// A leg of a peer is looked at: its local number, and how it stands.
+    Look(u16, u16, Option<Status>),
+    /// A leg of a peer is taken out, if it can be: its name, and whether it was.
+    Retire(u16, LegName, bool),
+    /// The book gives a name of a peer.
+    Reserve(u16, Result<LegName, ReserveError>),
+    /// The book makes two names partners.
+    Bridge(LegName, LegName, Result<(), BridgeError>),
+    /// The book tells the partner of a name.
+    Partner(LegName, Option<LegName>),
+    /// A name goes back to the book, which tells its former partner.
+    Release(LegName, Result<Option<LegName>, Stale>),
+    /// No locked state was asked.
+    Unasked,
+}

@@ -1,0 +1,135 @@
+//! The book of calls, as it lies under its lock.
+ghost use Rattle.std.specs.Prelude.{◌≡◌, ◌↔◌, None, Some, false, IsErr, IfErr, IfOk, IfSome, OnErr, OnOk};
+ghost use Rattle.std.specs.FinMap.{get};
+ghost use Rattle.call_book.specs.Book.{IsBook, IsNumberOf, after_reserve, bridge_answer, bridged, has_name, partner_of, released, reserve_answer};
+ghost use Rattle.noted_steps.specs.Notes.{note, without_lease};
+ghost use Rattle.noted_steps.specs.declared.made.Made.TheVariants as mades;
+
+use crate::made::Made;
+use crate::pass::Pass;
+use call_book::{BridgeError, CallBook, Lease, LegName, ReserveError, Stale};
+use peer_lock::Naming;
+use std::marker::Model;
+
+/// The book of calls, whose every step is noted under the pass that it is made with. Contracts see it as the book.
+#[derive(Drop)]
+pub struct NotedBook {
+    book: CallBook,
+}
+
+impl Model for NotedBook {
+    ghost use Rattle.call_book.specs.Book.{Book, book_code};
+
+    ghost Value = { Book };
+
+    ghost coded = { book_code };
+
+    ghost view = { λ b. b.book };
+}
+
+impl NotedBook {
+    pub fn new(book: CallBook) -> NotedBook
+        ensures { result ≡ book }
+    {
+        NotedBook { book }
+    }
+
+    /// Gives out the peer's number that was freed longest ago, at first in ascending order, under the next serial.
+    ///
+    /// `SerialsSpent` is tested first.
+    #[tactic(auto, using(crate::proofs::Counted::steps_in_longer))]
+    pub fn reserve<J: Naming>(
+        &mut self,
+        pass: &mut Pass<J>,
+        peer: u16,
+    ) -> Result<Lease, ReserveError>
+        ensures answer { result ≡ reserve_answer self.old peer }
+        ensures book { self.new ≡ after_reserve self.old peer }
+        ensures noted { pass.new ≡ note (mades.Reserve peer result) pass.old }
+        ensures range { IfOk result (λ lease. (lease.peer ≡ peer) × IsNumberOf self.old.counts peer lease.number) }
+        ensures unused { IfOk result (λ lease. get self.old.names lease.number ≡ None) }
+        ensures counts { self.new.counts ≡ self.old.counts }
+        ensures sound { IsBook self.new }
+    {
+        let answer = self.book.reserve(peer);
+        let named = match &answer {
+            Ok(lease) => Ok(lease.name()),
+            Err(error) => Err(*error),
+        };
+        pass.made.add(&Made::Reserve(peer, named));
+        answer
+    }
+
+    /// The partner of a name, if the book has the name and it is bridged.
+    #[tactic(auto, using(crate::proofs::Counted::steps_in_longer))]
+    pub fn partner<J: Naming>(&self, pass: &mut Pass<J>, name: LegName) -> Option<LegName>
+        ensures partner { result ≡ partner_of self.now name }
+        ensures noted { pass.new ≡ note (mades.Partner name result) pass.old }
+        ensures mutual { IfSome result (λ partner. partner_of self.now partner ≡ Some name) }
+        ensures sound { IsBook self.now }
+    {
+        let answer = self.book.partner(name);
+        pass.made.add(&Made::Partner(name, answer));
+        answer
+    }
+
+    /// Makes two names partners of each other.
+    ///
+    /// The refusals are tested in the order `Same`, `Stale`, `Bridged`.
+    #[tactic(auto, using(crate::proofs::Counted::steps_in_longer))]
+    pub fn bridge<J: Naming>(
+        &mut self,
+        pass: &mut Pass<J>,
+        a: LegName,
+        b: LegName,
+    ) -> Result<(), BridgeError>
+        ensures answer { result ≡ bridge_answer self.old a b }
+        ensures ok { OnOk result (self.new ≡ bridged self.old a b) }
+        ensures err { OnErr result (self.new ≡ self.old) }
+        ensures noted { pass.new ≡ note (mades.Bridge a b result) pass.old }
+        ensures mutual { OnOk result ((partner_of self.new a ≡ Some b) × (partner_of self.new b ≡ Some a)) }
+        ensures sound { OnOk result (IsBook self.new) }
+    {
+        let answer = self.book.bridge(a, b);
+        pass.made.add(&Made::Bridge(a, b, answer));
+        answer
+    }
+
+    /// Takes a name back: its number is free again, behind the peer's other free numbers, and its bridge ends on both
+    /// sides. Gives the former partner.
+    ///
+    /// `Stale` exactly where the book hasn't the name; the lease comes back.
+    #[tactic(auto, using(crate::proofs::Counted::steps_in_longer))]
+    pub fn release<J: Naming>(
+        &mut self,
+        pass: &mut Pass<J>,
+        lease: Lease,
+    ) -> Result<Option<LegName>, (Lease, Stale)>
+        ensures stale { IsErr result ↔ (has_name self.old lease ≡ false) }
+        ensures partner { IfOk result (λ partner. partner ≡ partner_of self.old lease) }
+        ensures ok { OnOk result (self.new ≡ released self.old lease) }
+        ensures noted { pass.new ≡ note (mades.Release lease (without_lease result)) pass.old }
+        ensures gone { OnOk result (has_name self.new lease ≡ false) }
+        ensures parted { IfOk result (λ former. IfSome former (λ partner. partner_of self.new partner ≡ None)) }
+        ensures lease { IfErr result (λ back. back.0 ≡ lease) }
+        ensures err { OnErr result (self.new ≡ self.old) }
+        ensures sound { IsBook self.new }
+    {
+        let name = lease.name();
+        let answer = self.book.release(lease);
+        let told = match &answer {
+            Ok(former) => Ok(*former),
+            Err((_, stale)) => Err(*stale),
+        };
+        pass.made.add(&Made::Release(name, told));
+        answer
+    }
+
+    /// Gives the book back.
+    pub fn into_book(self) -> CallBook
+        ensures { result ≡ self }
+    {
+        let NotedBook { book } = self;
+        book
+    }
+}

@@ -1,0 +1,67 @@
+//! The state of a peer, as it lies under its lock.
+ghost use Rattle.std.specs.Prelude.{◌≡◌, ◌∷◌, [], option_map, MatchOption};
+ghost use Rattle.peer_lock.specs.Legs.{leg_at};
+ghost use Rattle.peer_lock.specs.Statuses.{status_of};
+
+use iax_frames::Out;
+use peer_lock::{Naming, PeerState, Status};
+use std::marker::Model;
+
+/// The state of a peer, whose every step is noted under the pass that it is made with. Contracts see that state and the peer's place
+/// in the plan.
+#[derive(Drop)]
+pub struct NotedPeer<J: Naming> {
+    pub(crate) number: u16,
+    pub(crate) state: PeerState<J>,
+}
+
+impl<J: Naming> Model for NotedPeer<J> {
+    ghost use Rattle.noted_steps.specs.Notes.{Peer};
+
+    ghost Value = { Peer };
+
+    ghost view = { λ s. record { number = s.number; state = s.state } };
+}
+
+impl<J: Naming> NotedPeer<J> {
+    /// The state of the peer at this place of the plan.
+    pub fn new(number: u16, state: PeerState<J>) -> NotedPeer<J>
+        requires { state.legs.peer ≡ number }
+        ensures number { result.number ≡ number }
+        ensures state { result.state ≡ state }
+    {
+        NotedPeer { number, state }
+    }
+
+    /// Its place in the plan.
+    pub fn number(&self) -> u16
+        ensures { result ≡ self.now.number }
+    {
+        self.number
+    }
+
+    /// The oldest datagram of the outbox.
+    pub fn take_out(&mut self) -> Option<Out>
+        ensures oldest { MatchOption result ((self.old.state.outbox ≡ []) × (self.new.state ≡ self.old.state))
+            (λ out. (self.old.state.outbox ≡ out ∷ self.new.state.outbox)
+            × (self.new.state ≡ record self.old.state { outbox = self.new.state.outbox })) }
+        ensures number { self.new.number ≡ self.old.number }
+    {
+        self.state.take_out()
+    }
+
+    /// How the leg of a local number stands, for whoever asks from outside: it isn't noted.
+    pub fn status(&self, number: u16) -> Option<Status>
+        ensures { result ≡ option_map status_of (leg_at self.now.state.legs number) }
+    {
+        self.state.look(number)
+    }
+
+    /// Gives the state back.
+    pub fn into_state(self) -> PeerState<J>
+        ensures { result ≡ self.state }
+    {
+        let NotedPeer { number: _, state } = self;
+        state
+    }
+}

@@ -1,0 +1,102 @@
+//! The token of one worker or caller, with what was done under it.
+ghost use Rattle.std.specs.Prelude.{◌≡◌, ◌+◌, []};
+ghost use Rattle.peer_accounts.specs.HandedUp.{IsNothing};
+
+use crate::made::Made;
+use media_ledger::Share;
+use peer_lock::{Naming, Onwards, Pass as Credits};
+use std::alloc::Global;
+use std::marker::Model;
+use trails::{Seen, Trail};
+
+/// The token of one worker or caller. Contracts see the credit that peers have passed to it, the steps that it began with, and what
+/// was made under it since: each step of a locked state, in order, with its answer.
+///
+/// Its step credit is what it began with and one for each step of a peer among those. What was made is kept by proofs alone.
+#[derive(Drop)]
+pub struct Pass<J: Naming> {
+    pub(crate) credits: Credits<J>,
+    pub(crate) begun: Seen<u64>,
+    pub(crate) made: Trail<Made>,
+}
+
+impl<J: Naming> Model for Pass<J> {
+    ghost use Rattle.std.specs.Prelude.{◌≡◌, ◌+◌};
+    ghost use Rattle.noted_steps.specs.Notes.{Noted, steps_in};
+
+    ghost Value = { Noted };
+
+    ghost view = { λ p. record { credit = p.credits; begun = p.begun; made = p.made } };
+
+    ghost invariant = { λ p. p.credits.steps ≡ p.begun + steps_in p.made };
+}
+
+impl<J: Naming> Pass<J> {
+    ghost use Rattle.noted_steps.specs.Notes.{note, steps_in};
+    ghost use Rattle.noted_steps.specs.declared.made.Made.TheVariants as mades;
+
+    /// A pass under which nothing was made.
+    pub fn new(octets: Share<J::Octets>, steps: Share<J::Steps>) -> Pass<J>
+        ensures octets { result.credit.octets ≡ octets }
+        ensures steps { result.credit.steps ≡ steps }
+        ensures begun { result.begun ≡ steps }
+        ensures made { result.made ≡ [] }
+    {
+        let credits = Credits::new(octets, steps);
+        let begun = Seen::of(&credits.steps());
+        Pass {
+            credits,
+            begun,
+            made: Trail::new(),
+        }
+    }
+
+    pub fn octets(&self) -> u64
+        ensures { result ≡ self.now.credit.octets }
+    {
+        self.credits.octets()
+    }
+
+    pub fn steps(&self) -> u64
+        ensures { result ≡ self.now.credit.steps }
+    {
+        self.credits.steps()
+    }
+
+    /// An empty list for what a step hands up. It should come back by `keep`; without one that came back it is a new one, which has
+    /// no memory yet.
+    pub fn lend(&mut self, alloc: Global) -> Onwards
+        ensures nothing { IsNothing result }
+        ensures same { self.new ≡ self.old }
+    {
+        self.credits.lend(alloc)
+    }
+
+    /// Keeps the memory of a list for the next step.
+    pub fn keep(&mut self, onwards: Onwards)
+        ensures { self.new ≡ self.old }
+    {
+        self.credits.keep(onwards);
+    }
+
+    /// Notes that a step was answered without asking a locked state.
+    #[tactic(auto, using(crate::proofs::Counted::steps_in_longer))]
+    pub fn note_unasked(&mut self)
+        ensures { self.new ≡ note mades.Unasked self.old }
+    {
+        self.made.add(&Made::Unasked);
+    }
+
+    pub fn part(self) -> (Share<J::Octets>, Share<J::Steps>)
+        ensures octets { result.0 ≡ self.credit.octets }
+        ensures steps { result.1 ≡ self.credit.steps }
+        ensures noted { self.credit.steps ≡ self.begun + steps_in self.made }
+    {
+        let Pass {
+            credits,
+            begun: _,
+            made: _,
+        } = self;
+        credits.part()
+    }
+}

@@ -1,0 +1,273 @@
+//! The steps of a peer, each noted under its pass.
+ghost use Rattle.std.specs.Prelude.{◌≡◌, ◌+◌, ◌≤◌, ◌↔◌, ◌⊎◌, length, option_copied, option_map, is_some, true, false, All, Err, None, Some, IfErr, IfOk, IfNone, IfSome, IsErr, IsNone, IsTrue, OnErr, OnOk, OnSome};
+ghost use Rattle.std.specs.Option.{ForSome};
+ghost use Rattle.call_signals.specs.Orders.{kind_of};
+ghost use Rattle.call_signals.specs.declared.outcomes.Judged.TheVariants.{Unnumbered};
+ghost use Rattle.iax_frames.specs.declared.datagram.Datagram.{Datagram as DatagramValue};
+ghost use Rattle.leg_machine.specs.OrderTable.{IsShortMedia, wants_memory};
+ghost use Rattle.peer_accounts.specs.Accounts.{with_step};
+ghost use Rattle.peer_accounts.specs.HandedUp.{IsNothing};
+ghost use Rattle.peer_lock.specs.Legs.{NamedLeg as NamedLegValue, leg_at, leg_named, with_place};
+ghost use Rattle.peer_lock.specs.Rests.{is_quiet};
+ghost use Rattle.peer_lock.specs.Arrivals.{datagram_refused, datagram_step};
+ghost use Rattle.peer_lock.specs.Makes.{IsDue, IsUnchanged, Makes};
+ghost use Rattle.peer_lock.specs.Openings.{IsOpenRefusal, IsOpening, open_in_refused, open_out_refused, opens_in, opens_out};
+ghost use Rattle.peer_lock.specs.Orders.{IsOrderRefusal, order_octets, order_refused_by, ordered_step};
+ghost use Rattle.peer_lock.specs.Peer.{leg_alone};
+ghost use Rattle.peer_lock.specs.Statuses.{IsHistory, is_done, status_of};
+ghost use Rattle.peer_lock.specs.Ticks.{Ticks};
+ghost use Rattle.peer_lock.specs.declared.errors.PeerError.{PeerError as PeerErrorValue};
+ghost use Rattle.peer_lock.specs.Unworked.{IsUnworked, IsWorked};
+ghost use Rattle.seq_window.specs.History.{IsLegal};
+ghost use Rattle.noted_steps.specs.Notes.{Notes, media_of, note, without_lease};
+ghost use Rattle.noted_steps.specs.declared.made.Made.TheVariants as mades;
+
+use crate::made::{Made, Octets};
+use crate::noted_peer::NotedPeer;
+use crate::pass::Pass;
+use call_auth::Challenge;
+use call_book::{Lease, LegName};
+use iax_frames::Full;
+use leg_machine::{Format, Order};
+use peer_lock::{
+    Naming, Onwards, OpenError, OrderError, PeerError, Status, Step, StepsSpent, TickReport,
+};
+use seq_window::Record;
+use trails::Seen;
+
+// The octets of an order's media; of another order none.
+fn media_in(order: &Order) -> Octets
+    ensures { result ≡ media_of order.now }
+{
+    match order {
+        Order::Media(media) => Octets::of(media),
+        _ => Octets::new(),
+    }
+}
+
+// A text that may be absent.
+fn text_in(text: Option<&[u8]>) -> Option<Octets>
+    ensures { result ≡ option_copied text.entry }
+{
+    match text {
+        Some(text) => Some(Octets::of(text)),
+        None => None,
+    }
+}
+
+// An answer without the lease that came back.
+fn told(answer: &Result<Step, (Lease, OpenError)>) -> Result<Step, OpenError>
+    ensures { result ≡ without_lease answer.now }
+{
+    match answer {
+        Ok(step) => Ok(*step),
+        Err((_, error)) => Err(*error),
+    }
+}
+
+impl<J: Naming> NotedPeer<J> {
+    /// A datagram comes from the peer, at most 2,048 octets: one step, at the leg that it concerns, if any. What is handed up is
+    /// written to the list, which is empty.
+    ///
+    /// Refusals are looked for in the order of `PeerError`. `Memory` comes only where memory was refused.
+    #[tactic(auto, using(crate::proofs::Counted::steps_in_longer))]
+    pub fn datagram(
+        &mut self,
+        pass: &mut Pass<J>,
+        octets: &[u8],
+        now: u64,
+        onwards: &mut Onwards,
+    ) -> Result<Step, PeerError>
+        requires nothing { IsNothing onwards.old }
+        ensures noted { Notes (mades.Datagram self.old.number octets.now now result onwards.new) pass.old pass.new }
+        ensures number { self.new.number ≡ self.old.number }
+        ensures made { IfOk result (λ step. (d : DatagramValue) → IsWorked J.first_steps self.old.state.accounts.steps octets.now d
+            → Makes (datagram_step J.first_octets self.old.state d now) self.new.state step pass.old.credit pass.new.credit onwards.new) }
+        ensures worked { OnOk result ((d : DatagramValue) × IsWorked J.first_steps self.old.state.accounts.steps octets.now d) }
+        ensures unrefused { OnOk result ((d : DatagramValue) → IsWorked J.first_steps self.old.state.accounts.steps octets.now d → datagram_refused self.old.state d ≡ None) }
+        ensures unworked { (e : PeerErrorValue) → IsUnworked J.first_steps self.old.state.accounts.steps octets.now e → result ≡ Err e }
+        ensures refused { IfErr result (λ e. IsUnworked J.first_steps self.old.state.accounts.steps octets.now e
+            ⊎ ((d : DatagramValue) × IsWorked J.first_steps self.old.state.accounts.steps octets.now d × IsDue (datagram_refused self.old.state d) e)) }
+        ensures err { OnErr result (IsUnchanged self.old.state self.new.state pass.old.credit pass.new.credit onwards.new) }
+    {
+        let answer = self.state.datagram(&mut pass.credits, octets, now, onwards);
+        let handed = Seen::of(&*onwards);
+        pass.made.add(&Made::Datagram(self.number, Octets::of(octets), now, answer, handed));
+        answer
+    }
+
+    /// A NEW that came opens a leg, under the lease: one step. It is one that `datagram` answers by `NeedsNumber`. What is handed up
+    /// is written to the list, which is empty.
+    ///
+    /// Refusals are looked for in the order of `OpenError`; the lease comes back. `Memory` comes only where memory was refused.
+    #[tactic(auto, using(crate::proofs::Counted::steps_in_longer))]
+    pub fn open_in(
+        &mut self,
+        pass: &mut Pass<J>,
+        lease: Lease,
+        frame: &Full,
+        now: u64,
+        challenge: &Challenge,
+        onwards: &mut Onwards,
+    ) -> Result<Step, (Lease, OpenError)>
+        requires opening { IsOpening frame.now }
+        requires nothing { IsNothing onwards.old }
+        ensures noted { Notes (mades.OpenIn self.old.number lease frame.now.head frame.now.payload now challenge.now (without_lease result) onwards.new) pass.old pass.new }
+        ensures number { self.new.number ≡ self.old.number }
+        ensures peer { OnOk result (self.new.state ≡ (opens_in self.old.state lease frame.now now challenge.now).peer) }
+        ensures step { IfOk result (λ step. step ≡ (opens_in self.old.state lease frame.now now challenge.now).step) }
+        ensures signals { OnOk result (onwards.new.signals ≡ (opens_in self.old.state lease frame.now now challenge.now).signals) }
+        ensures offer { OnOk result (onwards.new.offer ≡ (opens_in self.old.state lease frame.now now challenge.now).offer) }
+        ensures credit { OnOk result (pass.new.credit ≡ with_step pass.old.credit 0) }
+        ensures unrefused { OnOk result (open_in_refused self.old.state J.first_steps lease frame.now.head.source ≡ None) }
+        ensures refused { IfErr result (λ back. IsOpenRefusal (open_in_refused self.old.state J.first_steps lease frame.now.head.source) back.1) }
+        ensures lease { IfErr result (λ back. back.0 ≡ lease) }
+        ensures err { OnErr result (IsUnchanged self.old.state self.new.state pass.old.credit pass.new.credit onwards.new) }
+    {
+        let name = lease.name();
+        let answer = self
+            .state
+            .open_in(&mut pass.credits, lease, frame, now, challenge, onwards);
+        let handed = Seen::of(&*onwards);
+        pass.made.add(&Made::OpenIn(
+            self.number,
+            name,
+            frame.head(),
+            Octets::of(frame.payload()),
+            now,
+            Seen::of(challenge),
+            told(&answer),
+            handed,
+        ));
+        answer
+    }
+
+    /// A call goes out under the lease, for a number of at most 255 octets: one step.
+    ///
+    /// Refusals are looked for in the order of `OpenError`, of which `RemoteBusy` never comes; the lease comes back. `Memory` comes
+    /// only where memory was refused.
+    #[tactic(auto, using(crate::proofs::Counted::steps_in_longer))]
+    pub fn open_out(
+        &mut self,
+        pass: &mut Pass<J>,
+        lease: Lease,
+        called: &[u8],
+        calling: Option<&[u8]>,
+        format: Format,
+        now: u64,
+    ) -> Result<Step, (Lease, OpenError)>
+        requires called { length called.now ≤ 255 }
+        requires calling { ForSome calling (λ text. length text.now ≤ 255) }
+        ensures noted { Notes (mades.OpenOut self.old.number lease called.now (option_copied calling.entry) format now (without_lease result)) pass.old pass.new }
+        ensures number { self.new.number ≡ self.old.number }
+        ensures peer { OnOk result (self.new.state ≡ (opens_out self.old.state lease called.now (option_copied calling.entry) format now).peer) }
+        ensures step { IfOk result (λ step. step ≡ leg_alone lease Unnumbered) }
+        ensures credit { OnOk result (pass.new.credit ≡ with_step pass.old.credit 0) }
+        ensures unrefused { OnOk result (open_out_refused self.old.state J.first_steps lease ≡ None) }
+        ensures refused { IfErr result (λ back. IsOpenRefusal (open_out_refused self.old.state J.first_steps lease) back.1) }
+        ensures lease { IfErr result (λ back. back.0 ≡ lease) }
+        ensures err { OnErr result ((self.new.state ≡ self.old.state) × (pass.new.credit ≡ pass.old.credit)) }
+    {
+        let name = lease.name();
+        let answer = self
+            .state
+            .open_out(&mut pass.credits, lease, called, calling, format, now);
+        pass.made.add(&Made::OpenOut(
+            self.number,
+            name,
+            Octets::of(called),
+            text_in(calling),
+            format,
+            now,
+            told(&answer),
+        ));
+        answer
+    }
+
+    /// The leg of a name obeys an order: one step. Media is 1 to 1,380 octets, for which the pass has the credit; the credit comes
+    /// back to the peer, which counts what became of the media.
+    ///
+    /// Refusals are looked for in the order of `OrderError`. `Memory` comes only where memory was refused.
+    #[tactic(auto, using(crate::proofs::Counted::steps_in_longer))]
+    pub fn order(
+        &mut self,
+        pass: &mut Pass<J>,
+        name: LegName,
+        order: &Order,
+        now: u64,
+    ) -> Result<Step, OrderError>
+        requires media { IsShortMedia order.now }
+        requires credit { order_octets order.now ≤ pass.old.credit.octets }
+        ensures noted { Notes (mades.Order self.old.number name (kind_of order.now) (media_of order.now) now result) pass.old pass.new }
+        ensures number { self.new.number ≡ self.old.number }
+        ensures peer { OnOk result (self.new.state ≡ ordered_step self.old.state name order.now now) }
+        ensures step { IfOk result (λ step. step ≡ leg_alone name Unnumbered) }
+        ensures octets { OnOk result (pass.new.credit.octets + order_octets order.now ≡ pass.old.credit.octets) }
+        ensures steps { OnOk result (pass.new.credit.steps ≡ pass.old.credit.steps + 1) }
+        ensures unrefused { OnOk result (order_refused_by self.old.state J.first_steps name order.now now ≡ None) }
+        ensures refused { IfErr result (IsOrderRefusal (order_refused_by self.old.state J.first_steps name order.now now)) }
+        ensures memory { result ≡ Err OrderError.Memory → (named : NamedLegValue) → leg_named self.old.state.legs name ≡ Some named
+            → wants_memory named.leg order.now now ≡ true }
+        ensures err { OnErr result ((self.new.state ≡ self.old.state) × (pass.new.credit ≡ pass.old.credit)) }
+    {
+        let answer = self.state.order(&mut pass.credits, name, order, now);
+        pass.made.add(&Made::Order(
+            self.number,
+            name,
+            order.kind(),
+            media_in(order),
+            now,
+            answer,
+        ));
+        answer
+    }
+
+    /// Time goes on: one step. Each leg's tick by ascending number, then the trunk queue is packed while the outbox has room.
+    /// Tells, too, whether a leg is to be finished then.
+    #[tactic(auto, using(crate::proofs::Counted::steps_in_longer))]
+    pub fn tick(&mut self, pass: &mut Pass<J>, now: u64) -> Result<TickReport, StepsSpent>
+        ensures noted { Notes (mades.Tick self.old.number now result) pass.old pass.new }
+        ensures number { self.new.number ≡ self.old.number }
+        ensures spent { IsErr result ↔ (self.old.state.accounts.steps ≡ J.first_steps) }
+        ensures ticked { IfOk result (λ report. Ticks self.old.state now report self.new.state) }
+        ensures quiet { IfOk result (λ report. IsTrue report.is_quiet ↔ All (λ place. is_quiet place ≡ true) self.new.state.legs.places) }
+        ensures credit { OnOk result (pass.new.credit ≡ with_step pass.old.credit 0) }
+        ensures err { OnErr result ((self.new.state ≡ self.old.state) × (pass.new.credit ≡ pass.old.credit)) }
+    {
+        let answer = self.state.tick(&mut pass.credits, now);
+        pass.made.add(&Made::Tick(self.number, now, answer));
+        answer
+    }
+
+    /// How the leg of a local number stands.
+    #[tactic(auto, using(crate::proofs::Counted::steps_in_longer))]
+    pub fn look(&self, pass: &mut Pass<J>, number: u16) -> Option<Status>
+        ensures status { result ≡ option_map status_of (leg_at self.now.state.legs number) }
+        ensures noted { pass.new ≡ note (mades.Look self.now.number number result) pass.old }
+    {
+        let answer = self.state.look(number);
+        pass.made.add(&Made::Look(self.number, number, answer));
+        answer
+    }
+
+    /// Gives up the leg of a name that has ended and owes nothing: its lease and its record. That is no step.
+    ///
+    /// `None` exactly where no such leg has that name.
+    #[tactic(auto, using(crate::proofs::Counted::steps_in_longer))]
+    pub fn retire(&mut self, pass: &mut Pass<J>, name: LegName) -> Option<(Lease, Record)>
+        ensures noted { pass.new ≡ note (mades.Retire self.old.number name (is_some result)) pass.old }
+        ensures number { self.new.number ≡ self.old.number }
+        ensures none { IsNone result ↔ (is_done (leg_named self.old.state.legs name) ≡ false) }
+        ensures lease { IfSome result (λ retired. retired.0 ≡ name) }
+        ensures record { IfSome result (λ retired. (named : NamedLegValue) → leg_named self.old.state.legs name ≡ Some named
+            → (retired.1.entries ≡ named.leg.window.history) × IsLegal named.leg.window.width named.leg.window.limit named.leg.window.history) }
+        ensures legal { IfSome result (λ retired. IsHistory retired.1.entries) }
+        ensures gone { OnSome result (self.new.state ≡ record self.old.state { legs = with_place self.old.state.legs name.number None }) }
+        ensures same { IfNone result (self.new.state ≡ self.old.state) }
+    {
+        let answer = self.state.retire(name);
+        pass.made
+            .add(&Made::Retire(self.number, name, answer.is_some()));
+        answer
+    }
+}
