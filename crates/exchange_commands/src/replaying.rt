@@ -3,9 +3,9 @@ ghost use Rattle.std.specs.Prelude.{◌≡◌, ◌+◌, ◌<◌, ◌^◌, length
 
 use crate::accounts::write_accounts;
 use crate::player::{Player, Stop};
-use exchange_core::{Exchange, NoGate};
+use exchange_core::{Exchange, NoGate, Pass};
 use media_ledger::Blank;
-use peer_lock::{Naming, Pass, Service};
+use peer_lock::{Naming, Service};
 use peer_plan::Plan;
 use script_lines::{Line, line_of};
 use std::alloc::Global;

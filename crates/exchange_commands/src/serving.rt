@@ -4,9 +4,9 @@ ghost use Rattle.std.specs.Prelude.{◌≡◌, ◌+◌, ◌<◌, ◌≤◌, ◌^
 use crate::accounts::write_accounts;
 use crate::clock::SinceOpening;
 use crate::digits::Digits;
-use exchange_core::{Exchange, NoGate};
+use exchange_core::{Exchange, NoGate, Pass};
 use media_ledger::Blank;
-use peer_lock::{Naming, Pass, Service};
+use peer_lock::{Naming, Service};
 use peer_plan::Plan;
 use rand::make_rng;
 use std::alloc::{AllocError, Global};

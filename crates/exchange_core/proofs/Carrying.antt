@@ -1,5 +1,5 @@
 -- Through the steps of a call its media stays covered, and it has the lease of its place in its hand.
-use Rattle.std.proofs.Common.{◌≡◌, ℕ, ◌+◌, ◌≤◌, [], Option, None, Some, subst, sym, ap, ◌∙◌, arith}
+use Rattle.std.proofs.Common.{◌≡◌, ℕ, ◌+◌, ◌≤◌, [], Option, Some, subst, sym, ap, ◌∙◌, arith}
 use Rattle.std.specs.List.{AllByRecursion}
 use Rattle.peer_lock.specs.CarriedMedia.{LiesWithin, handed_octets}
 use Rattle.call_book.specs.declared.leg_name.LegName.{LegName}

@@ -1,6 +1,6 @@
 -- Through the first steps of a call: no step of a peer was made and nothing is refused; after them one was made, or the call is refused.
-use Rattle.std.proofs.Common.{◌≡◌, ℕ, ◌+◌, ◌<◌, ◌≤◌, Option, None, Some, Bool, true, false, List, refl, sym, ap, subst, ◌∙◌, inl, inr, ◌⊎◌, arith}
-use Rattle.std.specs.Prelude.{◌≢◌, Ok, Err, IsSome, IfSome, MatchOption}
+use Rattle.std.proofs.Common.{◌≡◌, ℕ, ◌+◌, ◌<◌, ◌≤◌, Option, None, Some, Bool, true, false, refl, sym, ap, subst, ◌∙◌, inl, inr, ◌⊎◌, arith}
+use Rattle.std.specs.Prelude.{◌≢◌, Ok, Err, MatchOption}
 use Rattle.call_book.specs.declared.errors.ReserveError.TheVariants as reserve_errors
 use Rattle.peer_lock.specs.Accounts.{Credit, with_step}
 use Rattle.call_book.specs.declared.leg_name.LegName.{LegName}
@@ -8,7 +8,6 @@ use Rattle.peer_lock.specs.declared.errors.OpenError.TheVariants as open_errors
 use Rattle.peer_lock.specs.declared.errors.PeerError.TheVariants as peer_errors
 use Rattle.call_steps.specs.Beginnings.{Beginning, OfDatagram, beginning_at, is_over, is_answer, is_made, is_refusal}
 use Rattle.call_steps.specs.Work.{Work, Rest, at, next_at, next_of, told_at, after_told}
-use Rattle.call_steps.specs.declared.needs.Need.{Need}
 use Rattle.call_steps.specs.declared.places.Place.{Place}
 use Rattle.call_steps.specs.declared.places.Place.TheVariants as places
 use Rattle.call_steps.specs.declared.replies.Reply.{Reply}

@@ -4,3 +4,4 @@ mod Starting
 mod Media
 mod Carrying
 mod FirstSteps
+mod Tracing

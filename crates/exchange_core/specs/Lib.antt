@@ -7,3 +7,4 @@ pub mod Refusals
 pub mod Routes
 pub mod Start
 pub mod Sums
+pub mod Traces

@@ -1,6 +1,6 @@
 -- Sums over peers and passes.
 use Rattle.std.specs.Prelude.{ℕ, List, sum_by}
-use Rattle.peer_lock.specs.Accounts.{Credit}
+use Rattle.noted_steps.specs.Notes.{Noted, steps_in}
 use Rattle.peer_lock.specs.Peer.{PeerView}
 
 -- the media octets that the peers brought and that were accepted
@@ -28,9 +28,17 @@ abbrev pub steps_of : List PeerView → ℕ
 steps_of peers = sum_by (λ (p : PeerView). p.accounts.steps) peers
 
 -- the octets that stayed with the passes
-abbrev pub left_with : List Credit → ℕ
-left_with passes = sum_by (λ (p : Credit). p.octets) passes
+abbrev pub left_with : List Noted → ℕ
+left_with passes = sum_by (λ (p : Noted). p.credit.octets) passes
 
 -- the steps that were made under the passes
-abbrev pub steps_under : List Credit → ℕ
-steps_under passes = sum_by (λ (p : Credit). p.steps) passes
+abbrev pub steps_under : List Noted → ℕ
+steps_under passes = sum_by (λ (p : Noted). p.credit.steps) passes
+
+-- the steps that the passes began with
+abbrev pub begun_with : List Noted → ℕ
+begun_with passes = sum_by (λ (p : Noted). p.begun) passes
+
+-- the steps of peers that are noted under the passes
+abbrev pub noted_under : List Noted → ℕ
+noted_under passes = sum_by (λ (p : Noted). steps_in p.made) passes

@@ -1,40 +1,71 @@
 //! The locked sections of the book: each takes its lock alone, and makes no step of a peer.
-ghost use Rattle.std.specs.Prelude.{◌≡◌, ◌≢◌, Err, IfOk, IfErr, IfSome, OnOk};
+ghost use Rattle.std.specs.Prelude.{◌≡◌, Err, Option, IfOk, IfErr};
+ghost use Rattle.call_steps.specs.declared.needs.Need.TheVariants as needs;
+ghost use Rattle.call_steps.specs.declared.replies.Reply.TheVariants as replies;
+ghost use Rattle.exchange_core.specs.Traces.{Call, Makes};
+ghost use Rattle.noted_steps.specs.Notes.{note, without_lease};
+ghost use Rattle.peer_accounts.specs.declared.onwards.Offer.{Offer as OfferValue};
+ghost use Rattle.noted_steps.specs.declared.made.Made.TheVariants as mades;
 
 use crate::exchange::Exchange;
 use crate::gates::Gate;
 use call_book::{BridgeError, Lease, LegName, ReserveError, Stale};
+use noted_steps::Pass;
 use peer_lock::Naming;
 use std::sync::Wait;
 
 impl<G: Gate, J: Naming> Exchange<G, J> {
     // A new name of a peer.
-    pub(crate) fn reserve<R: Wait>(&self, rt: &R, peer: u16) -> Result<Lease, ReserveError>
-        ensures { IfOk result (λ lease. lease.peer ≡ peer) }
+    pub(crate) fn reserve<R: Wait>(
+        &self,
+        rt: &R,
+        pass: &mut Pass<J>,
+        peer: u16,
+    ) -> Result<Lease, ReserveError>
+        ensures noted { pass.new ≡ note (mades.Reserve peer result) pass.old }
+        ensures peer { IfOk result (λ lease. lease.peer ≡ peer) }
     {
-        self.book.lock(rt).reserve(peer)
+        self.book.lock(rt).reserve(pass, peer)
     }
 
     // Makes two names partners of each other.
-    pub(crate) fn bridge<R: Wait>(&self, rt: &R, a: LegName, b: LegName) -> Result<(), BridgeError>
-        ensures { a ≡ b → result ≡ Err BridgeError.Same }
+    pub(crate) fn bridge<R: Wait>(
+        &self,
+        rt: &R,
+        pass: &mut Pass<J>,
+        a: LegName,
+        b: LegName,
+    ) -> Result<(), BridgeError>
+        ensures noted { pass.new ≡ note (mades.Bridge a b result) pass.old }
+        ensures made { (call : Call) (offer : Option OfferValue) → Makes call offer (needs.Bridge a b) (replies.Bridge result) pass.old pass.new }
+        ensures same { a ≡ b → result ≡ Err BridgeError.Same }
     {
-        self.book.lock(rt).bridge(a, b)
+        self.book.lock(rt).bridge(pass, a, b)
     }
 
     // The partner of a name, if the book has the name and it is bridged.
-    pub(crate) fn partner<R: Wait>(&self, rt: &R, name: LegName) -> Option<LegName> {
-        self.book.lock(rt).partner(name)
+    pub(crate) fn partner<R: Wait>(
+        &self,
+        rt: &R,
+        pass: &mut Pass<J>,
+        name: LegName,
+    ) -> Option<LegName>
+        ensures noted { pass.new ≡ note (mades.Partner name result) pass.old }
+        ensures made { (call : Call) (offer : Option OfferValue) → Makes call offer (needs.Partner name) (replies.Partner result) pass.old pass.new }
+    {
+        self.book.lock(rt).partner(pass, name)
     }
 
     // Takes a name back, and gives its former partner.
     pub(crate) fn release<R: Wait>(
         &self,
         rt: &R,
+        pass: &mut Pass<J>,
         lease: Lease,
     ) -> Result<Option<LegName>, (Lease, Stale)>
-        ensures { IfErr result (λ back. back.0 ≡ lease) }
+        ensures noted { pass.new ≡ note (mades.Release lease (without_lease result)) pass.old }
+        ensures lease { IfErr result (λ back. back.0 ≡ lease) }
     {
-        self.book.lock(rt).release(lease)
+        self.book.lock(rt).release(pass, lease)
     }
 }

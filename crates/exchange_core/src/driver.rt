@@ -7,13 +7,15 @@ ghost use Rattle.call_steps.specs.MediaLeft.{media_left};
 ghost use Rattle.exchange_core.specs.Denials.{Denies};
 ghost use Rattle.exchange_core.specs.FirstSteps.{CallIsMade, StartsInPlan};
 ghost use Rattle.exchange_core.specs.Numbers.{IsCalled};
+ghost use Rattle.exchange_core.specs.Traces.{MakesAll, call_of};
 
 use crate::exchange::Exchange;
 use crate::gates::Gate;
 use crate::hands::{Given, Hands};
 use call_steps::Work;
 use call_steps::laws::{leases_are_as_named, media_is_carried_once, refused_calls_end};
-use peer_lock::{Naming, Pass};
+use noted_steps::Pass;
+use peer_lock::Naming;
 use std::sync::Wait;
 
 impl<G: Gate, J: Naming> Exchange<G, J> {
@@ -31,10 +33,12 @@ impl<G: Gate, J: Naming> Exchange<G, J> {
         requires nothing { (media_left work.old.work ≡ []) × (hands.old.lease ≡ None) × (hands.old.denial ≡ None) }
         requires challenge { beginning_at work.old.work.place ≡ Some OfDatagram → IsSome given.now.challenge }
         requires called { ForSome given.now.called (λ text. IsCalled text.now) }
-        ensures steps { MatchOption hands.new.denial (pass.old.steps + 1 ≤ pass.new.steps) (λ why. (pass.new ≡ pass.old) × Denies (beginning_at work.old.work.place) why) }
+        // Just the steps that its table named are noted under the pass, each with the answer that the table was told.
+        ensures all { MakesAll (call_of self.now given.entry.now) work.old pass.old pass.new }
+        ensures steps { MatchOption hands.new.denial (pass.old.credit.steps + 1 ≤ pass.new.credit.steps) (λ why. (pass.new.credit ≡ pass.old.credit) × Denies (beginning_at work.old.work.place) why) }
         // It keeps no lease.
         ensures lease { hands.new.lease ≡ None }
-        ensures call { CallIsMade work.old.work.place pass.old pass.new hands.new.denial hands.new.named }
+        ensures call { CallIsMade work.old.work.place pass.old.credit pass.new.credit hands.new.denial hands.new.named }
     {
         media_is_carried_once();
         leases_are_as_named();

@@ -2,16 +2,16 @@
 ghost use Rattle.std.specs.Prelude.{◌≡◌};
 
 use crate::gates::Gate;
-use call_book::CallBook;
 use media_ledger::Supply;
-use peer_lock::{Naming, PeerState};
+use noted_steps::{NotedBook, NotedPeer};
+use peer_lock::Naming;
 use peer_plan::Plan;
 use std::alloc::Global;
 use std::marker::Model;
 use std::sync::Mutex;
 
 /// A peer under its lock.
-pub(crate) type PeerCell<J> = Mutex<PeerState<J>>;
+pub(crate) type PeerCell<J> = Mutex<NotedPeer<J>>;
 
 /// The peers of a plan, each under its lock, and the book of their calls under another.
 ///
@@ -24,7 +24,7 @@ pub struct Exchange<G: Gate, J: Naming> {
     pub(crate) plan: Plan,
     // In plan order.
     pub(crate) peers: Vec<PeerCell<J>>,
-    pub(crate) book: Mutex<CallBook>,
+    pub(crate) book: Mutex<NotedBook>,
     pub(crate) octets: Supply<J::Octets>,
     pub(crate) steps: Supply<J::Steps>,
 }

@@ -1,8 +1,8 @@
 //! What a call was given, and what it has in its hands.
 ghost use Rattle.std.specs.Prelude.{◌≡◌, [], None};
 ghost use Rattle.call_steps.specs.Beginnings.{beginning_at};
-ghost use Rattle.call_steps.specs.Work.{after_told};
 ghost use Rattle.exchange_core.specs.Denials.{noted};
+ghost use Rattle.exchange_core.specs.Traces.{told};
 
 use crate::answers::Retired;
 use crate::denials::Denial;
@@ -67,7 +67,7 @@ impl Hands {
 
     // Tells the steps of the call an answer, and notes why the call is refused, where this is the answer to a first step of it.
     pub(crate) fn tell(&mut self, work: &mut Work, reply: Reply)
-        ensures work { work.new.work ≡ after_told work.old.work reply }
+        ensures work { work.new ≡ told work.old reply }
         ensures denial { self.new.denial ≡ noted (beginning_at work.old.work.place) reply self.old.denial }
         ensures lease { self.new.lease ≡ self.old.lease }
         ensures named { self.new.named ≡ self.old.named }

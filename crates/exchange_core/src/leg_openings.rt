@@ -1,10 +1,16 @@
 //! The openings of legs: by a NEW that came, of a far leg, and of a call from outside.
 ghost use Rattle.std.specs.Option.{ForSome};
-ghost use Rattle.std.specs.Prelude.{◌≡◌, ◌≢◌, ◌+◌, ◌<◌, length, None, Some, Err, option_map, slice_get, IfOk, IfErr, IsSome, OnOk, OnErr};
+ghost use Rattle.std.specs.Prelude.{◌≡◌, ◌≢◌, ◌+◌, ◌<◌, length, None, Option, Some, Err, option_copied, option_map, slice_get, IfOk, IfErr, IsSome, OnOk, OnErr};
 ghost use Rattle.call_signals.specs.Formats.{lowest_format};
 ghost use Rattle.exchange_core.specs.Covered.{TakesCredit};
 ghost use Rattle.exchange_core.specs.Newcomers.{SpellsOpening};
+ghost use Rattle.call_steps.specs.declared.needs.Need.TheVariants as needs;
+ghost use Rattle.call_steps.specs.declared.replies.Reply.TheVariants as replies;
 ghost use Rattle.exchange_core.specs.Numbers.{IsCalled};
+ghost use Rattle.exchange_core.specs.Traces.{Makes, OpensOut, call_of, done_of};
+ghost use Rattle.iax_frames.specs.FullFrame.{SpellsFull};
+ghost use Rattle.noted_steps.specs.Notes.{without_lease};
+ghost use Rattle.peer_accounts.specs.declared.onwards.Offer.{Offer as OfferValue};
 ghost use Rattle.peer_lock.specs.Accounts.{with_step};
 ghost use Rattle.peer_lock.specs.Openings.{IsOpening};
 
@@ -15,13 +21,15 @@ use call_book::{Lease, LegName};
 use call_steps::Heard;
 use iax_frames::{Datagram, Full, read};
 use leg_machine::Format;
-use peer_lock::{Naming, Offer, OpenError, Pass, Step};
+use noted_steps::Pass;
+use peer_lock::{Naming, Offer, OpenError, Step};
 use std::sync::Wait;
 
 // The NEW that the octets spell.
 fn opening_in(octets: &[u8]) -> Full<'_>
     requires { SpellsOpening octets.now }
-    ensures { IsOpening result }
+    ensures opening { IsOpening result }
+    ensures spelled { SpellsFull octets.now result }
 {
     match read(octets) {
         Ok(Datagram::Full(frame)) => frame,
@@ -52,8 +60,9 @@ impl<G: Gate, J: Naming> Exchange<G, J> {
     ) -> Result<Step, (Lease, OpenError)>
         requires peer { lease.peer < length self.now.peers }
         requires called { IsCalled called.now }
-        ensures credit { OnOk result (pass.new ≡ with_step pass.old 0) }
-        ensures refused { OnErr result (pass.new ≡ pass.old) }
+        ensures noted { (offer : Option OfferValue) → OpensOut self.now (Some called.now) offer lease now (without_lease result) pass.old pass.new }
+        ensures credit { OnOk result (pass.new.credit ≡ with_step pass.old.credit 0) }
+        ensures refused { OnErr result (pass.new.credit ≡ pass.old.credit) }
         ensures lease { IfErr result (λ back. back.0 ≡ lease) }
         ensures no_remote { IfErr result (λ back. back.1 ≢ OpenError.RemoteBusy) }
     {
@@ -71,8 +80,9 @@ impl<G: Gate, J: Naming> Exchange<G, J> {
         now: u64,
     ) -> Result<Step, (Lease, OpenError)>
         requires peer { lease.peer < length self.now.peers }
-        ensures credit { OnOk result (pass.new ≡ with_step pass.old 0) }
-        ensures refused { OnErr result (pass.new ≡ pass.old) }
+        ensures noted { OpensOut self.now None (Some offer.now) lease now (without_lease result) pass.old pass.new }
+        ensures credit { OnOk result (pass.new.credit ≡ with_step pass.old.credit 0) }
+        ensures refused { OnErr result (pass.new.credit ≡ pass.old.credit) }
         ensures lease { IfErr result (λ back. back.0 ≡ lease) }
         ensures no_remote { IfErr result (λ back. back.1 ≢ OpenError.RemoteBusy) }
     {
@@ -93,23 +103,27 @@ impl<G: Gate, J: Naming> Exchange<G, J> {
         pass: &mut Pass<J>,
         lease: Lease,
         offer: Option<&Offer>,
-        called: Option<&[u8]>,
-        now: u64,
+        given: &Given<'_, '_, '_>,
     ) -> Result<Step, (Lease, OpenError)>
-        requires called { ForSome called (λ text. IsCalled text.now) }
-        ensures credit { OnOk result (pass.new ≡ with_step pass.old 0) }
-        ensures refused { OnErr result (pass.new ≡ pass.old) }
+        requires called { ForSome given.now.called (λ text. IsCalled text.now) }
+        ensures noted { Makes (call_of self.now given.entry.now) (option_copied offer.entry) (needs.OpenOut lease) (replies.OpenOut (done_of (without_lease result))) pass.old pass.new }
+        ensures credit { OnOk result (pass.new.credit ≡ with_step pass.old.credit 0) }
+        ensures refused { OnErr result (pass.new.credit ≡ pass.old.credit) }
         ensures lease { IfErr result (λ back. back.0 ≡ lease) }
         ensures no_remote { IfErr result (λ back. back.1 ≢ OpenError.RemoteBusy) }
     {
         if lease.name().peer >= self.plan.peer_count() {
+            pass.note_unasked();
             return Err((lease, OpenError::NumberBusy));
         }
-        match called {
-            Some(called) => self.open_called(rt, pass, lease, called, now),
+        match given.called {
+            Some(called) => self.open_called(rt, pass, lease, called, given.now),
             None => match offer {
-                Some(offer) => self.open_far(rt, pass, lease, offer, now),
-                None => Err((lease, OpenError::NumberBusy)),
+                Some(offer) => self.open_far(rt, pass, lease, offer, given.now),
+                None => {
+                    pass.note_unasked();
+                    Err((lease, OpenError::NumberBusy))
+                }
             },
         }
     }
@@ -126,8 +140,9 @@ impl<G: Gate, J: Naming> Exchange<G, J> {
     ) -> Result<(), OpenError>
         requires lease { hands.old.lease ≡ Some _name }
         requires called { ForSome given.now.called (λ text. IsCalled text.now) }
-        ensures credit { OnOk result (pass.new ≡ with_step pass.old 0) }
-        ensures refused { OnErr result (pass.new ≡ pass.old) }
+        ensures noted { Makes (call_of self.now given.entry.now) (option_copied offer.entry) (needs.OpenOut _name) (replies.OpenOut result) pass.old pass.new }
+        ensures credit { OnOk result (pass.new.credit ≡ with_step pass.old.credit 0) }
+        ensures refused { OnErr result (pass.new.credit ≡ pass.old.credit) }
         ensures taken { OnOk result (hands.new.lease ≡ None) }
         ensures kept { OnErr result (hands.new.lease ≡ hands.old.lease) }
         ensures no_remote { result ≢ Err OpenError.RemoteBusy }
@@ -135,7 +150,7 @@ impl<G: Gate, J: Naming> Exchange<G, J> {
         ensures named { hands.new.named ≡ hands.old.named }
     {
         let lease = hands.lease.take().unwrap();
-        match self.open_under(rt, pass, lease, offer, given.called, given.now) {
+        match self.open_under(rt, pass, lease, offer, given) {
             Ok(_) => Ok(()),
             Err((lease, error)) => {
                 hands.lease = Some(lease);
@@ -157,9 +172,10 @@ impl<G: Gate, J: Naming> Exchange<G, J> {
         requires peer { _name.peer < length self.now.peers }
         requires opening { SpellsOpening given.now.octets.now }
         requires challenge { IsSome given.now.challenge }
-        ensures steps { OnOk result (pass.new.steps ≡ pass.old.steps + 1) }
-        ensures media { IfOk result (λ heard. TakesCredit (length given.entry.now.octets.now) pass.old pass.new heard.onwards.signals) }
-        ensures refused { OnErr result (pass.new ≡ pass.old) }
+        ensures noted { (offer : Option OfferValue) → Makes (call_of self.now given.entry.now) offer (needs.OpenIn _name) (replies.OpenIn result) pass.old pass.new }
+        ensures steps { OnOk result (pass.new.credit.steps ≡ pass.old.credit.steps + 1) }
+        ensures media { IfOk result (λ heard. TakesCredit (length given.entry.now.octets.now) pass.old.credit pass.new.credit heard.onwards.signals) }
+        ensures refused { OnErr result (pass.new.credit ≡ pass.old.credit) }
         ensures taken { OnOk result (hands.new.lease ≡ None) }
         ensures kept { OnErr result (hands.new.lease ≡ hands.old.lease) }
         ensures denial { hands.new.denial ≡ hands.old.denial }

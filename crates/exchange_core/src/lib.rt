@@ -22,4 +22,5 @@ mod settlement;
 pub use answers::{Answer, CallError, Refusal, Retired};
 pub use exchange::Exchange;
 pub use gates::{Gate, NoGate};
+pub use noted_steps::Pass;
 pub use settlement::{SettleError, Settlement};

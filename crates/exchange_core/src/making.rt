@@ -5,6 +5,7 @@ ghost use Rattle.std.specs.Prelude.{◌≡◌, ◌≢◌, ◌+◌, ◌<◌, ◌�
 ghost use Rattle.call_book.specs.declared.leg_name.LegName.{LegName as LegNameValue};
 ghost use Rattle.call_steps.specs.Beginnings.{is_answer, is_made};
 ghost use Rattle.call_steps.specs.Leases.{lease_needed, lease_after};
+ghost use Rattle.call_steps.specs.WorkState.{offer_in};
 ghost use Rattle.call_steps.specs.MediaLeft.{media_of, media_needed, handed_by};
 ghost use Rattle.call_steps.specs.declared.needs.Need.TheVariants as needs;
 ghost use Rattle.call_steps.specs.declared.replies.Reply.TheVariants as replies;
@@ -12,10 +13,11 @@ ghost use Rattle.exchange_core.specs.Covered.{IsCovered};
 ghost use Rattle.exchange_core.specs.FirstSteps.{InPlan, IsOpened, IsOpenedOut, IsOpeningDue, KeepsPeer, named_after};
 ghost use Rattle.exchange_core.specs.Newcomers.{SpellsOpening};
 ghost use Rattle.exchange_core.specs.Numbers.{IsCalled};
-ghost use Rattle.leg_machine.specs.OrderTable.{IsShortMedia};
+ghost use Rattle.exchange_core.specs.Traces.{Makes, call_of};
+ghost use Rattle.exchange_core.specs.declared.hands.Given.{Given as GivenValue};
 ghost use Rattle.peer_lock.specs.Accounts.{with_step};
 ghost use Rattle.peer_lock.specs.CarriedMedia.{LiesWithin, handed_octets};
-ghost use Rattle.peer_lock.specs.Orders.{order_octets};
+ghost use Rattle.peer_accounts.specs.declared.onwards.Offer.{Offer as OfferValue};
 
 use crate::answers::Retired;
 use crate::exchange::Exchange;
@@ -23,8 +25,8 @@ use crate::gates::Gate;
 use crate::hands::{Given, Hands};
 use call_book::{LegName, ReserveError, Stale};
 use call_steps::{Act, Heard, Need, Reply, Work};
-use leg_machine::Order;
-use peer_lock::{Naming, OpenError, OrderError, Pass, Status, StepsSpent};
+use noted_steps::Pass;
+use peer_lock::{Naming, OpenError, OrderError, Status, StepsSpent};
 use std::sync::Wait;
 
 impl<G: Gate, J: Naming> Exchange<G, J> {
@@ -38,10 +40,11 @@ impl<G: Gate, J: Naming> Exchange<G, J> {
     ) -> Reply
         requires peer { peer < length self.now.peers }
         ensures answer { is_answer (Some (needs.Datagram peer)) result ≡ true }
-        ensures made { is_made result ≡ true → pass.new.steps ≡ pass.old.steps + 1 }
-        ensures unmade { is_made result ≡ false → pass.new ≡ pass.old }
+        ensures noted { (offer : Option OfferValue) → Makes (call_of self.now given.entry.now) offer (needs.Datagram peer) result pass.old pass.new }
+        ensures made { is_made result ≡ true → pass.new.credit.steps ≡ pass.old.credit.steps + 1 }
+        ensures unmade { is_made result ≡ false → pass.new.credit ≡ pass.old.credit }
         ensures within { AllByRecursion (LiesWithin (length given.entry.now.octets.now)) (handed_by result) }
-        ensures octets { pass.old.octets + handed_octets (handed_by result) ≤ pass.new.octets }
+        ensures octets { pass.old.credit.octets + handed_octets (handed_by result) ≤ pass.new.credit.octets }
         ensures opening { IsOpeningDue result → SpellsOpening given.entry.now.octets.now }
         ensures named { (named : Option LegNameValue) → named_after result named ≡ named }
         ensures not_out { IsOpenedOut result → ⊥ }
@@ -66,77 +69,74 @@ impl<G: Gate, J: Naming> Exchange<G, J> {
         rt: &R,
         pass: &mut Pass<J>,
         peer: u16,
-        now: u64,
+        given: &Given<'_, '_, '_>,
     ) -> Result<bool, StepsSpent>
         requires { peer < length self.now.peers }
-        ensures credit { OnOk result (pass.new ≡ with_step pass.old 0) }
-        ensures refused { OnErr result (pass.new ≡ pass.old) }
+        ensures noted { (offer : Option OfferValue) → Makes (call_of self.now given.entry.now) offer (needs.Tick peer) (replies.Tick result) pass.old pass.new }
+        ensures credit { OnOk result (pass.new.credit ≡ with_step pass.old.credit 0) }
+        ensures refused { OnErr result (pass.new.credit ≡ pass.old.credit) }
     {
-        Ok(self.tick_peer(rt, pass, peer, now)?.is_quiet)
+        Ok(self.tick_peer(rt, pass, peer, given.now)?.is_quiet)
     }
 
-    // The leg of a name gets an order. None has it where its peer isn't of the plan.
-    fn obey<R: Wait>(
-        &self,
-        rt: &R,
-        pass: &mut Pass<J>,
-        name: LegName,
-        order: &Order,
-        now: u64,
-    ) -> Result<(), OrderError>
-        requires media { IsShortMedia order.now }
-        requires credit { order_octets order.now ≤ pass.old.octets }
-        ensures steps { OnOk result (pass.new.steps ≡ pass.old.steps + 1) }
-        ensures octets { OnOk result (pass.new.octets + order_octets order.now ≡ pass.old.octets) }
-        ensures refused { OnErr result (pass.new ≡ pass.old) }
-    {
-        if name.peer >= self.plan.peer_count() {
-            return Err(OrderError::Gone);
-        }
-        self.order(rt, pass, name, order, now).map(|_| ())
-    }
-
-    // The leg of a name gets an order with the octets of its media, for which the pass has the credit.
+    // The leg of a name gets an order with the octets of its media, for which the pass has the credit. None has it where its peer isn't
+    // of the plan.
     fn act<R: Wait>(
         &self,
         rt: &R,
         pass: &mut Pass<J>,
         name: LegName,
         act: Act,
-        octets: &[u8],
-        now: u64,
+        given: &Given<'_, '_, '_>,
     ) -> Result<(), OrderError>
-        requires media { IsCovered (length octets.now) pass.old.octets (media_of name act) }
-        ensures steps { OnOk result (pass.new.steps ≡ pass.old.steps + 1) }
-        ensures octets { OnOk result (pass.new.octets + handed_octets (media_of name act) ≡ pass.old.octets) }
-        ensures refused { OnErr result (pass.new ≡ pass.old) }
+        requires media { IsCovered (length given.now.octets.now) pass.old.credit.octets (media_of name act) }
+        ensures noted { (offer : Option OfferValue) → Makes (call_of self.now given.entry.now) offer (needs.Order name act) (replies.Order result) pass.old pass.new }
+        ensures steps { OnOk result (pass.new.credit.steps ≡ pass.old.credit.steps + 1) }
+        ensures octets { OnOk result (pass.new.credit.octets + handed_octets (media_of name act) ≡ pass.old.credit.octets) }
+        ensures refused { OnErr result (pass.new.credit ≡ pass.old.credit) }
     {
-        self.obey(rt, pass, name, &act.order(octets), now)
+        if name.peer >= self.plan.peer_count() {
+            pass.note_unasked();
+            return Err(OrderError::Gone);
+        }
+        let order = act.order(given.octets);
+        match self.order(rt, pass, name, &order, given.now) {
+            Ok(_) => Ok(()),
+            Err(error) => Err(error),
+        }
     }
 
     // How the leg of a number stands.
     fn look_at<R: Wait>(&self, rt: &R, pass: &mut Pass<J>, peer: u16, number: u16) -> Option<Status>
-        ensures { pass.new ≡ pass.old }
+        ensures noted { (given : GivenValue) (offer : Option OfferValue) → Makes (call_of self.now given) offer (needs.Look peer number) (replies.Look result) pass.old pass.new }
+        ensures credit { pass.new.credit ≡ pass.old.credit }
     {
         if peer >= self.plan.peer_count() {
+            pass.note_unasked();
             return None;
         }
-        self.status(rt, pass, peer, number)
+        self.look(rt, pass, peer, number)
     }
 
     // Takes a leg out, where there is memory for its place in the answer.
-    fn retire_into<R: Wait>(&self, rt: &R, name: LegName, hands: &mut Hands) -> bool
+    fn retire_into<R: Wait>(
+        &self,
+        rt: &R,
+        pass: &mut Pass<J>,
+        name: LegName,
+        hands: &mut Hands,
+    ) -> bool
+        ensures noted { (given : GivenValue) (offer : Option OfferValue) → Makes (call_of self.now given) offer (needs.Retire name) (replies.Retire result) pass.old pass.new }
+        ensures credit { pass.new.credit ≡ pass.old.credit }
         ensures lease { hands.new.lease ≡ lease_after (Some (needs.Retire name)) (replies.Retire result) hands.old.lease }
         ensures denial { hands.new.denial ≡ hands.old.denial }
         ensures named { hands.new.named ≡ hands.old.named }
     {
-        if name.peer >= self.plan.peer_count() {
+        if name.peer >= self.plan.peer_count() || hands.retired.try_reserve(1).is_err() {
+            pass.note_unasked();
             return false;
         }
-        if hands.retired.try_reserve(1).is_err() {
-            return false;
-        }
-        let Some((lease, history)) = self.retire(rt, name) else {
+        let Some((lease, history)) = self.retire(rt, pass, name) else {
             return false;
         };
         hands.retired.push_reserved(Retired { name, history });
@@ -148,15 +148,18 @@ impl<G: Gate, J: Naming> Exchange<G, J> {
     fn reserve_into<R: Wait>(
         &self,
         rt: &R,
+        pass: &mut Pass<J>,
         peer: u16,
         hands: &mut Hands,
     ) -> Result<LegName, ReserveError>
+        ensures noted { (given : GivenValue) (offer : Option OfferValue) → Makes (call_of self.now given) offer (needs.Reserve peer) (replies.Reserve result) pass.old pass.new }
+        ensures credit { pass.new.credit ≡ pass.old.credit }
         ensures peer { IfOk result (λ name. name.peer ≡ peer) }
         ensures lease { hands.new.lease ≡ lease_after (Some (needs.Reserve peer)) (replies.Reserve result) hands.old.lease }
         ensures denial { hands.new.denial ≡ hands.old.denial }
         ensures named { hands.new.named ≡ named_after (replies.Reserve result) hands.old.named }
     {
-        let lease = self.reserve(rt, peer)?;
+        let lease = self.reserve(rt, pass, peer)?;
         let name = lease.name();
         hands.lease = Some(lease);
         hands.named = Some(name);
@@ -167,16 +170,19 @@ impl<G: Gate, J: Naming> Exchange<G, J> {
     fn release_from<R: Wait>(
         &self,
         rt: &R,
+        pass: &mut Pass<J>,
         _name: LegName,
         hands: &mut Hands,
     ) -> Result<Option<LegName>, Stale>
         requires { hands.old.lease ≡ Some _name }
+        ensures noted { (given : GivenValue) (offer : Option OfferValue) → Makes (call_of self.now given) offer (needs.Release _name) (replies.Release result) pass.old pass.new }
+        ensures credit { pass.new.credit ≡ pass.old.credit }
         ensures lease { hands.new.lease ≡ None }
         ensures denial { hands.new.denial ≡ hands.old.denial }
         ensures named { hands.new.named ≡ hands.old.named }
     {
         let lease = hands.lease.take().unwrap();
-        match self.release(rt, lease) {
+        match self.release(rt, pass, lease) {
             Ok(former) => Ok(former),
             Err((_, stale)) => Err(stale),
         }
@@ -193,43 +199,42 @@ impl<G: Gate, J: Naming> Exchange<G, J> {
         given: &Given<'_, '_, '_>,
         hands: &mut Hands,
     ) -> Reply
-        requires media { IsCovered (length given.now.octets.now) pass.old.octets (media_needed (Some need)) }
+        requires media { IsCovered (length given.now.octets.now) pass.old.credit.octets (media_needed (Some need)) }
         requires lease { (name : LegNameValue) → lease_needed (Some need) ≡ Some name → hands.old.lease ≡ Some name }
         requires called { ForSome given.now.called (λ text. IsCalled text.now) }
         requires peer { InPlan (length self.now.peers) (Some need) }
         requires opening { IsOpened (Some need) → SpellsOpening given.now.octets.now × IsSome given.now.challenge }
         ensures answer { is_answer (Some need) result ≡ true }
+        // Just this step is noted under the pass, with this answer.
+        ensures noted { Makes (call_of self.now given.entry.now) (offer_in work.now.onwards) need result pass.old pass.new }
         // A step of a peer is made exactly where the answer says so.
-        ensures made { is_made result ≡ true → pass.new.steps ≡ pass.old.steps + 1 }
-        ensures unmade { is_made result ≡ false → pass.new ≡ pass.old }
+        ensures made { is_made result ≡ true → pass.new.credit.steps ≡ pass.old.credit.steps + 1 }
+        ensures unmade { is_made result ≡ false → pass.new.credit ≡ pass.old.credit }
         ensures within { AllByRecursion (LiesWithin (length given.entry.now.octets.now)) (handed_by result) }
-        ensures octets { pass.old.octets + handed_octets (handed_by result) ≤ pass.new.octets + handed_octets (media_needed (Some need)) }
+        ensures octets { pass.old.credit.octets + handed_octets (handed_by result) ≤ pass.new.credit.octets + handed_octets (media_needed (Some need)) }
         ensures lease { hands.new.lease ≡ lease_after (Some need) result hands.old.lease }
         ensures denial { hands.new.denial ≡ hands.old.denial }
         ensures named { hands.new.named ≡ named_after result hands.old.named }
-        ensures opened { IsOpenedOut result → pass.new ≡ with_step pass.old 0 }
+        ensures opened { IsOpenedOut result → pass.new.credit ≡ with_step pass.old.credit 0 }
         ensures peer { KeepsPeer (Some need) result }
         ensures opening { IsOpeningDue result → SpellsOpening given.entry.now.octets.now }
         ensures no_remote { result ≢ replies.OpenOut (Err OpenError.RemoteBusy) }
     {
-        let now = given.now;
         match need {
             Need::Datagram(peer) => self.hear_given(rt, pass, peer, given),
             Need::OpenIn(name) => Reply::OpenIn(self.open_given(rt, pass, name, given, hands)),
             Need::OpenOut(name) => {
                 Reply::OpenOut(self.open_from(rt, pass, name, work.offer(), given, hands))
             }
-            Need::Order(name, act) => {
-                Reply::Order(self.act(rt, pass, name, act, given.octets, now))
-            }
-            Need::Tick(peer) => Reply::Tick(self.tick_given(rt, pass, peer, now)),
+            Need::Order(name, act) => { Reply::Order(self.act(rt, pass, name, act, given)) }
+            Need::Tick(peer) => Reply::Tick(self.tick_given(rt, pass, peer, given)),
             Need::Look(peer, number) => Reply::Look(self.look_at(rt, pass, peer, number)),
-            Need::Retire(name) => Reply::Retire(self.retire_into(rt, name, hands)),
-            Need::Reserve(peer) => Reply::Reserve(self.reserve_into(rt, peer, hands)),
-            Need::Bridge(one, other) => Reply::Bridge(self.bridge(rt, one, other)),
-            Need::Partner(name) => Reply::Partner(self.partner(rt, name)),
-            Need::Release(name) => Reply::Release(self.release_from(rt, name, hands)),
-            Need::Route(_) => Reply::Route(self.route(work.offer())),
+            Need::Retire(name) => Reply::Retire(self.retire_into(rt, pass, name, hands)),
+            Need::Reserve(peer) => Reply::Reserve(self.reserve_into(rt, pass, peer, hands)),
+            Need::Bridge(one, other) => Reply::Bridge(self.bridge(rt, pass, one, other)),
+            Need::Partner(name) => Reply::Partner(self.partner(rt, pass, name)),
+            Need::Release(name) => Reply::Release(self.release_from(rt, pass, name, hands)),
+            Need::Route(offered) => Reply::Route(self.route_noted(pass, offered, work.offer())),
         }
     }
 }

@@ -8,7 +8,8 @@ use crate::gates::Gate;
 use call_book::CallBook;
 use media_ledger::shares::supply;
 use media_ledger::{Blank, Share, Supply, SupplyError};
-use peer_lock::{Naming, Pass, PeerState};
+use noted_steps::{NotedBook, NotedPeer, Pass};
+use peer_lock::{Naming, PeerState};
 use peer_plan::Plan;
 use std::alloc::{AllocError, Global};
 use std::sync::Mutex;
@@ -18,7 +19,7 @@ use std::sync::ledger::Ledger;
 const FIRST_CREDIT: u64 = 1 << 48;
 
 impl<G: Gate, J: Naming> Exchange<G, J> {
-    /// An exchange with all its passes: as many as the plan says, each without credit. No peer has a leg, and every number is
+    /// An exchange with all its passes: as many as the plan says, each without credit, and nothing made under it. No peer has a leg, and every number is
     /// free. Each peer may accept 2^48 octets of media and make 2^48 steps.
     ///
     /// Where memory is refused, all that was handed in is dropped.
@@ -34,7 +35,8 @@ impl<G: Gate, J: Naming> Exchange<G, J> {
         requires first { (J.first_octets ≡ 2 ^ 48) × (J.first_steps ≡ 2 ^ 48) }
         ensures plan { IfOk result (λ opened. opened.0 ≡ plan) }
         ensures passes { IfOk result (λ opened. vec_len opened.1 ≡ plan.passes) }
-        ensures empty { IfOk result (λ opened. All (λ pass. (pass.octets ≡ 0) × (pass.steps ≡ 0)) opened.1.items) }
+        ensures empty { IfOk result (λ opened. All (λ pass. (pass.credit.octets ≡ 0) × (pass.credit.steps ≡ 0)) opened.1.items) }
+        ensures unused { IfOk result (λ opened. All (λ pass. (pass.begun ≡ 0) × (pass.made ≡ [])) opened.1.items) }
         // It is a start of the world in which the law over many calls holds, with a caller for each pass.
         ensures start { IfOk result (λ opened. IsStart plan) }
     {
@@ -54,7 +56,7 @@ impl<G: Gate, J: Naming> Exchange<G, J> {
             gate,
             plan,
             peers,
-            book: Mutex::new(book),
+            book: Mutex::new(NotedBook::new(book)),
             octets: octet_supply,
             steps: step_supply,
         };
@@ -116,13 +118,13 @@ fn state_of<J: Naming>(
     peer: u16,
     octets: Share<J::Octets>,
     steps: Share<J::Steps>,
-) -> Result<PeerState<J>, AllocError>
+) -> Result<NotedPeer<J>, AllocError>
     requires peer { peer < length plan.now.peers }
     requires octets { octets ≡ J.first_octets }
     requires steps { steps ≡ J.first_steps }
-    ensures rules { IfOk result (λ state. option_map (λ peer. peer.rules) (slice_get plan.now.peers peer) ≡ Some state.rules) }
-    ensures legs { IfOk result (λ state. state.legs ≡ first_legs plan.now peer) }
-    ensures empty { IfOk result (λ state. (state.outbox ≡ []) × (state.queue ≡ []) × (state.accounts ≡ no_accounts)) }
+    ensures rules { IfOk result (λ state. option_map (λ peer. peer.rules) (slice_get plan.now.peers peer) ≡ Some state.state.rules) }
+    ensures legs { IfOk result (λ state. (state.number ≡ peer) × (state.state.legs ≡ first_legs plan.now peer)) }
+    ensures empty { IfOk result (λ state. (state.state.outbox ≡ []) × (state.state.queue ≡ []) × (state.state.accounts ≡ no_accounts)) }
 {
     let _counts = plan.counts();
     let range = plan.range(peer);
@@ -135,7 +137,7 @@ fn state_of<J: Naming>(
         octets,
         steps,
     ) {
-        Ok(state) => Ok(state),
+        Ok(state) => Ok(NotedPeer::new(peer, state)),
         Err(_) => Err(AllocError),
     }
 }
@@ -165,7 +167,17 @@ fn cells<J: Naming>(
     Ok(cells)
 }
 
-// So many passes, without credit.
+// A pass of empty shares, under which nothing was made.
+fn unused_pass<J: Naming>(octets: Share<J::Octets>, steps: Share<J::Steps>) -> Pass<J>
+    requires octets { octets ≡ 0 }
+    requires steps { steps ≡ 0 }
+    ensures empty { (result.credit.octets ≡ 0) × (result.credit.steps ≡ 0) }
+    ensures unused { (result.begun ≡ 0) × (result.made ≡ []) }
+{
+    Pass::new(octets, steps)
+}
+
+// So many passes, without credit, and nothing made under them.
 fn passes_of<J: Naming>(
     alloc: Global,
     count: u16,
@@ -175,7 +187,8 @@ fn passes_of<J: Naming>(
     requires octets { octets.items ≡ replicate count 0 }
     requires steps { steps.items ≡ replicate count 0 }
     ensures len { IfOk result (λ passes. vec_len passes ≡ count) }
-    ensures empty { IfOk result (λ passes. All (λ pass. (pass.octets ≡ 0) × (pass.steps ≡ 0)) passes.items) }
+    ensures empty { IfOk result (λ passes. All (λ pass. (pass.credit.octets ≡ 0) × (pass.credit.steps ≡ 0)) passes.items) }
+    ensures unused { IfOk result (λ passes. All (λ pass. (pass.begun ≡ 0) × (pass.made ≡ [])) passes.items) }
 {
     let mut octets = octets;
     let mut steps = steps;
@@ -184,7 +197,7 @@ fn passes_of<J: Naming>(
         let (Some(o), Some(s)) = (octets.pop(), steps.pop()) else {
             unreachable!()
         };
-        passes.push(Pass::new(o, s))?;
+        passes.push(unused_pass(o, s))?;
     }
     Ok(passes)
 }

@@ -1,15 +1,20 @@
 //! The locked sections of peers in which a leg is ordered, time goes on, or a leg is taken out.
-ghost use Rattle.std.specs.Prelude.{◌≡◌, ◌+◌, ◌<◌, ◌≤◌, Some, length, IfOk, IfSome, OnOk, OnErr};
+ghost use Rattle.std.specs.Prelude.{◌≡◌, ◌+◌, ◌<◌, ◌≤◌, Some, is_some, length, IfOk, IfSome, OnOk, OnErr};
+ghost use Rattle.call_signals.specs.Orders.{kind_of};
 ghost use Rattle.leg_machine.specs.OrderTable.{IsShortMedia};
+ghost use Rattle.noted_steps.specs.Notes.{Notes, media_of, note};
+ghost use Rattle.noted_steps.specs.declared.made.Made.TheVariants as mades;
 ghost use Rattle.peer_lock.specs.Accounts.{with_step};
 ghost use Rattle.peer_lock.specs.Orders.{order_octets};
 ghost use Rattle.peer_lock.specs.Statuses.{IsHistory};
 
 use crate::exchange::Exchange;
 use crate::gates::Gate;
+use crate::peer_sections::expect_peer;
 use call_book::{Lease, LegName};
 use leg_machine::Order;
-use peer_lock::{Naming, OrderError, Pass, Step, StepsSpent, TickReport};
+use noted_steps::Pass;
+use peer_lock::{Naming, OrderError, Step, StepsSpent, TickReport};
 use seq_window::Record;
 use std::sync::Wait;
 
@@ -25,14 +30,16 @@ impl<G: Gate, J: Naming> Exchange<G, J> {
     ) -> Result<Step, OrderError>
         requires peer { name.peer < length self.now.peers }
         requires media { IsShortMedia order.now }
-        requires credit { order_octets order.now ≤ pass.old.octets }
-        ensures steps { OnOk result (pass.new.steps ≡ pass.old.steps + 1) }
-        ensures octets { OnOk result (pass.new.octets + order_octets order.now ≡ pass.old.octets) }
+        requires credit { order_octets order.now ≤ pass.old.credit.octets }
+        ensures noted { Notes (mades.Order name.peer name (kind_of order.now) (media_of order.now) now result) pass.old pass.new }
+        ensures steps { OnOk result (pass.new.credit.steps ≡ pass.old.credit.steps + 1) }
+        ensures octets { OnOk result (pass.new.credit.octets + order_octets order.now ≡ pass.old.credit.octets) }
         ensures touched { IfOk result (λ step. step.touched ≡ Some name) }
-        ensures refused { OnErr result (pass.new ≡ pass.old) }
+        ensures refused { OnErr result (pass.new.credit ≡ pass.old.credit) }
     {
         let mut state = self.peers[usize::from(name.peer)].lock(rt);
         self.gate.enter(name.peer);
+        expect_peer(rt, &*state, name.peer);
         state.order(pass, name, order, now)
     }
 
@@ -45,22 +52,31 @@ impl<G: Gate, J: Naming> Exchange<G, J> {
         now: u64,
     ) -> Result<TickReport, StepsSpent>
         requires { peer < length self.now.peers }
-        ensures credit { OnOk result (pass.new ≡ with_step pass.old 0) }
-        ensures refused { OnErr result (pass.new ≡ pass.old) }
+        ensures noted { Notes (mades.Tick peer now result) pass.old pass.new }
+        ensures credit { OnOk result (pass.new.credit ≡ with_step pass.old.credit 0) }
+        ensures refused { OnErr result (pass.new.credit ≡ pass.old.credit) }
     {
         let mut state = self.peers[usize::from(peer)].lock(rt);
         self.gate.enter(peer);
+        expect_peer(rt, &*state, peer);
         state.tick(pass, now)
     }
 
     // Takes out the leg of a name, where it has ended and owes nothing: its lease and its record. That is no step.
-    pub(crate) fn retire<R: Wait>(&self, rt: &R, name: LegName) -> Option<(Lease, Record)>
+    pub(crate) fn retire<R: Wait>(
+        &self,
+        rt: &R,
+        pass: &mut Pass<J>,
+        name: LegName,
+    ) -> Option<(Lease, Record)>
         requires { name.peer < length self.now.peers }
+        ensures noted { pass.new ≡ note (mades.Retire name.peer name (is_some result)) pass.old }
         ensures lease { IfSome result (λ retired. retired.0 ≡ name) }
         ensures legal { IfSome result (λ retired. IsHistory retired.1.entries) }
     {
         let mut state = self.peers[usize::from(name.peer)].lock(rt);
         self.gate.enter(name.peer);
-        state.retire(name)
+        expect_peer(rt, &*state, name.peer);
+        state.retire(pass, name)
     }
 }

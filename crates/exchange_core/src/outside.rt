@@ -1,6 +1,10 @@
 //! The calls of workers and callers.
 ghost use Rattle.std.specs.Prelude.{◌≡◌, ◌≢◌, ◌+◌, ◌<◌, ◌≤◌, ◌↔◌, Err, None, IfNone, IfOk, IsSome, IsTrue, OnOk, OnErr, length};
+ghost use Rattle.call_steps.specs.Work as work;
+ghost use Rattle.call_steps.specs.WorkState.{begun};
 ghost use Rattle.exchange_core.specs.Numbers.{IsCalled};
+ghost use Rattle.exchange_core.specs.Traces.{IsHeard, MakesAll, moment};
+ghost use Rattle.peer_plan.specs.Plan.{counts_of, range_of};
 ghost use Rattle.peer_lock.specs.Accounts.{with_step};
 
 use crate::answers::{Answer, CallError, Refusal};
@@ -10,7 +14,8 @@ use crate::hands::{Given, Hands};
 use call_auth::Challenge;
 use call_book::LegName;
 use call_steps::Work;
-use peer_lock::{Naming, OrderError, Pass};
+use noted_steps::Pass;
+use peer_lock::{Naming, OrderError};
 use peer_plan::Endpoint;
 use std::sync::Wait;
 
@@ -40,9 +45,11 @@ impl<G: Gate, J: Naming> Exchange<G, J> {
         now: u64,
         challenge: &Challenge,
     ) -> Answer
-        ensures steps { pass.new.steps ≡ pass.old.steps + result.steps }
+        // The steps that were made under the pass are just those which the table of the call named, in its order, and it ended.
+        ensures all { IsHeard self.now from (record (moment self.now now) { octets = octets.now; challenge = Some challenge.now }) pass.old pass.new }
+        ensures steps { pass.new.credit.steps ≡ pass.old.credit.steps + result.steps }
         ensures some { IfNone result.refused (1 ≤ result.steps) }
-        ensures refused { IsSome result.refused → (result.steps ≡ 0) × (pass.new ≡ pass.old) }
+        ensures refused { IsSome result.refused → (result.steps ≡ 0) × (pass.new.credit ≡ pass.old.credit) }
     {
         let first = pass.steps();
         let mut hands = Hands::empty(self.alloc);
@@ -80,9 +87,11 @@ impl<G: Gate, J: Naming> Exchange<G, J> {
     /// Where it is refused, no step was made.
     pub fn tick<R: Wait>(&self, rt: &R, pass: &mut Pass<J>, peer: u16, now: u64) -> Answer
         requires { peer < length self.now.peers }
-        ensures steps { pass.new.steps ≡ pass.old.steps + result.steps }
+        // Its looks go over all numbers of the peer.
+        ensures all { MakesAll (moment self.now now) (begun (work.of_tick peer (range_of (counts_of self.now.peers) peer).first (range_of (counts_of self.now.peers) peer).count)) pass.old pass.new }
+        ensures steps { pass.new.credit.steps ≡ pass.old.credit.steps + result.steps }
         ensures some { IfNone result.refused (1 ≤ result.steps) }
-        ensures refused { IsSome result.refused → (result.steps ≡ 0) × (pass.new ≡ pass.old) }
+        ensures refused { IsSome result.refused → (result.steps ≡ 0) × (pass.new.credit ≡ pass.old.credit) }
     {
         let first = pass.steps();
         let range = self.plan.range(peer);
@@ -113,12 +122,14 @@ impl<G: Gate, J: Naming> Exchange<G, J> {
         now: u64,
     ) -> Result<LegName, CallError>
         requires { peer < length self.now.peers }
+        ensures all { result ≢ Err CallError.BadNumber → MakesAll (record (moment self.now now) { called = Some called.now }) (begun (work.of_call peer)) pass.old pass.new }
+        ensures unmade { result ≡ Err CallError.BadNumber → pass.new ≡ pass.old }
         ensures called { OnOk result (IsCalled called.now) }
         ensures bad { (IsCalled called.now → ⊥) → result ≡ Err CallError.BadNumber }
         ensures good { IsCalled called.now → result ≢ Err CallError.BadNumber }
         ensures name { IfOk result (λ name. name.peer ≡ peer) }
-        ensures steps { OnOk result (pass.new ≡ with_step pass.old 0) }
-        ensures refused { OnErr result (pass.new ≡ pass.old) }
+        ensures steps { OnOk result (pass.new.credit ≡ with_step pass.old.credit 0) }
+        ensures refused { OnErr result (pass.new.credit ≡ pass.old.credit) }
     {
         if !is_called(called) {
             return Err(CallError::BadNumber);
@@ -147,9 +158,10 @@ impl<G: Gate, J: Naming> Exchange<G, J> {
         now: u64,
     ) -> Result<Answer, OrderError>
         requires { name.peer < length self.now.peers }
-        ensures steps { IfOk result (λ answer. pass.new.steps ≡ pass.old.steps + answer.steps) }
+        ensures all { MakesAll (moment self.now now) (begun (work.of_hang_up name)) pass.old pass.new }
+        ensures steps { IfOk result (λ answer. pass.new.credit.steps ≡ pass.old.credit.steps + answer.steps) }
         ensures some { IfOk result (λ answer. (1 ≤ answer.steps) × (answer.refused ≡ None)) }
-        ensures refused { OnErr result (pass.new ≡ pass.old) }
+        ensures refused { OnErr result (pass.new.credit ≡ pass.old.credit) }
     {
         let first = pass.steps();
         let mut work = Work::of_hang_up(name);

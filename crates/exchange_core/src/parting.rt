@@ -1,11 +1,12 @@
 //! Peers and passes are parted from their shares.
 ghost use Rattle.std.specs.Prelude.{◌≡◌, ◌+◌, ◌*◌, ◌≤◌, [], IfOk, sum, vec_len, vec_capacity};
-ghost use Rattle.exchange_core.specs.Sums.{accepted_of, packed_of, queued_of, dropped_of, quelched_of, steps_of, left_with, steps_under};
+ghost use Rattle.exchange_core.specs.Sums.{accepted_of, packed_of, queued_of, dropped_of, quelched_of, steps_of, left_with, steps_under, begun_with, noted_under};
 ghost use Rattle.peer_lock.specs.Accounts.{carried};
 
 use crate::exchange::PeerCell;
 use media_ledger::Share;
-use peer_lock::{ClosedPeer, Naming, Pass};
+use noted_steps::Pass;
+use peer_lock::{ClosedPeer, Naming};
 use std::alloc::{AllocError, Global};
 
 // Peers without their shares, and the shares.
@@ -46,7 +47,7 @@ fn part_peer<J: Naming>(cell: PeerCell<J>) -> (ClosedPeer<J>, Share<J::Octets>, 
     ensures within { result.0.accounts.accepted ≤ J.first_octets }
     ensures quelched { result.0.accounts.quelched ≤ result.0.accounts.dropped }
 {
-    let (peer, octets, steps) = cell.into_inner().part();
+    let (peer, octets, steps) = cell.into_inner().into_state().part();
     let _quelched = peer.quelched();
     (peer, octets, steps)
 }
@@ -88,6 +89,7 @@ pub(crate) fn part_passes<J: Naming>(
     ensures all { (vec_len octets.new ≡ vec_len octets.old + vec_len passes) × (vec_len steps.new ≡ vec_len steps.old + vec_len passes) }
     ensures octets { sum octets.new.items ≡ sum octets.old.items + left_with passes.items }
     ensures steps { sum steps.new.items ≡ sum steps.old.items + steps_under passes.items }
+    ensures noted { steps_under passes.items ≡ begun_with passes.items + noted_under passes.items }
 {
     let mut passes = passes;
     while let Some(pass) = passes.pop() {

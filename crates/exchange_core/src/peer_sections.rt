@@ -1,8 +1,10 @@
 //! The locked sections of peers: each takes one peer's lock, and makes at most one step.
-ghost use Rattle.std.specs.Prelude.{◌≡◌, ◌≢◌, ℕ, ◌+◌, ◌<◌, ◌≤◌, Some, length, IfOk, IfErr, OnOk, OnErr};
+ghost use Rattle.std.specs.Prelude.{◌≡◌, ◌≢◌, ℕ, ◌+◌, ◌<◌, ◌≤◌, Some, length, option_copied, IfOk, IfErr, OnOk, OnErr};
 ghost use Rattle.std.specs.Option.{ForSome};
 ghost use Rattle.exchange_core.specs.Covered.{TakesCredit};
 ghost use Rattle.exchange_core.specs.Newcomers.{SpellsOpening};
+ghost use Rattle.noted_steps.specs.Notes.{Notes, note, without_lease};
+ghost use Rattle.noted_steps.specs.declared.made.Made.TheVariants as mades;
 ghost use Rattle.peer_lock.specs.Accounts.{with_step};
 ghost use Rattle.peer_lock.specs.Makes.{IsNothing};
 ghost use Rattle.peer_lock.specs.Openings.{IsOpening};
@@ -13,9 +15,20 @@ use call_auth::Challenge;
 use call_book::Lease;
 use iax_frames::{Full, Out};
 use leg_machine::Format;
+use noted_steps::{NotedPeer, Pass};
 use peer_lock::laws::media_is_the_datagrams;
-use peer_lock::{Naming, Onwards, OpenError, Pass, PeerError, Status, Step};
+use peer_lock::{Naming, Onwards, OpenError, PeerError, Status, Step};
 use std::sync::Wait;
+
+// The peer that lies under a lock is that of the lock. A call that found another would never return.
+pub(crate) fn expect_peer<R: Wait, J: Naming>(rt: &R, state: &NotedPeer<J>, peer: u16)
+    ensures { state.now.number ≡ peer }
+{
+    if state.number() != peer {
+        for _ in rt.forever() {}
+        unreachable!();
+    }
+}
 
 impl<G: Gate, J: Naming> Exchange<G, J> {
     /// The oldest datagram for a peer of the plan: a frame that was written for it.
@@ -41,7 +54,24 @@ impl<G: Gate, J: Naming> Exchange<G, J> {
     {
         let state = self.peers[usize::from(peer)].lock(rt);
         self.gate.enter(peer);
-        state.look(number)
+        state.status(number)
+    }
+
+    // Looks at the leg of a local number of a peer of the plan, as a step of a call.
+    pub(crate) fn look<R: Wait>(
+        &self,
+        rt: &R,
+        pass: &mut Pass<J>,
+        peer: u16,
+        number: u16,
+    ) -> Option<Status>
+        requires { peer < length self.now.peers }
+        ensures { pass.new ≡ note (mades.Look peer number result) pass.old }
+    {
+        let state = self.peers[usize::from(peer)].lock(rt);
+        self.gate.enter(peer);
+        expect_peer(rt, &*state, peer);
+        state.look(pass, number)
     }
 
     // A datagram comes from a peer. What is handed up is written to the list, which is empty.
@@ -56,16 +86,18 @@ impl<G: Gate, J: Naming> Exchange<G, J> {
     ) -> Result<Step, PeerError>
         requires peer { from < length self.now.peers }
         requires nothing { IsNothing onwards.old }
-        ensures steps { OnOk result (pass.new.steps ≡ pass.old.steps + 1) }
-        ensures octets { OnOk result (pass.old.octets ≤ pass.new.octets) }
-        ensures media { OnOk result (TakesCredit (length octets.now) pass.old pass.new onwards.new.signals) }
-        ensures refused { OnErr result ((pass.new ≡ pass.old) × IsNothing onwards.new) }
+        ensures noted { Notes (mades.Datagram from octets.now now result onwards.new) pass.old pass.new }
+        ensures steps { OnOk result (pass.new.credit.steps ≡ pass.old.credit.steps + 1) }
+        ensures octets { OnOk result (pass.old.credit.octets ≤ pass.new.credit.octets) }
+        ensures media { OnOk result (TakesCredit (length octets.now) pass.old.credit pass.new.credit onwards.new.signals) }
+        ensures refused { OnErr result ((pass.new.credit ≡ pass.old.credit) × IsNothing onwards.new) }
         // It needs a number only where it spells a NEW that opens a leg.
         ensures needs { IfErr result (λ error. error ≡ PeerError.NeedsNumber → SpellsOpening octets.now) }
     {
         media_is_the_datagrams();
         let mut state = self.peers[usize::from(from)].lock(rt);
         self.gate.enter(from);
+        expect_peer(rt, &*state, from);
         state.datagram(pass, octets, now, onwards)
     }
 
@@ -83,16 +115,18 @@ impl<G: Gate, J: Naming> Exchange<G, J> {
         requires peer { lease.peer < length self.now.peers }
         requires opening { IsOpening frame.now }
         requires nothing { IsNothing onwards.old }
-        ensures credit { OnOk result (pass.new ≡ with_step pass.old 0) }
+        ensures noted { Notes (mades.OpenIn lease.peer lease frame.now.head frame.now.payload now challenge.now (without_lease result) onwards.new) pass.old pass.new }
+        ensures credit { OnOk result (pass.new.credit ≡ with_step pass.old.credit 0) }
         // What opens a leg has no media.
-        ensures media { (len : ℕ) → OnOk result (TakesCredit len pass.old pass.new onwards.new.signals) }
+        ensures media { (len : ℕ) → OnOk result (TakesCredit len pass.old.credit pass.new.credit onwards.new.signals) }
         ensures touched { IfOk result (λ step. step.touched ≡ Some lease) }
         ensures lease { IfErr result (λ back. back.0 ≡ lease) }
-        ensures refused { OnErr result ((pass.new ≡ pass.old) × IsNothing onwards.new) }
+        ensures refused { OnErr result ((pass.new.credit ≡ pass.old.credit) × IsNothing onwards.new) }
     {
         let peer = lease.name().peer;
         let mut state = self.peers[usize::from(peer)].lock(rt);
         self.gate.enter(peer);
+        expect_peer(rt, &*state, peer);
         state.open_in(pass, lease, frame, now, challenge, onwards)
     }
 
@@ -110,15 +144,17 @@ impl<G: Gate, J: Naming> Exchange<G, J> {
         requires peer { lease.peer < length self.now.peers }
         requires called { length called.now ≤ 255 }
         requires calling { ForSome calling (λ text. length text.now ≤ 255) }
-        ensures credit { OnOk result (pass.new ≡ with_step pass.old 0) }
+        ensures noted { Notes (mades.OpenOut lease.peer lease called.now (option_copied calling.entry) format now (without_lease result)) pass.old pass.new }
+        ensures credit { OnOk result (pass.new.credit ≡ with_step pass.old.credit 0) }
         ensures touched { IfOk result (λ step. step.touched ≡ Some lease) }
         ensures lease { IfErr result (λ back. back.0 ≡ lease) }
         ensures no_remote { IfErr result (λ back. back.1 ≢ OpenError.RemoteBusy) }
-        ensures refused { OnErr result (pass.new ≡ pass.old) }
+        ensures refused { OnErr result (pass.new.credit ≡ pass.old.credit) }
     {
         let peer = lease.name().peer;
         let mut state = self.peers[usize::from(peer)].lock(rt);
         self.gate.enter(peer);
+        expect_peer(rt, &*state, peer);
         state.open_out(pass, lease, called, calling, format, now)
     }
 }

@@ -1,15 +1,21 @@
 //! Where offered calls lead.
-ghost use Rattle.std.specs.Prelude.{length, Some, option_copied};
+ghost use Rattle.std.specs.Prelude.{◌≡◌, length, Some, option_copied};
+ghost use Rattle.call_steps.specs.declared.needs.Need.TheVariants as needs;
+ghost use Rattle.call_steps.specs.declared.replies.Reply.TheVariants as replies;
 ghost use Rattle.exchange_core.specs.Routes.{IsRoute, LeadsInside};
+ghost use Rattle.exchange_core.specs.Traces.{Makes, call_of};
+ghost use Rattle.exchange_core.specs.declared.hands.Given.{Given as GivenValue};
 
 use crate::exchange::Exchange;
 use crate::gates::Gate;
+use call_book::LegName;
 use call_steps::Route;
+use noted_steps::Pass;
 use peer_lock::{Naming, Offer};
 
 impl<G: Gate, J: Naming> Exchange<G, J> {
     // Where the call leads that a leg offers.
-    pub(crate) fn route(&self, offer: Option<&Offer>) -> Route
+    fn route(&self, offer: Option<&Offer>) -> Route
         ensures route { IsRoute self.now (option_copied offer.entry) result }
         ensures inside { LeadsInside result (length self.now.peers) }
     {
@@ -17,6 +23,21 @@ impl<G: Gate, J: Naming> Exchange<G, J> {
             Some(offer) => self.route_for(offer),
             None => Route::Nowhere,
         }
+    }
+
+    // Where the call leads that this leg offers. No locked state is asked.
+    pub(crate) fn route_noted(
+        &self,
+        pass: &mut Pass<J>,
+        _offered: LegName,
+        offer: Option<&Offer>,
+    ) -> Route
+        ensures noted { (given : GivenValue) → Makes (call_of self.now given) (option_copied offer.entry) (needs.Route _offered) (replies.Route result) pass.old pass.new }
+        ensures credit { pass.new.credit ≡ pass.old.credit }
+        ensures inside { LeadsInside result (length self.now.peers) }
+    {
+        pass.note_unasked();
+        self.route(offer)
     }
 
     // Where an offered call leads.

@@ -1,13 +1,14 @@
 //! The accounts of all peers, once every pass is back.
 ghost use Rattle.std.specs.Prelude.{◌≡◌, ◌≢◌, ◌+◌, ◌<◌, ◌≤◌, ◌^◌, IfOk, IfErr, OnOk, length, vec_len};
-ghost use Rattle.exchange_core.specs.Sums.{accepted_of, packed_of, queued_of, dropped_of, quelched_of, steps_of, left_with, steps_under};
+ghost use Rattle.exchange_core.specs.Sums.{accepted_of, packed_of, queued_of, dropped_of, quelched_of, steps_of, left_with, steps_under, begun_with, noted_under};
 
 use crate::exchange::Exchange;
 use crate::gates::Gate;
 use crate::parting::{Parts, part_passes, part_peers};
 use call_book::CallBook;
 use media_ledger::gather;
-use peer_lock::{ClosedPeer, Naming, Pass};
+use noted_steps::Pass;
+use peer_lock::{ClosedPeer, Naming};
 
 /// What the locks held, and the sums over all peers and passes.
 #[derive(Drop)]
@@ -132,6 +133,8 @@ impl<G: Gate, J: Naming> Exchange<G, J> {
         // What was accepted is what became of it, and the steps are those under the passes.
         ensures balances { IfOk result (λ s. s.accepted ≡ s.packed + s.queued + s.dropped) }
         ensures made { IfOk result (λ s. s.steps ≡ steps_under passes.items) }
+        // No step of a peer is outside of what is noted under the passes.
+        ensures noted { IfOk result (λ s. s.steps ≡ begun_with passes.items + noted_under passes.items) }
     {
         let pass_count = usize::from(self.plan.passes());
         let shares = self.peers.len() + pass_count;
@@ -160,6 +163,6 @@ impl<G: Gate, J: Naming> Exchange<G, J> {
         let (Ok(_), Ok(_)) = (gather(&octet_supply, octets), gather(&step_supply, steps)) else {
             unreachable!()
         };
-        Ok(settled(book.into_inner(), peers))
+        Ok(settled(book.into_inner().into_book(), peers))
     }
 }

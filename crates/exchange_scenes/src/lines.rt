@@ -4,9 +4,9 @@
 
 use call_auth::Challenge;
 use call_book::LegName;
-use exchange_core::{Answer, CallError, Exchange, Gate, Refusal};
+use exchange_core::{Answer, CallError, Exchange, Gate, Pass, Refusal};
 use iax_frames::Out;
-use peer_lock::{Naming, OrderError, Pass, Status};
+use peer_lock::{Naming, OrderError, Status};
 use peer_plan::Endpoint;
 use script_lines::{Line, line_of};
 use std::sync::Wait;

@@ -2,10 +2,10 @@
 
 use crate::opened::{Scene, is_ended, play_on};
 use crate::same::{holds, same};
-use exchange_core::{Exchange, NoGate, Refusal};
+use exchange_core::{Exchange, NoGate, Pass, Refusal};
 use exchange_scenes::plans::PLAN;
 use exchange_scenes::{Told, WEST_PLACE, heard, heard_from, take_out};
-use peer_lock::{Naming, Pass};
+use peer_lock::Naming;
 use peer_plan::Endpoint;
 use std::process::Abort;
 use std::sync::Wait;

@@ -5,8 +5,8 @@ ghost use Rattle.udp_workers.specs.Counts.{RisesBy};
 
 use crate::wire::Wire;
 use call_auth::Challenge;
-use exchange_core::{Exchange, Gate};
-use peer_lock::{Naming, Pass};
+use exchange_core::{Exchange, Gate, Pass};
+use peer_lock::Naming;
 use std::sync::Wait;
 
 // The longest datagram is 2,048 octets; one more shows that a datagram is longer.
@@ -40,7 +40,7 @@ pub(crate) fn receive_all<W: Wire, G: Gate, J: Naming, R: Wait>(
     ensures received { result.received ≤ 64 }
     ensures refused { result.refused ≤ result.received }
     ensures one_fault { result.faults ≤ 1 }
-    ensures steps { pass.old.steps + result.received ≤ pass.new.steps + result.refused }
+    ensures steps { pass.old.credit.steps + result.received ≤ pass.new.credit.steps + result.refused }
 {
     let mut octets = [0u8; OCTETS];
     let mut report = Received {

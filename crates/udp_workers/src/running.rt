@@ -7,8 +7,8 @@ use crate::report::TurnReport;
 use crate::sources::{Challenges, Moments};
 use crate::wire::Wire;
 use crate::worker::Worker;
-use exchange_core::{Exchange, Gate};
-use peer_lock::{Naming, Pass};
+use exchange_core::{Exchange, Gate, Pass};
+use peer_lock::Naming;
 use std::sync::Wait;
 
 // How long a worker waits for a datagram between two turns, in milliseconds.
@@ -45,7 +45,7 @@ impl Worker {
         ensures wire { W.peers wire.new ≡ W.peers wire.old }
         ensures received { result.received ≤ 64 * turns }
         ensures emptied { result.sent + result.lost ≤ 256 * 32 * turns }
-        ensures steps { pass.old.steps + result.received ≤ pass.new.steps + result.refused }
+        ensures steps { pass.old.credit.steps + result.received ≤ pass.new.credit.steps + result.refused }
         ensures place { self.new.place ≡ self.old.place }
         ensures peers { self.new.peers ≡ self.old.peers }
         ensures turns { RisesBy self.old.turns self.new.turns turns }

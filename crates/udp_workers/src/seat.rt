@@ -7,8 +7,8 @@ use crate::report::TurnReport;
 use crate::sources::{Challenges, Moments};
 use crate::wire::Wire;
 use crate::worker::Worker;
-use exchange_core::{Exchange, Gate};
-use peer_lock::{Naming, Pass};
+use exchange_core::{Exchange, Gate, Pass};
+use peer_lock::Naming;
 use std::marker::{Brand, PhantomData};
 use std::sync::{Mutex, Wait};
 

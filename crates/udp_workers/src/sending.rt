@@ -4,8 +4,8 @@ ghost use Rattle.peer_plan.specs.declared.endpoint.Endpoint.{Endpoint};
 ghost use Rattle.udp_workers.specs.Counts.{RisesBy};
 
 use crate::wire::Wire;
-use exchange_core::{Exchange, Gate};
-use peer_lock::{Naming, Pass};
+use exchange_core::{Exchange, Gate, Pass};
+use peer_lock::Naming;
 use peer_plan::Endpoint;
 use std::sync::Wait;
 

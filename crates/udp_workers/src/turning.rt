@@ -10,8 +10,8 @@ use crate::sending::{Sent, send_all};
 use crate::wire::Wire;
 use crate::worker::Worker;
 use call_auth::Challenge;
-use exchange_core::{Exchange, Gate};
-use peer_lock::{Naming, Pass};
+use exchange_core::{Exchange, Gate, Pass};
+use peer_lock::Naming;
 use std::sync::Wait;
 
 impl Worker {
@@ -40,7 +40,7 @@ impl Worker {
         ensures each { (to : Endpoint) → RisesByAtMost 256 (W.given_to wire.old to) (W.given_to wire.new to) }
         ensures few_faults { result.faults ≤ result.lost + 1 }
         // Each datagram that isn't refused made a step at least.
-        ensures steps { pass.old.steps + result.received ≤ pass.new.steps + result.refused }
+        ensures steps { pass.old.credit.steps + result.received ≤ pass.new.credit.steps + result.refused }
         ensures place { self.new.place ≡ self.old.place }
         ensures peers { self.new.peers ≡ self.old.peers }
         ensures few { length self.new.peers ≤ 32 }
@@ -73,7 +73,7 @@ fn tick_all<G: Gate, J: Naming, R: Wait>(
     now: u64,
 ) -> u64
     requires { All (λ peer. peer < length exchange.now.peers) peers.now }
-    ensures { pass.old.steps ≤ pass.new.steps }
+    ensures { pass.old.credit.steps ≤ pass.new.credit.steps }
 {
     let mut retired: u64 = 0;
     for &peer in peers {

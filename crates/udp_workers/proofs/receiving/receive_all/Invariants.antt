@@ -12,5 +12,5 @@ invariant-loop g l = record {
   given_to : (to : Endpoint) → g.W.Wire.given_to l.wire to ≡ g.W.Wire.given_to l.fn.wire to;
   failures : RisesBy (g.W.Wire.failures l.fn.wire) (g.W.Wire.failures l.wire) 0;
   peers : g.W.Wire.peers l.wire ≡ g.W.Wire.peers l.fn.wire;
-  steps : l.fn.pass.steps + l.report.received ≤ l.pass.steps + l.report.refused;
+  steps : l.fn.pass.credit.steps + l.report.received ≤ l.pass.credit.steps + l.report.refused;
 }

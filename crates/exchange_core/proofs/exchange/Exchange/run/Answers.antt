@@ -1,18 +1,21 @@
-use Rattle.std.proofs.Common.{◌≡◌, Some, true, length, sym, ap, subst, ◌∙◌, arith}
+use Rattle.std.proofs.Common.{◌≡◌, Some, true, length, sym, ap, subst, ◌∙◌}
 use Rattle.call_steps.specs.Beginnings.{beginning_at, is_answer}
 use Rattle.call_steps.specs.Leases.{lease_needed}
 use Rattle.call_steps.specs.Work.{next_of}
+use Rattle.call_steps.specs.WorkState.{WorkState}
 use Rattle.exchange_core.specs.Denials.{noted}
 use Rattle.exchange_core.specs.FirstSteps.{InPlan, IsOpened, KeepsPeer}
 use Rattle.exchange_core.specs.Newcomers.{SpellsOpening}
 use Rattle.exchange_core.proofs.Carrying.{covers_need, covers_rest, leaves_lease}
 use Rattle.exchange_core.proofs.FirstSteps.{under_way, next_in_plan, stays_in_plan, opened_here, opens_after, stands_on}
+use Rattle.exchange_core.specs.Traces.{call_of}
+use Rattle.exchange_core.proofs.Tracing.{traces_longer}
 use Rattle.exchange_core.proofs.exchange.Exchange.run.Goals as goal
 
 pub make-reply-requires-clause-media : goal.make-reply-requires-clause-media
 make-reply-requires-clause-media g c lifetimes lives =
     let law = c.media_is_carried_once.ensures in
-    covers_need law.needed law.covered (length c.args.given.now.octets.now) c.loop.pass.octets c.loop.work.work c.in-Some-next.need (sym c.next-in-loop.ensures ∙ c.in-Some-next.is)
+    covers_need law.needed law.covered (length c.args.given.now.octets.now) c.loop.pass.credit.octets c.loop.work.work c.in-Some-next.need (sym c.next-in-loop.ensures ∙ c.in-Some-next.is)
     c.loop.invariant.2
 
 pub make-reply-requires-clause-lease : goal.make-reply-requires-clause-lease
@@ -37,22 +40,26 @@ loop-preserved g c =
     let need : next_of c.loop.work.work ≡ Some c.in-Some-next.need = sym c.next-in-loop.ensures ∙ c.in-Some-next.is in
     let answers : is_answer (next_of c.loop.work.work) c.make-reply.result ≡ true = ap (λ o. is_answer o c.make-reply.result) need ∙ c.make-reply.ensures.answer in
     let keeps : KeepsPeer (next_of c.loop.work.work) c.make-reply.result = subst (λ o. KeepsPeer o c.make-reply.result) (sym need) c.make-reply.ensures.peer in
+    let work = ap (λ (state : WorkState). state.work) c.tell.ensures.work in
     let denial = c.tell.ensures.denial ∙ ap (noted (beginning_at c.loop.work.work.place) c.make-reply.result) c.make-reply.ensures.denial in (
       tt,
       tt,
-      covers_rest carried.within carried.octets (length c.args.given.now.octets.now) c.loop.pass.octets c.make-reply.new.pass.octets c.loop.work.work c.tell.new.work.work
-          c.in-Some-next.need c.make-reply.result need c.make-reply.ensures.within c.tell.ensures.work c.make-reply.ensures.octets c.loop.invariant.2,
+      covers_rest carried.within carried.octets (length c.args.given.now.octets.now) c.loop.pass.credit.octets c.make-reply.new.pass.credit.octets c.loop.work.work c.tell.new.work.work
+          c.in-Some-next.need c.make-reply.result need c.make-reply.ensures.within work c.make-reply.ensures.octets c.loop.invariant.2,
       c.tell.ensures.lease
           ∙ leaves_lease c.leases_are_as_named.ensures.after c.loop.work.work c.tell.new.work.work c.in-Some-next.need c.make-reply.result c.loop.hands.lease
-          c.make-reply.new.hands.lease need c.tell.ensures.work c.loop.invariant.3 c.make-reply.ensures.lease,
-      under_way begins.made begins.goes_on begins.past begins.refused begins.over begins.nothing c.args.work.now.work.place c.args.pass.now c.loop.pass
-          c.make-reply.new.pass c.loop.work.work c.tell.new.work.work c.make-reply.result c.loop.hands.denial c.tell.new.self.denial answers c.make-reply.ensures.made
-          c.make-reply.ensures.unmade c.make-reply.ensures.no_remote c.tell.ensures.work denial c.loop.invariant.4,
-      stays_in_plan begins.made begins.past (length c.args.self.now.peers) c.loop.work.work c.tell.new.work.work c.make-reply.result c.tell.ensures.work keeps
+          c.make-reply.new.hands.lease need work c.loop.invariant.3 c.make-reply.ensures.lease,
+      under_way begins.made begins.goes_on begins.past begins.refused begins.over begins.nothing c.args.work.now.work.place c.args.pass.now.credit c.loop.pass.credit
+          c.make-reply.new.pass.credit c.loop.work.work c.tell.new.work.work c.make-reply.result c.loop.hands.denial c.tell.new.self.denial answers c.make-reply.ensures.made
+          c.make-reply.ensures.unmade c.make-reply.ensures.no_remote work denial c.loop.invariant.4,
+      stays_in_plan begins.made begins.past (length c.args.self.now.peers) c.loop.work.work c.tell.new.work.work c.make-reply.result work keeps
           c.loop.invariant.5,
-      opens_after begins.made begins.past c.loop.work.work c.tell.new.work.work c.make-reply.result (SpellsOpening c.args.given.now.octets.now) c.tell.ensures.work
+      opens_after begins.made begins.past c.loop.work.work c.tell.new.work.work c.make-reply.result (SpellsOpening c.args.given.now.octets.now) work
           c.loop.invariant.6 c.make-reply.ensures.opening,
-      stands_on c.args.work.now.work.place c.args.pass.now c.loop.pass c.make-reply.new.pass c.loop.work.work c.tell.new.work.work c.make-reply.result
+      stands_on c.args.work.now.work.place c.args.pass.now.credit c.loop.pass.credit c.make-reply.new.pass.credit c.loop.work.work c.tell.new.work.work c.make-reply.result
           c.loop.hands.denial c.tell.new.self.denial c.loop.hands.named c.tell.new.self.named answers keeps c.make-reply.ensures.opened c.make-reply.ensures.unmade
-          c.tell.ensures.work denial (c.tell.ensures.named ∙ c.make-reply.ensures.named) c.loop.invariant.7,
+          work denial (c.tell.ensures.named ∙ c.make-reply.ensures.named) c.loop.invariant.7,
+      rw c.tell.ensures.work
+          (traces_longer (call_of c.args.self.now c.args.given.now) c.args.work.now c.loop.work c.in-Some-next.need c.make-reply.result c.args.pass.now c.loop.pass
+          c.make-reply.new.pass c.loop.invariant.8 need c.make-reply.ensures.noted),
     )

@@ -11,7 +11,7 @@ invariant-loop-turn g l = record {
   given : RisesBy (g.W.Wire.given l.fn.wire) (g.W.Wire.given l.wire) (l.report.sent + l.report.lost);
   failures : RisesBy (g.W.Wire.failures l.fn.wire) (g.W.Wire.failures l.wire) l.report.faults;
   wire : g.W.Wire.peers l.wire ≡ g.W.Wire.peers l.fn.wire;
-  steps : l.fn.pass.steps + l.report.received ≤ l.pass.steps + l.report.refused;
+  steps : l.fn.pass.credit.steps + l.report.received ≤ l.pass.credit.steps + l.report.refused;
   place : l.self.place ≡ l.fn.self.place;
   peers : l.self.peers ≡ l.fn.self.peers;
   turns : RisesBy l.fn.self.turns l.self.turns l.turn;

@@ -1,4 +1,4 @@
-use Rattle.storm_tests.proofs.storm.storm_on_plan.Given as goal
+use Rattle.exchange_tests.proofs.storm.storm_on_plan.Given as goal
 
 abbrev pub ghosts-storm_named-O-Ledger : goal.ghosts-storm_named-O-Ledger
 ghosts-storm_named-O-Ledger g a = record { name = a.octets.name; parts = a.octets.parts }

@@ -1,9 +1,9 @@
 //! How the legs of all numbers stand before and after a datagram, and which of them it concerns.
 
 use crate::datagrams::Sent;
-use exchange_core::{Exchange, NoGate};
+use exchange_core::{Exchange, NoGate, Pass};
 use exchange_scenes::{EAST_PLACE, WEST_PLACE, status_of};
-use peer_lock::{Naming, Pass, Status};
+use peer_lock::{Naming, Status};
 use std::sync::Wait;
 
 /// The leg of a number, and the number that it is bridged with; 0 where it is with none.

@@ -4,13 +4,13 @@ ghost use Rattle.std.specs.Prelude.{◌≡◌, ◌+◌, ◌^◌, length};
 
 use crate::datagrams::{Call, Dice, Sent, new_call};
 use crate::legs::Legs;
-use exchange_core::{Exchange, NoGate, Refusal};
+use exchange_core::{Exchange, NoGate, Pass, Refusal};
 use exchange_scenes::plans::PLAN;
 use exchange_scenes::{
     EAST_PLACE, Sums, Told, WEST_PLACE, ended, heard, recovers, take_out, ticked,
 };
 use media_ledger::Blank;
-use peer_lock::{Naming, Pass, Service};
+use peer_lock::{Naming, Service};
 use peer_plan::{Plan, PlanError};
 use std::alloc::Global;
 use std::marker::Brand;

@@ -1,0 +1,30 @@
+-- The steps of a call, and one step more.
+use Rattle.std.specs.Prelude.{◌≡◌, List, [], ◌∷◌, ◌++◌, Some, refl}
+use Rattle.std.proofs.Common.{append_assoc, append-nil, ap, sym, ◌∙◌}
+use Rattle.call_steps.specs.Work.{next_of}
+use Rattle.call_steps.specs.WorkState.{WorkState, offer_in}
+use Rattle.call_steps.specs.declared.needs.Need.{Need}
+use Rattle.call_steps.specs.declared.replies.Reply.{Reply}
+use Rattle.noted_steps.specs.Notes.{Noted}
+use Rattle.noted_steps.specs.declared.made.Made.{Made}
+use Rattle.exchange_core.specs.Traces.{Call, IsMade, IsTrace, Makes, Traces, told}
+
+trace_longer : (call : Call) (from : WorkState) (steps : List Made) (to : WorkState) (need : Need) (reply : Reply) (step : Made)
+    → IsTrace call from steps to → next_of to.work ≡ Some need → IsMade call (offer_in to.onwards) need reply step
+    → IsTrace call from (steps ++ step ∷ []) (told to reply)
+trace_longer call from [] to need reply step is next made = rw is (need, reply, next, made, refl)
+trace_longer call from (first ∷ rest) to need reply step is next made =
+    (is.0, is.1, is.2, is.3, trace_longer call (told from is.1) rest to need reply step is.4 next made)
+
+pub traces_none : (call : Call) (from : WorkState) (pass : Noted) → Traces call from from pass pass
+traces_none call from pass = record { steps = []; noted = sym (append-nil pass.made); begun = refl; trace = refl }
+
+pub traces_longer : (call : Call) (from to : WorkState) (need : Need) (reply : Reply) (first old new : Noted)
+    → Traces call from to first old → next_of to.work ≡ Some need → Makes call (offer_in to.onwards) need reply old new
+    → Traces call from (told to reply) first new
+traces_longer call from to need reply first old new traces next makes = record {
+  steps = traces.steps ++ makes.step ∷ [];
+  noted = makes.noted.made ∙ ap (λ made. made ++ makes.step ∷ []) traces.noted ∙ append_assoc first.made traces.steps (makes.step ∷ []);
+  begun = makes.noted.begun ∙ traces.begun;
+  trace = trace_longer call from traces.steps to need reply makes.step traces.trace next makes.made;
+}

@@ -1,0 +1,18 @@
+use Rattle.std.proofs.Common.{◌≡◌, [], sym, subst, arith}
+use Rattle.std.proofs.lemmas.List.Elements.{All-push}
+use Rattle.std.specs.Prelude.{All}
+use Rattle.exchange_core.proofs.Pops.{replicate-pop}
+use Rattle.exchange_core.proofs.opening.passes_of.Goals as goal
+
+pub loop-i-preserved : goal.loop-i-preserved
+loop-i-preserved g c =
+    let less = c.loop-i-test.true in
+    let pushed = sym c.in_ok-push.ensures.items in record {
+      octets = replicate-pop _ _ c.in-Some-Some.o _ _ _ c.loop-i.invariant.octets c.in-Some-Some.ensures.items less;
+      steps = replicate-pop _ _ c.in-Some-Some.s _ _ _ c.loop-i.invariant.steps c.in-Some-Some.ensures'.items less;
+      made = omega (arith, c.in_ok-push.ensures.len, c.loop-i.invariant.made);
+      empty = subst (All (λ p. (p.credit.octets ≡ 0) × (p.credit.steps ≡ 0))) pushed
+          (All-push (λ p. (p.credit.octets ≡ 0) × (p.credit.steps ≡ 0)) c.loop-i.passes.items c.unused_pass.result c.loop-i.invariant.empty c.unused_pass.ensures.empty);
+      unused = subst (All (λ p. (p.begun ≡ 0) × (p.made ≡ []))) pushed
+          (All-push (λ p. (p.begun ≡ 0) × (p.made ≡ [])) c.loop-i.passes.items c.unused_pass.result c.loop-i.invariant.unused c.unused_pass.ensures.unused);
+    }

@@ -1,0 +1,156 @@
+-- The steps of a call, as they are noted under its pass.
+use Rattle.std.specs.Prelude.{◌≡◌, ◌≢◌, ℕ, ◌≤◌, ◌++◌, ◌∷◌, ◌⊎◌, [], Bool, List, Option, None, Some, Result, Ok, Err, false, length, option_copied, option_map, slice_get, All}
+use Rattle.call_book.specs.declared.leg_name.LegName.{LegName}
+use Rattle.call_signals.specs.Formats.{lowest_format}
+use Rattle.call_signals.specs.declared.formats.Format.{Format}
+use Rattle.call_steps.specs.Acts.{act_kind, act_media}
+use Rattle.call_steps.specs.Work.{next_of, after_told, of_datagram}
+use Rattle.call_steps.specs.WorkState.{WorkState, begun, offer_in, onwards_after}
+use Rattle.call_steps.specs.declared.acts.Act.{Act}
+use Rattle.call_steps.specs.declared.needs.Need.{Need}
+use Rattle.call_steps.specs.declared.needs.Need.TheVariants as needs
+use Rattle.call_steps.specs.declared.replies.Heard.{Heard}
+use Rattle.call_steps.specs.declared.replies.Reply.{Reply}
+use Rattle.call_steps.specs.declared.replies.Reply.TheVariants as replies
+use Rattle.iax_frames.specs.FullFrame.{SpellsFull}
+use Rattle.noted_steps.specs.Notes.{Noted, Notes}
+use Rattle.noted_steps.specs.declared.made.Made.{Made}
+use Rattle.noted_steps.specs.declared.made.Made.TheVariants as mades
+use Rattle.peer_accounts.specs.declared.onwards.Offer.{Offer}
+use Rattle.peer_lock.specs.HandedUp.{HandedUp}
+use Rattle.peer_lock.specs.declared.errors.OpenError.{OpenError}
+use Rattle.peer_lock.specs.declared.errors.OpenError.TheVariants as open_errors
+use Rattle.peer_lock.specs.declared.errors.OrderError.TheVariants as order_errors
+use Rattle.peer_lock.specs.declared.errors.StepsSpent.{StepsSpent}
+use Rattle.peer_lock.specs.declared.steps.Step.{Step}
+use Rattle.peer_lock.specs.declared.steps.TickReport.{TickReport}
+use Rattle.peer_plan.specs.Plan.{PlanView}
+use Rattle.peer_plan.specs.declared.endpoint.Endpoint.{Endpoint}
+use Rattle.exchange_core.specs.Routes.{IsRoute}
+use Rattle.exchange_core.specs.declared.hands.Given.{Given}
+
+-- what a call is made with
+pub record Call : Type 0 where
+  pub plan : PlanView
+  -- the datagram; of another call nothing
+  pub octets : List ℕ
+  pub challenge : Option (List ℕ)
+  -- the number that is called from outside
+  pub called : Option (List ℕ)
+  pub now : ℕ
+
+abbrev pub call_of : PlanView → Given → Call
+call_of plan given = record { plan = plan; octets = given.octets.now; challenge = option_copied given.challenge; called = option_copied given.called; now = given.now }
+
+-- a call with nothing but its moment
+abbrev pub moment : PlanView → ℕ → Call
+moment plan now = record { plan = plan; octets = []; challenge = None; called = None; now = now }
+
+-- ---- what a call is told of an answer
+
+-- of a datagram and of an opening by a NEW: the leg concerned, and what was handed up
+abbrev pub heard_of : {E : Type 0} → Result Step E → HandedUp → Result Heard E
+heard_of (Ok step) onwards = Ok (record { touched = step.touched; onwards = onwards })
+heard_of (Err error) onwards = Err error
+
+-- of a NEW of ours and of an order: that the step was made
+abbrev pub done_of : {E : Type 0} → Result Step E → Result (Unit {0}) E
+done_of (Ok step) = Ok tt
+done_of (Err error) = Err error
+
+-- of a tick: whether it left nothing to be finished
+abbrev pub quiet_of : Result TickReport StepsSpent → Result Bool StepsSpent
+quiet_of (Ok report) = Ok report.is_quiet
+quiet_of (Err spent) = Err spent
+
+-- the octets of an order's media
+abbrev pub octets_of : Option (List ℕ) → List ℕ
+octets_of None = []
+octets_of (Some media) = media
+
+-- a leg of this peer is opened for the number that is called from outside, in the lowest format of the peer; else for what is offered
+abbrev pub IsCallFor : PlanView → Option (List ℕ) → Option Offer → ℕ → List ℕ → Option (List ℕ) → Format → Type 0
+IsCallFor plan (Some text) offer peer called calling format =
+    (called ≡ text) × (calling ≡ None) × (option_map (λ peer. lowest_format peer.rules.formats) (slice_get plan.peers peer) ≡ Some (Some format))
+IsCallFor plan None (Some offer) peer called calling format = (called ≡ offer.called) × (calling ≡ offer.calling) × (format ≡ offer.format)
+IsCallFor plan None None peer called calling format = ⊥
+
+-- ---- one step
+
+-- what is answered without asking a locked state: where no peer of the plan is meant, where memory was refused for a leg that is to be
+-- taken out, where nothing is offered, and where a call leads
+abbrev pub IsUnasked : Call → Option Offer → Need → Reply → Type 0
+IsUnasked call offer (needs.OpenOut name) reply =
+    (reply ≡ replies.OpenOut (Err open_errors.NumberBusy)) × ((length call.plan.peers ≤ name.peer) ⊎ ((call.called ≡ None) × (offer ≡ None)))
+IsUnasked call offer (needs.Order name act) reply = (reply ≡ replies.Order (Err order_errors.Gone)) × (length call.plan.peers ≤ name.peer)
+IsUnasked call offer (needs.Look peer number) reply = (reply ≡ replies.Look None) × (length call.plan.peers ≤ peer)
+IsUnasked call offer (needs.Retire name) reply = reply ≡ replies.Retire false
+IsUnasked call offer (needs.Route name) (replies.Route route) = IsRoute call.plan offer route
+IsUnasked call offer need reply = ⊥
+
+-- the step that is needed was made so, and this is its answer
+abbrev pub IsMade : Call → Option Offer → Need → Reply → Made → Type 0
+IsMade call offer need reply (mades.Datagram peer octets now answer onwards) =
+    (need ≡ needs.Datagram peer) × (reply ≡ replies.Datagram (heard_of answer onwards)) × (octets ≡ call.octets) × (now ≡ call.now)
+IsMade call offer need reply (mades.OpenIn peer name head payload now challenge answer onwards) =
+    (need ≡ needs.OpenIn name) × (reply ≡ replies.OpenIn (heard_of answer onwards)) × (peer ≡ name.peer)
+    × SpellsFull call.octets (record { head = head; payload = payload }) × (call.challenge ≡ Some challenge) × (now ≡ call.now)
+IsMade call offer need reply (mades.OpenOut peer name called calling format now answer) =
+    (need ≡ needs.OpenOut name) × (reply ≡ replies.OpenOut (done_of answer)) × (peer ≡ name.peer)
+    × IsCallFor call.plan call.called offer peer called calling format × (now ≡ call.now)
+IsMade call offer need reply (mades.Order peer name kind media now answer) =
+    (act : Act) × (need ≡ needs.Order name act) × (reply ≡ replies.Order (done_of answer)) × (peer ≡ name.peer) × (kind ≡ act_kind act)
+    × (media ≡ octets_of (act_media act call.octets)) × (now ≡ call.now)
+IsMade call offer need reply (mades.Tick peer now answer) = (need ≡ needs.Tick peer) × (reply ≡ replies.Tick (quiet_of answer)) × (now ≡ call.now)
+IsMade call offer need reply (mades.Look peer number answer) = (need ≡ needs.Look peer number) × (reply ≡ replies.Look answer)
+IsMade call offer need reply (mades.Retire peer name answer) = (need ≡ needs.Retire name) × (reply ≡ replies.Retire answer) × (peer ≡ name.peer)
+IsMade call offer need reply (mades.Reserve peer answer) = (need ≡ needs.Reserve peer) × (reply ≡ replies.Reserve answer)
+IsMade call offer need reply (mades.Bridge one other answer) = (need ≡ needs.Bridge one other) × (reply ≡ replies.Bridge answer)
+IsMade call offer need reply (mades.Partner name answer) = (need ≡ needs.Partner name) × (reply ≡ replies.Partner answer)
+IsMade call offer need reply (mades.Release name answer) = (need ≡ needs.Release name) × (reply ≡ replies.Release answer)
+IsMade call offer need reply mades.Unasked = IsUnasked call offer need reply
+
+-- the pass has noted just this one step more
+pub record Makes (call : Call) (offer : Option Offer) (need : Need) (reply : Reply) (old new : Noted) : Type 0 where
+  pub step : Made
+  pub noted : Notes step old new
+  pub made : IsMade call offer need reply step
+
+-- the pass has noted that a leg was opened so by a NEW of ours, for the number that is called from outside or for what is offered
+pub record OpensOut (plan : PlanView) (outside : Option (List ℕ)) (offer : Option Offer) (name : LegName) (now : ℕ) (answer : Result Step OpenError) (old new : Noted) : Type 0 where
+  pub called : List ℕ
+  pub calling : Option (List ℕ)
+  pub format : Format
+  pub is_for : IsCallFor plan outside offer name.peer called calling format
+  pub noted : Notes (mades.OpenOut name.peer name called calling format now answer) old new
+
+-- ---- all steps of a call
+
+-- where the table stands, once it was told an answer
+abbrev pub told : WorkState → Reply → WorkState
+told state reply = record { work = after_told state.work reply; onwards = onwards_after state.work.place reply state.onwards }
+
+-- from this place just these steps were made, each the one that the table named, and their answers led to that place
+abbrev pub IsTrace : Call → WorkState → List Made → WorkState → Type 0
+IsTrace call from [] to = from ≡ to
+IsTrace call from (step ∷ rest) to =
+    (need : Need) × (reply : Reply) × (next_of from.work ≡ Some need) × IsMade call (offer_in from.onwards) need reply step × IsTrace call (told from reply) rest to
+
+-- the steps between these two places, and none else, are noted under the pass
+pub record Traces (call : Call) (from to : WorkState) (old new : Noted) : Type 0 where
+  pub steps : List Made
+  pub noted : new.made ≡ old.made ++ steps
+  pub begun : new.begun ≡ old.begun
+  pub trace : IsTrace call from steps to
+
+-- the pass has noted all steps of a call that begins here, and none else
+pub record MakesAll (call : Call) (from : WorkState) (old new : Noted) : Type 0 where
+  pub to : WorkState
+  pub ended : next_of to.work ≡ None
+  pub traces : Traces call from to old new
+
+-- a datagram came from an endpoint: of a stranger nothing is noted, of a peer of the plan all steps of its call
+abbrev pub IsHeard : PlanView → Endpoint → Call → Noted → Noted → Type 0
+IsHeard plan from call old new =
+    (All (λ peer. peer.endpoint ≢ from) plan.peers × (new ≡ old))
+    ⊎ ((peer : ℕ) × (option_map (λ peer. peer.endpoint) (slice_get plan.peers peer) ≡ Some from) × MakesAll call (begun (of_datagram peer)) old new)
