@@ -17,7 +17,7 @@ mod worker;
 pub use mio_wire::{BindError, MioWire};
 pub use peer_counts::PeerCounts;
 pub use report::TurnReport;
-pub use seat::{Place, Post, Seat};
+pub use seat::{Place, Post, Seat, Start};
 pub use sources::{Challenges, Moments};
 pub use threads::{NoThread, run_all};
 pub use wire::{Wire, WireFault};

@@ -2,6 +2,7 @@
 ghost use Rattle.std.specs.Prelude.{◌≡◌, ◌+◌, ◌≤◌};
 ghost use Rattle.peer_plan.specs.declared.endpoint.Endpoint.{Endpoint};
 ghost use Rattle.udp_workers.specs.Counts.{RisesBy};
+ghost use Rattle.udp_workers.specs.Ticked.{IsLater};
 
 use crate::wire::Wire;
 use call_auth::Challenge;
@@ -41,6 +42,7 @@ pub(crate) fn receive_all<W: Wire, G: Gate, J: Naming, R: Wait>(
     ensures refused { result.refused ≤ result.received }
     ensures one_fault { result.faults ≤ 1 }
     ensures steps { pass.old.credit.steps + result.received ≤ pass.new.credit.steps + result.refused }
+    ensures later { IsLater pass.old pass.new }
 {
     let mut octets = [0u8; OCTETS];
     let mut report = Received {

@@ -2,6 +2,7 @@
 ghost use Rattle.std.specs.Prelude.{◌≡◌, ◌+◌, ◌*◌, ◌≤◌, length};
 ghost use Rattle.udp_workers.specs.Counts.{RisesBy};
 ghost use Rattle.udp_workers.specs.Served.{AreEndpoints, peers_of};
+ghost use Rattle.udp_workers.specs.Ticked.{IsLater};
 
 use crate::report::TurnReport;
 use crate::sources::{Challenges, Moments};
@@ -46,6 +47,7 @@ impl Worker {
         ensures received { result.received ≤ 64 * turns }
         ensures emptied { result.sent + result.lost ≤ 256 * 32 * turns }
         ensures steps { pass.old.credit.steps + result.received ≤ pass.new.credit.steps + result.refused }
+        ensures later { IsLater pass.old pass.new }
         ensures place { self.new.place ≡ self.old.place }
         ensures peers { self.new.peers ≡ self.old.peers }
         ensures turns { RisesBy self.old.turns self.new.turns turns }

@@ -1,6 +1,7 @@
 //! A worker with all that its run needs.
-ghost use Rattle.std.specs.Prelude.{◌≡◌};
+ghost use Rattle.std.specs.Prelude.{◌≡◌, ◌+◌, ◌≤◌};
 ghost use Rattle.peer_plan.specs.Plan.{PlanView};
+ghost use Rattle.udp_workers.specs.Counts.{RisesBy};
 ghost use Rattle.udp_workers.specs.Served.{AreEndpoints, peers_of};
 
 use crate::report::TurnReport;
@@ -32,7 +33,20 @@ pub(crate) struct Shift<'x, G: Gate, J: Naming, P: Post> {
     ghost named: { exchange.now ≡ P.plan },
 }
 
-/// What a worker's thread works on, and the sum of its reports.
+/// What was counted of a seat up to the beginning of its last run, or until it was made if it had none.
+#[derive(Clone, Copy, Debug, PartialEq, Eq)]
+pub struct Start {
+    /// Datagrams that its wire was given to send, modulo 2^64.
+    pub given: u64,
+    /// Calls of its wire that failed, modulo 2^64.
+    pub failures: u64,
+    /// Steps under its pass.
+    pub steps: u64,
+}
+
+/// What a worker's thread works on, and the sum of the reports of its last run. It has each datagram that the wire was given since
+/// that run began and each call of the wire that failed; and each datagram that it has as received, and not as refused, made a step
+/// under the pass.
 #[derive(Drop)]
 pub struct Place<W: Wire + Drop, M: Moments + Drop, C: Challenges + Drop, J: Naming, P: Post> {
     pub worker: Worker,
@@ -40,10 +54,27 @@ pub struct Place<W: Wire + Drop, M: Moments + Drop, C: Challenges + Drop, J: Nam
     pub pass: Pass<J>,
     pub moments: M,
     pub challenges: C,
+    pub start: Start,
     pub report: TurnReport,
     pub post: PhantomData<P>,
     ghost peers: { worker.peers ≡ peers_of P.plan worker.place },
     ghost ends: { AreEndpoints P.plan worker.peers (W.peers wire) },
+    ghost given: { RisesBy start.given (W.given wire) (report.sent + report.lost) },
+    ghost faults: { RisesBy start.failures (W.failures wire) report.faults },
+    ghost steps: { start.steps + report.received ≤ pass.credit.steps + report.refused },
+}
+
+// What is counted so far.
+fn start_of<W: Wire, J: Naming>(wire: &W, pass: &Pass<J>) -> Start
+    ensures given { result.given ≡ W.given wire.now }
+    ensures failures { result.failures ≡ W.failures wire.now }
+    ensures steps { result.steps ≡ pass.now.credit.steps }
+{
+    Start {
+        given: wire.given(),
+        failures: wire.failures(),
+        steps: pass.steps(),
+    }
 }
 
 impl<W: Wire + Drop, M: Moments + Drop, C: Challenges + Drop, J: Naming, P: Post> Place<
@@ -53,9 +84,15 @@ impl<W: Wire + Drop, M: Moments + Drop, C: Challenges + Drop, J: Naming, P: Post
     J,
     P,
 > {
+    // A run from here: its counts begin with what is counted so far, and all its turns are made.
     fn run<G: Gate, R: Wait>(&mut self, rt: &R, exchange: &Exchange<G, J>, turns: u32)
         requires { exchange.now ≡ P.plan }
+        ensures given { self.new.start.given ≡ W.given self.old.wire }
+        ensures failures { self.new.start.failures ≡ W.failures self.old.wire }
+        ensures steps { self.new.start.steps ≡ self.old.pass.credit.steps }
+        ensures turns { RisesBy self.old.worker.turns self.new.worker.turns turns }
     {
+        self.start = start_of(&self.wire, &self.pass);
         self.report = self.worker.run(
             rt,
             &mut self.wire,
@@ -86,6 +123,7 @@ impl<W: Wire + Drop, M: Moments + Drop, C: Challenges + Drop, J: Naming, P: Post
         requires peers { worker.peers ≡ peers_of P.plan worker.place }
         requires ends { AreEndpoints P.plan worker.peers (W.peers wire) }
     {
+        let start = start_of(&wire, &pass);
         Seat {
             place: Mutex::new(Place {
                 worker,
@@ -93,6 +131,7 @@ impl<W: Wire + Drop, M: Moments + Drop, C: Challenges + Drop, J: Naming, P: Post
                 pass,
                 moments,
                 challenges,
+                start,
                 report: TurnReport::default(),
                 post: PhantomData,
             }),
@@ -104,7 +143,7 @@ impl<W: Wire + Drop, M: Moments + Drop, C: Challenges + Drop, J: Naming, P: Post
         self.place.lock(rt).run(rt, shift.exchange, shift.turns);
     }
 
-    /// The worker with all that its run needed, and the sum of its reports.
+    /// The worker with all that its run needed, and the sum of the reports of its last run.
     pub fn into_place(self) -> Place<W, M, C, J, P> {
         let Seat { place } = self;
         place.into_inner()

@@ -1,8 +1,10 @@
 //! One turn of a worker.
 ghost use Rattle.std.specs.Prelude.{◌≡◌, ◌≢◌, ◌+◌, ◌*◌, ◌<◌, ◌≤◌, All, AllPairs, length};
 ghost use Rattle.peer_plan.specs.declared.endpoint.Endpoint.{Endpoint};
+ghost use Rattle.noted_steps.specs.Notes.{Noted};
 ghost use Rattle.udp_workers.specs.Counts.{RisesBy, RisesByAtMost};
 ghost use Rattle.udp_workers.specs.Served.{AreEndpoints, peers_of};
+ghost use Rattle.udp_workers.specs.Ticked.{IsLater, TicksAll};
 
 use crate::receiving::receive_all;
 use crate::report::TurnReport;
@@ -41,6 +43,8 @@ impl Worker {
         ensures few_faults { result.faults ≤ result.lost + 1 }
         // Each datagram that isn't refused made a step at least.
         ensures steps { pass.old.credit.steps + result.received ≤ pass.new.credit.steps + result.refused }
+        // First what the datagrams led to, then a tick of each of its peers, in their order, at this moment; the sending makes no step.
+        ensures ticked { (mid : Noted) × IsLater pass.old mid × TicksAll exchange.now now self.old.peers mid pass.new }
         ensures place { self.new.place ≡ self.old.place }
         ensures peers { self.new.peers ≡ self.old.peers }
         ensures few { length self.new.peers ≤ 32 }
@@ -73,7 +77,8 @@ fn tick_all<G: Gate, J: Naming, R: Wait>(
     now: u64,
 ) -> u64
     requires { All (λ peer. peer < length exchange.now.peers) peers.now }
-    ensures { pass.old.credit.steps ≤ pass.new.credit.steps }
+    ensures steps { pass.old.credit.steps ≤ pass.new.credit.steps }
+    ensures ticked { TicksAll exchange.now now peers.now pass.old pass.new }
 {
     let mut retired: u64 = 0;
     for &peer in peers {

@@ -1,5 +1,9 @@
-use Rattle.std.proofs.Common.{◌≤◌}
+use Rattle.std.proofs.Common.{◌≤◌, take}
+use Rattle.udp_workers.specs.Ticked.{TicksAll}
 use Rattle.udp_workers.proofs.turning.tick_all.Given as goal
 
 abbrev pub invariant-loop-peer : goal.invariant-loop-peer
-invariant-loop-peer g l = l.fn.pass.credit.steps ≤ l.pass.credit.steps
+invariant-loop-peer g l = record {
+  steps : l.fn.pass.credit.steps ≤ l.pass.credit.steps;
+  ticked : TicksAll l.exchange l.now (take l.peer-index l.peers) l.fn.pass l.pass;
+}

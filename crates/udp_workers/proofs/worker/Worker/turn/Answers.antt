@@ -4,6 +4,7 @@ use Rattle.peer_plan.specs.Plan.{IsPlan}
 use Rattle.peer_plan.specs.declared.endpoint.Endpoint.{Endpoint}
 use Rattle.udp_workers.specs.Counts.{RisesByAtMost}
 use Rattle.udp_workers.specs.Served.{WorkerView, AreEndpoints}
+use Rattle.udp_workers.specs.Ticked.{TicksAll}
 use Rattle.udp_workers.proofs.ServedLaws.{peers_below, endpoints_apart}
 use Rattle.udp_workers.proofs.worker.Worker.turn.Goals as goal
 
@@ -32,3 +33,11 @@ empty_all-gone-requires-clause-apart g c κs within =
 pub returns-clause-each : goal.returns-clause-each
 returns-clause-each g c to =
     subst (λ (first : ℕ). RisesByAtMost 256 first (g.W.Wire.given_to c.empty_all-gone.new.wire to)) (c.receive_all-arrived.ensures.given_to to) (c.empty_all-gone.ensures.each to)
+
+pub returns-clause-ticked : goal.returns-clause-ticked
+returns-clause-ticked g c =
+    let plan = c.args.exchange.now in
+    let arrived = c.receive_all-arrived.new.pass in
+    let own = c.peers-peers.ensures.peers ∙ ap (λ (worker : WorkerView). worker.peers) c.self.view_is in
+    let unsent = subst (TicksAll plan c.args.now c.peers-peers.result.now arrived) (sym c.empty_all-gone.ensures.pass) c.tick_all-ended.ensures.ticked in
+    (arrived, c.receive_all-arrived.ensures.later, subst (λ peers. TicksAll plan c.args.now peers arrived c.empty_all-gone.new.pass) own unsent)

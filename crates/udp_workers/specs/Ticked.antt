@@ -1,0 +1,21 @@
+-- What a turn notes under the pass of its worker.
+use Rattle.std.specs.Prelude.{◌≡◌, ℕ, List, [], ◌∷◌, ◌++◌}
+use Rattle.call_steps.specs.Work.{of_tick}
+use Rattle.call_steps.specs.WorkState.{begun}
+use Rattle.exchange_core.specs.Traces.{MakesAll, moment}
+use Rattle.noted_steps.specs.Notes.{Noted}
+use Rattle.noted_steps.specs.declared.made.Made.{Made}
+use Rattle.peer_plan.specs.Plan.{PlanView, counts_of, range_of}
+
+-- all that was noted is still there, and what came since follows it
+abbrev pub IsLater : Noted → Noted → Type 0
+IsLater old new = (steps : List Made) × (new.made ≡ old.made ++ steps)
+
+-- time went on at one peer of a plan: the pass has noted all steps of its tick at that moment, and none else
+abbrev pub Ticks : PlanView → ℕ → ℕ → Noted → Noted → Type 0
+Ticks plan now peer old new = MakesAll (moment plan now) (begun (of_tick peer (range_of (counts_of plan.peers) peer).first (range_of (counts_of plan.peers) peer).count)) old new
+
+-- time went on at each of these peers, at one and the same moment, in their order: a tick of each, and none else
+abbrev pub TicksAll : PlanView → ℕ → List ℕ → Noted → Noted → Type 0
+TicksAll plan now [] old new = new ≡ old
+TicksAll plan now (peer ∷ rest) old new = (mid : Noted) × Ticks plan now peer old mid × TicksAll plan now rest mid new
