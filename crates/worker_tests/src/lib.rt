@@ -1,4 +1,4 @@
-//! Tests of the workers, over wires in memory and over sockets on loopback, and of the program that serves.
+//! Tests of the workers, over wires in memory and over sockets on loopback.
 #![tactic(auto)]
 
 #[cfg(test)]
@@ -15,7 +15,5 @@ mod memory_wire;
 mod plans;
 #[cfg(test)]
 mod same;
-#[cfg(test)]
-mod serving;
 #[cfg(test)]
 mod whole_call;

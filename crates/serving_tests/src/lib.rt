@@ -1,0 +1,7 @@
+//! Tests of the program that serves.
+#![tactic(auto)]
+
+#[cfg(test)]
+mod same;
+#[cfg(test)]
+mod serving;
