@@ -15,6 +15,8 @@ mod held_frames;
 #[cfg(test)]
 mod ledger;
 #[cfg(test)]
+mod plans;
+#[cfg(test)]
 mod same;
 #[cfg(test)]
 mod trunks;

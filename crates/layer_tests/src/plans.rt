@@ -2,7 +2,7 @@
 ghost use Rattle.std.specs.Prelude.{◌<◌, length};
 
 use crate::same::same;
-use leg_machine::PeerRules;
+use call_signals::PeerRules;
 use peer_plan::{Endpoint, Key, NumberRange, Plan, PlanError};
 use std::alloc::Global;
 use std::process::Abort;

@@ -1,8 +1,0 @@
-//! What a test finds, held against what it expects.
-use std::fmt::Debug;
-use std::process::Abort;
-
-/// What is found is what is expected.
-pub fn same<T: PartialEq + Debug>(rt: &impl Abort, found: &T, expected: &T) {
-    assert_eq!(rt; *found, *expected);
-}
