@@ -24,16 +24,24 @@ pub struct Offer {
 #[derive(Drop)]
 pub struct Onwards {
     signals: Vec<(LegName, Signal)>,
-    offer: Option<Offer>,
+    // At most one. It lies apart, so that what is handed up can be passed on at little cost.
+    offers: Vec<Offer>,
 }
 
 impl Model for Onwards {
-    ghost use Rattle.std.specs.Prelude.{◌-◌, length, vec_capacity};
+    ghost use Rattle.std.specs.Prelude.{◌-◌, ◌≤◌, length, nat_le, slice_get, vec_capacity, if◌then◌else◌};
     ghost use Rattle.peer_accounts.specs.HandedUp.{HandedUp};
 
     ghost Value = { HandedUp };
 
-    ghost view = { λ o. record { signals = o.signals.items; offer = o.offer; room = vec_capacity o.signals - length o.signals.items } };
+    // There is room for a signal where there is some for an offer, too.
+    ghost view = { λ o. record {
+        signals = o.signals.items;
+        offer = slice_get o.offers.items 0;
+        room = if nat_le 1 (vec_capacity o.offers) then vec_capacity o.signals - length o.signals.items else 0;
+    } };
+
+    ghost invariant = { λ o. length o.offers.items ≤ 1 };
 }
 
 impl Onwards {
@@ -45,7 +53,7 @@ impl Onwards {
     {
         Onwards {
             signals: Vec::new(alloc),
-            offer: None,
+            offers: Vec::new(alloc),
         }
     }
 
@@ -55,16 +63,17 @@ impl Onwards {
         ensures offer { self.new.offer ≡ None }
     {
         self.signals.clear();
-        self.offer = None;
+        self.offers.clear();
     }
 
-    /// Room for so many signals more.
+    /// Room for so many signals more, and for what an offered call asks for.
     pub fn reserve(&mut self, signals: usize) -> Result<(), AllocError>
         ensures signals { self.new.signals ≡ self.old.signals }
         ensures offer { self.new.offer ≡ self.old.offer }
         ensures room { OnOk result (signals ≤ self.new.room) }
     {
-        self.signals.try_reserve(signals)
+        self.signals.try_reserve(signals)?;
+        self.offers.try_reserve(1)
     }
 
     /// How many signals there are.
@@ -92,7 +101,7 @@ impl Onwards {
     pub fn offer(&self) -> Option<&Offer>
         ensures { option_copied result ≡ self.now.offer }
     {
-        self.offer.as_ref()
+        self.offers.first()
     }
 
     /// Adds a signal behind the others.
@@ -105,10 +114,12 @@ impl Onwards {
         self.signals.push_reserved((name, signal));
     }
 
-    /// Says what the offered call asks for.
+    /// Says what the offered call asks for, of which nothing was said yet.
     pub fn set_offer(&mut self, offer: Offer)
+        requires room { 1 ≤ self.old.room }
+        requires none { self.old.offer ≡ None }
         ensures { self.new ≡ record self.old { offer = Some offer } }
     {
-        self.offer = Some(offer);
+        self.offers.push_reserved(offer);
     }
 }

@@ -58,10 +58,10 @@ pub(crate) fn hand_up(onwards: &mut Onwards, named: &NamedLeg, signal: Option<Si
     let Some(signal) = &signal else {
         return;
     };
-    onwards.push(named.name(), *signal);
     if let Signal::Offered = signal {
         onwards.set_offer(offer_of(named));
     }
+    onwards.push(named.name(), *signal);
 }
 
 fn is_new(message: &Message) -> bool
