@@ -1,10 +1,10 @@
 -- What becomes of a NEW that comes, by the rules of its peer ("Call Setup").
-use Rattle.std.specs.Prelude.{ℕ, Bool, false, ◌&&◌, ◌||◌, ◌==◌, is_some, List, Option, None, Some, unwrap_or, bit_and, if◌then◌else◌}
+use Rattle.std.specs.Prelude.{◌≡◌, ◌≤◌, ◌⊎◌, ℕ, Bool, true, false, ◌&&◌, ◌||◌, ◌==◌, is_some, List, Option, None, Some, unwrap_or, bit_and, if◌then◌else◌}
 use Rattle.iax_frames.specs.FullFrame.{FullFrame}
 use Rattle.info_elements.specs.Element.{u16_in, u32_in}
 use Rattle.info_elements.specs.Numbers.{CAPABILITY, FORMAT, VERSION}
 use Rattle.call_signals.specs.Effects.{row, rejected}
-use Rattle.call_signals.specs.Formats.{format_bit, lowest_format}
+use Rattle.call_signals.specs.Formats.{format_bit, has_format, lowest_format}
 use Rattle.call_signals.specs.FrameElements.{element_in}
 use Rattle.call_signals.specs.declared.causes.Cause.TheVariants.{CallRejected}
 use Rattle.call_signals.specs.declared.effects.Answering.TheVariants.{Answered, Silent}
@@ -50,6 +50,21 @@ chosen_format common wanted =
 abbrev pub call_format : Formats → FullFrame → Option Format
 call_format formats frame =
     chosen_format (common_formats formats (bits_in frame FORMAT) (bits_in frame CAPABILITY)) (bits_in frame FORMAT)
+
+-- the peer has the format, and the NEW has its bit in FORMAT or CAPABILITY
+abbrev pub IsCommon : Formats → FullFrame → Format → Type 0
+IsCommon formats frame format =
+    (has_format formats format ≡ true)
+    × ((has_bit (bits_in frame FORMAT) format ≡ true) ⊎ (has_bit (bits_in frame CAPABILITY) format ≡ true))
+
+-- of the common formats that of the lowest bit
+abbrev pub IsLowestCommon : Formats → FullFrame → Format → Type 0
+IsLowestCommon formats frame format =
+    IsCommon formats frame format × ((other : Format) → IsCommon formats frame other → format_bit format ≤ format_bit other)
+
+-- FORMAT is the bit of this common format, and no other
+abbrev pub IsWanted : Formats → FullFrame → Format → Type 0
+IsWanted formats frame format = IsCommon formats frame format × (bits_in frame FORMAT ≡ format_bit format)
 
 -- ---- the rows of a NEW
 

@@ -5,6 +5,7 @@
 mod causes;
 pub mod effects;
 mod formats;
+pub mod laws;
 mod local_number;
 mod messages;
 pub mod openings;
