@@ -140,6 +140,13 @@ impl Record {
         self.heads.is_empty()
     }
 
+    /// How many more entries it takes without asking for memory.
+    pub(crate) fn spare(&self) -> usize
+        ensures { result ≡ self.now.spare }
+    {
+        self.spare
+    }
+
     /// Makes room for `count` more entries.
     pub(crate) fn reserve(&mut self, count: usize) -> Result<(), AllocError>
         ensures entries { self.new.entries ≡ self.old.entries }

@@ -114,7 +114,8 @@ impl Window {
         ensures reserved { 0 < self.old.spare → entry_count self.old.state < self.old.state.limit → IsOk result }
         ensures record_full { (result ≡ Err RecordError.RecordFull) ↔
             (0 < count_of (judged_acknowledgement self.old.state.history iseq)) × (entry_count self.old.state ≡ self.old.state.limit) }
-        ensures memory { result ≡ Err RecordError.Memory → self.old.spare ≡ 0 }
+        ensures memory { result ≡ Err RecordError.Memory →
+            (0 < count_of (judged_acknowledgement self.old.state.history iseq)) × (self.old.spare ≡ 0) }
         ensures err { OnErr result (self.new ≡ self.old) }
     {
         let judged = self.judged(iseq);
@@ -156,7 +157,8 @@ impl Window {
         }
     }
 
-    /// Judges a numbered frame by its OSeqno, and records it where it is the next one. A frame that isn't is dropped.
+    /// Judges a numbered frame by its OSeqno, and records it where it is the next one. A frame that isn't is dropped, and isn't
+    /// refused.
     pub fn receive(&mut self, oseq: u8, frame: Frame) -> Result<Received, RecordError>
         ensures ok { IfOk result (λ received. received ≡ judged_number self.old.state.history oseq) }
         ensures state { OnOk result (self.new.state ≡ after_receiving self.old.state oseq frame) }
@@ -166,7 +168,8 @@ impl Window {
         ensures reserved { 0 < self.old.spare → entry_count self.old.state < self.old.state.limit → IsOk result }
         ensures record_full { (result ≡ Err RecordError.RecordFull) ↔
             (judged_number self.old.state.history oseq ≡ received.Taken) × (entry_count self.old.state ≡ self.old.state.limit) }
-        ensures memory { result ≡ Err RecordError.Memory → self.old.spare ≡ 0 }
+        ensures memory { result ≡ Err RecordError.Memory →
+            (judged_number self.old.state.history oseq ≡ received.Taken) × (self.old.spare ≡ 0) }
         ensures err { OnErr result (self.new ≡ self.old) }
     {
         let judged = self.judge(oseq);
@@ -293,6 +296,13 @@ impl Window {
         ensures { result + entry_count self.now.state ≡ self.now.state.limit }
     {
         self.limit as usize - self.history.len()
+    }
+
+    /// How many more entries the record takes without asking for memory.
+    pub fn spare(&self) -> usize
+        ensures { result ≡ self.now.spare }
+    {
+        self.history.spare()
     }
 
     /// The octet of the next number, OSeqno of a frame that is sent now.
