@@ -1,14 +1,16 @@
 -- What a tick skipped tells whether it had memory.
-use Rattle.std.specs.Prelude.{map}
-use Rattle.std.proofs.Common.{◌≡◌, ℕ, ◌+◌, ◌<◌, Bool, true, false, cond, eqb, List, ◌++◌, ◌⊎◌, inl, inr, refl, sym, ap, subst, ◌∙◌, arith}
+use Rattle.std.specs.Prelude.{◌&&◌, nat_lt, map}
+use Rattle.std.proofs.Common.{◌≡◌, ℕ, zero, suc, ◌+◌, ◌<◌, Bool, true, false, cond, eqb, List, [], ◌∷◌, ◌++◌, length, ◌⊎◌, inl, inr, refl, sym, ap, subst, ◌∙◌, arith}
 use Rattle.iax_frames.specs.FullFrame.{spelling}
 use Rattle.std.proofs.lemmas.Bool.Decides.{nat_tests}
-use Rattle.seq_window.specs.Window.{held_count}
-use Rattle.leg_machine.specs.Legs.{LegState, entered, is_short_of_entries}
+use Rattle.seq_window.specs.Window.{Sending, held_count, mark_at, resent}
+use Rattle.seq_window.specs.declared.judgements.Resent.{Resent}
+use Rattle.seq_window.specs.declared.judgements.Resent.TheVariants as resents
+use Rattle.leg_machine.specs.Legs.{LegState, entered, local_room, is_short_of_entries}
 use Rattle.leg_machine.specs.Seen.{seen as seen_leg, IsSeenTick}
-use Rattle.call_signals.specs.Stages.{is_ended}
-use Rattle.leg_machine.specs.Ticks.{Tick, quiet, sends_if, must_hang_up, must_ping, pinged, last_step, due_frames, tick_step}
-use Rattle.leg_machine.specs.Tries.{tries}
+use Rattle.call_signals.specs.Stages.{is_ended, is_talking}
+use Rattle.leg_machine.specs.Ticks.{Tick, quiet, sends_if, must_hang_up, must_ping, pinged, is_ping_time, last_step, due_frames, tick_step}
+use Rattle.leg_machine.specs.Tries.{Tried, tries, one_try, after_try}
 use Rattle.call_signals.specs.declared.causes.Cause.TheVariants.{NormalClearing}
 use Rattle.call_signals.specs.declared.replies.Reply.TheVariants as replies
 use Rattle.call_signals.specs.declared.stages.Stage.TheVariants as stages
@@ -71,14 +73,58 @@ due-tells leg now =
     (sends_if true leg closing now bye) (quiet leg) (sends_if false leg closing now bye) (quiet leg)
     (omega (arith, last-true after_hung.spent after_hung.leg now), inr (omega arith)) (last-tells (quiet leg) after.spent after.leg leg now refl)
 
+tick-tells : (leg : LegState) (now : ℕ) → Tells (tick_step true leg now) (tick_step false leg now)
+tick-tells leg now =
+    both Tells (is_ended leg.stage) (quiet leg) _ (quiet leg) _ (refl, inl refl)
+    (both Tells (is_short_of_entries leg) (quiet (entered leg stages.Ended)) (due_frames true leg now) (quiet (entered leg stages.Ended)) (due_frames false leg now)
+    (refl, inl refl) (due-tells leg now))
+
 -- the step of a tick is that with memory where nothing was skipped, and that without where something was
 pub tick-told : (leg : LegState) (now : ℕ) (grown : Bool) → tick_step (eqb (tick_step grown leg now).skipped 0) leg now ≡ tick_step grown leg now
-tick-told leg now grown =
-    agrees (λ (g : Bool). tick_step g leg now)
-    (both Tells (is_ended leg.stage) (quiet leg) _ (quiet leg) _ (refl, inl refl)
-    (both Tells (is_short_of_entries leg) (quiet (entered leg stages.Ended)) (due_frames true leg now) (quiet (entered leg stages.Ended)) (due_frames false leg now)
-    (refl, inl refl) (due-tells leg now)))
-    grown
+tick-told leg now grown = agrees (λ (g : Bool). tick_step g leg now) (tick-tells leg now) grown
+
+-- ---- where neither a HANGUP nor a PING is due
+
+length-mark_at : (place now : ℕ) (sendings : List Sending) → length (mark_at place now sendings) ≡ length sendings
+length-mark_at place now [] = refl
+length-mark_at zero now (s ∷ sendings) = refl
+length-mark_at (suc place) now (s ∷ sendings) = ap (λ n. suc n) (length-mark_at place now sendings)
+
+-- tries make no PING due
+ping-try : (r : Resent) (leg : LegState) (now : ℕ) (rest : LegState → Tried) → ((l : LegState) → must_ping (rest l).leg now ≡ must_ping l now)
+    → must_ping (one_try r leg now rest).leg now ≡ must_ping leg now
+ping-try resents.Nothing leg now rest same = refl
+ping-try resents.Spent leg now rest same = refl
+ping-try (resents.Again place) leg now rest same =
+    same (after_try leg place now)
+    ∙ ap (λ (held : ℕ). is_talking leg.stage && nat_lt held (local_room leg.window.width) && is_ping_time leg now)
+    (length-mark_at place now leg.window.sendings)
+
+ping-tries : (turns : ℕ) (leg : LegState) (now : ℕ) → must_ping (tries turns leg now).leg now ≡ must_ping leg now
+ping-tries zero leg now = refl
+ping-tries (suc turns) leg now =
+    ping-try (resent leg.window now leg.rules.retry_ms leg.rules.max_retries) leg now (λ l. tries turns l now) (λ l. ping-tries turns l now)
+
+last-silent : (spent : Bool) (leg : LegState) (now : ℕ) → must_ping leg now ≡ false → (last_step false spent leg now).skipped ≡ 0
+last-silent true leg now silent = refl
+last-silent false leg now silent =
+    ap (λ (b : Bool). (cond b (sends_if false leg (pinged leg now) now replies.Ping) (quiet leg)).skipped) silent
+
+due-silent : (leg : LegState) (now : ℕ) → must_hang_up leg ≡ false → must_ping leg now ≡ false → (due_frames false leg now).skipped ≡ 0
+due-silent leg now stays silent =
+    let tried = tries (held_count leg.window) leg now in
+    let last = last-silent tried.spent tried.leg now (ping-tries (held_count leg.window) leg now ∙ silent) in
+    ap (λ (b : Bool). (finish false leg now (cond b (sends_if false leg (entered leg stages.Closing) now (replies.Hangup NormalClearing)) (quiet leg))).skipped) stays
+    ∙ omega (arith, last)
+
+-- nothing is skipped where there was memory, or no need of it
+pub unskipped : (grown : Bool) (leg : LegState) (now : ℕ) → (grown ≡ false → (must_hang_up leg ≡ false) × (must_ping leg now ≡ false))
+    → (tick_step grown leg now).skipped ≡ 0
+unskipped true leg now needless = (tick-tells leg now).0
+unskipped false leg now needless =
+    either (λ (t : Tick). t.skipped ≡ 0) (is_ended leg.stage) (quiet leg) _ refl
+    (either (λ (t : Tick). t.skipped ≡ 0) (is_short_of_entries leg) (quiet (entered leg stages.Ended)) (due_frames false leg now)
+    refl (due-silent leg now (needless refl).0 (needless refl).1))
 
 -- what the step of a tick says, by what was skipped
 pub record Told (old : LegState) (now skipped : ℕ) (new : LegState) (outs : List (List ℕ)) : Type 0 where

@@ -11,5 +11,6 @@ pub mod SeenOrders
 pub mod SeenTicks
 pub mod SendingSteps
 pub mod Sendings
+pub mod Sides
 pub mod Tied
 pub mod TiedSends

@@ -1,9 +1,9 @@
 -- One more try.
-use Rattle.std.proofs.Common.{◌≡◌, ℕ, suc, ◌++◌, refl, ap, arith}
+use Rattle.std.proofs.Common.{◌≡◌, ℕ, suc, ◌≤◌, ◌++◌, refl, ap, arith}
 use Rattle.seq_window.specs.Window.{WindowState, resent, after_resent, entry_count}
 use Rattle.seq_window.specs.declared.judgements.Resent.TheVariants as resents
 use Rattle.seq_window.specs.declared.judgements.Resent.{Resent}
-use Rattle.leg_machine.specs.Legs.{LegState, HasRoom}
+use Rattle.leg_machine.specs.Legs.{LegState, whole_leg, capacity_of, HasRoom}
 use Rattle.leg_machine.specs.declared.machine.Machine.{Machine}
 use Rattle.leg_machine.specs.Tries.{tries, after_try, frames_again}
 
@@ -28,3 +28,8 @@ room_kept old new r now state spare room =
       limit = omega (arith, room.limit, kept.0, kept.1, ap entry_count state, ap (λ (w : WindowState). w.limit) state);
       spare = omega (arith, room.spare, spare);
     }
+
+pub capacity_kept : (old new : Machine) (r : Resent) (now : ℕ) → new.window.state ≡ after_resent r old.window.state now → new.window.spare ≡ old.window.spare
+    → capacity_of (whole_leg old) ≤ capacity_of (whole_leg new)
+capacity_kept old new r now state spare =
+    omega (arith, ap entry_count state, (entries_kept r old.window.state now).0, spare)

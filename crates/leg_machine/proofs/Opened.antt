@@ -10,15 +10,16 @@ use Rattle.call_signals.specs.declared.effects.Effect.{Effect}
 use Rattle.call_signals.specs.declared.messages.Message.TheVariants.{New}
 use Rattle.call_signals.specs.declared.outcomes.Heard.{Heard}
 use Rattle.call_signals.specs.declared.rules.PeerRules.{PeerRules}
+use Rattle.leg_machine.specs.Tie.{HasSent}
 use Rattle.leg_machine.proofs.SeenTicks.{opened-seen}
-use Rattle.leg_machine.proofs.SendingSteps.{Written, opened-written}
+use Rattle.leg_machine.proofs.SendingSteps.{opened-written}
 
 pub record Opened (step : Step) (new : LegState) (outs : List (List ℕ)) (answer : Heard) : Type 0 where
   pub leg : new ≡ step.leg
   pub replies : outs ≡ map spelling step.replies
   pub heard : answer ≡ heard_of step
   pub seen : IsSeenOpening (seen_leg new) answer.signal
-  pub written : Written new outs
+  pub written : HasSent new outs
 
 -- the NEW was taken with this effect on this leg
 pub opened : (rules : PeerRules) (number : ℕ) (frame : FullFrame) (now : ℕ) (challenge : List ℕ) (effect : Effect) (leg new : LegState)

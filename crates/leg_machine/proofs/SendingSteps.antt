@@ -24,7 +24,7 @@ use Rattle.leg_machine.specs.Replies.{reply_frame, voice_frame, new_frame, outgo
 use Rattle.call_signals.specs.Stages.{is_ended}
 use Rattle.leg_machine.specs.Steps.{Step, full_step, inval_step, resend_step, nothing_sent, numbered_step, judged_step, taken_step, taken, replied, answers, answered, no_room, prepared}
 use Rattle.leg_machine.specs.Ticks.{Tick, quiet, sends_if, must_hang_up, must_ping, pinged, last_step, due_frames, tick_step}
-use Rattle.leg_machine.specs.Tie.{IsNumberedFrame, SendsNumbered, IsSendingOf, IsSending, IsSendingOrMini}
+use Rattle.leg_machine.specs.Tie.{IsNumberedFrame, SendsNumbered, IsSendingOf, IsSending, IsSendingOrMini, HasSent, HasSentOrMini}
 use Rattle.leg_machine.specs.Tries.{Tried, tries, one_try, after_try, frames_again}
 use Rattle.leg_machine.specs.Working.{stored, counts}
 use Rattle.call_signals.specs.declared.causes.Cause.TheVariants.{NormalClearing}
@@ -67,7 +67,7 @@ numbered-prepared leg frame all =
     (none-sent leg (prepared leg frame)
     (ap sent_frames (prepared-history leg frame) ∙ sent-acks leg.window.history (count_of (judged_acknowledgement leg.window.history frame.head.iseqno))) all).numbered
 
-stays : (leg : LegState) → SendsNumbered leg → AllSent leg []
+pub stays : (leg : LegState) → SendsNumbered leg → AllSent leg []
 stays leg all = none-sent leg leg refl all
 
 acks : (leg : LegState) (frame : FullFrame) → SendsNumbered leg → AllSent leg (ack leg frame ∷ [])
@@ -88,7 +88,7 @@ answer-sent leg frame now (Answered reply) all =
 answer-sent leg frame now Acknowledged all = acks leg frame all
 answer-sent leg frame now Silent all = stays leg all
 
-taken-sent : (effect : Effect) (leg : LegState) (frame : FullFrame) (message : Message) (now : ℕ) → SendsNumbered leg
+pub taken-sent : (effect : Effect) (leg : LegState) (frame : FullFrame) (message : Message) (now : ℕ) → SendsNumbered leg
     → let s = taken_step effect leg frame message now in AllSent s.leg s.replies
 taken-sent effect leg frame message now all =
     let next = taken effect leg frame message in
@@ -132,15 +132,10 @@ full-sent leg frame now all =
 -- ---- what a call answers
 
 -- the datagrams that spell what is sent
-spelled : (leg : LegState) (frames : List FullFrame) → AllSent leg frames → All (IsSending leg) (map spelling frames)
+pub spelled : (leg : LegState) (frames : List FullFrame) → AllSent leg frames → All (IsSending leg) (map spelling frames)
 spelled leg frames all = All-map (IsSending leg) spelling frames (λ k d lt. (_, refl, all.sendings k d lt))
 
--- a leg after a call, and the datagrams that it wrote
-pub record Written (new : LegState) (datagrams : List (List ℕ)) : Type 0 where
-  pub numbered : SendsNumbered new
-  pub sendings : All (IsSending new) datagrams
-
-pub written : (leg new : LegState) (frames : List FullFrame) (datagrams : List (List ℕ)) → AllSent leg frames → new ≡ leg → datagrams ≡ map spelling frames → Written new datagrams
+pub written : (leg new : LegState) (frames : List FullFrame) (datagrams : List (List ℕ)) → AllSent leg frames → new ≡ leg → datagrams ≡ map spelling frames → HasSent new datagrams
 written leg new frames datagrams all is spelt = record {
   numbered = subst SendsNumbered (sym is) all.numbered;
   sendings =
@@ -149,16 +144,11 @@ written leg new frames datagrams all is spelt = record {
 
 -- ---- an order
 
-or-mini : (leg : LegState) (datagrams : List (List ℕ)) → All (IsSending leg) datagrams → All (IsSendingOrMini leg) datagrams
+pub or-mini : (leg : LegState) (datagrams : List (List ℕ)) → All (IsSending leg) datagrams → All (IsSendingOrMini leg) datagrams
 or-mini leg datagrams all = All-weaker (IsSending leg) (IsSendingOrMini leg) (λ octets s. inl s) datagrams all
 
--- a leg after an order, with its datagrams
-pub record AllSpelled (leg : LegState) (datagrams : List (List ℕ)) : Type 0 where
-  pub numbered : SendsNumbered leg
-  pub sendings : All (IsSendingOrMini leg) datagrams
-
-row-sent : (leg : LegState) (row : Option Ordered) (now : ℕ) → SendsNumbered leg
-    → AllSpelled (row_carried leg row now).leg (row_carried leg row now).datagrams
+pub row-sent : (leg : LegState) (row : Option Ordered) (now : ℕ) → SendsNumbered leg
+    → HasSentOrMini (row_carried leg row now).leg (row_carried leg row now).datagrams
 row-sent leg None now all = record { numbered = all; sendings = All-nil (IsSendingOrMini leg) }
 row-sent leg (Some row) now all =
     let leg_in = entered leg row.stage in
@@ -174,7 +164,7 @@ row-sent leg (Some row) now all =
 
 -- what an order wrote
 pub carried-written : (leg new : LegState) (row : Option Ordered) (now : ℕ) (datagrams : List (List ℕ)) → SendsNumbered leg
-    → new ≡ (row_carried leg row now).leg → datagrams ≡ (row_carried leg row now).datagrams → AllSpelled new datagrams
+    → new ≡ (row_carried leg row now).leg → datagrams ≡ (row_carried leg row now).datagrams → HasSentOrMini new datagrams
 carried-written leg new row now datagrams all is spelt =
     let one = row-sent leg row now all in
     let step = row_carried leg row now in
@@ -201,7 +191,7 @@ call-sent rules number called calling format now =
 -- a leg that took a NEW before anything else
 pub opened-written : (effect : Effect) (leg new : LegState) (frame : FullFrame) (now : ℕ) (before datagrams : List (List ℕ))
     → new ≡ (taken_step effect leg frame New now).leg → datagrams ≡ before ++ map spelling (taken_step effect leg frame New now).replies
-    → before ≡ [] → leg.window.history ≡ [] → Written new datagrams
+    → before ≡ [] → leg.window.history ≡ [] → HasSent new datagrams
 opened-written effect leg new frame now before datagrams ends spelt empty first =
     let step = taken_step effect leg frame New now in
     let numbered = All-same IsNumberedFrame (sent_frames leg.window.history) [] (ap sent_frames first) (All-nil IsNumberedFrame) in

@@ -55,7 +55,7 @@ pub taken-history : (effect : Effect) (leg : LegState) (frame : FullFrame) (mess
 taken-history effect leg frame message =
     ap (λ (w : WindowState). (after_receiving w frame.head.oseqno (stored frame)).history) (marked-window (entered leg effect.stage) effect.mark)
 
-replied-adds : (leg : LegState) (now : ℕ) (answer : Answering) → (reply : Option Frame) × ((replied leg now answer).window.history ≡ leg.window.history ++ entries_for_reply reply)
+pub replied-adds : (leg : LegState) (now : ℕ) (answer : Answering) → (reply : Option Frame) × ((replied leg now answer).window.history ≡ leg.window.history ++ entries_for_reply reply)
 replied-adds leg now (Answered reply) = (Some (reply_frame leg now reply), refl)
 replied-adds leg now Acknowledged = (None, sym (append-nil leg.window.history))
 replied-adds leg now Silent = (None, sym (append-nil leg.window.history))

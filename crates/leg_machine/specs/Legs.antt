@@ -35,6 +35,11 @@ pub record LegState : Type 0 where
   -- the record, and when each held frame was last sent
   pub window : WindowState
 
+-- and how many more entries its record takes without asking for memory
+pub record Leg : Type 0 where
+  pub state : LegState
+  pub spare : ℕ
+
 -- the leg without the memory that its record has left
 abbrev pub leg_of : Machine → LegState
 leg_of m = record {
@@ -54,6 +59,13 @@ leg_of m = record {
   pinged = m.pinged;
   window = m.window.state;
 }
+
+abbrev pub whole_leg : Machine → Leg
+whole_leg m = record { state = leg_of m; spare = m.window.spare }
+
+-- so many entries fit in the memory of a leg's record: those that it has, and the spare ones
+abbrev pub capacity_of : Leg → ℕ
+capacity_of leg = entry_count leg.state.window + leg.spare
 
 -- A leg enters a stage. From the first that is Closing or Ended on it owes.
 abbrev pub entered : LegState → Stage → LegState

@@ -1,5 +1,5 @@
 -- What a step of a leg adds to its record, and what it sends, as one side of a network does ("Message Transport").
-use Rattle.std.specs.Prelude.{◌≡◌, ◌⊎◌, ℕ, ◌+◌, ◌≤◌, Bool, true, false, Option, None, Some, List, ◌++◌, All, slice_get, if◌then◌else◌}
+use Rattle.std.specs.Prelude.{◌≡◌, ◌⊎◌, ℕ, ◌+◌, ◌≤◌, Bool, true, false, Option, None, Some, List, [], ◌++◌, All, slice_get, if◌then◌else◌}
 use Rattle.iax_frames.specs.FullFrame.{FullFrame, spelling, subclass_meaning}
 use Rattle.iax_frames.specs.MiniFrame.{MiniFrame, SpellsMini}
 use Rattle.iax_frames.specs.declared.stored_frame.Frame.{Frame}
@@ -27,6 +27,15 @@ TakesTurn old frame new =
 abbrev pub SendsAtMostOne : LegState → LegState → Type 0
 SendsAtMostOne old new =
     (sent : Option Frame) × (new.window.history ≡ old.window.history ++ entries_for_reply sent)
+
+-- A leg that a NEW opened has in its record what a turn with the octets of the NEW adds to an empty one.
+abbrev pub TakesFirstTurn : FullFrame → LegState → Type 0
+TakesFirstTurn frame new =
+    (turn : Turn) × (new.window.history ≡ entries_in_turn [] frame.head.iseqno frame.head.oseqno (Some (stored frame)) turn)
+
+-- a leg whose NEW goes out has at most a sent frame in its record
+abbrev pub HasSentAtMostOne : LegState → Type 0
+HasSentAtMostOne new = (sent : Option Frame) × (new.window.history ≡ entries_for_reply sent)
 
 -- ---- what goes out
 
@@ -64,3 +73,15 @@ IsSending leg octets = (f : FullFrame) × (octets ≡ spelling f) × IsSendingOf
 -- or a mini frame, which has no part in the numbers
 abbrev pub IsSendingOrMini : LegState → List ℕ → Type 0
 IsSendingOrMini leg octets = IsSending leg octets ⊎ ((mini : MiniFrame) × SpellsMini octets mini)
+
+-- ---- after a step
+
+-- A leg that has sent these datagrams in a step: each is a sending from its record, in which what stands as sent is numbered.
+pub record HasSent (leg : LegState) (datagrams : List (List ℕ)) : Type 0 where
+  pub numbered : SendsNumbered leg
+  pub sendings : All (IsSending leg) datagrams
+
+-- so too of an order, which may send a mini frame
+pub record HasSentOrMini (leg : LegState) (datagrams : List (List ℕ)) : Type 0 where
+  pub numbered : SendsNumbered leg
+  pub sendings : All (IsSendingOrMini leg) datagrams

@@ -1,7 +1,7 @@
 //! The laws of a leg.
 
-ghost use Rattle.std.specs.Prelude.{◌≡◌, ◌⊎◌, ◌↔◌, ◌≤◌, ℕ, Bool, true, List, Option, None, Some};
-ghost use Rattle.iax_frames.specs.FullFrame.{FullFrame};
+ghost use Rattle.std.specs.Prelude.{◌≡◌, ◌⊎◌, ◌↔◌, ◌≤◌, ◌<◌, ◌^◌, ℕ, Bool, true, List, Option, None, Some, map};
+ghost use Rattle.iax_frames.specs.FullFrame.{FullFrame, spelling};
 ghost use Rattle.seq_window.specs.Window.{held_count};
 ghost use Rattle.leg_machine.specs.Legs.{LegState};
 ghost use Rattle.leg_machine.specs.Media.{IsMediaOf};
@@ -10,6 +10,7 @@ ghost use Rattle.leg_machine.specs.OrderTable.{order_refused, order_carried};
 ghost use Rattle.leg_machine.specs.Seen.{seen, kind_of, stage_after, fresh_leg, IsSeenFrame, IsSeenOpening, IsSeenOrder, IsSeenTick};
 ghost use Rattle.leg_machine.specs.Steps.{full_step};
 ghost use Rattle.leg_machine.specs.Ticks.{quiet, hang_up_step, tick_step, is_idle};
+ghost use Rattle.leg_machine.specs.Tie.{TakesTurn, SendsAtMostOne, TakesFirstTurn, HasSentAtMostOne, SendsNumbered, HasSent, HasSentOrMini};
 ghost use Rattle.leg_machine.specs.Tries.{tries, NoneDue, IsFinished};
 ghost use Rattle.call_signals.specs.declared.formats.Format.{Format};
 ghost use Rattle.call_signals.specs.declared.orders.Order.{Order};
@@ -55,4 +56,33 @@ pub fn steps_are_seen()
         IsSeenOpening (seen (open_in_step rules number frame now challenge).leg) (open_in_step rules number frame now challenge).signal }
     ensures calls_out { (rules : PeerRules) (number : ℕ) (called : List ℕ) (calling : Option (List ℕ)) (format : Format) (now : ℕ) →
         seen (open_out_step rules number called calling format now).leg ≡ fresh_leg Waiting }
+{}
+
+/// Each step of a leg adds to its record what one turn of a network's side adds: a full frame at most an acknowledgement, then at
+/// most a taken frame, then at most a sent one, with the octets of that frame; an order and a tick at most a sent frame.
+pub fn steps_take_turns()
+    ensures frames { (leg : LegState) (frame : FullFrame) (now : ℕ) → TakesTurn leg frame (full_step leg frame now).leg }
+    ensures orders { (leg : LegState) (order : Order) (now : ℕ) → SendsAtMostOne leg (order_carried leg order now).leg }
+    ensures ticks { (grown : Bool) (leg : LegState) (now : ℕ) → SendsAtMostOne leg (tick_step grown leg now).leg }
+    ensures calls_in { (rules : PeerRules) (number : ℕ) (frame : FullFrame) (now : ℕ) (challenge : List ℕ) →
+        TakesFirstTurn frame (open_in_step rules number frame now challenge).leg }
+    ensures calls_out { (rules : PeerRules) (number : ℕ) (called : List ℕ) (calling : Option (List ℕ)) (format : Format) (now : ℕ) →
+        HasSentAtMostOne (open_out_step rules number called calling format now).leg }
+{}
+
+/// What a leg sends in a step, a side of a network with its record sends, or it is a mini frame; and what its record has as sent
+/// stays numbered.
+pub fn steps_send_as_sides()
+    ensures frames { (leg : LegState) (frame : FullFrame) (now : ℕ) → SendsNumbered leg →
+        HasSent (full_step leg frame now).leg (map spelling (full_step leg frame now).replies) }
+    // A mini frame bears the leg's number, which has fifteen bits and isn't 0.
+    ensures orders { (leg : LegState) (order : Order) (now : ℕ) → SendsNumbered leg → 0 < leg.number → leg.number < 2 ^ 15 →
+        HasSentOrMini (order_carried leg order now).leg (order_carried leg order now).datagrams }
+    ensures ticks { (grown : Bool) (leg : LegState) (now : ℕ) → SendsNumbered leg →
+        HasSent (tick_step grown leg now).leg (map spelling (tick_step grown leg now).replies) }
+    ensures calls_in { (rules : PeerRules) (number : ℕ) (frame : FullFrame) (now : ℕ) (challenge : List ℕ) →
+        HasSent (open_in_step rules number frame now challenge).leg (map spelling (open_in_step rules number frame now challenge).replies) }
+    ensures calls_out { (rules : PeerRules) (number : ℕ) (called : List ℕ) (calling : Option (List ℕ)) (format : Format) (now : ℕ) →
+        HasSent (open_out_step rules number called calling format now).leg
+        (map spelling (open_out_step rules number called calling format now).replies) }
 {}

@@ -17,7 +17,7 @@ use seq_window::{EntryView, Record, Window};
 impl Leg {
     /// Whether media of the other side counts now: `Accepted` in a talking leg that took voice of its format.
     pub fn media_in(&self, span: MediaSpan) -> MediaIn
-        ensures { result ≡ (if accepts_media self.now span then MediaIn.Accepted else MediaIn.NotYet) }
+        ensures { result ≡ (if accepts_media self.now.state span then MediaIn.Accepted else MediaIn.NotYet) }
     {
         if self.machine.accepts_media(span) {
             MediaIn::Accepted
@@ -28,21 +28,21 @@ impl Leg {
 
     /// Where the leg stands.
     pub fn stage(&self) -> Stage
-        ensures { result ≡ self.now.stage }
+        ensures { result ≡ self.now.state.stage }
     {
         self.machine.stage
     }
 
     /// Whether the layer above isn't done with the end of the call.
     pub fn owes(&self) -> bool
-        ensures { result ≡ self.now.owes }
+        ensures { result ≡ self.now.state.owes }
     {
         self.machine.owes
     }
 
     /// Whether the leg hangs up as soon as a tick can.
     pub fn doomed(&self) -> bool
-        ensures { result ≡ self.now.doomed }
+        ensures { result ≡ self.now.state.doomed }
     {
         self.machine.doomed
     }
@@ -50,29 +50,29 @@ impl Leg {
     /// The first moment at which a tick has something to do: the leg is idle before it. The largest moment stands for
     /// all later ones, and for none.
     pub fn idle_until(&self) -> u64
-        ensures before { (now : ℕ) → now < result → is_idle self.now now ≡ true }
-        ensures then { result + 1 < 2 ^ 64 → is_idle self.now result ≡ false }
+        ensures before { (now : ℕ) → now < result → is_idle self.now.state now ≡ true }
+        ensures then { result + 1 < 2 ^ 64 → is_idle self.now.state result ≡ false }
     {
         self.machine.idle_until()
     }
 
     /// The format of the call.
     pub fn format(&self) -> Format
-        ensures { result ≡ self.now.format }
+        ensures { result ≡ self.now.state.format }
     {
         self.machine.format
     }
 
     /// The other side's number, once it is known.
     pub fn remote(&self) -> Option<CallNumber>
-        ensures { result ≡ self.now.remote }
+        ensures { result ≡ self.now.state.remote }
     {
         self.machine.remote
     }
 
     /// The local number, 1 ..= 32,767.
     pub fn number(&self) -> CallNumber
-        ensures value { result ≡ self.now.number }
+        ensures value { result ≡ self.now.state.number }
         ensures some { 1 ≤ result }
     {
         self.machine.number.get()
@@ -80,15 +80,22 @@ impl Leg {
 
     /// The window and its record. Its held frames are those that the record has as sent and not acknowledged.
     pub fn window(&self) -> &Window
-        ensures { result.now.state ≡ self.now.window }
+        ensures { result.now.state ≡ self.now.state.window }
     {
         &self.machine.window
     }
 
+    /// How many more entries the record takes without asking for memory.
+    pub fn spare(&self) -> usize
+        ensures { result ≡ self.now.spare }
+    {
+        self.machine.window.spare()
+    }
+
     /// The record, whole.
     pub fn into_record(self) -> Record
-        ensures entries { result.entries ≡ self.window.history }
-        ensures legal { IsLegal self.window.width self.window.limit self.window.history }
+        ensures entries { result.entries ≡ self.state.window.history }
+        ensures legal { IsLegal self.state.window.width self.state.window.limit self.state.window.history }
     {
         let Leg { machine } = self;
         let Machine {
@@ -113,7 +120,7 @@ impl Leg {
 
     // The data of the NEW that opened the leg.
     fn opening_data(&self) -> &[u8]
-        ensures { result.now ≡ opening_data self.now.window.history }
+        ensures { result.now ≡ opening_data self.now.state.window.history }
     {
         match self.machine.window.record().entry(0) {
             Some(EntryView::Taken(frame)) => frame.payload,
@@ -125,7 +132,7 @@ impl Leg {
 
     /// The number that an offered call wants, at most 255 octets; absent, it is empty.
     pub fn called(&self) -> &[u8]
-        ensures value { result.now ≡ called_of self.now }
+        ensures value { result.now ≡ called_of self.now.state }
         ensures short { length result.now ≤ 255 }
     {
         match last_in(self.opening_data(), CALLED_NUMBER) {
@@ -136,7 +143,7 @@ impl Leg {
 
     /// The number from which an offered call comes, at most 255 octets.
     pub fn calling(&self) -> Option<&[u8]>
-        ensures value { option_copied result ≡ calling_of self.now }
+        ensures value { option_copied result ≡ calling_of self.now.state }
         ensures short { IfSome result (λ text. length text.now ≤ 255) }
     {
         last_in(self.opening_data(), CALLING_NUMBER)
@@ -144,7 +151,7 @@ impl Leg {
 
     /// A signal with what it speaks of.
     pub fn onward(&self, signal: Signal) -> Onward
-        ensures { result ≡ onward_of self.now signal }
+        ensures { result ≡ onward_of self.now.state signal }
     {
         match &signal {
             Signal::Offered => Onward::Offered {

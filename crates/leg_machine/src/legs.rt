@@ -2,7 +2,7 @@
 ghost use Rattle.std.specs.Prelude.{◌≡◌, ◌==◌, ℕ, ◌+◌, ◌≤◌, ◌<◌, ◌↔◌, true, None, Some, Err, [], length, map, All, option_copied, IfOk, IfErr, OnOk, OnErr};
 ghost use Rattle.std.specs.Option.{ForSome};
 ghost use Rattle.iax_frames.specs.FullFrame.{spelling};
-ghost use Rattle.leg_machine.specs.Legs.{is_short_of_entries};
+ghost use Rattle.leg_machine.specs.Legs.{capacity_of, is_short_of_entries};
 ghost use Rattle.leg_machine.specs.Media.{media_sent, after_media, media_frames};
 ghost use Rattle.leg_machine.specs.Openings.{open_in_step, open_out_step};
 ghost use Rattle.leg_machine.specs.OrderTable.{order_row, row_refused, row_carried, order_refused, media_refused, media_datagrams, is_voice, wants_memory, IsRefusal, IsShortMedia, order_carried};
@@ -10,7 +10,7 @@ ghost use Rattle.call_signals.specs.PeerRules.{IsPeerRules};
 ghost use Rattle.leg_machine.specs.Seen.{seen, kind_of, stage_after, fresh_leg, IsSeenFrame, IsSeenOpening, IsSeenOrder, IsSeenTick};
 ghost use Rattle.leg_machine.specs.Steps.{full_step, heard_of};
 ghost use Rattle.leg_machine.specs.Ticks.{tick_step};
-ghost use Rattle.leg_machine.specs.Tie.{TakesTurn, SendsAtMostOne, IsSending, IsSendingOrMini};
+ghost use Rattle.leg_machine.specs.Tie.{TakesTurn, SendsAtMostOne, TakesFirstTurn, HasSentAtMostOne, IsSending, IsSendingOrMini};
 ghost use Rattle.call_signals.specs.declared.orders.OrderKind.TheVariants as kinds;
 
 use crate::machine::Machine;
@@ -30,18 +30,20 @@ use std::marker::Model;
 /// Events come by `full` and `tick`, orders by `order` and `media`; `accepts_media` and the readers only look. Each call
 /// that can send has a form that writes its datagrams to a list that the caller lends, empty, and one that gives them in
 /// what it answers. No call waits or looks at a clock: moments are milliseconds that are handed in.
+///
+/// Contracts see the leg's state, and how many more entries its record takes without asking for memory.
 #[derive(Drop)]
 pub struct Leg {
     pub(crate) machine: Machine,
 }
 
 impl Model for Leg {
-    ghost use Rattle.leg_machine.specs.Legs.{LegState, leg_of};
+    ghost use Rattle.leg_machine.specs.Legs.{Leg as State, leg_of, whole_leg};
     ghost use Rattle.leg_machine.specs.Tie.{SendsNumbered};
 
-    ghost Value = { LegState };
+    ghost Value = { State };
 
-    ghost view = { λ l. leg_of l.machine };
+    ghost view = { λ l. whole_leg l.machine };
 
     // Each frame that the record has as sent is numbered.
     ghost invariant = { λ l. SendsNumbered (leg_of l.machine) };
@@ -66,11 +68,13 @@ impl Leg {
         requires first { frame.now.head.oseqno ≡ 0 }
         requires short { length frame.now.payload ≤ 1388 }
         requires empty { replies.old ≡ [] }
-        ensures leg { IfOk result (λ opened. opened.0 ≡ (open_in_step rules.now number frame.now now challenge.now).leg) }
+        ensures leg { IfOk result (λ opened. opened.0.state ≡ (open_in_step rules.now number frame.now now challenge.now).leg) }
         ensures replies { OnOk result (replies.new ≡ map spelling (open_in_step rules.now number frame.now now challenge.now).replies) }
         ensures heard { IfOk result (λ opened. opened.1 ≡ heard_of (open_in_step rules.now number frame.now now challenge.now)) }
-        ensures sendings { IfOk result (λ opened. All (IsSending opened.0) replies.new) }
-        ensures seen { IfOk result (λ opened. IsSeenOpening (seen opened.0) opened.1.signal) }
+        // The record begins as that of one side of a network may.
+        ensures tied { IfOk result (λ opened. TakesFirstTurn frame.now opened.0.state) }
+        ensures sendings { IfOk result (λ opened. All (IsSending opened.0.state) replies.new) }
+        ensures seen { IfOk result (λ opened. IsSeenOpening (seen opened.0.state) opened.1.signal) }
         ensures none_sent { OnErr result (replies.new ≡ replies.old) }
     {
         let mut window = Window::new(alloc, rules.window, rules.record_limit)?;
@@ -116,11 +120,12 @@ impl Leg {
         requires called { length called.now ≤ 255 }
         requires calling { ForSome calling (λ text. length text.now ≤ 255) }
         requires empty { replies.old ≡ [] }
-        ensures leg { IfOk result (λ leg. leg ≡ (open_out_step rules.now number called.now (option_copied calling.entry) format now).leg) }
+        ensures leg { IfOk result (λ leg. leg.state ≡ (open_out_step rules.now number called.now (option_copied calling.entry) format now).leg) }
         ensures replies { OnOk result (replies.new ≡
             map spelling (open_out_step rules.now number called.now (option_copied calling.entry) format now).replies) }
-        ensures sendings { IfOk result (λ leg. All (IsSending leg) replies.new) }
-        ensures seen { IfOk result (λ leg. seen leg ≡ fresh_leg Stage.Waiting) }
+        ensures tied { IfOk result (λ leg. HasSentAtMostOne leg.state) }
+        ensures sendings { IfOk result (λ leg. All (IsSending leg.state) replies.new) }
+        ensures seen { IfOk result (λ leg. seen leg.state ≡ fresh_leg Stage.Waiting) }
         ensures none_sent { OnErr result (replies.new ≡ replies.old) }
     {
         let mut window = Window::new(alloc, rules.window, rules.record_limit)?;
@@ -158,17 +163,19 @@ impl Leg {
     ) -> Result<Heard, StepError>
         requires short { length frame.now.payload ≤ 1388 }
         requires empty { replies.old ≡ [] }
-        ensures leg { OnOk result (self.new ≡ (full_step self.old frame.now now).leg) }
-        ensures replies { OnOk result (replies.new ≡ map spelling (full_step self.old frame.now now).replies) }
-        ensures heard { IfOk result (λ heard. heard ≡ heard_of (full_step self.old frame.now now)) }
+        ensures leg { OnOk result (self.new.state ≡ (full_step self.old.state frame.now now).leg) }
+        ensures replies { OnOk result (replies.new ≡ map spelling (full_step self.old.state frame.now now).replies) }
+        ensures heard { IfOk result (λ heard. heard ≡ heard_of (full_step self.old.state frame.now now)) }
         // The record grows as one side of a network lets it.
-        ensures tied { OnOk result (TakesTurn self.old frame.now self.new) }
+        ensures tied { OnOk result (TakesTurn self.old.state frame.now self.new.state) }
         // What goes out is what such a side sends.
-        ensures sendings { OnOk result (All (IsSending self.new) replies.new) }
-        ensures seen { IfOk result (λ heard. IsSeenFrame (seen self.old) (seen self.new) heard.signal) }
-        ensures record_full { (result ≡ Err StepError.RecordFull) ↔ (is_short_of_entries self.old ≡ true) }
+        ensures sendings { OnOk result (All (IsSending self.new.state) replies.new) }
+        ensures seen { IfOk result (λ heard. IsSeenFrame (seen self.old.state) (seen self.new.state) heard.signal) }
+        ensures record_full { (result ≡ Err StepError.RecordFull) ↔ (is_short_of_entries self.old.state ≡ true) }
+        ensures memory { result ≡ Err StepError.Memory → self.old.spare < 4 }
         ensures err { OnErr result (self.new ≡ self.old) }
         ensures none_sent { OnErr result (replies.new ≡ replies.old) }
+        ensures capacity { capacity_of self.old ≤ capacity_of self.new }
     {
         if self.machine.window.free_entries() < 4 {
             return Err(StepError::RecordFull);
@@ -182,14 +189,16 @@ impl Leg {
     /// Refusals are looked for in the order of `OrderError`; `Memory` comes only where memory was refused.
     fn row_into(&mut self, order: &Order, now: u64, replies: &mut Replies) -> Result<(), OrderError>
         requires empty { replies.old ≡ [] }
-        ensures leg { OnOk result (self.new ≡ (row_carried self.old (order_row self.old order.now) now).leg) }
-        ensures replies { OnOk result (replies.new ≡ (row_carried self.old (order_row self.old order.now) now).datagrams) }
-        ensures tied { OnOk result (SendsAtMostOne self.old self.new) }
-        ensures sendings { OnOk result (All (IsSendingOrMini self.new) replies.new) }
-        ensures unrefused { OnOk result (row_refused self.old (order_row self.old order.now) ≡ None) }
-        ensures refused { IfErr result (IsRefusal (row_refused self.old (order_row self.old order.now))) }
+        ensures leg { OnOk result (self.new.state ≡ (row_carried self.old.state (order_row self.old.state order.now) now).leg) }
+        ensures replies { OnOk result (replies.new ≡ (row_carried self.old.state (order_row self.old.state order.now) now).datagrams) }
+        ensures tied { OnOk result (SendsAtMostOne self.old.state self.new.state) }
+        ensures sendings { OnOk result (All (IsSendingOrMini self.new.state) replies.new) }
+        ensures unrefused { OnOk result (row_refused self.old.state (order_row self.old.state order.now) ≡ None) }
+        ensures refused { IfErr result (IsRefusal (row_refused self.old.state (order_row self.old.state order.now))) }
+        ensures spare { result ≡ Err OrderError.Memory → self.old.spare ≡ 0 }
         ensures err { OnErr result (self.new ≡ self.old) }
         ensures none_sent { OnErr result (replies.new ≡ replies.old) }
+        ensures capacity { capacity_of self.old ≤ capacity_of self.new }
     {
         let Some(row) = self.machine.order_row(order) else {
             return Err(OrderError::WrongStage);
@@ -214,18 +223,20 @@ impl Leg {
     ) -> Result<MediaSent, OrderError>
         requires short { length media.now ≤ 1380 }
         requires empty { replies.old ≡ [] }
-        ensures sent { IfOk result (λ sent. sent ≡ media_sent self.old now) }
-        ensures leg { OnOk result (self.new ≡ after_media (media_sent self.old now) self.old media.now now) }
-        ensures replies { OnOk result (replies.new ≡ map spelling (media_frames (media_sent self.old now) self.old media.now now)) }
-        ensures tied { OnOk result (SendsAtMostOne self.old self.new) }
-        ensures sendings { OnOk result (All (IsSending self.new) replies.new) }
-        ensures seen { OnOk result (IsSeenOrder kinds.Media (seen self.old) (seen self.new)) }
-        ensures unrefused { OnOk result (media_refused self.old now ≡ None) }
-        ensures refused { IfErr result (IsRefusal (media_refused self.old now)) }
-        ensures memory { result ≡ Err OrderError.Memory → is_voice (media_sent self.old now) ≡ true }
-        ensures wrong_stage { (result ≡ Err OrderError.WrongStage) ↔ (stage_after kinds.Media self.old.stage ≡ None) }
+        ensures sent { IfOk result (λ sent. sent ≡ media_sent self.old.state now) }
+        ensures leg { OnOk result (self.new.state ≡ after_media (media_sent self.old.state now) self.old.state media.now now) }
+        ensures replies { OnOk result (replies.new ≡ map spelling (media_frames (media_sent self.old.state now) self.old.state media.now now)) }
+        ensures tied { OnOk result (SendsAtMostOne self.old.state self.new.state) }
+        ensures sendings { OnOk result (All (IsSending self.new.state) replies.new) }
+        ensures seen { OnOk result (IsSeenOrder kinds.Media (seen self.old.state) (seen self.new.state)) }
+        ensures unrefused { OnOk result (media_refused self.old.state now ≡ None) }
+        ensures refused { IfErr result (IsRefusal (media_refused self.old.state now)) }
+        ensures memory { result ≡ Err OrderError.Memory → is_voice (media_sent self.old.state now) ≡ true }
+        ensures spare { result ≡ Err OrderError.Memory → self.old.spare ≡ 0 }
+        ensures wrong_stage { (result ≡ Err OrderError.WrongStage) ↔ (stage_after kinds.Media self.old.state.stage ≡ None) }
         ensures err { OnErr result (self.new ≡ self.old) }
         ensures none_sent { OnErr result (replies.new ≡ replies.old) }
+        ensures capacity { capacity_of self.old ≤ capacity_of self.new }
     {
         if !self.machine.stage.is_talking() {
             return Err(OrderError::WrongStage);
@@ -253,15 +264,17 @@ impl Leg {
     ) -> Result<(), OrderError>
         requires short { length media.now ≤ 1380 }
         requires empty { replies.old ≡ [] }
-        ensures leg { OnOk result (self.new ≡ after_media (media_sent self.old now) self.old media.now now) }
-        ensures replies { OnOk result (replies.new ≡ media_datagrams (media_sent self.old now) self.old media.now now) }
-        ensures tied { OnOk result (SendsAtMostOne self.old self.new) }
-        ensures sendings { OnOk result (All (IsSendingOrMini self.new) replies.new) }
-        ensures unrefused { OnOk result (media_refused self.old now ≡ None) }
-        ensures refused { IfErr result (IsRefusal (media_refused self.old now)) }
-        ensures memory { result ≡ Err OrderError.Memory → is_voice (media_sent self.old now) ≡ true }
+        ensures leg { OnOk result (self.new.state ≡ after_media (media_sent self.old.state now) self.old.state media.now now) }
+        ensures replies { OnOk result (replies.new ≡ media_datagrams (media_sent self.old.state now) self.old.state media.now now) }
+        ensures tied { OnOk result (SendsAtMostOne self.old.state self.new.state) }
+        ensures sendings { OnOk result (All (IsSendingOrMini self.new.state) replies.new) }
+        ensures unrefused { OnOk result (media_refused self.old.state now ≡ None) }
+        ensures refused { IfErr result (IsRefusal (media_refused self.old.state now)) }
+        ensures memory { result ≡ Err OrderError.Memory → is_voice (media_sent self.old.state now) ≡ true }
+        ensures spare { result ≡ Err OrderError.Memory → self.old.spare ≡ 0 }
         ensures err { OnErr result (self.new ≡ self.old) }
         ensures none_sent { OnErr result (replies.new ≡ replies.old) }
+        ensures capacity { capacity_of self.old ≤ capacity_of self.new }
     {
         match self.media_into(media, now, replies)? {
             MediaSent::Quelched => {}
@@ -285,15 +298,17 @@ impl Leg {
     ) -> Result<(), OrderError>
         requires media { IsShortMedia order.now }
         requires empty { replies.old ≡ [] }
-        ensures leg { OnOk result (self.new ≡ (order_carried self.old order.now now).leg) }
-        ensures replies { OnOk result (replies.new ≡ (order_carried self.old order.now now).datagrams) }
-        ensures tied { OnOk result (SendsAtMostOne self.old self.new) }
-        ensures sendings { OnOk result (All (IsSendingOrMini self.new) replies.new) }
-        ensures unrefused { OnOk result (order_refused self.old order.now now ≡ None) }
-        ensures refused { IfErr result (IsRefusal (order_refused self.old order.now now)) }
-        ensures memory { result ≡ Err OrderError.Memory → wants_memory self.old order.now now ≡ true }
+        ensures leg { OnOk result (self.new.state ≡ (order_carried self.old.state order.now now).leg) }
+        ensures replies { OnOk result (replies.new ≡ (order_carried self.old.state order.now now).datagrams) }
+        ensures tied { OnOk result (SendsAtMostOne self.old.state self.new.state) }
+        ensures sendings { OnOk result (All (IsSendingOrMini self.new.state) replies.new) }
+        ensures unrefused { OnOk result (order_refused self.old.state order.now now ≡ None) }
+        ensures refused { IfErr result (IsRefusal (order_refused self.old.state order.now now)) }
+        ensures memory { result ≡ Err OrderError.Memory → wants_memory self.old.state order.now now ≡ true }
+        ensures spare { result ≡ Err OrderError.Memory → self.old.spare ≡ 0 }
         ensures err { OnErr result (self.new ≡ self.old) }
         ensures none_sent { OnErr result (replies.new ≡ replies.old) }
+        ensures capacity { capacity_of self.old ≤ capacity_of self.new }
     {
         match order {
             Order::Accept => self.row_into(order, now, replies),
@@ -325,17 +340,19 @@ impl Leg {
     ) -> Result<(), OrderError>
         requires media { IsShortMedia order.now }
         requires empty { replies.old ≡ [] }
-        ensures leg { OnOk result (self.new ≡ (order_carried self.old order.now now).leg) }
-        ensures replies { OnOk result (replies.new ≡ (order_carried self.old order.now now).datagrams) }
-        ensures tied { OnOk result (SendsAtMostOne self.old self.new) }
-        ensures sendings { OnOk result (All (IsSendingOrMini self.new) replies.new) }
-        ensures seen { OnOk result (IsSeenOrder (kind_of order.now) (seen self.old) (seen self.new)) }
-        ensures unrefused { OnOk result (order_refused self.old order.now now ≡ None) }
-        ensures refused { IfErr result (IsRefusal (order_refused self.old order.now now)) }
-        ensures memory { result ≡ Err OrderError.Memory → wants_memory self.old order.now now ≡ true }
-        ensures wrong_stage { (result ≡ Err OrderError.WrongStage) ↔ (stage_after (kind_of order.now) self.old.stage ≡ None) }
+        ensures leg { OnOk result (self.new.state ≡ (order_carried self.old.state order.now now).leg) }
+        ensures replies { OnOk result (replies.new ≡ (order_carried self.old.state order.now now).datagrams) }
+        ensures tied { OnOk result (SendsAtMostOne self.old.state self.new.state) }
+        ensures sendings { OnOk result (All (IsSendingOrMini self.new.state) replies.new) }
+        ensures seen { OnOk result (IsSeenOrder (kind_of order.now) (seen self.old.state) (seen self.new.state)) }
+        ensures unrefused { OnOk result (order_refused self.old.state order.now now ≡ None) }
+        ensures refused { IfErr result (IsRefusal (order_refused self.old.state order.now now)) }
+        ensures memory { result ≡ Err OrderError.Memory → wants_memory self.old.state order.now now ≡ true }
+        ensures spare { result ≡ Err OrderError.Memory → self.old.spare ≡ 0 }
+        ensures wrong_stage { (result ≡ Err OrderError.WrongStage) ↔ (stage_after (kind_of order.now) self.old.state.stage ≡ None) }
         ensures err { OnErr result (self.new ≡ self.old) }
         ensures none_sent { OnErr result (replies.new ≡ replies.old) }
+        ensures capacity { capacity_of self.old ≤ capacity_of self.new }
     {
         self.any_order(order, now, replies)
     }
@@ -344,12 +361,14 @@ impl Leg {
     /// they stay due.
     pub fn tick_into(&mut self, now: u64, replies: &mut Replies) -> u32
         requires { replies.old ≡ [] }
-        ensures leg { self.new ≡ (tick_step (result == 0) self.old now).leg }
-        ensures replies { replies.new ≡ map spelling (tick_step (result == 0) self.old now).replies }
-        ensures skipped { result ≡ (tick_step (result == 0) self.old now).skipped }
-        ensures tied { SendsAtMostOne self.old self.new }
-        ensures sendings { All (IsSending self.new) replies.new }
-        ensures seen { IsSeenTick (seen self.old) (seen self.new) }
+        ensures leg { self.new.state ≡ (tick_step (result == 0) self.old.state now).leg }
+        ensures replies { replies.new ≡ map spelling (tick_step (result == 0) self.old.state now).replies }
+        ensures skipped { result ≡ (tick_step (result == 0) self.old.state now).skipped }
+        ensures spare { 2 ≤ self.old.spare → result ≡ 0 }
+        ensures tied { SendsAtMostOne self.old.state self.new.state }
+        ensures sendings { All (IsSending self.new.state) replies.new }
+        ensures seen { IsSeenTick (seen self.old.state) (seen self.new.state) }
+        ensures capacity { capacity_of self.old ≤ capacity_of self.new }
     {
         let grown = self.machine.grow(now);
         self.machine.tick(grown, now, replies)

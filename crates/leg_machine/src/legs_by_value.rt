@@ -1,8 +1,8 @@
 //! The calls of a leg that give their datagrams in what they answer. Each is made of its form over a lent list.
-ghost use Rattle.std.specs.Prelude.{◌≡◌, ◌==◌, ◌≤◌, ◌↔◌, true, None, Err, length, map, All, option_copied, IfOk, IfErr, OnOk, OnErr};
+ghost use Rattle.std.specs.Prelude.{◌≡◌, ◌==◌, ◌≤◌, ◌<◌, ◌↔◌, true, None, Err, length, map, All, option_copied, IfOk, IfErr, OnOk, OnErr};
 ghost use Rattle.std.specs.Option.{ForSome};
 ghost use Rattle.iax_frames.specs.FullFrame.{spelling};
-ghost use Rattle.leg_machine.specs.Legs.{is_short_of_entries};
+ghost use Rattle.leg_machine.specs.Legs.{capacity_of, is_short_of_entries};
 ghost use Rattle.leg_machine.specs.Onward.{outcome_of, order_outcome, HandsUp};
 ghost use Rattle.leg_machine.specs.Openings.{open_in_step, open_out_step};
 ghost use Rattle.leg_machine.specs.OrderTable.{order_refused, wants_memory, IsRefusal, IsShortMedia, order_carried};
@@ -10,7 +10,7 @@ ghost use Rattle.call_signals.specs.PeerRules.{IsPeerRules};
 ghost use Rattle.leg_machine.specs.Seen.{seen, kind_of, stage_after, fresh_leg, IsSeenFrame, IsSeenOpening, IsSeenOrder, IsSeenTick};
 ghost use Rattle.leg_machine.specs.Steps.{full_step};
 ghost use Rattle.leg_machine.specs.Ticks.{tick_step};
-ghost use Rattle.leg_machine.specs.Tie.{IsSending, IsSendingOrMini};
+ghost use Rattle.leg_machine.specs.Tie.{TakesTurn, SendsAtMostOne, TakesFirstTurn, HasSentAtMostOne, IsSending, IsSendingOrMini};
 ghost use Rattle.call_signals.specs.declared.stages.Stage.TheVariants as stages;
 
 use crate::legs::Leg;
@@ -27,7 +27,7 @@ impl Leg {
 
     // A signal, if there is one, with what it speaks of.
     fn onward_if(&self, signal: Option<Signal>) -> Option<Onward>
-        ensures { result ≡ onward_if self.now signal }
+        ensures { result ≡ onward_if self.now.state signal }
     {
         match signal {
             Some(signal) => Some(self.onward(signal)),
@@ -48,10 +48,11 @@ impl Leg {
         requires number { 1 ≤ number }
         requires first { frame.now.head.oseqno ≡ 0 }
         requires short { length frame.now.payload ≤ 1388 }
-        ensures leg { IfOk result (λ opened. opened.0 ≡ (open_in_step rules.now number frame.now now challenge.now).leg) }
+        ensures leg { IfOk result (λ opened. opened.0.state ≡ (open_in_step rules.now number frame.now now challenge.now).leg) }
         ensures outcome { IfOk result (λ opened. opened.1 ≡ outcome_of (open_in_step rules.now number frame.now now challenge.now)) }
-        ensures sendings { IfOk result (λ opened. All (IsSending opened.0) opened.1.replies) }
-        ensures seen { IfOk result (λ opened. HandsUp opened.0 opened.1.onward (IsSeenOpening (seen opened.0))) }
+        ensures tied { IfOk result (λ opened. TakesFirstTurn frame.now opened.0.state) }
+        ensures sendings { IfOk result (λ opened. All (IsSending opened.0.state) opened.1.replies) }
+        ensures seen { IfOk result (λ opened. HandsUp opened.0.state opened.1.onward (IsSeenOpening (seen opened.0.state))) }
     {
         let mut replies = Replies::new();
         let (leg, heard) = Leg::open_in_into(
@@ -88,11 +89,12 @@ impl Leg {
         requires number { 1 ≤ number }
         requires called { length called.now ≤ 255 }
         requires calling { ForSome calling (λ text. length text.now ≤ 255) }
-        ensures leg { IfOk result (λ opened. opened.0 ≡ (open_out_step rules.now number called.now (option_copied calling.entry) format now).leg) }
+        ensures leg { IfOk result (λ opened. opened.0.state ≡ (open_out_step rules.now number called.now (option_copied calling.entry) format now).leg) }
         ensures outcome { IfOk result (λ opened. opened.1 ≡
             outcome_of (open_out_step rules.now number called.now (option_copied calling.entry) format now)) }
-        ensures sendings { IfOk result (λ opened. All (IsSending opened.0) opened.1.replies) }
-        ensures seen { IfOk result (λ opened. seen opened.0 ≡ fresh_leg stages.Waiting) }
+        ensures tied { IfOk result (λ opened. HasSentAtMostOne opened.0.state) }
+        ensures sendings { IfOk result (λ opened. All (IsSending opened.0.state) opened.1.replies) }
+        ensures seen { IfOk result (λ opened. seen opened.0.state ≡ fresh_leg stages.Waiting) }
     {
         let mut replies = Replies::new();
         let leg = Leg::open_out_into(
@@ -118,12 +120,15 @@ impl Leg {
     /// A full frame comes: `full_into` with its datagrams in the outcome.
     pub fn full(&mut self, frame: &Full, now: u64) -> Result<Outcome, StepError>
         requires { length frame.now.payload ≤ 1388 }
-        ensures leg { OnOk result (self.new ≡ (full_step self.old frame.now now).leg) }
-        ensures outcome { IfOk result (λ outcome. outcome ≡ outcome_of (full_step self.old frame.now now)) }
-        ensures sendings { IfOk result (λ outcome. All (IsSending self.new) outcome.replies) }
-        ensures seen { IfOk result (λ outcome. HandsUp self.new outcome.onward (IsSeenFrame (seen self.old) (seen self.new))) }
-        ensures record_full { (result ≡ Err StepError.RecordFull) ↔ (is_short_of_entries self.old ≡ true) }
+        ensures leg { OnOk result (self.new.state ≡ (full_step self.old.state frame.now now).leg) }
+        ensures outcome { IfOk result (λ outcome. outcome ≡ outcome_of (full_step self.old.state frame.now now)) }
+        ensures tied { OnOk result (TakesTurn self.old.state frame.now self.new.state) }
+        ensures sendings { IfOk result (λ outcome. All (IsSending self.new.state) outcome.replies) }
+        ensures seen { IfOk result (λ outcome. HandsUp self.new.state outcome.onward (IsSeenFrame (seen self.old.state) (seen self.new.state))) }
+        ensures record_full { (result ≡ Err StepError.RecordFull) ↔ (is_short_of_entries self.old.state ≡ true) }
+        ensures memory { result ≡ Err StepError.Memory → self.old.spare < 4 }
         ensures err { OnErr result (self.new ≡ self.old) }
+        ensures capacity { capacity_of self.old ≤ capacity_of self.new }
     {
         let mut replies = Replies::new();
         let heard = self.full_into(frame, now, &mut replies)?;
@@ -138,15 +143,18 @@ impl Leg {
     /// An order is carried out: `order_into` with its datagrams in the outcome.
     pub fn order(&mut self, order: &Order, now: u64) -> Result<Outcome, OrderError>
         requires { IsShortMedia order.now }
-        ensures leg { OnOk result (self.new ≡ (order_carried self.old order.now now).leg) }
-        ensures outcome { IfOk result (λ outcome. outcome ≡ order_outcome (order_carried self.old order.now now)) }
-        ensures sendings { IfOk result (λ outcome. All (IsSendingOrMini self.new) outcome.replies) }
-        ensures seen { OnOk result (IsSeenOrder (kind_of order.now) (seen self.old) (seen self.new)) }
-        ensures unrefused { OnOk result (order_refused self.old order.now now ≡ None) }
-        ensures refused { IfErr result (IsRefusal (order_refused self.old order.now now)) }
-        ensures memory { result ≡ Err OrderError.Memory → wants_memory self.old order.now now ≡ true }
-        ensures wrong_stage { (result ≡ Err OrderError.WrongStage) ↔ (stage_after (kind_of order.now) self.old.stage ≡ None) }
+        ensures leg { OnOk result (self.new.state ≡ (order_carried self.old.state order.now now).leg) }
+        ensures outcome { IfOk result (λ outcome. outcome ≡ order_outcome (order_carried self.old.state order.now now)) }
+        ensures tied { OnOk result (SendsAtMostOne self.old.state self.new.state) }
+        ensures sendings { IfOk result (λ outcome. All (IsSendingOrMini self.new.state) outcome.replies) }
+        ensures seen { OnOk result (IsSeenOrder (kind_of order.now) (seen self.old.state) (seen self.new.state)) }
+        ensures unrefused { OnOk result (order_refused self.old.state order.now now ≡ None) }
+        ensures refused { IfErr result (IsRefusal (order_refused self.old.state order.now now)) }
+        ensures memory { result ≡ Err OrderError.Memory → wants_memory self.old.state order.now now ≡ true }
+        ensures spare { result ≡ Err OrderError.Memory → self.old.spare ≡ 0 }
+        ensures wrong_stage { (result ≡ Err OrderError.WrongStage) ↔ (stage_after (kind_of order.now) self.old.state.stage ≡ None) }
         ensures err { OnErr result (self.new ≡ self.old) }
+        ensures capacity { capacity_of self.old ≤ capacity_of self.new }
     {
         let mut replies = Replies::new();
         self.order_into(order, now, &mut replies)?;
@@ -159,11 +167,14 @@ impl Leg {
 
     /// Time goes on: `tick_into` with its datagrams in the outcome.
     pub fn tick(&mut self, now: u64) -> TickOutcome
-        ensures leg { self.new ≡ (tick_step (result.skipped == 0) self.old now).leg }
-        ensures replies { result.replies ≡ map spelling (tick_step (result.skipped == 0) self.old now).replies }
-        ensures skipped { result.skipped ≡ (tick_step (result.skipped == 0) self.old now).skipped }
-        ensures sendings { All (IsSending self.new) result.replies }
-        ensures seen { IsSeenTick (seen self.old) (seen self.new) }
+        ensures leg { self.new.state ≡ (tick_step (result.skipped == 0) self.old.state now).leg }
+        ensures replies { result.replies ≡ map spelling (tick_step (result.skipped == 0) self.old.state now).replies }
+        ensures skipped { result.skipped ≡ (tick_step (result.skipped == 0) self.old.state now).skipped }
+        ensures spare { 2 ≤ self.old.spare → result.skipped ≡ 0 }
+        ensures tied { SendsAtMostOne self.old.state self.new.state }
+        ensures sendings { All (IsSending self.new.state) result.replies }
+        ensures seen { IsSeenTick (seen self.old.state) (seen self.new.state) }
+        ensures capacity { capacity_of self.old ≤ capacity_of self.new }
     {
         let mut replies = Replies::new();
         let skipped = self.tick_into(now, &mut replies);

@@ -45,7 +45,7 @@ pub fn stored(frame: &Full) -> Frame
 }
 
 impl Machine {
-    ghost use Rattle.leg_machine.specs.Legs.{leg_of, entered, HasRoom};
+    ghost use Rattle.leg_machine.specs.Legs.{leg_of, whole_leg, capacity_of, entered, HasRoom};
 
     /// The other side's number is learnt from the first frame.
     pub fn learn(&mut self, source: CallNumber)
@@ -80,6 +80,7 @@ impl Machine {
         ensures leg { leg_of self.new ≡ steps.acknowledged (leg_of self.old) iseqno }
         ensures room { HasRoom 3 self.new }
         ensures counts { result ≡ steps.counts (judged_acknowledgement self.old.window.state.history iseqno) }
+        ensures capacity { capacity_of (whole_leg self.old) ≤ capacity_of (whole_leg self.new) }
     {
         matches!(self.window.acknowledge(iseqno), Ok(Acknowledged::Acked(_)))
     }
@@ -90,6 +91,7 @@ impl Machine {
         requires short { length frame.now.payload ≤ 1388 }
         ensures leg { leg_of self.new ≡ steps.recorded (leg_of self.old) frame.now }
         ensures room { HasRoom 2 self.new }
+        ensures capacity { capacity_of (whole_leg self.old) ≤ capacity_of (whole_leg self.new) }
     {
         let _ = self.window.receive(frame.oseqno(), stored(frame));
     }
@@ -173,6 +175,7 @@ impl Machine {
         ensures room { HasRoom 2 self.old → HasRoom 1 self.new }
         ensures out { outs.new ≡ outs.old ++ spelling (replies.outgoing (leg_of self.old) false
             (replies.next_byte (leg_of self.old)) frame) ∷ [] }
+        ensures capacity { capacity_of (whole_leg self.old) ≤ capacity_of (whole_leg self.new) }
     {
         self.spell(false, self.window.next(), &frame, outs);
         let _ = self.window.send(frame, now);
@@ -187,6 +190,7 @@ impl Machine {
         ensures room { HasRoom 2 self.old → HasRoom 1 self.new }
         ensures out { outs.new ≡ outs.old ++ spelling (replies.outgoing (leg_of self.old) false
             (replies.next_byte (leg_of self.old)) (replies.reply_frame (leg_of self.old) now reply)) ∷ [] }
+        ensures capacity { capacity_of (whole_leg self.old) ≤ capacity_of (whole_leg self.new) }
     {
         let frame = self.reply_frame(reply, now);
         self.send_frame(frame, now, outs);

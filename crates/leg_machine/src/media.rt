@@ -20,7 +20,7 @@ pub enum MediaSent {
 }
 
 impl Machine {
-    ghost use Rattle.leg_machine.specs.Legs.{leg_of, HasRoom};
+    ghost use Rattle.leg_machine.specs.Legs.{leg_of, whole_leg, capacity_of, HasRoom};
 
     /// Whether media of the other side counts.
     pub fn accepts_media(&self, span: MediaSpan) -> bool
@@ -62,6 +62,7 @@ impl Machine {
         requires window { held_count self.old.window.state < self.old.window.state.width }
         ensures leg { leg_of self.new ≡ rules.after_media MediaSent.Voice (leg_of self.old) media.now now }
         ensures replies { outs.new ≡ outs.old ++ map spelling (rules.media_frames MediaSent.Voice (leg_of self.old) media.now now) }
+        ensures capacity { capacity_of (whole_leg self.old) ≤ capacity_of (whole_leg self.new) }
     {
         let present = self.present(now);
         let frame = self.voice_frame(media, now);

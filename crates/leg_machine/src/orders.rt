@@ -27,7 +27,7 @@ fn when(holds: bool, reply: Reply, stage: Stage, most: usize) -> Option<Ordered>
 }
 
 impl Machine {
-    ghost use Rattle.leg_machine.specs.Legs.{leg_of, HasRoom};
+    ghost use Rattle.leg_machine.specs.Legs.{leg_of, whole_leg, capacity_of, HasRoom};
 
     /// The row of an order; `None` where the stage is a wrong one.
     pub fn order_row(&self, order: &Order) -> Option<Ordered>
@@ -91,6 +91,7 @@ impl Machine {
         requires empty { outs.old ≡ [] }
         ensures leg { leg_of self.new ≡ (orders.row_carried (leg_of self.old) (Some row.now) now).leg }
         ensures replies { outs.new ≡ (orders.row_carried (leg_of self.old) (Some row.now) now).datagrams }
+        ensures capacity { capacity_of (whole_leg self.old) ≤ capacity_of (whole_leg self.new) }
     {
         self.enter(row.stage);
         self.send(row.reply, now, outs);

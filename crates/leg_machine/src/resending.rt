@@ -11,7 +11,7 @@ use call_signals::{Heard, Judged, Replies};
 use seq_window::Resent;
 
 impl Machine {
-    ghost use Rattle.leg_machine.specs.Legs.{leg_of, HasRoom};
+    ghost use Rattle.leg_machine.specs.Legs.{leg_of, whole_leg, capacity_of, HasRoom};
 
     // The held frames as they go out again, oldest first.
     fn held_again(&self, outs: &mut Replies)
@@ -43,6 +43,7 @@ impl Machine {
         ensures spent { result ≡ (tries.tries turns (leg_of self.old) now).spent }
         ensures few { length outs.new ≤ 127 }
         ensures room { HasRoom 1 self.old → HasRoom 1 self.new }
+        ensures capacity { capacity_of (whole_leg self.old) ≤ capacity_of (whole_leg self.new) }
     {
         for turn in 0..turns {
             match self
@@ -63,6 +64,7 @@ impl Machine {
         ensures leg { leg_of self.new ≡ (steps.resend_step (leg_of self.old) now).leg }
         ensures replies { outs.new ≡ map spelling (steps.resend_step (leg_of self.old) now).replies }
         ensures heard { result ≡ steps.heard_of (steps.resend_step (leg_of self.old) now) }
+        ensures capacity { capacity_of (whole_leg self.old) ≤ capacity_of (whole_leg self.new) }
     {
         self.held_again(outs);
         self.window.touch_all(now);

@@ -9,7 +9,7 @@ use crate::machine::Machine;
 use call_signals::{Cause, Replies, Reply, Stage};
 
 impl Machine {
-    ghost use Rattle.leg_machine.specs.Legs.{leg_of, HasRoom};
+    ghost use Rattle.leg_machine.specs.Legs.{leg_of, whole_leg, capacity_of, HasRoom};
 
     /// A doomed leg that isn't over, and has room for one frame more.
     pub fn must_hang_up(&self) -> bool
@@ -40,6 +40,9 @@ impl Machine {
     pub fn grow(&mut self, now: u64) -> bool
         ensures leg { leg_of self.new ≡ leg_of self.old }
         ensures room { result ≡ true → is_short_of_entries (leg_of self.new) ≡ false → HasRoom 2 self.new }
+        ensures had_room { 2 ≤ self.old.window.spare → result ≡ false →
+            (ticks.must_hang_up (leg_of self.old) ≡ false) × (ticks.must_ping (leg_of self.old) now ≡ false) }
+        ensures capacity { capacity_of (whole_leg self.old) ≤ capacity_of (whole_leg self.new) }
     {
         let hangs_up = self.must_hang_up();
         let pings = self.must_ping(now);
@@ -59,6 +62,7 @@ impl Machine {
         ensures skipped { result ≡ (ticks.hang_up_step grown (leg_of self.old) now).skipped }
         ensures few { length outs.new + held_count self.old.window.state ≤ self.old.window.state.width }
         ensures once { result ≤ 1 }
+        ensures capacity { capacity_of (whole_leg self.old) ≤ capacity_of (whole_leg self.new) }
     {
         let held = self.window.held_len();
         prove!(held <= 127);
@@ -81,6 +85,7 @@ impl Machine {
         ensures replies { outs.new ≡ outs.old ++ map spelling (ticks.ping_step grown (leg_of self.old) now).replies }
         ensures skipped { result ≡ (ticks.ping_step grown (leg_of self.old) now).skipped }
         ensures once { result ≤ 1 }
+        ensures capacity { capacity_of (whole_leg self.old) ≤ capacity_of (whole_leg self.new) }
     {
         if !self.must_ping(now) {
             return 0;
@@ -101,6 +106,7 @@ impl Machine {
         ensures replies { outs.new ≡ outs.old ++ map spelling (ticks.last_step grown spent (leg_of self.old) now).replies }
         ensures skipped { result ≡ (ticks.last_step grown spent (leg_of self.old) now).skipped }
         ensures once { result ≤ 1 }
+        ensures capacity { capacity_of (whole_leg self.old) ≤ capacity_of (whole_leg self.new) }
     {
         if spent {
             self.enter(Stage::Ended);
@@ -116,6 +122,7 @@ impl Machine {
         ensures leg { leg_of self.new ≡ (ticks.due_frames grown (leg_of self.old) now).leg }
         ensures replies { outs.new ≡ map spelling (ticks.due_frames grown (leg_of self.old) now).replies }
         ensures skipped { result ≡ (ticks.due_frames grown (leg_of self.old) now).skipped }
+        ensures capacity { capacity_of (whole_leg self.old) ≤ capacity_of (whole_leg self.new) }
     {
         let turns = self.window.held_len();
         let width = self.window.width();
@@ -132,6 +139,7 @@ impl Machine {
         ensures leg { leg_of self.new ≡ (ticks.tick_step grown (leg_of self.old) now).leg }
         ensures replies { outs.new ≡ map spelling (ticks.tick_step grown (leg_of self.old) now).replies }
         ensures skipped { result ≡ (ticks.tick_step grown (leg_of self.old) now).skipped }
+        ensures capacity { capacity_of (whole_leg self.old) ≤ capacity_of (whole_leg self.new) }
     {
         if self.stage.is_ended() {
             return 0;

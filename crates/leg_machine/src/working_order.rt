@@ -13,7 +13,7 @@ use iax_frames::Full;
 use seq_window::Received;
 
 impl Machine {
-    ghost use Rattle.leg_machine.specs.Legs.{leg_of, HasRoom};
+    ghost use Rattle.leg_machine.specs.Legs.{leg_of, whole_leg, capacity_of, HasRoom};
 
     fn mark(&mut self, mark: Mark)
         ensures leg { leg_of self.new ≡ marked (leg_of self.old) mark }
@@ -35,6 +35,7 @@ impl Machine {
         ensures room { HasRoom 2 self.new }
         ensures held { held_count self.new.window.state ≡ held_count self.old.window.state }
         ensures width { self.new.window.state.width ≡ self.old.window.state.width }
+        ensures capacity { capacity_of (whole_leg self.old) ≤ capacity_of (whole_leg self.new) }
     {
         self.enter(effect.stage);
         self.mark(effect.mark);
@@ -49,6 +50,7 @@ impl Machine {
         requires more { length outs.old < 128 }
         ensures leg { leg_of self.new ≡ steps.replied (leg_of self.old) now answer.now }
         ensures replies { outs.new ≡ outs.old ++ map spelling (steps.answers (leg_of self.old) frame.now now answer.now) }
+        ensures capacity { capacity_of (whole_leg self.old) ≤ capacity_of (whole_leg self.new) }
     {
         match answer {
             Answering::Answered(reply) => self.send(*reply, now, outs),
@@ -72,6 +74,7 @@ impl Machine {
         ensures leg { leg_of self.new ≡ (steps.taken_step effect.now (leg_of self.old) frame.now message.now now).leg }
         ensures replies { outs.new ≡ outs.old ++ map spelling (steps.taken_step effect.now (leg_of self.old) frame.now message.now now).replies }
         ensures heard { result ≡ steps.heard_of (steps.taken_step effect.now (leg_of self.old) frame.now message.now now) }
+        ensures capacity { capacity_of (whole_leg self.old) ≤ capacity_of (whole_leg self.new) }
     {
         if effect.answer.is_reply() && self.window.is_full() {
             return Heard {
@@ -95,6 +98,7 @@ impl Machine {
         ensures leg { leg_of self.new ≡ (steps.judged_step (judged_number self.old.window.state.history frame.now.head.oseqno) (leg_of self.old) frame.now message.now now).leg }
         ensures replies { outs.new ≡ outs.old ++ map spelling (steps.judged_step (judged_number self.old.window.state.history frame.now.head.oseqno) (leg_of self.old) frame.now message.now now).replies }
         ensures heard { result ≡ steps.heard_of (steps.judged_step (judged_number self.old.window.state.history frame.now.head.oseqno) (leg_of self.old) frame.now message.now now) }
+        ensures capacity { capacity_of (whole_leg self.old) ≤ capacity_of (whole_leg self.new) }
     {
         match self.window.judge(frame.oseqno()) {
             Received::Taken => {
@@ -122,6 +126,7 @@ impl Machine {
     fn invalidate(&mut self) -> Heard
         ensures leg { leg_of self.new ≡ (steps.inval_step (leg_of self.old)).leg }
         ensures heard { result ≡ steps.heard_of (steps.inval_step (leg_of self.old)) }
+        ensures capacity { capacity_of (whole_leg self.old) ≤ capacity_of (whole_leg self.new) }
     {
         let signal = unless_over(self.stage, Signal::Hangup);
         self.enter(Stage::Ended);
@@ -139,6 +144,7 @@ impl Machine {
         ensures leg { leg_of self.new ≡ (steps.numbered_step (leg_of self.old) frame.now message.now now).leg }
         ensures replies { outs.new ≡ outs.old ++ map spelling (steps.numbered_step (leg_of self.old) frame.now message.now now).replies }
         ensures heard { result ≡ steps.heard_of (steps.numbered_step (leg_of self.old) frame.now message.now now) }
+        ensures capacity { capacity_of (whole_leg self.old) ≤ capacity_of (whole_leg self.new) }
     {
         if message.is_numbered() {
             self.judge(frame, message, now, outs)
@@ -157,6 +163,7 @@ impl Machine {
         ensures leg { leg_of self.new ≡ steps.prepared (leg_of self.old) frame.now }
         ensures room { HasRoom 3 self.new }
         ensures counts { result ≡ counts (judged_acknowledgement self.old.window.state.history frame.now.head.iseqno) }
+        ensures capacity { capacity_of (whole_leg self.old) ≤ capacity_of (whole_leg self.new) }
     {
         self.learn(frame.source());
         let counts = self.acknowledge(frame.iseqno());
@@ -172,6 +179,7 @@ impl Machine {
         ensures leg { leg_of self.new ≡ (steps.full_step (leg_of self.old) frame.now now).leg }
         ensures replies { outs.new ≡ map spelling (steps.full_step (leg_of self.old) frame.now now).replies }
         ensures heard { result ≡ steps.heard_of (steps.full_step (leg_of self.old) frame.now now) }
+        ensures capacity { capacity_of (whole_leg self.old) ≤ capacity_of (whole_leg self.new) }
     {
         let message = Message::of(frame);
         if message.is_inval() {

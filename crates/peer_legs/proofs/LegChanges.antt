@@ -27,7 +27,7 @@ changed legs place old new index index' at are numbered free written =
 
 -- ---- no leg yet
 
-none_placed : (count place : ℕ) (named : NamedLeg) → slice_get (replicate count None) place ≢ Some (Some named)
+pub none_placed : (count place : ℕ) (named : NamedLeg) → slice_get (replicate count None) place ≢ Some (Some named)
 none_placed zero place named = λ e. cc
 none_placed (suc count) zero named = λ e. cc
 none_placed (suc count) (suc place) named = none_placed count place named
@@ -172,7 +172,7 @@ learned legs place named leg index index' source number remote are at may from t
 -- a step that was carried out or refused
 pub same_either : {T E : Type 0} (result : Result T E) (old new after : LegState) → IsSameCall old after → OnOk result (new ≡ after) → OnErr result (new ≡ old) → IsSameCall old new
 same_either (Ok answer) old new after same carried refused = subst (IsSameCall old) (sym carried) same
-same_either (Err refusal) old new after same carried refused = subst (IsSameCall old) (sym refused) (record { number = refl; remote = refl })
+same_either (Err refusal) old new after same carried refused = subst (IsSameCall old) (sym refused) (record { number = refl; remote = refl; ruled = record { rules = refl; width = refl; limit = refl } })
 
 pub sends_either : {T E : Type 0} (result : Result T E) (old new after : LegState) → OnOk result (new ≡ after) → OnOk result (SendsAtMostOne old new) → OnOk result (SendsAtMostOne old after)
 sends_either (Ok answer) old new after carried sends = subst (SendsAtMostOne old) carried sends

@@ -4,4 +4,5 @@ pub mod LegIndex
 pub mod LegSearch
 pub mod LegThere
 pub mod PlaceLaws
+pub mod RuleChanges
 pub mod SameCall

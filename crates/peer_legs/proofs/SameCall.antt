@@ -1,4 +1,4 @@
--- A step of a leg keeps the leg's numbers: its own always, the other side's once it is known.
+-- A step of a leg keeps the leg's rules and its numbers: its own always, the other side's once it is known.
 use Rattle.std.proofs.Common.{◌≡◌, ℕ, zero, suc, ◌⊎◌, inl, inr, Bool, true, false, ◌&&◌, ◌==◌, cond, if◌then◌else◌, List, Option, Some, None, unwrap_or, refl, ◌∙◌}
 use Rattle.iax_frames.specs.FullFrame.{FullFrame}
 use Rattle.seq_window.specs.declared.judgements.Acknowledged.{Acknowledged}
@@ -35,15 +35,23 @@ use Rattle.leg_machine.specs.declared.orders.Ordered.{Ordered}
 use Rattle.call_signals.specs.declared.rules.PeerRules.{PeerRules}
 use Rattle.call_signals.specs.declared.stages.Stage.TheVariants.{Ended}
 
--- the same call: both numbers are as before
+-- the rules are as before, and the window is as wide and the record as long as it was
+pub record KeepsRules (old new : LegState) : Type 0 where
+  pub rules : new.rules ≡ old.rules
+  pub width : new.window.width ≡ old.window.width
+  pub limit : new.window.limit ≡ old.window.limit
+
+-- the same call: both numbers and the rules are as before
 pub record IsSameCall (old new : LegState) : Type 0 where
   pub number : new.number ≡ old.number
   pub remote : new.remote ≡ old.remote
+  pub ruled : KeepsRules old new
 
 -- the same call, in which the other side's number may have been learnt from this source
 pub record MayLearn (source : ℕ) (old new : LegState) : Type 0 where
   pub number : new.number ≡ old.number
   pub remote : (new.remote ≡ old.remote) ⊎ (new.remote ≡ Some (unwrap_or old.remote source))
+  pub ruled : KeepsRules old new
 
 -- what is so of both is so of the one that is chosen
 chosen : {A : Type 0} (P : A → Type 0) (b : Bool) (x y : A) → P x → P y → P (cond b x y)
@@ -51,25 +59,33 @@ chosen P true x y first second = first
 chosen P false x y first second = second
 
 same : (leg : LegState) → IsSameCall leg leg
-same leg = record { number = refl; remote = refl }
+same leg = record { number = refl; remote = refl; ruled = record { rules = refl; width = refl; limit = refl } }
 
 both_same : (old middle new : LegState) → IsSameCall old middle → IsSameCall middle new → IsSameCall old new
-both_same old middle new first second = record { number = second.number ∙ first.number; remote = second.remote ∙ first.remote }
+both_same old middle new first second = record {
+  number = second.number ∙ first.number;
+  remote = second.remote ∙ first.remote;
+  ruled = record {
+    rules = second.ruled.rules ∙ first.ruled.rules;
+    width = second.ruled.width ∙ first.ruled.width;
+    limit = second.ruled.limit ∙ first.ruled.limit;
+  };
+}
 
 -- ---- a full frame
 
 same_marked : (leg : LegState) (mark : Mark) → IsSameCall leg (marked leg mark)
-same_marked leg Nothing = record { number = refl; remote = refl }
-same_marked leg Quelches = record { number = refl; remote = refl }
-same_marked leg Unquelches = record { number = refl; remote = refl }
-same_marked leg Authenticates = record { number = refl; remote = refl }
+same_marked leg Nothing = record { number = refl; remote = refl; ruled = record { rules = refl; width = refl; limit = refl } }
+same_marked leg Quelches = record { number = refl; remote = refl; ruled = record { rules = refl; width = refl; limit = refl } }
+same_marked leg Unquelches = record { number = refl; remote = refl; ruled = record { rules = refl; width = refl; limit = refl } }
+same_marked leg Authenticates = record { number = refl; remote = refl; ruled = record { rules = refl; width = refl; limit = refl } }
 
 same_taken : (effect : Effect) (leg : LegState) (frame : FullFrame) (message : Message) → IsSameCall leg (taken effect leg frame message)
 same_taken effect leg frame message =
-    let marks = same_marked (entered leg effect.stage) effect.mark in record { number = marks.number; remote = marks.remote }
+    let marks = same_marked (entered leg effect.stage) effect.mark in record { number = marks.number; remote = marks.remote; ruled = record { rules = marks.ruled.rules; width = marks.ruled.width; limit = marks.ruled.limit } }
 
 same_replied : (leg : LegState) (now : ℕ) (answer : Answering) → IsSameCall leg (replied leg now answer)
-same_replied leg now (Answered reply) = record { number = refl; remote = refl }
+same_replied leg now (Answered reply) = record { number = refl; remote = refl; ruled = record { rules = refl; width = refl; limit = refl } }
 same_replied leg now Acks = same leg
 same_replied leg now Silent = same leg
 
@@ -89,14 +105,14 @@ same_numbered leg frame message now =
 
 same_vnak : (judged : Acknowledged) (leg : LegState) (now : ℕ) → IsSameCall leg (vnak_step judged leg now).leg
 same_vnak judged leg now =
-    chosen (λ (s : Step). IsSameCall leg s.leg) (counts judged) (resend_step leg now) (nothing_sent leg) (record { number = refl; remote = refl }) (same leg)
+    chosen (λ (s : Step). IsSameCall leg s.leg) (counts judged) (resend_step leg now) (nothing_sent leg) (record { number = refl; remote = refl; ruled = record { rules = refl; width = refl; limit = refl } }) (same leg)
 
 same_settled : (leg : LegState) → IsSameCall leg (settled leg)
-same_settled leg = chosen (IsSameCall leg) (is_closing leg.stage && (held_count leg.window == 0)) (entered leg Ended) leg (record { number = refl; remote = refl }) (same leg)
+same_settled leg = chosen (IsSameCall leg) (is_closing leg.stage && (held_count leg.window == 0)) (entered leg Ended) leg (record { number = refl; remote = refl; ruled = record { rules = refl; width = refl; limit = refl } }) (same leg)
 
 same_prepared : (leg : LegState) (frame : FullFrame) → IsSameCall (learnt leg frame.head.source) (prepared leg frame)
 same_prepared leg frame =
-    let judged = same_settled (acknowledged (learnt leg frame.head.source) frame.head.iseqno) in record { number = judged.number; remote = judged.remote }
+    let judged = same_settled (acknowledged (learnt leg frame.head.source) frame.head.iseqno) in record { number = judged.number; remote = judged.remote; ruled = record { rules = judged.ruled.rules; width = judged.ruled.width; limit = judged.ruled.limit } }
 
 abbrev taught_step : Message → LegState → FullFrame → ℕ → Step
 taught_step message leg frame now =
@@ -115,7 +131,7 @@ message_learns : (message : Message) (leg : LegState) (frame : FullFrame) (now :
 message_learns message leg frame now =
     let learning = both_same (learnt leg frame.head.source) (prepared leg frame) (taught_step message leg frame now).leg (same_prepared leg frame) (same_taught message leg frame now) in
     chosen (λ (s : Step). MayLearn frame.head.source leg s.leg) (is_inval message) (inval_step leg) (taught_step message leg frame now)
-    (record { number = refl; remote = inl refl }) (record { number = learning.number; remote = inr learning.remote })
+    (record { number = refl; remote = inl refl; ruled = record { rules = refl; width = refl; limit = refl } }) (record { number = learning.number; remote = inr learning.remote; ruled = record { rules = learning.ruled.rules; width = learning.ruled.width; limit = learning.ruled.limit } })
 
 pub full_learns : (leg : LegState) (frame : FullFrame) (now : ℕ) → MayLearn frame.head.source leg (full_step leg frame now).leg
 full_learns leg frame now = message_learns (message_of frame.head) leg frame now
@@ -124,17 +140,17 @@ full_learns leg frame now = message_learns (message_of frame.head) leg frame now
 
 same_row : (leg : LegState) (row : Option Ordered) (now : ℕ) → IsSameCall leg (row_carried leg row now).leg
 same_row leg None now = same leg
-same_row leg (Some row) now = record { number = refl; remote = refl }
+same_row leg (Some row) now = record { number = refl; remote = refl; ruled = record { rules = refl; width = refl; limit = refl } }
 
 pub same_media : (sent : MediaSent) (leg : LegState) (media : List ℕ) (now : ℕ) → IsSameCall leg (after_media sent leg media now)
 same_media Quelched leg media now = same leg
-same_media Voice leg media now = record { number = refl; remote = refl }
+same_media Voice leg media now = record { number = refl; remote = refl; ruled = record { rules = refl; width = refl; limit = refl } }
 same_media (Mini timestamp) leg media now = same leg
 
 pub same_order : (leg : LegState) (order : Order) (now : ℕ) → IsSameCall leg (order_carried leg order now).leg
 same_order leg (orders.Media media) now = same_media (media_sent leg now) leg media.now now
-same_order leg orders.Doom now = record { number = refl; remote = refl }
-same_order leg orders.Paid now = record { number = refl; remote = refl }
+same_order leg orders.Doom now = record { number = refl; remote = refl; ruled = record { rules = refl; width = refl; limit = refl } }
+same_order leg orders.Paid now = record { number = refl; remote = refl; ruled = record { rules = refl; width = refl; limit = refl } }
 same_order leg orders.Accept now = same_row leg (order_row leg orders.Accept) now
 same_order leg (orders.Reject cause) now = same_row leg (order_row leg (orders.Reject cause)) now
 same_order leg (orders.Indicate i) now = same_row leg (order_row leg (orders.Indicate i)) now
@@ -147,22 +163,22 @@ same_order leg orders.Hangup now = same_row leg (order_row leg orders.Hangup) no
 same_hang_up : (grown : Bool) (leg : LegState) (now : ℕ) → IsSameCall leg (hang_up_step grown leg now).leg
 same_hang_up grown leg now =
     chosen (λ (t : Tick). IsSameCall leg t.leg) _ _ _
-    (chosen (λ (t : Tick). IsSameCall leg t.leg) grown _ _ (record { number = refl; remote = refl }) (same leg)) (same leg)
+    (chosen (λ (t : Tick). IsSameCall leg t.leg) grown _ _ (record { number = refl; remote = refl; ruled = record { rules = refl; width = refl; limit = refl } }) (same leg)) (same leg)
 
 same_ping : (grown : Bool) (leg : LegState) (now : ℕ) → IsSameCall leg (ping_step grown leg now).leg
 same_ping grown leg now =
     chosen (λ (t : Tick). IsSameCall leg t.leg) _ _ _
-    (chosen (λ (t : Tick). IsSameCall leg t.leg) grown _ _ (record { number = refl; remote = refl }) (same leg)) (same leg)
+    (chosen (λ (t : Tick). IsSameCall leg t.leg) grown _ _ (record { number = refl; remote = refl; ruled = record { rules = refl; width = refl; limit = refl } }) (same leg)) (same leg)
 
 same_last : (grown spent : Bool) (leg : LegState) (now : ℕ) → IsSameCall leg (last_step grown spent leg now).leg
 same_last grown spent leg now =
-    chosen (λ (t : Tick). IsSameCall leg t.leg) spent _ _ (record { number = refl; remote = refl }) (same_ping grown leg now)
+    chosen (λ (t : Tick). IsSameCall leg t.leg) spent _ _ (record { number = refl; remote = refl; ruled = record { rules = refl; width = refl; limit = refl } }) (same_ping grown leg now)
 
 same_one : (due : Resent) (leg : LegState) (now : ℕ) (rest : LegState → Tried) → ((l : LegState) → IsSameCall l (rest l).leg) → IsSameCall leg (one_try due leg now rest).leg
 same_one resents.Nothing leg now rest keeps = same leg
 same_one resents.Spent leg now rest keeps = same leg
 same_one (resents.Again place) leg now rest keeps =
-    let again = keeps (after_try leg place now) in record { number = again.number; remote = again.remote }
+    let again = keeps (after_try leg place now) in record { number = again.number; remote = again.remote; ruled = record { rules = again.ruled.rules; width = again.ruled.width; limit = again.ruled.limit } }
 
 same_tries : (turns : ℕ) (leg : LegState) (now : ℕ) → IsSameCall leg (tries turns leg now).leg
 same_tries zero leg now = same leg
@@ -182,7 +198,7 @@ pub same_tick : (grown : Bool) (leg : LegState) (now : ℕ) → IsSameCall leg (
 same_tick grown leg now =
     chosen (λ (t : Tick). IsSameCall leg t.leg) (is_ended leg.stage) (quiet leg) (unended_step grown leg now) (same leg)
     (chosen (λ (t : Tick). IsSameCall leg t.leg) (is_short_of_entries leg) (quiet (entered leg Ended)) (due_frames grown leg now)
-    (record { number = refl; remote = refl }) (same_due grown leg now))
+    (record { number = refl; remote = refl; ruled = record { rules = refl; width = refl; limit = refl } }) (same_due grown leg now))
 
 -- ---- openings
 
@@ -192,4 +208,4 @@ open_in_is rules number frame now challenge = same_taken_step (opening_effect (o
 
 pub open_out_is : (rules : PeerRules) (number : ℕ) (called : List ℕ) (calling : Option (List ℕ)) (format : Format) (now : ℕ)
     → IsSameCall (leg_for_call rules number format now) (open_out_step rules number called calling format now).leg
-open_out_is rules number called calling format now = record { number = refl; remote = refl }
+open_out_is rules number called calling format now = record { number = refl; remote = refl; ruled = record { rules = refl; width = refl; limit = refl } }

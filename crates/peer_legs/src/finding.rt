@@ -1,10 +1,11 @@
 //! Which leg of a peer a full frame goes to, and which names are free ("Full Frames", "Call Setup").
 ghost use Rattle.std.specs.Prelude.{◌≡◌, ◌<◌, ◌≤◌, ◌↔◌, [], length, map, true, None, Some, Err, IsSome, IfOk, OnOk, OnErr, IfSome, IsNone};
+ghost use Rattle.call_signals.specs.declared.rules.PeerRules.{PeerRules};
 ghost use Rattle.iax_frames.specs.FullFrame.{spelling};
 ghost use Rattle.leg_machine.specs.Legs.{is_short_of_entries};
 ghost use Rattle.leg_machine.specs.Steps.{full_step, heard_of};
 ghost use Rattle.peer_legs.specs.Finding.{can_reach, is_reached, found};
-ghost use Rattle.peer_legs.specs.Legs.{NamedLeg as NamedLegValue, is_free_name, leg_at, with_leg};
+ghost use Rattle.peer_legs.specs.Legs.{NamedLeg as NamedLegValue, AreLegsOf, is_free_name, leg_at, with_leg};
 
 use crate::named_legs::NamedLeg;
 use crate::peer_legs::PeerLegs;
@@ -32,6 +33,7 @@ impl PeerLegs {
             → leg_at self.new number ≡ Some (record { name = named.name; leg = (full_step named.leg frame.now now).leg })) }
         ensures record_full { (named : NamedLegValue) → leg_at self.old number ≡ Some named → (result ≡ Err StepError.RecordFull) ↔ (is_short_of_entries named.leg ≡ true) }
         ensures err { OnErr result (self.new ≡ self.old) }
+        ensures ruled { (rules : PeerRules) → AreLegsOf rules self.old → AreLegsOf rules self.new }
     {
         let _sound = self.count();
         match self.full(number, frame, now, replies) {

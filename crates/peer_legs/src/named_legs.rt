@@ -18,7 +18,7 @@ impl Model for NamedLeg {
 
     ghost Value = { NamedLeg };
 
-    ghost view = { λ named. record { name = named.lease; leg = named.leg } };
+    ghost view = { λ named. record { name = named.lease; leg = named.leg.state } };
 }
 
 impl NamedLeg {
@@ -31,7 +31,7 @@ impl NamedLeg {
 
     /// The leg, to be read.
     pub fn leg(&self) -> &Leg
-        ensures { result.now ≡ self.now.leg }
+        ensures { result.now.state ≡ self.now.leg }
     {
         &self.leg
     }
@@ -75,7 +75,7 @@ impl NamedLeg {
     /// The lease and the leg, where the leg has gone.
     pub fn into_parts(self) -> (Lease, Leg)
         ensures lease { result.0 ≡ self.name }
-        ensures leg { result.1 ≡ self.leg }
+        ensures leg { result.1.state ≡ self.leg }
     {
         let NamedLeg { lease, leg } = self;
         (lease, leg)

@@ -4,6 +4,7 @@ ghost use Rattle.iax_frames.specs.FullFrame.{spelling};
 ghost use Rattle.leg_machine.specs.Openings.{open_in_step};
 ghost use Rattle.leg_machine.specs.PeerRules.{IsPeerRules};
 ghost use Rattle.leg_machine.specs.Steps.{heard_of};
+ghost use Rattle.peer_legs.specs.Legs.{IsLegOf};
 
 use call_auth::Challenge;
 use iax_frames::{CallNumber, Full};
@@ -28,15 +29,21 @@ pub fn open_in(
     requires first { frame.now.head.oseqno ≡ 0 }
     requires short { length frame.now.payload ≤ 1388 }
     requires empty { replies.old ≡ [] }
-    ensures leg { IfOk result (λ opened. opened.0 ≡ (open_in_step rules.now number frame.now now challenge.now).leg) }
-    ensures number { IfOk result (λ opened. opened.0.number ≡ number) }
-    ensures remote { IfOk result (λ opened. opened.0.remote ≡ Some frame.now.head.source) }
+    ensures leg { IfOk result (λ opened. opened.0.state ≡ (open_in_step rules.now number frame.now now challenge.now).leg) }
+    ensures number { IfOk result (λ opened. opened.0.state.number ≡ number) }
+    ensures remote { IfOk result (λ opened. opened.0.state.remote ≡ Some frame.now.head.source) }
+    ensures ruled { IfOk result (λ opened. IsLegOf rules.now opened.0.state) }
     ensures replies { OnOk result (replies.new ≡ map spelling (open_in_step rules.now number frame.now now challenge.now).replies) }
     ensures heard { IfOk result (λ opened. opened.1 ≡ heard_of (open_in_step rules.now number frame.now now challenge.now)) }
     ensures none_sent { OnErr result (replies.new ≡ replies.old) }
 {
+    leg_machine::laws::steps_send_as_sides();
     match Leg::open_in_into(alloc, rules, number, frame, now, challenge, replies) {
-        Ok(opened) => Ok(opened),
+        Ok((leg, heard)) => {
+            let _legal = leg.window().record();
+            let _held = leg.window().held_len();
+            Ok((leg, heard))
+        }
         Err(error) => Err(error),
     }
 }

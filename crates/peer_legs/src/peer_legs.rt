@@ -1,6 +1,7 @@
 //! The legs of one peer, by their local numbers.
 ghost use Rattle.std.specs.Option.{ForSome};
 ghost use Rattle.std.specs.Prelude.{◌&&◌, nat_lt, nat_le, ◌≡◌, ◌==◌, ◌+◌, ◌-◌, ◌^◌, ◌<◌, ◌≤◌, ◌↔◌, length, map, option_copied, replicate, slice_get, slice_set, true, None, Some, Err, [], IfErr, IfNone, IfOk, IfSome, IsNone, IsSome, IsTrue, All, OnErr, OnOk};
+ghost use Rattle.call_signals.specs.declared.rules.PeerRules.{PeerRules};
 ghost use Rattle.iax_frames.specs.FullFrame.{spelling};
 ghost use Rattle.leg_machine.specs.Legs.{is_short_of_entries};
 ghost use Rattle.leg_machine.specs.Media.{media_sent, after_media, media_frames};
@@ -57,7 +58,7 @@ fn no_legs(alloc: Global, count: u16) -> Result<Vec<Option<NamedLeg>>, AllocErro
 }
 
 impl PeerLegs {
-    ghost use Rattle.peer_legs.specs.Legs.{AreLegs, leg_at, leg_named, leg_of_remote, has_remote, is_from, filled, with_place, with_leg};
+    ghost use Rattle.peer_legs.specs.Legs.{AreLegs, IsLegOf, AreLegsOf, leg_at, leg_named, leg_of_remote, has_remote, is_from, filled, with_place, with_leg};
 
     /// A peer without a leg, whose local numbers are so many, 1 ..= 512, from the first on.
     pub fn new(alloc: Global, peer: u16, first: u16, count: u16) -> Result<PeerLegs, AllocError>
@@ -67,6 +68,7 @@ impl PeerLegs {
         requires within { first + count ≤ 2 ^ 15 }
         ensures legs { IfOk result (λ legs. legs ≡ record { peer = peer; first = first; places = replicate count None }) }
         ensures sound { IfOk result AreLegs }
+        ensures ruled { IfOk result (λ legs. (rules : PeerRules) → AreLegsOf rules legs) }
     {
         Ok(PeerLegs {
             peer,
@@ -185,12 +187,13 @@ impl PeerLegs {
         requires peer { lease.peer ≡ self.old.peer }
         requires first { self.old.first ≤ lease.number }
         requires within { lease.number < self.old.first + length self.old.places }
-        requires number { leg.number ≡ lease.number }
+        requires number { leg.state.number ≡ lease.number }
         requires empty { leg_at self.old lease.number ≡ None }
-        requires remote { ForSome leg.remote (λ remote. leg_of_remote self.old remote ≡ None) }
-        ensures legs { self.new ≡ with_place self.old lease.number (Some (record { name = lease; leg = leg })) }
-        ensures there { leg_at self.new lease.number ≡ Some (record { name = lease; leg = leg }) }
+        requires remote { ForSome leg.state.remote (λ remote. leg_of_remote self.old remote ≡ None) }
+        ensures legs { self.new ≡ with_place self.old lease.number (Some (record { name = lease; leg = leg.state })) }
+        ensures there { leg_at self.new lease.number ≡ Some (record { name = lease; leg = leg.state }) }
         ensures sound { AreLegs self.new }
+        ensures ruled { (rules : PeerRules) → AreLegsOf rules self.old → IsLegOf rules leg.state → AreLegsOf rules self.new }
     {
         let number = lease.name().number;
         self.by_remote.note(leg.remote(), Some(number));
@@ -205,6 +208,7 @@ impl PeerLegs {
         ensures leg { leg_at self.old number ≡ Some result }
         ensures legs { self.new ≡ with_place self.old number None }
         ensures sound { AreLegs self.new }
+        ensures ruled { (rules : PeerRules) → AreLegsOf rules self.old → AreLegsOf rules self.new }
     {
         let index = self.place_of(number);
         let Some(named) = self.places[index].take() else {
@@ -244,12 +248,16 @@ impl PeerLegs {
         ensures err { OnErr result (self.new ≡ self.old) }
         ensures none_sent { OnErr result (replies.new ≡ replies.old) }
         ensures sound { AreLegs self.new }
+        ensures ruled { (rules : PeerRules) → AreLegsOf rules self.old → AreLegsOf rules self.new }
     {
+        leg_machine::laws::steps_send_as_sides();
         let index = self.place_of(number);
         let Some(named) = &mut self.places[index] else {
             unreachable!()
         };
         let heard = named.leg.full_into(frame, now, replies)?;
+        let _legal = named.leg.window().record();
+        let _held = named.leg.window().held_len();
         let remote = named.leg.remote();
         self.rest_until = self.rest_until.min(named.rest_until());
         self.by_remote.note(remote, Some(number));
@@ -285,12 +293,16 @@ impl PeerLegs {
         ensures err { OnErr result (self.new ≡ self.old) }
         ensures none_sent { OnErr result (replies.new ≡ replies.old) }
         ensures sound { AreLegs self.new }
+        ensures ruled { (rules : PeerRules) → AreLegsOf rules self.old → AreLegsOf rules self.new }
     {
+        leg_machine::laws::steps_send_as_sides();
         let index = self.place_of(number);
         let Some(named) = &mut self.places[index] else {
             unreachable!()
         };
         let obeyed = named.leg.order_into(order, now, replies);
+        let _legal = named.leg.window().record();
+        let _held = named.leg.window().held_len();
         self.rest_until = self.rest_until.min(named.rest_until());
         obeyed
     }
@@ -325,12 +337,16 @@ impl PeerLegs {
         ensures err { OnErr result (self.new ≡ self.old) }
         ensures none_sent { OnErr result (replies.new ≡ replies.old) }
         ensures sound { AreLegs self.new }
+        ensures ruled { (rules : PeerRules) → AreLegsOf rules self.old → AreLegsOf rules self.new }
     {
+        leg_machine::laws::steps_send_as_sides();
         let index = self.place_of(number);
         let Some(named) = &mut self.places[index] else {
             unreachable!()
         };
         let sent = named.leg.media_into(media, now, replies);
+        let _legal = named.leg.window().record();
+        let _held = named.leg.window().held_len();
         self.rest_until = named.rest_after_media(&sent, self.rest_until);
         sent
     }
@@ -355,7 +371,9 @@ impl PeerLegs {
         ensures none_changed { IfNone (filled (slice_get self.old.places index)) (self.new ≡ self.old) }
         ensures none_sent { IfNone (filled (slice_get self.old.places index)) (replies.new ≡ replies.old) }
         ensures sound { AreLegs self.new }
+        ensures ruled { (rules : PeerRules) → AreLegsOf rules self.old → AreLegsOf rules self.new }
     {
+        leg_machine::laws::steps_send_as_sides();
         if index >= self.places.len() {
             return 0;
         }
@@ -363,6 +381,9 @@ impl PeerLegs {
             return 0;
         };
         self.rest_until = 0;
-        named.leg.tick_into(now, replies)
+        let skipped = named.leg.tick_into(now, replies);
+        let _legal = named.leg.window().record();
+        let _held = named.leg.window().held_len();
+        skipped
     }
 }

@@ -1,6 +1,7 @@
 pub mod Carrying
 pub mod Choices
 pub mod Entries
+pub mod NumberTicks
 pub mod Opened
 pub mod Packing
 pub mod Puts
@@ -9,4 +10,7 @@ pub mod SeenArrivals
 pub mod SeenChanges
 pub mod SeenSteps
 pub mod Shortness
+pub mod Sides
+pub mod SidesEvents
+pub mod SidesTicks
 pub mod Ticking

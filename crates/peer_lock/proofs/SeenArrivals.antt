@@ -93,7 +93,7 @@ reached_is legs source (Some one) named is = elim (cases_Bool (is_reached legs s
 ]
 
 -- the leg that is found for a frame stands under its own number
-found_named : (legs : PeerLegs) (frame : FullFrame) (named : NamedLeg) → AreLegs legs → found legs frame ≡ Some named
+pub found_named : (legs : PeerLegs) (frame : FullFrame) (named : NamedLeg) → AreLegs legs → found legs frame ≡ Some named
     → leg_at legs named.name.number ≡ Some named
 found_named legs frame named are is = elim (cases_Bool (frame.head.destination == 0)) [
   | inl e ↦ remote_named legs frame.head.source named are (rw e at is)

@@ -39,7 +39,7 @@ use Rattle.peer_lock.proofs.SeenChanges.{named_at, none_named, seen_of_name, pla
 
 -- ---- openings
 
-record IsFree (legs : PeerLegs) (name : LegName) : Type 0 where
+pub record IsFree (legs : PeerLegs) (name : LegName) : Type 0 where
   pub peer : name.peer ≡ legs.peer
   pub first : legs.first ≤ name.number
   pub within : name.number < legs.first + length legs.places
@@ -55,7 +55,7 @@ all_four true true false d e = cc
 all_four true false c d e = cc
 all_four false b c d e = cc
 
-free_name : (legs : PeerLegs) (name : LegName) → is_free_name legs name ≡ true → IsFree legs name
+pub free_name : (legs : PeerLegs) (name : LegName) → is_free_name legs name ≡ true → IsFree legs name
 free_name legs name free =
     let all = all_four (name.peer == legs.peer) (nat_le legs.first name.number) (nat_lt name.number (legs.first + length legs.places))
     (not (is_some (leg_at legs name.number))) free in
@@ -122,7 +122,7 @@ media_legs sent.Quelched peer number media = refl
 media_legs sent.Voice peer number media = refl
 media_legs (sent.Mini timestamp) peer number media = short_legs peer number timestamp media
 
-ordered_legs : (peer : PeerView) (named : NamedLeg) (order : Order) (now : ℕ) → (ordered_at peer named order now).legs ≡ with_leg peer.legs named.name (order_carried named.leg order now).leg
+pub ordered_legs : (peer : PeerView) (named : NamedLeg) (order : Order) (now : ℕ) → (ordered_at peer named order now).legs ≡ with_leg peer.legs named.name (order_carried named.leg order now).leg
 ordered_legs peer named (orders.Media media) now =
     media_legs (media_sent named.leg now) (with_media (media_sent named.leg now) peer named media.now now) named.name.number media.now
 ordered_legs peer named orders.Accept now = refl
@@ -139,7 +139,7 @@ none_due None e = refl
 none_due (Some due) e = cc
 
 -- the order isn't refused by a leg that is there
-unspent : (spent : Bool) (refusal : Option OrderError) → (if spent then Some errors.StepsSpent else refusal) ≡ None → refusal ≡ None
+pub unspent : (spent : Bool) (refusal : Option OrderError) → (if spent then Some errors.StepsSpent else refusal) ≡ None → refusal ≡ None
 unspent true refusal e = cc
 unspent false refusal e = e
 

@@ -8,6 +8,8 @@ pub mod Orders
 pub mod Outbox
 pub mod Peer
 pub mod Seen
+pub mod Sides
+pub mod SoundPeer
 pub mod Statuses
 pub mod Ticks
 pub mod Unworked

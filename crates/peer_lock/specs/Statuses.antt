@@ -1,5 +1,5 @@
 -- How a leg stands, as those see it who look.
-use Rattle.std.specs.Prelude.{ℕ, List, ◌&&◌, not, Bool, false, Option, None, Some}
+use Rattle.std.specs.Prelude.{ℕ, ◌≤◌, List, ◌&&◌, not, Bool, false, Option, None, Some}
 use Rattle.leg_machine.specs.Stages.{is_ended}
 use Rattle.seq_window.specs.Entry.{Entry}
 use Rattle.seq_window.specs.History.{IsLegal}
@@ -22,6 +22,10 @@ abbrev pub is_done : Option NamedLeg → Bool
 is_done None = false
 is_done (Some named) = is_ended named.leg.stage && not named.leg.owes
 
--- a record that a window of some width and limit may have
-abbrev pub IsHistory : List Entry → Type 0
-IsHistory history = (width limit : ℕ) × IsLegal width limit history
+-- a record that a window may have, which is no wider and no longer than a plan lets it be
+pub record IsHistory (history : List Entry) : Type 0 where
+  pub width : ℕ
+  pub limit : ℕ
+  pub widest : width ≤ 127
+  pub longest : limit ≤ 65536
+  pub legal : IsLegal width limit history

@@ -2,6 +2,7 @@
 ghost use Rattle.std.specs.Prelude.{◌≡◌, ◌+◌, ◌≤◌, option_map};
 ghost use Rattle.peer_accounts.specs.Accounts.{carried};
 ghost use Rattle.peer_legs.specs.Legs.{leg_at};
+ghost use Rattle.peer_lock.specs.SoundPeer.{IsSoundPeer};
 ghost use Rattle.peer_lock.specs.Statuses.{status_of};
 
 use crate::outboxes::Outbox;
@@ -28,16 +29,15 @@ pub struct ClosedPeer<J: Naming> {
 }
 
 impl<J: Naming> Model for ClosedPeer<J> {
-    ghost use Rattle.std.specs.Prelude.{◌≡◌};
-    ghost use Rattle.leg_machine.specs.PeerRules.{IsPeerRules};
     ghost use Rattle.peer_lock.specs.Peer.{PeerView};
-    ghost use Rattle.trunk_packer.specs.Queue.{media_octets};
+    ghost use Rattle.peer_lock.specs.SoundPeer.{IsKept};
 
     ghost Value = { PeerView };
 
     ghost view = { λ s. record { rules = s.rules; legs = s.legs; outbox = s.outbox; queue = s.queue; accounts = s.account } };
 
-    ghost invariant = { λ s. IsPeerRules s.rules × (s.account.queued ≡ media_octets s.queue) };
+    ghost invariant = { λ s.
+        IsKept (record { rules = s.rules; legs = s.legs; outbox = s.outbox; queue = s.queue; accounts = s.account }) };
 }
 
 impl<J: Naming> ClosedPeer<J> {
@@ -50,7 +50,8 @@ impl<J: Naming> ClosedPeer<J> {
 
     /// How the leg of a local number stands.
     pub fn look(&self, number: u16) -> Option<Status>
-        ensures { result ≡ option_map status_of (leg_at self.now.legs number) }
+        ensures status { result ≡ option_map status_of (leg_at self.now.legs number) }
+        ensures sound { IsSoundPeer self.now }
     {
         self.legs.get(number).map(|named| Status::of(named))
     }

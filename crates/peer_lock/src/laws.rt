@@ -1,26 +1,31 @@
 //! What holds of every step of a peer.
-ghost use Rattle.std.specs.Prelude.{◌≡◌, ◌≤◌, ℕ, true, length, List, Option, None, Some};
+ghost use Rattle.std.specs.Prelude.{◌≡◌, ◌≤◌, ◌⊎◌, ℕ, true, length, List, Option, None, Some, slice_get};
 ghost use Rattle.call_book.specs.declared.leg_name.LegName.{LegName};
 ghost use Rattle.iax_frames.specs.Datagram.{Spells};
 ghost use Rattle.iax_frames.specs.FullFrame.{FullFrame};
 ghost use Rattle.iax_frames.specs.declared.datagram.Datagram.{Datagram};
 ghost use Rattle.leg_machine.specs.OrderTable.{wants_memory};
 ghost use Rattle.leg_machine.specs.Seen.{kind_of};
+ghost use Rattle.leg_machine.specs.Tries.{NoneDue};
 ghost use Rattle.call_signals.specs.declared.formats.Format.{Format};
 ghost use Rattle.call_signals.specs.declared.orders.Order.{Order};
+ghost use Rattle.call_signals.specs.declared.stages.Stage.TheVariants.{Ended};
 ghost use Rattle.peer_lock.specs.Arrivals.{datagram_step};
 ghost use Rattle.peer_lock.specs.CarriedMedia.{CarriesItsOwn};
-ghost use Rattle.peer_legs.specs.Legs.{AreLegs, PeerLegs, NamedLeg, leg_named, with_place};
+ghost use Rattle.peer_legs.specs.Legs.{AreLegs, PeerLegs, NamedLeg, leg_at, leg_named, with_place};
 ghost use Rattle.peer_legs.specs.Legs.{is_free_name};
 ghost use Rattle.peer_lock.specs.Openings.{opens_in, opens_out};
 ghost use Rattle.peer_lock.specs.Orders.{order_refused_by, ordered_step, IsOrderRefusal};
 ghost use Rattle.peer_lock.specs.Peer.{PeerView};
 ghost use Rattle.peer_lock.specs.Seen.{IsSeenDatagram, OpensIn, OpensOut, Obeys, IsSeenRefusal, TicksAll, Retires};
+ghost use Rattle.peer_lock.specs.Sides.{TakesDatagram, TakesTurnAtLeg, TakesNew, SendsNew, SendsAtLeg, EachSends, IsSideOf, Bears, TurnsInto, SendsInto};
+ghost use Rattle.peer_lock.specs.SoundPeer.{IsSoundPeer};
 ghost use Rattle.peer_lock.specs.Statuses.{is_done};
 ghost use Rattle.peer_lock.specs.Ticks.{Ticks};
 ghost use Rattle.peer_lock.specs.declared.errors.OrderError.{OrderError};
 ghost use Rattle.peer_lock.specs.declared.errors.OrderError.TheVariants.{Memory};
 ghost use Rattle.peer_lock.specs.declared.steps.TickReport.{TickReport};
+ghost use Rattle.seq_window.specs.Network.{Datagram as Sending, Side};
 
 /// Media that a datagram's step hands up lies within the datagram, each piece of it 1 to 1,380 octets, and the step takes credit for
 /// exactly all of it.
@@ -54,4 +59,49 @@ pub fn steps_are_seen()
         Retires legs (with_place legs name.number None) name }
 {
     leg_machine::laws::steps_are_seen();
+}
+
+/// Each step of a peer adds to the record of the leg concerned only what one turn of a side of a network adds, and what its legs send
+/// are sendings of such sides, from the records that the legs have after the step; the other records stay. The steps are those of the
+/// calls' own clauses.
+pub fn steps_are_of_sides()
+    ensures datagrams { (first : ℕ) (peer : PeerView) (datagram : Datagram) (now : ℕ) → IsSoundPeer peer →
+        TakesDatagram peer datagram (datagram_step first peer datagram now).peer }
+    ensures calls_in { (peer : PeerView) (name : LegName) (frame : FullFrame) (now : ℕ) (challenge : List ℕ) →
+        is_free_name peer.legs name ≡ true → TakesNew peer name frame (opens_in peer name frame now challenge).peer }
+    ensures calls_out { (peer : PeerView) (name : LegName) (called : List ℕ) (calling : Option (List ℕ)) (format : Format) (now : ℕ) →
+        is_free_name peer.legs name ≡ true → SendsNew peer name (opens_out peer name called calling format now).peer }
+    ensures orders { (peer : PeerView) (credit : ℕ) (name : LegName) (order : Order) (now : ℕ) → IsSoundPeer peer →
+        order_refused_by peer credit name order now ≡ None → SendsAtLeg peer name (ordered_step peer name order now) }
+    ensures ticks { (old new : PeerView) (now : ℕ) (report : TickReport) → IsSoundPeer old → Ticks old now report new →
+        EachSends old new }
+{
+    leg_machine::laws::steps_take_turns();
+    leg_machine::laws::steps_send_as_sides();
+}
+
+/// What such a step adds to a leg's record, actions of a side of a network add, by which the side comes to the record that the leg has
+/// after the step: those of one turn that judges the very datagram that came, or the sending of at most one frame.
+pub fn steps_are_actions()
+    // Of a full frame that bears the numbers of a datagram which the other side sent.
+    ensures frames { (old new : PeerView) (frame : FullFrame) (turn : TakesTurnAtLeg old frame new) → IsSoundPeer new →
+        (own other : Side) → IsSideOf new.rules turn.named.leg own →
+        (which : ℕ) (sending : Sending) → slice_get other.datagrams which ≡ Some sending → Bears frame sending →
+        TurnsInto new.rules own other which turn.leg }
+    ensures orders { (old new : PeerView) (name : LegName) (sends : SendsAtLeg old name new) → IsSoundPeer new →
+        (own other : Side) → IsSideOf new.rules sends.named.leg own → SendsInto new.rules own other sends.leg }
+    ensures ticks { (old new : PeerView) → EachSends old new → IsSoundPeer new →
+        (number : ℕ) (named after : NamedLeg) → leg_at old.legs number ≡ Some named → leg_at new.legs number ≡ Some after →
+        (own other : Side) → IsSideOf new.rules named.leg own → SendsInto new.rules own other after.leg }
+{
+    seq_window::laws::steps_are_events();
+}
+
+/// After a tick of a peer each of its legs has ended, or nothing that it holds is due.
+pub fn ticks_leave_nothing_due()
+    ensures { (old new : PeerView) (now : ℕ) (report : TickReport) → IsSoundPeer old → Ticks old now report new →
+        (number : ℕ) (named : NamedLeg) → leg_at new.legs number ≡ Some named →
+        (named.leg.stage ≡ Ended) ⊎ NoneDue named.leg now }
+{
+    leg_machine::laws::ticks_finish_their_tries();
 }

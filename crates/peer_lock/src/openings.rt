@@ -4,7 +4,7 @@ ghost use Rattle.std.specs.Option.{ForSome};
 ghost use Rattle.iax_frames.specs.FullFrame.{spelling};
 ghost use Rattle.peer_accounts.specs.Accounts.{with_step as with_credit};
 ghost use Rattle.std.specs.Prelude.{ℕ};
-ghost use Rattle.peer_legs.specs.Legs.{leg_at, leg_of_remote, with_place};
+ghost use Rattle.peer_legs.specs.Legs.{IsLegOf, leg_at, leg_of_remote, with_place};
 ghost use Rattle.call_signals.specs.declared.outcomes.Judged.TheVariants.{Unnumbered};
 ghost use Rattle.peer_lock.specs.Peer.{counted, handed_up, leg_alone, offer_with};
 ghost use Rattle.peer_accounts.specs.HandedUp.{IsNothing};
@@ -28,11 +28,12 @@ impl<J: Naming> PeerState<J> {
     fn seat(&mut self, pass: &mut Pass<J>, lease: Lease, leg: Leg)
         requires steps { self.old.accounts.steps ≢ J.first_steps }
         requires free { is_free_name self.old.legs lease ≡ true }
-        requires number { leg.number ≡ lease.number }
-        requires remote { (remote : ℕ) → leg.remote ≡ Some remote → leg_of_remote self.old.legs remote ≡ None }
-        ensures peer { self.new ≡ record (counted self.old) { legs = with_place self.old.legs lease.number (Some (record { name = lease; leg = leg })) } }
+        requires number { leg.state.number ≡ lease.number }
+        requires remote { (remote : ℕ) → leg.state.remote ≡ Some remote → leg_of_remote self.old.legs remote ≡ None }
+        requires ruled { IsLegOf self.old.rules leg.state }
+        ensures peer { self.new ≡ record (counted self.old) { legs = with_place self.old.legs lease.number (Some (record { name = lease; leg = leg.state })) } }
         ensures credit { pass.new ≡ with_credit pass.old 0 }
-        ensures there { leg_at self.new.legs lease.number ≡ Some (record { name = lease; leg = leg }) }
+        ensures there { leg_at self.new.legs lease.number ≡ Some (record { name = lease; leg = leg.state }) }
     {
         self.account.count_step(pass);
         self.legs.insert(lease, leg);
@@ -125,15 +126,16 @@ impl<J: Naming> PeerState<J> {
     ) -> Step
         requires steps { self.old.accounts.steps ≢ J.first_steps }
         requires free { is_free_name self.old.legs lease ≡ true }
-        requires number { leg.number ≡ lease.number }
-        requires remote { (remote : ℕ) → leg.remote ≡ Some remote → leg_of_remote self.old.legs remote ≡ None }
+        requires number { leg.state.number ≡ lease.number }
+        requires remote { (remote : ℕ) → leg.state.remote ≡ Some remote → leg_of_remote self.old.legs remote ≡ None }
+        requires ruled { IsLegOf self.old.rules leg.state }
         requires room { 1 ≤ onwards.old.room }
         requires nothing { IsNothing onwards.old }
-        ensures peer { self.new ≡ record (counted self.old) { legs = with_place self.old.legs lease.number (Some (record { name = lease; leg = leg })) } }
+        ensures peer { self.new ≡ record (counted self.old) { legs = with_place self.old.legs lease.number (Some (record { name = lease; leg = leg.state })) } }
         ensures credit { pass.new ≡ with_credit pass.old 0 }
         ensures step { result ≡ leg_alone lease heard.judged }
         ensures signals { onwards.new.signals ≡ handed_up lease heard.signal }
-        ensures offer { onwards.new.offer ≡ offer_with leg heard.signal }
+        ensures offer { onwards.new.offer ≡ offer_with leg.state heard.signal }
     {
         let name = lease.name();
         self.seat(pass, lease, leg);
@@ -168,6 +170,7 @@ impl<J: Naming> PeerState<J> {
         ensures lease { IfErr result (λ back. back.0 ≡ lease) }
         ensures err { OnErr result ((self.new ≡ self.old) × (pass.new ≡ pass.old)) }
     {
+        leg_machine::laws::steps_send_as_sides();
         if let Some(refusal) = self.opening_refused(lease.name()) {
             return Err((lease, refusal));
         }
@@ -185,6 +188,8 @@ impl<J: Naming> PeerState<J> {
         ) {
             Err(_) => Err((lease, OpenError::Memory)),
             Ok(leg) => {
+                let _legal = leg.window().record();
+                let _held = leg.window().held_len();
                 self.outbox.put_all(&self.replies);
                 let name = lease.name();
                 self.seat(pass, lease, leg);

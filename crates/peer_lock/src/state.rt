@@ -1,9 +1,11 @@
 //! What lies under the lock of one peer.
 ghost use Rattle.std.specs.Prelude.{◌≡◌, ◌+◌, ◌^◌, ◌<◌, ◌≤◌, [], ◌∷◌, ◌↔◌, length, replicate, option_map, None, Some, false, IfOk, IfErr, IsErr, IsNone, IfNone, IfSome, OnSome, MatchOption};
+ghost use Rattle.call_signals.specs.declared.rules.PeerRules.{PeerRules as PeerRulesValue};
 ghost use Rattle.leg_machine.specs.PeerRules.{IsPeerRules};
 ghost use Rattle.peer_accounts.specs.Accounts.{no_accounts, carried};
-ghost use Rattle.peer_legs.specs.Legs.{NamedLeg as NamedLegValue, AreLegs, leg_at, leg_named, with_place};
+ghost use Rattle.peer_legs.specs.Legs.{NamedLeg as NamedLegValue, AreLegs, AreLegsOf, leg_at, leg_named, with_place};
 ghost use Rattle.seq_window.specs.History.{IsLegal};
+ghost use Rattle.peer_lock.specs.SoundPeer.{IsSoundPeer};
 ghost use Rattle.peer_lock.specs.Statuses.{IsHistory, status_of, is_done};
 ghost use Rattle.trunk_packer.specs.Queue.{media_octets};
 
@@ -39,16 +41,15 @@ pub struct PeerState<J: Naming> {
 }
 
 impl<J: Naming> Model for PeerState<J> {
-    ghost use Rattle.std.specs.Prelude.{◌≡◌};
-    ghost use Rattle.leg_machine.specs.PeerRules.{IsPeerRules};
     ghost use Rattle.peer_lock.specs.Peer.{PeerView};
-    ghost use Rattle.trunk_packer.specs.Queue.{media_octets};
+    ghost use Rattle.peer_lock.specs.SoundPeer.{IsKept};
 
     ghost Value = { PeerView };
 
     ghost view = { λ s. record { rules = s.rules; legs = s.legs; outbox = s.outbox; queue = s.queue; accounts = s.account } };
 
-    ghost invariant = { λ s. IsPeerRules s.rules × (s.account.queued ≡ media_octets s.queue) };
+    ghost invariant = { λ s.
+        IsKept (record { rules = s.rules; legs = s.legs; outbox = s.outbox; queue = s.queue; accounts = s.account }) };
 }
 
 // What a peer needs memory for.
@@ -65,6 +66,8 @@ fn rooms(
     ensures legs { IfOk result (λ made. made.0 ≡ record { peer = peer; first = first; places = replicate count None }) }
     ensures outbox { IfOk result (λ made. made.1 ≡ []) }
     ensures queue { IfOk result (λ made. made.2 ≡ []) }
+    ensures sound { IfOk result (λ made. AreLegs made.0) }
+    ensures ruled { IfOk result (λ made. (rules : PeerRulesValue) → AreLegsOf rules made.0) }
 {
     let legs = PeerLegs::new(alloc, peer, first, count)?;
     let outbox = Outbox::new(alloc)?;
@@ -99,6 +102,7 @@ impl<J: Naming> PeerState<J> {
         ensures outbox { IfOk result (λ state. state.outbox ≡ []) }
         ensures queue { IfOk result (λ state. state.queue ≡ []) }
         ensures accounts { IfOk result (λ state. state.accounts ≡ no_accounts) }
+        ensures sound { IfOk result IsSoundPeer }
         ensures shares { IfErr result (λ back. (back.0 ≡ octets) × (back.1 ≡ steps)) }
     {
         match rooms(alloc, peer, first, count) {
@@ -125,7 +129,8 @@ impl<J: Naming> PeerState<J> {
 
     /// How the leg of a local number stands.
     pub fn look(&self, number: u16) -> Option<Status>
-        ensures { result ≡ option_map status_of (leg_at self.now.legs number) }
+        ensures status { result ≡ option_map status_of (leg_at self.now.legs number) }
+        ensures sound { IsSoundPeer self.now }
     {
         self.legs.get(number).map(|named| Status::of(named))
     }
@@ -138,6 +143,7 @@ impl<J: Naming> PeerState<J> {
         ensures lease { IfSome result (λ retired. retired.0 ≡ name) }
         ensures record { IfSome result (λ retired. (named : NamedLegValue) → leg_named self.old.legs name ≡ Some named
             → (retired.1.entries ≡ named.leg.window.history) × IsLegal named.leg.window.width named.leg.window.limit named.leg.window.history) }
+        ensures ruled { IfSome result (λ retired. IsLegal self.old.rules.window self.old.rules.record_limit retired.1.entries) }
         ensures legal { IfSome result (λ retired. IsHistory retired.1.entries) }
         ensures gone { OnSome result (self.new ≡ record self.old { legs = with_place self.old.legs name.number None }) }
         ensures same { IfNone result (self.new ≡ self.old) }

@@ -1,7 +1,9 @@
-use Rattle.std.proofs.Common.{rules}
+use Rattle.std.proofs.Common.{sym, subst, rules}
 use Rattle.leg_machine.specs.Legs.{leg_of}
 use Rattle.leg_machine.specs.Openings.{open_in_step}
+use Rattle.leg_machine.specs.Tie.{TakesFirstTurn}
 use Rattle.leg_machine.proofs.Opened.{Opened, opened}
+use Rattle.leg_machine.proofs.Sides.{opening-turn}
 use Rattle.leg_machine.proofs.legs.Leg.open_in_into.Goals as goal
 use Rattle.leg_machine.proofs.legs.Leg.open_in_into.Goals.{After-take-heard}
 
@@ -24,6 +26,11 @@ returns-clause-heard c = (all c).heard
 
 pub returns-clause-seen : goal.returns-clause-seen
 returns-clause-seen c = (all c).seen
+
+pub returns-clause-tied : goal.returns-clause-tied
+returns-clause-tied c =
+    subst (TakesFirstTurn c.args.frame.now) (sym (all c).leg)
+    (opening-turn c.args.rules.now c.args.number c.args.frame.now c.args.now c.args.challenge.now)
 
 pub invariant_of-result : goal.invariant_of-result
 invariant_of-result c = (all c).written.numbered

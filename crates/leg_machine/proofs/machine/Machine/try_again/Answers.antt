@@ -6,7 +6,7 @@ use Rattle.seq_window.specs.Window.{resent, after_resent}
 use Rattle.seq_window.specs.declared.judgements.Resent.TheVariants as resents
 use Rattle.leg_machine.specs.Legs.{leg_of, with_window}
 use Rattle.leg_machine.specs.Tries.{Tried, tries, after_try, frames_again}
-use Rattle.leg_machine.proofs.OneTry.{tries-again, room_kept}
+use Rattle.leg_machine.proofs.OneTry.{tries-again, room_kept, capacity_kept}
 use Rattle.leg_machine.proofs.machine.Machine.try_again.Goals as goal
 
 pub loop-turn-preserved : goal.loop-turn-preserved
@@ -34,4 +34,5 @@ loop-turn-preserved c =
           ∙ ap (λ ys. c.loop-turn.outs ++ ys) inner ∙ c.loop-turn.invariant.2,
       omega (arith, c.loop-turn.invariant.3, c.again.ensures.one),
       λ room. room_kept c.loop-turn.self (record c.loop-turn.self { window = c.resend.new.self }) (resent leg.window now leg.rules.retry_ms leg.rules.max_retries) now c.resend.ensures.state c.resend.ensures.spare (c.loop-turn.invariant.4 room),
+      omega (arith, c.loop-turn.invariant.5, capacity_kept c.loop-turn.self (record c.loop-turn.self { window = c.resend.new.self }) (resent leg.window now leg.rules.retry_ms leg.rules.max_retries) now c.resend.ensures.state c.resend.ensures.spare),
     )

@@ -1,6 +1,7 @@
 use Rattle.std.proofs.Common.{List, Option, subst, sym}
-use Rattle.peer_legs.specs.Legs.{NamedLeg}
+use Rattle.peer_legs.specs.Legs.{NamedLeg, AreLegsOf}
 use Rattle.peer_legs.proofs.LegChanges.{AreIndexed, fresh}
+use Rattle.peer_legs.proofs.RuleChanges.{fresh_legs_of}
 use Rattle.peer_legs.proofs.AtRest.{rest_never}
 use Rattle.peer_legs.proofs.peer_legs.PeerLegs.new.Goals as goal
 
@@ -14,3 +15,8 @@ invariant_of-result c = let are = all c in record { legs = are.legs_are; index =
 
 pub returns-clause-sound : goal.returns-clause-sound
 returns-clause-sound c = (all c).legs_are
+
+pub returns-clause-ruled : goal.returns-clause-ruled
+returns-clause-ruled c = λ rules.
+    subst (λ (places : List (Option NamedLeg)). AreLegsOf rules (record { peer = c.args.peer; first = c.args.first; places = places }))
+    (sym c.in_ok-no_legs.ensures) (fresh_legs_of c.args.peer c.args.first c.args.count rules)

@@ -1,9 +1,10 @@
-use Rattle.std.proofs.Common.{◌≡◌, Some, slice_get, sym, ap, ◌∙◌}
+use Rattle.std.proofs.Common.{◌≡◌, None, Some, slice_get, sym, ap, ◌∙◌}
 use Rattle.peer_legs.specs.Legs.{NamedLeg, PeerLegs, filled}
 use Rattle.peer_legs.specs.LegsInside.{legs_of}
 use Rattle.peer_legs.proofs.LegIndex.{placed}
 use Rattle.peer_legs.proofs.LegSearch.{leg_read}
 use Rattle.peer_legs.proofs.LegChanges.{AreIndexed, removed}
+use Rattle.peer_legs.proofs.RuleChanges.{placed_legs_of}
 use Rattle.peer_legs.proofs.AtRest.{rest_gone}
 use Rattle.peer_legs.proofs.peer_legs.PeerLegs.take.Goals as goal
 
@@ -28,3 +29,7 @@ returns-clause-leg c =
 
 pub returns-clause-sound : goal.returns-clause-sound
 returns-clause-sound c = (all c).legs_are
+
+pub returns-clause-ruled : goal.returns-clause-ruled
+returns-clause-ruled c = λ rules ruled.
+    rw c.take.ensures.after (placed_legs_of (legs_of c.self.inside) c.args.self.now c.place_of-index.result None rules c.self.view_is ruled (λ other never. cc))

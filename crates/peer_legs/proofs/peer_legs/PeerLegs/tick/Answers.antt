@@ -1,34 +1,45 @@
-use Rattle.std.proofs.Common.{◌≡◌, ◌==◌, ◌<◌, Some, length, slice_get, slice_set, ap, ◌∙◌, subst, arith}
+use Rattle.std.proofs.Common.{◌≡◌, ◌==◌, ◌<◌, None, Some, length, slice_get, slice_set, sym, ap, ◌∙◌, subst, arith}
 use Rattle.leg_machine.specs.Legs.{LegState}
 use Rattle.leg_machine.specs.Ticks.{tick_step}
-use Rattle.leg_machine.specs.Tie.{SendsAtMostOne}
+use Rattle.leg_machine.specs.Tie.{SendsAtMostOne, SendsNumbered}
 use Rattle.peer_legs.specs.Legs.{NamedLeg, PeerLegs, filled}
 use Rattle.peer_legs.specs.LegsInside.{legs_of}
 use Rattle.peer_legs.proofs.LegChanges.{AreIndexed, stepped, placed_is_with_leg}
 use Rattle.peer_legs.proofs.LegIndex.{placed}
 use Rattle.peer_legs.proofs.LegSearch.{IsFoundAt, found_at, none_past, none_read}
+use Rattle.peer_legs.proofs.RuleChanges.{IsLegStep, recorded, placed_legs_of, stepped_legs_of}
 use Rattle.peer_legs.proofs.SameCall.{IsSameCall, same_tick}
 use Rattle.peer_legs.proofs.AtRest.{rest_never}
 use Rattle.peer_legs.proofs.peer_legs.PeerLegs.tick.Goals as goal
 
 -- the leg before and after
 abbrev before : goal.After-self-2-1 → NamedLeg
-before c = record { name = c.named.inside.lease; leg = c.named.inside.leg }
+before c = record { name = c.named.inside.lease; leg = c.named.inside.leg.state }
 
 abbrev after : goal.After-self-2-1 → LegState
-after c = (tick_step (c.tick_into.result == 0) c.named.inside.leg c.args.now).leg
+after c = (tick_step (c.tick_into-skipped.result == 0) c.named.inside.leg.state c.args.now).leg
 
 is_found : (c : goal.After-self-2-1) → IsFoundAt (legs_of c.self.inside) c.args.self.now c.args.index (before c)
 is_found c =
     let within : c.args.index < length c.self.inside.places.items = omega (arith, c.len.ensures, c.if-index-len.false) in
     found_at (legs_of c.self.inside) c.args.self.now c.args.index c.index_mut.result.now c.in-Some.named (before c) c.self.view_is within c.index_mut.ensures.value c.in-Some.is c.named.view_is
 
+same : (c : goal.After-self-2-1) → IsSameCall c.named.inside.leg.state c.tick_into-skipped.new.self.state
+same c = rw c.tick_into-skipped.ensures.leg (same_tick (c.tick_into-skipped.result == 0) c.named.inside.leg.state c.args.now)
+
+is_step : (c : goal.After-self-2-1) → IsLegStep c.named.inside.leg.state c.tick_into-skipped.new.self.state
+is_step c = record {
+  ruled = (same c).ruled;
+  numbered = λ numbered. subst SendsNumbered (sym c.tick_into-skipped.ensures.leg) (c.steps_send_as_sides.ensures.ticks (c.tick_into-skipped.result == 0) c.named.inside.leg.state c.args.now numbered).numbered;
+  recorded = λ _. recorded c.tick_into-skipped.new.self.state c.window.result.now.state c.window-2.result.now.state c.held_len-held.result c.window.ensures c.window-2.ensures
+      c.record-legal.ensures.legal c.held_len-held.ensures.value c.held_len-held.ensures.held;
+}
+
 all : (c : goal.After-self-2-1)
-    → AreIndexed (placed (legs_of c.self.inside) c.args.index (Some (record { name = c.named.inside.lease; leg = c.tick_into.new.self }))) c.self.inside.by_remote
+    → AreIndexed (placed (legs_of c.self.inside) c.args.index (Some (record { name = c.named.inside.lease; leg = c.tick_into-skipped.new.self.state }))) c.self.inside.by_remote
 all c =
-    let same : IsSameCall c.named.inside.leg c.tick_into.new.self = rw c.tick_into.ensures.leg (same_tick (c.tick_into.result == 0) c.named.inside.leg c.args.now) in
-    stepped (legs_of c.self.inside) c.args.index (before c) c.tick_into.new.self c.self.inside.by_remote (record { legs_are = c.self.invariant.legs; index_is = c.self.invariant.index })
-    (is_found c).at same
+    stepped (legs_of c.self.inside) c.args.index (before c) c.tick_into-skipped.new.self.state c.self.inside.by_remote (record { legs_are = c.self.invariant.legs; index_is = c.self.invariant.index })
+    (is_found c).at (same c)
 
 pub invariant_of-self-2 : goal.invariant_of-self-2
 invariant_of-self-2 c = let are = all c in record { legs = are.legs_are; index = are.index_is; rest = rest_never _ }
@@ -36,27 +47,31 @@ invariant_of-self-2 c = let are = all c in record { legs = are.legs_are; index =
 pub returns-clause-sound : goal.returns-clause-sound
 returns-clause-sound c = (all c).legs_are
 
+pub returns-clause-ruled : goal.returns-clause-ruled
+returns-clause-ruled c = λ rules ruled.
+    stepped_legs_of (legs_of c.self.inside) c.args.self.now c.args.index (before c) c.tick_into-skipped.new.self.state rules c.self.view_is (is_found c).at (is_step c) ruled
+
 pub returns-clause-leg : goal.returns-clause-leg
 returns-clause-leg c = λ x e.
     let is = is_found c in
     rw (is.only x e)
-    (placed_is_with_leg (legs_of c.self.inside) c.args.self.now c.args.index (before c) c.tick_into.new.self (after c) c.self.view_is c.self.invariant.legs is.at c.tick_into.ensures.leg)
+    (placed_is_with_leg (legs_of c.self.inside) c.args.self.now c.args.index (before c) c.tick_into-skipped.new.self.state (after c) c.self.view_is c.self.invariant.legs is.at c.tick_into-skipped.ensures.leg)
 
 pub returns-clause-place : goal.returns-clause-place
 returns-clause-place c = λ x e.
     rw ((is_found c).only x e)
-    (ap (λ (leg : LegState). slice_set c.self.inside.places.items c.args.index (Some (record { name = c.named.inside.lease; leg = leg }))) c.tick_into.ensures.leg
+    (ap (λ (leg : LegState). slice_set c.self.inside.places.items c.args.index (Some (record { name = c.named.inside.lease; leg = leg }))) c.tick_into-skipped.ensures.leg
     ∙ ap (λ (v : PeerLegs). slice_set v.places c.args.index (Some (record { name = c.named.inside.lease; leg = after c }))) c.self.view_is)
 
 pub returns-clause-replies : goal.returns-clause-replies
-returns-clause-replies c = λ x e. rw ((is_found c).only x e) c.tick_into.ensures.replies
+returns-clause-replies c = λ x e. rw ((is_found c).only x e) c.tick_into-skipped.ensures.replies
 
 pub returns-clause-skipped : goal.returns-clause-skipped
-returns-clause-skipped c = λ x e. rw ((is_found c).only x e) c.tick_into.ensures.skipped
+returns-clause-skipped c = λ x e. rw ((is_found c).only x e) c.tick_into-skipped.ensures.skipped
 
 pub returns-clause-tied : goal.returns-clause-tied
 returns-clause-tied c = λ x e.
-    rw ((is_found c).only x e) (subst (SendsAtMostOne c.named.inside.leg) c.tick_into.ensures.leg c.tick_into.ensures.tied)
+    rw ((is_found c).only x e) (subst (SendsAtMostOne c.named.inside.leg.state) c.tick_into-skipped.ensures.leg c.tick_into-skipped.ensures.tied)
 
 pub returns-clause-none : goal.returns-clause-none
 returns-clause-none c = rw (is_found c).leg_is tt
@@ -105,3 +120,8 @@ returns-in_default-clause-skipped c = λ x e. absurd (empty c x e)
 
 pub returns-in_default-clause-tied : goal.returns-in_default-clause-tied
 returns-in_default-clause-tied c = λ x e. absurd (empty c x e)
+
+pub returns-in_default-clause-ruled : goal.returns-in_default-clause-ruled
+returns-in_default-clause-ruled c = λ rules ruled.
+    placed_legs_of (legs_of c.self.inside) c.args.self.now c.args.index c.index_mut.result.now rules c.self.view_is ruled
+    (λ named e. let never : None ≡ Some named = sym c.in_default.is ∙ e in cc)

@@ -8,3 +8,10 @@ pub returns-clause-few : goal.returns-clause-few
 returns-clause-few g c =
     let is : (place : Option NamedLeg) → slice_get c.args.self.now.legs.places c.args.index ≡ Some place → c.tick-skipped.result ≡ (place_tick c.tick-skipped.result place c.args.now).skipped = search rules in
     few_at c.args.self.now.legs.places c.args.index c.tick-skipped.result c.args.now c.requires is
+
+pub invariant_of-self : goal.invariant_of-self
+invariant_of-self g c = record {
+  rules = c.self.invariant.rules;
+  ruled = c.tick-skipped.ensures.ruled c.self.inside.rules c.self.invariant.ruled;
+  queued = c.self.invariant.queued;
+}

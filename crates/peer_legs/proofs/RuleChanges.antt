@@ -1,0 +1,98 @@
+-- The legs of a peer go by its rules still, as one comes, changes or goes.
+use Rattle.std.proofs.Common.{◌≡◌, ℕ, ◌+◌, ◌-◌, ◌^◌, ◌<◌, inl, inr, replicate, length, length-set, Option, Some, None, Result, Ok, Err, OnOk, OnErr, slice_get, slice_set, refl, sym, ap, subst, ◌∙◌, arith}
+use Rattle.std.proofs.lemmas.Bool.{cases_eq}
+use Rattle.std.proofs.lemmas.Option.{slice_get_within}
+use Rattle.call_signals.specs.declared.rules.PeerRules.{PeerRules}
+use Rattle.leg_machine.specs.Legs.{LegState}
+use Rattle.leg_machine.specs.Tie.{SendsNumbered}
+use Rattle.seq_window.specs.History.{IsLegal, acked_count, sent_count}
+use Rattle.seq_window.specs.Window.{WindowState, held_count}
+use Rattle.peer_legs.specs.Legs.{NamedLeg, PeerLegs, AreLegs, IsLegOf, AreLegsOf, leg_at}
+use Rattle.peer_legs.proofs.LegChanges.{none_placed}
+use Rattle.peer_legs.proofs.LegIndex.{placed}
+use Rattle.peer_legs.proofs.PlaceLaws.{StandsAt, stands_at, leg_at_place, back, slice_get-set_same, slice_get-set_other}
+use Rattle.peer_legs.proofs.SameCall.{KeepsRules}
+
+-- another leg, or none, at a place
+pub placed_legs_of : (legs value : PeerLegs) (place : ℕ) (new : Option NamedLeg) (rules : PeerRules) → legs ≡ value → AreLegsOf rules value
+    → ((named : NamedLeg) → new ≡ Some named → IsLegOf rules named.leg) → AreLegsOf rules (placed legs place new)
+placed_legs_of legs value place new rules view all here number named at =
+    let stands : StandsAt (placed legs place new) number named = stands_at (placed legs place new) number named at in
+    elim (cases_eq (number - legs.first) place) [
+      | inl e ↦
+          let there : slice_get (slice_set legs.places place new) place ≡ Some (Some named) = ap (slice_get (slice_set legs.places place new)) (sym e) ∙ stands.place in
+          let within : place < length (slice_set legs.places place new) = slice_get_within (slice_set legs.places place new) place (Some named) there in
+          let same : Some new ≡ Some (Some named) = sym (slice_get-set_same legs.places place new (simp length-set at within)) ∙ there in
+          here named (cc)
+      | inr ne ↦
+          let there : slice_get legs.places (number - legs.first) ≡ Some (Some named) = sym (slice_get-set_other legs.places place (number - legs.first) new ne) ∙ stands.place in
+          all number named (ap (λ (v : PeerLegs). leg_at v number) (sym view) ∙ leg_at_place legs number (number - legs.first) (Some named) (back legs.first number stands.first) there)
+    ]
+
+-- ---- a leg changes
+
+-- what a window says of its record
+pub record IsRecorded (leg : LegState) : Type 0 where
+  pub legal : IsLegal leg.window.width leg.window.limit leg.window.history
+  pub held : held_count leg.window + acked_count leg.window.history ≡ sent_count leg.window.history
+
+pub recorded : (leg : LegState) (one other : WindowState) (count : ℕ) → one ≡ leg.window → other ≡ leg.window → IsLegal one.width one.limit one.history
+    → count ≡ held_count other → count + acked_count other.history ≡ sent_count other.history → IsRecorded leg
+recorded leg one other count is_one is_other legal value held = record {
+  legal = subst (λ (w : WindowState). IsLegal w.width w.limit w.history) is_one legal;
+  held = subst (λ (w : WindowState). held_count w + acked_count w.history ≡ sent_count w.history) is_other
+      (subst (λ (n : ℕ). n + acked_count other.history ≡ sent_count other.history) value held);
+}
+
+-- the step keeps what a peer says of each of its legs
+pub record IsLegStep (old new : LegState) : Type 0 where
+  pub ruled : KeepsRules old new
+  pub numbered : SendsNumbered old → SendsNumbered new
+  pub recorded : IsRecorded old → IsRecorded new
+
+pub stepped_legs_of : (legs value : PeerLegs) (place : ℕ) (named : NamedLeg) (leg : LegState) (rules : PeerRules) → legs ≡ value
+    → slice_get legs.places place ≡ Some (Some named) → IsLegStep named.leg leg → AreLegsOf rules value
+    → AreLegsOf rules (placed legs place (Some (record { name = named.name; leg = leg })))
+stepped_legs_of legs value place named leg rules view at keeps all =
+    let there : leg_at value (legs.first + place) ≡ Some named =
+    ap (λ (v : PeerLegs). leg_at v (legs.first + place)) (sym view) ∙ leg_at_place legs (legs.first + place) place (Some named) refl at in
+    let was : IsLegOf rules named.leg = all (legs.first + place) named there in
+    let now : IsRecorded leg = keeps.recorded (record { legal = was.legal; held = was.held }) in
+    placed_legs_of legs value place (Some (record { name = named.name; leg = leg })) rules view all
+    (λ other e. let is : record { name = named.name; leg = leg } ≡ other = cc in
+    subst (λ (n : NamedLeg). IsLegOf rules n.leg) is (record {
+      rules_are = keeps.ruled.rules ∙ was.rules_are;
+      width = keeps.ruled.width ∙ was.width;
+      limit = keeps.ruled.limit ∙ was.limit;
+      legal = now.legal;
+      numbered = keeps.numbered was.numbered;
+      held = now.held;
+    }))
+
+-- a refused step leaves the leg
+pub refused_step : (old new : LegState) → new ≡ old → IsLegStep old new
+refused_step old new is = rw is (record {
+  ruled = record { rules = refl; width = refl; limit = refl };
+  numbered = λ was. was;
+  recorded = λ was. was;
+})
+
+-- a step that was carried out or refused
+pub numbered_either : {T E : Type 0} (result : Result T E) (old new after : LegState) → (SendsNumbered old → SendsNumbered after)
+    → OnOk result (new ≡ after) → OnErr result (new ≡ old) → SendsNumbered old → SendsNumbered new
+numbered_either (Ok answer) old new after numbered carried refused was = subst SendsNumbered (sym carried) (numbered was)
+numbered_either (Err refusal) old new after numbered carried refused was = subst SendsNumbered (sym refused) was
+
+-- the number of a leg is a call number
+pub number_fits : (legs : PeerLegs) (place : ℕ) (named : NamedLeg) → AreLegs legs → slice_get legs.places place ≡ Some (Some named)
+    → (0 < named.leg.number) × (named.leg.number < 2 ^ 15)
+number_fits legs place named are at =
+    let is : named.leg.number ≡ legs.first + place = (are.named place named at).2 in
+    let within : place < length legs.places = slice_get_within legs.places place (Some named) at in
+    (omega (arith, are.some), omega (arith, are.within))
+
+-- no leg yet
+pub fresh_legs_of : (peer first count : ℕ) (rules : PeerRules) → AreLegsOf rules (record { peer = peer; first = first; places = replicate count None })
+fresh_legs_of peer first count rules number named at =
+    let stands = stands_at (record { peer = peer; first = first; places = replicate count None }) number named at in
+    absurd (none_placed count (number - first) named stands.place)

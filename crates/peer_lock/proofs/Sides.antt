@@ -1,0 +1,196 @@
+-- The steps of a peer but its ticks, as steps of sides of networks.
+use Rattle.std.specs.Prelude.{◌&&◌, map}
+use Rattle.std.proofs.Common.{◌≡◌, ◌^◌, ℕ, ◌-◌, ◌<◌, ◌==◌, ◌⊎◌, true, All, inl, inr, List, [], ◌∷◌, length, Option, Some, None, cond, refl, ap, sym, ◌∙◌, arith}
+use Rattle.std.proofs.lemmas.Bool.{cases_Bool}
+use Rattle.call_book.specs.declared.leg_name.LegName.{LegName}
+use Rattle.call_signals.specs.declared.formats.Format.{Format}
+use Rattle.call_signals.specs.declared.orders.Order.{Order}
+use Rattle.call_signals.specs.declared.orders.Order.TheVariants as orders
+use Rattle.call_signals.specs.declared.rules.PeerRules.{PeerRules}
+use Rattle.iax_frames.specs.FullFrame.{FullFrame, spelling}
+use Rattle.iax_frames.specs.MiniFrame.{mini_spelling}
+use Rattle.iax_frames.specs.declared.datagram.Datagram.{Datagram}
+use Rattle.iax_frames.specs.declared.datagram.Datagram.TheVariants.{Full, Mini, Video, Trunk}
+use Rattle.leg_machine.specs.Legs.{LegState}
+use Rattle.leg_machine.specs.Media.{media_sent}
+use Rattle.leg_machine.specs.Messages.{message_of, is_numbered}
+use Rattle.leg_machine.specs.Openings.{open_in_step, open_out_step}
+use Rattle.leg_machine.specs.OrderTable.{media_datagrams, order_carried}
+use Rattle.leg_machine.specs.Steps.{full_step}
+use Rattle.leg_machine.specs.Tie.{TakesTurn, SendsAtMostOne, TakesFirstTurn, HasSentAtMostOne, SendsNumbered, HasSent, HasSentOrMini, IsSendingOrMini}
+use Rattle.leg_machine.specs.declared.media.MediaSent.{MediaSent}
+use Rattle.leg_machine.specs.declared.media.MediaSent.TheVariants as sent
+use Rattle.peer_accounts.specs.declared.account.Carried.TheVariants.{Packed}
+use Rattle.peer_legs.specs.Finding.{found}
+use Rattle.peer_legs.specs.Legs.{NamedLeg, is_free_name, leg_at, leg_named}
+use Rattle.peer_legs.proofs.PlaceLaws.{stands_at}
+use Rattle.peer_legs.proofs.RuleChanges.{number_fits}
+use Rattle.peer_lock.specs.Arrivals.{datagram_step, delivered_step}
+use Rattle.peer_lock.specs.Delivery.{Delivery, NeedsNumber, GetsInval, NoCall, delivered, is_new, unknown_call}
+use Rattle.peer_lock.specs.Openings.{opens_in, opens_out}
+use Rattle.peer_lock.specs.Orders.{order_refused_by, refused_at, ordered_if, ordered_at, ordered_step, counted_media, short_media, queued_media, carried_media, is_full_for, with_media}
+use Rattle.peer_lock.specs.Outbox.{put}
+use Rattle.peer_lock.specs.Peer.{PeerView, with_datagram}
+use Rattle.peer_lock.specs.Sides.{ComesToNone, TakesTurnAtLeg, TakesDatagram, SendsAtLeg, TakesNew, SendsNew}
+use Rattle.peer_lock.specs.SoundPeer.{IsSoundPeer}
+use Rattle.trunk_packer.specs.Queue.{QueueEntry}
+use Rattle.peer_lock.proofs.Choices.{either}
+use Rattle.peer_lock.proofs.Puts.{put_both}
+use Rattle.peer_lock.proofs.SeenArrivals.{found_named}
+use Rattle.peer_lock.proofs.SeenChanges.{named_at}
+use Rattle.peer_lock.proofs.SeenSteps.{free_name, ordered_legs, unspent}
+
+-- ---- datagrams
+
+module _ (turns : (leg : LegState) (frame : FullFrame) (now : ℕ) → TakesTurn leg frame (full_step leg frame now).leg)
+    (sends : (leg : LegState) (frame : FullFrame) (now : ℕ) → SendsNumbered leg → HasSent (full_step leg frame now).leg (map spelling (full_step leg frame now).replies)) where
+  unknown_side : (first : ℕ) (peer : PeerView) (frame : FullFrame) (now : ℕ) → ComesToNone peer frame (delivered_step first peer (unknown_call frame) frame now).peer
+  unknown_side first peer frame now =
+      let P : Delivery → Type 0 = λ d. ComesToNone peer frame (delivered_step first peer d frame now).peer in
+      let needs : P NeedsNumber = record { legs = refl; outbox = inl refl } in
+      let gets : P GetsInval = record { legs = refl; outbox = inr refl } in
+      let no_call : P NoCall = record { legs = refl; outbox = inl refl } in
+      either P (frame.head.destination == 0) (cond (is_new (message_of frame.head) && (frame.head.oseqno == 0)) NeedsNumber NoCall)
+      (cond (is_numbered (message_of frame.head)) GetsInval NoCall)
+      (either P (is_new (message_of frame.head) && (frame.head.oseqno == 0)) NeedsNumber NoCall needs no_call)
+      (either P (is_numbered (message_of frame.head)) GetsInval NoCall gets no_call)
+
+  full_side : (first : ℕ) (peer : PeerView) (frame : FullFrame) (now : ℕ) (o : Option NamedLeg) → IsSoundPeer peer → found peer.legs frame ≡ o
+      → TakesTurnAtLeg peer frame (delivered_step first peer (delivered o frame) frame now).peer ⊎ ComesToNone peer frame (delivered_step first peer (delivered o frame) frame now).peer
+  full_side first peer frame now None sound is = inr (unknown_side first peer frame now)
+  full_side first peer frame now (Some named) sound is =
+      let at = found_named peer.legs frame named sound.legs is in
+      inl (record {
+        named = named;
+        leg = (full_step named.leg frame now).leg;
+        datagrams = map spelling (full_step named.leg frame now).replies;
+        steps = record { at = at; legs = refl; outbox = refl };
+        tied = turns named.leg frame now;
+        sendings = (sends named.leg frame now (sound.kept.ruled named.name.number named at).numbered).sendings;
+      })
+
+  pub datagram_side : (first : ℕ) (peer : PeerView) (datagram : Datagram) (now : ℕ) → IsSoundPeer peer → TakesDatagram peer datagram (datagram_step first peer datagram now).peer
+  datagram_side first peer (Full frame) now sound = full_side first peer frame now (found peer.legs frame) sound refl
+  datagram_side first peer (Mini mini) now sound = record { legs = refl; outbox = refl }
+  datagram_side first peer (Video video) now sound = record { legs = refl; outbox = refl }
+  datagram_side first peer (Trunk trunk) now sound = record { legs = refl; outbox = refl }
+
+-- ---- orders
+
+-- these datagrams go out, or none
+record Puts (old new sent : List (List ℕ)) : Type 0 where
+  pub datagrams : List (List ℕ)
+  pub outbox : new ≡ put old datagrams
+  pub which : (datagrams ≡ sent) ⊎ (datagrams ≡ [])
+
+queued_outbox : (peer : PeerView) (entry : QueueEntry) → (queued_media peer entry).outbox ≡ peer.outbox
+queued_outbox peer entry = elim (cases_Bool (is_full_for peer.queue (length entry.media))) [
+  | inl e ↦ rw e refl
+  | inr e ↦ rw e refl
+]
+
+short_puts : (peer : PeerView) (named : NamedLeg) (timestamp now : ℕ) (media : List ℕ) → named.name.number ≡ named.leg.number
+    → Puts peer.outbox (short_media (with_media (sent.Mini timestamp) peer named media now) named.name.number timestamp media).outbox (media_datagrams (sent.Mini timestamp) named.leg media now)
+short_puts peer named timestamp now media same =
+    let entry : QueueEntry = record { number = named.name.number; timestamp = timestamp; media = media } in
+    let with : PeerView = with_media (sent.Mini timestamp) peer named media now in
+    let datagram : List ℕ = mini_spelling (record { source = named.name.number; timestamp = timestamp; media = media }) in
+    either (λ (p : PeerView). Puts peer.outbox p.outbox (media_datagrams (sent.Mini timestamp) named.leg media now)) peer.rules.trunk
+    (queued_media with entry) (carried_media (with_datagram with datagram) Packed (length media))
+    (record { datagrams = []; outbox = queued_outbox with entry; which = inr refl })
+    (record {
+      datagrams = datagram ∷ [];
+      outbox = put_both peer.outbox [] (datagram ∷ []);
+      which = inl (ap (λ (n : ℕ). mini_spelling (record { source = n; timestamp = timestamp; media = media }) ∷ []) same);
+    })
+
+media_puts : (how : MediaSent) (peer : PeerView) (named : NamedLeg) (media : List ℕ) (now : ℕ) → named.name.number ≡ named.leg.number
+    → Puts peer.outbox (counted_media how (with_media how peer named media now) named.name.number media).outbox (media_datagrams how named.leg media now)
+media_puts sent.Quelched peer named media now same = record { datagrams = []; outbox = refl; which = inr refl }
+media_puts sent.Voice peer named media now same = record { datagrams = media_datagrams sent.Voice named.leg media now; outbox = refl; which = inl refl }
+media_puts (sent.Mini timestamp) peer named media now same = short_puts peer named timestamp now media same
+
+ordered_puts : (peer : PeerView) (named : NamedLeg) (order : Order) (now : ℕ) → named.name.number ≡ named.leg.number
+    → Puts peer.outbox (ordered_at peer named order now).outbox (order_carried named.leg order now).datagrams
+ordered_puts peer named (orders.Media media) now same = media_puts (media_sent named.leg now) peer named media.now now same
+ordered_puts peer named orders.Accept now same = record { datagrams = _; outbox = refl; which = inl refl }
+ordered_puts peer named (orders.Reject cause) now same = record { datagrams = _; outbox = refl; which = inl refl }
+ordered_puts peer named (orders.Indicate indication) now same = record { datagrams = _; outbox = refl; which = inl refl }
+ordered_puts peer named orders.Answer now same = record { datagrams = _; outbox = refl; which = inl refl }
+ordered_puts peer named (orders.Dtmf digit) now same = record { datagrams = _; outbox = refl; which = inl refl }
+ordered_puts peer named orders.Hangup now same = record { datagrams = _; outbox = refl; which = inl refl }
+ordered_puts peer named orders.Doom now same = record { datagrams = _; outbox = refl; which = inl refl }
+ordered_puts peer named orders.Paid now same = record { datagrams = _; outbox = refl; which = inl refl }
+
+all_either : (leg : LegState) (datagrams sent : List (List ℕ)) → (datagrams ≡ sent) ⊎ (datagrams ≡ []) → All (IsSendingOrMini leg) sent → All (IsSendingOrMini leg) datagrams
+all_either leg datagrams sent (inl is) all = rw is all
+all_either leg datagrams sent (inr is) all = rw is (λ k d within. absurd (omega arith))
+
+module _ (turns : (leg : LegState) (order : Order) (now : ℕ) → SendsAtMostOne leg (order_carried leg order now).leg)
+    (sends : (leg : LegState) (order : Order) (now : ℕ) → SendsNumbered leg → 0 < leg.number → leg.number < 2 ^ 15
+    → HasSentOrMini (order_carried leg order now).leg (order_carried leg order now).datagrams) where
+  obeyed : (peer : PeerView) (name : LegName) (order : Order) (now : ℕ) (o : Option NamedLeg) → IsSoundPeer peer → leg_named peer.legs name ≡ o → refused_at o order now ≡ None
+      → SendsAtLeg peer name (ordered_if peer o order now)
+  obeyed peer name order now None sound is none = cc
+  obeyed peer name order now (Some named) sound is none =
+      let at = named_at peer.legs name named is in
+      let here = stands_at peer.legs name.number named at.at in
+      let numbers = sound.legs.named (name.number - peer.legs.first) named here.place in
+      let fits = number_fits peer.legs (name.number - peer.legs.first) named sound.legs here.place in
+      let puts = ordered_puts peer named order now (numbers.1 ∙ sym numbers.2) in
+      let has = sends named.leg order now (sound.kept.ruled name.number named at.at).numbered fits.0 fits.1 in
+      record {
+        named = named;
+        is = at.is;
+        leg = (order_carried named.leg order now).leg;
+        datagrams = puts.datagrams;
+        steps = record {
+          at = ap (λ (n : LegName). leg_at peer.legs n.number) at.is ∙ at.at;
+          legs = ordered_legs peer named order now;
+          outbox = puts.outbox;
+        };
+        tied = turns named.leg order now;
+        sendings = all_either (order_carried named.leg order now).leg puts.datagrams (order_carried named.leg order now).datagrams puts.which has.sendings;
+      }
+
+  pub order_side : (peer : PeerView) (credit : ℕ) (name : LegName) (order : Order) (now : ℕ) → IsSoundPeer peer → order_refused_by peer credit name order now ≡ None
+      → SendsAtLeg peer name (ordered_step peer name order now)
+  order_side peer credit name order now sound none =
+      obeyed peer name order now (leg_named peer.legs name) sound refl (unspent (peer.accounts.steps == credit) (refused_at (leg_named peer.legs name) order now) none)
+
+-- ---- openings
+
+module _ (turns : (rules : PeerRules) (number : ℕ) (frame : FullFrame) (now : ℕ) (challenge : List ℕ) → TakesFirstTurn frame (open_in_step rules number frame now challenge).leg)
+    (sends : (rules : PeerRules) (number : ℕ) (frame : FullFrame) (now : ℕ) (challenge : List ℕ)
+    → HasSent (open_in_step rules number frame now challenge).leg (map spelling (open_in_step rules number frame now challenge).replies)) where
+  pub call_in_side : (peer : PeerView) (name : LegName) (frame : FullFrame) (now : ℕ) (challenge : List ℕ) → is_free_name peer.legs name ≡ true
+      → TakesNew peer name frame (opens_in peer name frame now challenge).peer
+  call_in_side peer name frame now challenge free = record {
+    leg = (open_in_step peer.rules name.number frame now challenge).leg;
+    opens = record {
+      free = (free_name peer.legs name free).none;
+      legs = refl;
+      datagrams = map spelling (open_in_step peer.rules name.number frame now challenge).replies;
+      outbox = refl;
+      sendings = (sends peer.rules name.number frame now challenge).sendings;
+    };
+    tied = turns peer.rules name.number frame now challenge;
+  }
+
+module _ (turns : (rules : PeerRules) (number : ℕ) (called : List ℕ) (calling : Option (List ℕ)) (format : Format) (now : ℕ)
+    → HasSentAtMostOne (open_out_step rules number called calling format now).leg)
+    (sends : (rules : PeerRules) (number : ℕ) (called : List ℕ) (calling : Option (List ℕ)) (format : Format) (now : ℕ)
+    → HasSent (open_out_step rules number called calling format now).leg (map spelling (open_out_step rules number called calling format now).replies)) where
+  pub call_out_side : (peer : PeerView) (name : LegName) (called : List ℕ) (calling : Option (List ℕ)) (format : Format) (now : ℕ) → is_free_name peer.legs name ≡ true
+      → SendsNew peer name (opens_out peer name called calling format now).peer
+  call_out_side peer name called calling format now free = record {
+    leg = (open_out_step peer.rules name.number called calling format now).leg;
+    opens = record {
+      free = (free_name peer.legs name free).none;
+      legs = refl;
+      datagrams = map spelling (open_out_step peer.rules name.number called calling format now).replies;
+      outbox = refl;
+      sendings = (sends peer.rules name.number called calling format now).sendings;
+    };
+    tied = turns peer.rules name.number called calling format now;
+  }

@@ -1,0 +1,8 @@
+use Rattle.peer_lock.proofs.state.PeerState.retire.Goals as goal
+
+pub invariant_of-self : goal.invariant_of-self
+invariant_of-self g c = record {
+  rules = c.self.invariant.rules;
+  ruled = c.take.ensures.ruled c.self.inside.rules c.self.invariant.ruled;
+  queued = c.self.invariant.queued;
+}

@@ -1,0 +1,127 @@
+-- What a step of a peer adds to the records of its legs, and what it sends of them, as sides of networks do ("Message Transport").
+use Rattle.std.specs.Prelude.{◌≡◌, ◌⊎◌, ℕ, List, [], ◌∷◌, ◌++◌, All, Option, None, Some}
+use Rattle.call_book.specs.declared.leg_name.LegName.{LegName}
+use Rattle.iax_frames.specs.FullFrame.{FullFrame, spelling}
+use Rattle.call_signals.specs.declared.rules.PeerRules.{PeerRules}
+use Rattle.iax_frames.specs.declared.datagram.Datagram.{Datagram}
+use Rattle.iax_frames.specs.declared.stored_frame.Frame.{Frame}
+use Rattle.iax_frames.specs.declared.datagram.Datagram.TheVariants.{Full, Mini, Video, Trunk}
+use Rattle.leg_machine.specs.Legs.{LegState}
+use Rattle.leg_machine.specs.Tie.{numbered_frame, TakesTurn, SendsAtMostOne, TakesFirstTurn, HasSentAtMostOne, IsSending, IsSendingOrMini}
+use Rattle.peer_legs.specs.Legs.{PeerLegs, NamedLeg, leg_at, with_leg, with_place}
+use Rattle.peer_lock.specs.Arrivals.{inval_for}
+use Rattle.peer_lock.specs.Outbox.{put}
+use Rattle.peer_lock.specs.Peer.{PeerView}
+use Rattle.seq_window.specs.Network.{Datagram as Sending, Side, actions_in_turn, after_all, reply_actions}
+use Rattle.seq_window.specs.Turn.{Turn}
+use Rattle.seq_window.specs.Sequence.{byte_of}
+
+-- One leg steps, and sends these datagrams, of which the first go to the outbox, as many as it has room for. The other legs stay.
+pub record OneSteps (old new : PeerView) (named : NamedLeg) (leg : LegState) (datagrams : List (List ℕ)) : Type 0 where
+  pub at : leg_at old.legs named.name.number ≡ Some named
+  pub legs : new.legs ≡ with_leg old.legs named.name leg
+  pub outbox : new.outbox ≡ put old.outbox datagrams
+
+-- ---- datagrams
+
+-- A full frame comes to a leg: its record grows by one turn of a side, and all that it sends is a sending from that record.
+pub record TakesTurnAtLeg (old : PeerView) (frame : FullFrame) (new : PeerView) : Type 0 where
+  pub named : NamedLeg
+  pub leg : LegState
+  pub datagrams : List (List ℕ)
+  pub steps : OneSteps old new named leg datagrams
+  pub tied : TakesTurn named.leg frame leg
+  pub sendings : All (IsSending leg) datagrams
+
+-- a full frame comes to no leg: none changes, and at most an INVAL goes out
+pub record ComesToNone (old : PeerView) (frame : FullFrame) (new : PeerView) : Type 0 where
+  pub legs : new.legs ≡ old.legs
+  pub outbox : (new.outbox ≡ old.outbox) ⊎ (new.outbox ≡ put old.outbox (spelling (inval_for frame) ∷ []))
+
+-- neither a leg changes, nor does anything go out
+pub record SendsNothing (old new : PeerView) : Type 0 where
+  pub legs : new.legs ≡ old.legs
+  pub outbox : new.outbox ≡ old.outbox
+
+abbrev pub TakesDatagram : PeerView → Datagram → PeerView → Type 0
+TakesDatagram old (Full frame) new = TakesTurnAtLeg old frame new ⊎ ComesToNone old frame new
+TakesDatagram old (Mini mini) new = SendsNothing old new
+TakesDatagram old (Video video) new = SendsNothing old new
+TakesDatagram old (Trunk trunk) new = SendsNothing old new
+
+-- ---- orders and openings
+
+-- The leg of a name obeys an order: its record grows by at most a sent frame, and all that it sends is a sending from that record, or
+-- a mini frame.
+pub record SendsAtLeg (old : PeerView) (name : LegName) (new : PeerView) : Type 0 where
+  pub named : NamedLeg
+  pub is : named.name ≡ name
+  pub leg : LegState
+  pub datagrams : List (List ℕ)
+  pub steps : OneSteps old new named leg datagrams
+  pub tied : SendsAtMostOne named.leg leg
+  pub sendings : All (IsSendingOrMini leg) datagrams
+
+-- a leg is opened under a free name: all that it sends is a sending from its record
+pub record OpensLeg (old : PeerView) (name : LegName) (leg : LegState) (new : PeerView) : Type 0 where
+  pub free : leg_at old.legs name.number ≡ None
+  pub legs : new.legs ≡ with_place old.legs name.number (Some (record { name = name; leg = leg }))
+  pub datagrams : List (List ℕ)
+  pub outbox : new.outbox ≡ put old.outbox datagrams
+  pub sendings : All (IsSending leg) datagrams
+
+-- by a NEW that came: its record begins with one turn of a side
+pub record TakesNew (old : PeerView) (name : LegName) (frame : FullFrame) (new : PeerView) : Type 0 where
+  pub leg : LegState
+  pub opens : OpensLeg old name leg new
+  pub tied : TakesFirstTurn frame leg
+
+-- by a NEW that goes out: its record begins with at most a sent frame
+pub record SendsNew (old : PeerView) (name : LegName) (new : PeerView) : Type 0 where
+  pub leg : LegState
+  pub opens : OpensLeg old name leg new
+  pub tied : HasSentAtMostOne leg
+
+-- ---- ticks
+
+-- at a number the leg's record grows by at most a sent frame
+abbrev pub SendsAt : Option NamedLeg → Option NamedLeg → Type 0
+SendsAt None new = new ≡ None
+SendsAt (Some named) new = (leg : LegState) × SendsAtMostOne named.leg leg × (new ≡ Some (record { name = named.name; leg = leg }))
+
+-- a datagram is a sending from the record of one of the legs
+pub record IsSendingOfOne (legs : PeerLegs) (datagram : List ℕ) : Type 0 where
+  pub number : ℕ
+  pub named : NamedLeg
+  pub at : leg_at legs number ≡ Some named
+  pub sending : IsSending named.leg datagram
+
+-- Each leg ticks by itself, and all that the legs send is a sending from the record of one of them. Then come trunk frames.
+pub record EachSends (old new : PeerView) : Type 0 where
+  pub each : (number : ℕ) → SendsAt (leg_at old.legs number) (leg_at new.legs number)
+  pub datagrams : List (List ℕ)
+  pub sendings : All (IsSendingOfOne new.legs) datagrams
+  pub trunks : List (List ℕ)
+  pub outbox : new.outbox ≡ put old.outbox datagrams ++ trunks
+
+-- ---- the network
+
+-- a side of a network with the record of a leg, and with the sizes that the peer's rules give its window
+pub record IsSideOf (rules : PeerRules) (leg : LegState) (own : Side) : Type 0 where
+  pub width : own.width ≡ rules.window
+  pub limit : own.limit ≡ rules.record_limit
+  pub history : own.history ≡ leg.window.history
+
+-- a full frame bears the numbers of a datagram of the network, each in an octet, and its frame where that is numbered
+pub record Bears (frame : FullFrame) (datagram : Sending) : Type 0 where
+  pub oseqno : frame.head.oseqno ≡ byte_of datagram.number
+  pub iseqno : frame.head.iseqno ≡ byte_of datagram.acknowledgement
+  pub frame_is : numbered_frame frame ≡ datagram.frame
+
+-- by the actions of one turn, which judge this datagram of the other side alone, a side comes to the record that a leg has
+abbrev pub TurnsInto : PeerRules → Side → Side → ℕ → LegState → Type 0
+TurnsInto rules own other which leg = (turn : Turn) × IsSideOf rules leg (after_all (actions_in_turn which turn) own other)
+
+-- by sending at most one frame
+abbrev pub SendsInto : PeerRules → Side → Side → LegState → Type 0
+SendsInto rules own other leg = (sent : Option Frame) × IsSideOf rules leg (after_all (reply_actions sent) own other)

@@ -1,0 +1,17 @@
+-- What holds of a peer whenever its lock is free.
+use Rattle.std.specs.Prelude.{◌≡◌}
+use Rattle.call_signals.specs.PeerRules.{IsPeerRules}
+use Rattle.peer_legs.specs.Legs.{AreLegs, AreLegsOf}
+use Rattle.peer_lock.specs.Peer.{PeerView}
+use Rattle.trunk_packer.specs.Queue.{media_octets}
+
+-- the rules are such as a plan lets them be, each leg goes by them, and what is counted as queued is in the queue
+pub record IsKept (peer : PeerView) : Type 0 where
+  pub rules : IsPeerRules peer.rules
+  pub ruled : AreLegsOf peer.rules peer.legs
+  pub queued : peer.accounts.queued ≡ media_octets peer.queue
+
+-- and no two legs have one remote number, nor one local number
+pub record IsSoundPeer (peer : PeerView) : Type 0 where
+  pub legs : AreLegs peer.legs
+  pub kept : IsKept peer
