@@ -36,9 +36,9 @@ impl Model for Onwards {
 
     // There is room for a signal where there is some for an offer, too.
     ghost view = { λ o. record {
-        signals = o.signals.items;
-        offer = slice_get o.offers.items 0;
-        room = if nat_le 1 (vec_capacity o.offers) then vec_capacity o.signals - length o.signals.items else 0;
+      signals = o.signals.items;
+      offer = slice_get o.offers.items 0;
+      room = if nat_le 1 (vec_capacity o.offers) then vec_capacity o.signals - length o.signals.items else 0;
     } };
 
     ghost invariant = { λ o. length o.offers.items ≤ 1 };
