@@ -114,12 +114,15 @@ impl Onwards {
         self.signals.push_reserved((name, signal));
     }
 
-    /// Says what the offered call asks for, of which nothing was said yet.
+    /// Says what the offered call asks for.
     pub fn set_offer(&mut self, offer: Offer)
-        requires room { 1 ≤ self.old.room }
-        requires none { self.old.offer ≡ None }
+        requires { 1 ≤ self.old.room }
         ensures { self.new ≡ record self.old { offer = Some offer } }
     {
-        self.offers.push_reserved(offer);
+        if let Some(former) = self.offers.get_mut(0) {
+            *former = offer;
+        } else {
+            self.offers.push_reserved(offer);
+        }
     }
 }
