@@ -1,5 +1,5 @@
 -- A call's steps, with the list in which the last step of a peer handed up.
-use Rattle.std.specs.Prelude.{ℕ, ◌-◌, List, [], ◌∷◌, drop, length, Option, None, Some, Ok}
+use Rattle.std.specs.Prelude.{ℕ, ◌-◌, Bool, true, false, List, [], ◌∷◌, drop, length, Option, None, Some, Ok}
 use Rattle.call_book.specs.declared.leg_name.LegName.{LegName}
 use Rattle.call_signals.specs.declared.signals.Signal.{Signal}
 use Rattle.peer_lock.specs.HandedUp.{HandedUp}
@@ -17,6 +17,12 @@ pub record WorkState : Type 0 where
 -- a call that was told of no list yet
 abbrev pub begun : Work → WorkState
 begun work = record { work = work; onwards = None }
+
+-- whether the answer here brings a list
+abbrev pub brings_list : Place → Bool
+brings_list (places.Datagram peer) = true
+brings_list (places.OpenIn name) = true
+brings_list place = false
 
 -- the list that the last step of a peer wrote
 abbrev pub onwards_after : Place → Reply → Option HandedUp → Option HandedUp

@@ -1,7 +1,7 @@
 //! Where each answer leads a call, place by place. Another answer than that to the step is taken as a refusal.
-ghost use Rattle.std.specs.Prelude.{◌≡◌, [], Option, None, Some, Ok};
+ghost use Rattle.std.specs.Prelude.{◌≡◌, [], Option, None, Some, Ok, false};
 ghost use Rattle.call_steps.specs.Work as work;
-ghost use Rattle.call_steps.specs.WorkState.{onwards_after};
+ghost use Rattle.call_steps.specs.WorkState.{onwards_after, brings_list};
 ghost use Rattle.call_steps.specs.declared.places.Place.TheVariants as places;
 
 use crate::acts::Act;
@@ -23,31 +23,44 @@ impl Work {
     {
         match self.place() {
             Place::Datagram(peer) => self.after_datagram(reply, peer),
-            Place::ReserveIn(_) => self.after_reserve_in(&reply),
             Place::OpenIn(name) => self.after_open_in(reply, name),
+            place => self.told_without_list(place, &reply),
+        }
+    }
+
+    // (the match that owns the answer is the short one: each of its arms has to drop it)
+    fn told_without_list(&mut self, place: Place, reply: &Reply)
+        requires { brings_list place ≡ false }
+        ensures work { self.new.work ≡ work.told_at place reply.now self.old.work.rest }
+        ensures onwards { self.new.onwards ≡ self.old.onwards }
+    {
+        match place {
+            // (not asked for)
+            Place::Datagram(_) | Place::OpenIn(_) => self.end(),
+            Place::ReserveIn(_) => self.after_reserve_in(reply),
             Place::GiveBack(_) => self.end(),
-            Place::Routing(offered) => self.after_route(&reply, offered),
-            Place::Rejecting(offered, _) => self.after_reject(&reply, offered),
-            Place::ReserveOut(offered, _) => self.after_reserve_out(&reply, offered),
-            Place::Bridging(offered, target) => self.after_bridge(&reply, offered, target),
-            Place::Accepting(offered, target) => self.after_accept(&reply, offered, target),
-            Place::OpenOut(offered, target) => self.after_open_out(&reply, offered, target),
-            Place::Checking(target) => self.after_check(&reply, target),
+            Place::Routing(offered) => self.after_route(reply, offered),
+            Place::Rejecting(offered, _) => self.after_reject(reply, offered),
+            Place::ReserveOut(offered, _) => self.after_reserve_out(reply, offered),
+            Place::Bridging(offered, target) => self.after_bridge(reply, offered, target),
+            Place::Accepting(offered, target) => self.after_accept(reply, offered, target),
+            Place::OpenOut(offered, target) => self.after_open_out(reply, offered, target),
+            Place::Checking(target) => self.after_check(reply, target),
             Place::Undoing(offered, _) => self.go_to(Place::Dooming(offered)),
             Place::Dooming(_) => self.go_on(),
-            Place::Finding(_, act) => self.after_find(&reply, act),
-            Place::Passing(partner, act) => self.after_pass(&reply, partner, act),
-            Place::Looking(name) => self.after_look(&reply, name),
-            Place::LookingAt(_, _) => self.after_look_at(&reply),
-            Place::FindingPartner(name) => self.after_find_partner(&reply, name),
-            Place::HangingUp(name, _) => self.after_partner_hangup(&reply, name),
+            Place::Finding(_, act) => self.after_find(reply, act),
+            Place::Passing(partner, act) => self.after_pass(reply, partner, act),
+            Place::Looking(name) => self.after_look(reply, name),
+            Place::LookingAt(_, _) => self.after_look_at(reply),
+            Place::FindingPartner(name) => self.after_find_partner(reply, name),
+            Place::HangingUp(name, _) => self.after_partner_hangup(reply, name),
             Place::Paying(name) => self.go_to(Place::Retiring(name)),
-            Place::Retiring(name) => self.after_retire(&reply, name),
-            Place::Freeing(_) => self.after_free(&reply),
-            Place::Tick(_) => self.after_tick(&reply),
-            Place::HangUp(_) => self.after_hang_up(&reply),
-            Place::ReserveCall(_) => self.after_reserve_call(&reply),
-            Place::OpenCall(name) => self.after_open_call(&reply, name),
+            Place::Retiring(name) => self.after_retire(reply, name),
+            Place::Freeing(_) => self.after_free(reply),
+            Place::Tick(_) => self.after_tick(reply),
+            Place::HangUp(_) => self.after_hang_up(reply),
+            Place::ReserveCall(_) => self.after_reserve_call(reply),
+            Place::OpenCall(name) => self.after_open_call(reply, name),
             Place::End => self.end(),
         }
     }
