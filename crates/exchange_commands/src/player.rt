@@ -3,10 +3,9 @@ ghost use Rattle.std.specs.Prelude.{◌≡◌, ◌<◌, length, IfSome};
 
 use crate::names::{call_error_name, order_error_name, refusal_name, stage_name};
 use call_auth::Challenge;
-use call_book::LegName;
 use exchange_core::{Answer, Exchange, NoGate, Pass, Retired};
 use leg_machine::Stage;
-use peer_lock::Naming;
+use peer_lock::{Naming, Status};
 use peer_plan::Plan;
 use script_lines::Line;
 use std::alloc::Global;
@@ -73,22 +72,32 @@ fn write_retired<W: Write>(retired: &Retired, writer: &mut W) -> io::Result<()> 
     )
 }
 
-// The leg of a number, at whatever peer.
-fn leg_of_number<J: Naming, R: Wait>(
+// How the leg of a number stands, at whatever peer.
+fn status_of<J: Naming, R: Wait>(
     rt: &R,
     exchange: &Exchange<NoGate, J>,
     pass: &mut Pass<J>,
     number: u64,
-) -> Option<LegName> {
+) -> Option<Status> {
     let Ok(number) = u16::try_from(number) else {
         return None;
     };
     for peer in 0..exchange.plan().peer_count() {
-        if let Some(status) = exchange.status(rt, pass, peer, number) {
-            return Some(status.name);
+        let status = exchange.status(rt, pass, peer, number);
+        if status.is_some() {
+            return status;
         }
     }
     None
+}
+
+// The octets that these hexadecimal digits spell.
+fn octets_of(alloc: Global, digits: &[u8]) -> Result<Vec<u8>, Stop> {
+    match hex::decode(alloc, digits) {
+        Ok(octets) => Ok(octets),
+        Err(hex::FromHexError::OutOfMemory) => Err(Stop::Memory),
+        Err(_) => Err(Stop::Script),
+    }
 }
 
 // All datagrams go out, the peers in the order of the plan.
@@ -195,11 +204,7 @@ impl Player {
         let Some(peer) = peer_named(exchange.plan(), peer) else {
             return Err(Stop::Script);
         };
-        let octets = match hex::decode(alloc, digits) {
-            Ok(octets) => octets,
-            Err(hex::FromHexError::OutOfMemory) => return Err(Stop::Memory),
-            Err(_) => return Err(Stop::Script),
-        };
+        let octets = octets_of(alloc, digits)?;
         let from = exchange.plan().endpoint(peer);
         let answer = exchange.datagram(
             rt,
@@ -240,7 +245,7 @@ impl Player {
         number: u64,
         writer: &mut W,
     ) -> Result<(), Stop> {
-        let Some(name) = leg_of_number(rt, exchange, pass, number) else {
+        let Some(Status { name, .. }) = status_of(rt, exchange, pass, number) else {
             writeln!(writer, "refused NoLeg")?;
             return Ok(());
         };
@@ -327,7 +332,7 @@ impl Player {
         writer: &mut W,
     ) -> Result<(), Stop> {
         let number = place.saturating_add(1);
-        let stage = stage_of(rt, exchange, pass, number as u64);
+        let stage = status_of(rt, exchange, pass, number as u64).map(|status| status.stage);
         let Some(before) = self.stages.get_mut(place) else {
             return Ok(());
         };
@@ -337,22 +342,4 @@ impl Player {
         }
         Ok(())
     }
-}
-
-// The stage of the leg of a number.
-fn stage_of<J: Naming, R: Wait>(
-    rt: &R,
-    exchange: &Exchange<NoGate, J>,
-    pass: &mut Pass<J>,
-    number: u64,
-) -> Option<Stage> {
-    let Ok(number) = u16::try_from(number) else {
-        return None;
-    };
-    for peer in 0..exchange.plan().peer_count() {
-        if let Some(status) = exchange.status(rt, pass, peer, number) {
-            return Some(status.stage);
-        }
-    }
-    None
 }

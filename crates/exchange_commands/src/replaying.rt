@@ -20,11 +20,10 @@ fn settle<J: Naming, W: Write>(
     passes: Vec<Pass<J>>,
     writer: &mut W,
 ) -> Result<(), Stop> {
-    let Ok(settlement) = exchange.settle(passes) else {
-        return Err(Stop::Memory);
-    };
-    write_accounts(&settlement, writer)?;
-    Ok(())
+    match exchange.settle(passes) {
+        Ok(settlement) => Ok(write_accounts(&settlement, writer)?),
+        Err(_) => Err(Stop::Memory),
+    }
 }
 
 // One line is worked. After `settle` no line may follow that isn't skipped.

@@ -19,7 +19,7 @@ use std::sync::Wait;
 use std::sync::ledger::Ledger;
 use std::thread::Threads;
 use std::time::{Clock, Instant};
-use udp_workers::{BindError, MioWire, NoThread, Post, Seat, TurnReport, Worker, run_all};
+use udp_workers::{BindError, MioWire, NoThread, Place, Post, Seat, TurnReport, Worker, run_all};
 
 // Why a service ends before its turns are made, or before its accounts are written.
 #[derive(Clone, Copy, Debug, PartialEq, Eq)]
@@ -128,6 +128,14 @@ fn seats_of<'r, J: Naming, P: Post, R: Clock + Net + RandomSource>(
     Ok(seats)
 }
 
+// What a worker did, and its pass.
+fn report_of<'r, J: Naming, P: Post, R: Clock>(
+    seat: ServiceSeat<'r, R, J, P>,
+) -> (TurnReport, Pass<J>) {
+    let Place { report, pass, .. } = seat.into_place();
+    (report, pass)
+}
+
 // The reports of the seats, in order. Their passes go back to the others.
 fn reports_of<'r, J: Naming, P: Post, R: Clock>(
     alloc: Global,
@@ -136,8 +144,8 @@ fn reports_of<'r, J: Naming, P: Post, R: Clock>(
 ) -> Result<Vec<TurnReport>, Stop> {
     let mut reports = Vec::new(alloc);
     for seat in seats {
-        let place = seat.into_place();
-        if reports.push(place.report).is_err() || passes.push(place.pass).is_err() {
+        let (report, pass) = report_of(seat);
+        if reports.push(report).is_err() || passes.push(pass).is_err() {
             return Err(Stop::Memory);
         }
     }
@@ -156,7 +164,64 @@ fn write_reports<W: Write>(reports: &[TurnReport], writer: &mut W) -> io::Result
     Ok(())
 }
 
-// All workers make their turns on an exchange of the plan; then their reports and the accounts are written.
+// All workers make their turns; their passes go back to the others.
+fn turns_of<
+    J: Naming,
+    P: Post + Send + Sync,
+    R: Clock + Net + RandomSource + Threads + Wait + Sync,
+>(
+    rt: &R,
+    alloc: Global,
+    exchange: &Exchange<NoGate, J>,
+    passes: &mut Vec<Pass<J>>,
+    turns: u32,
+    opened: Instant,
+) -> Result<Vec<TurnReport>, Stop>
+    requires plan { exchange.now ≡ P.plan }
+    requires enough { length exchange.now.workers ≤ vec_len passes.old }
+{
+    let mut seats = seats_of::<J, P, R>(rt, alloc, exchange.plan(), passes, opened)?;
+    run_all(rt, exchange, &mut seats, turns)?;
+    reports_of(alloc, seats, passes)
+}
+
+// The accounts are closed and written.
+fn settle<J: Naming, W: Write>(
+    exchange: Exchange<NoGate, J>,
+    passes: Vec<Pass<J>>,
+    writer: &mut W,
+) -> Result<(), Stop> {
+    match exchange.settle(passes) {
+        Ok(settlement) => Ok(write_accounts(&settlement, writer)?),
+        Err(_) => Err(Stop::Memory),
+    }
+}
+
+// All workers make their turns on an exchange; then their reports and its accounts are written.
+fn serve_on<
+    J: Naming,
+    P: Post + Send + Sync,
+    R: Clock + Net + RandomSource + Threads + Wait + Sync,
+    W: Write,
+>(
+    rt: &R,
+    alloc: Global,
+    exchange: Exchange<NoGate, J>,
+    passes: Vec<Pass<J>>,
+    turns: u32,
+    opened: Instant,
+    writer: &mut W,
+) -> Result<(), Stop>
+    requires plan { exchange ≡ P.plan }
+    requires enough { length exchange.workers ≤ vec_len passes }
+{
+    let mut passes = passes;
+    let reports = turns_of::<J, P, R>(rt, alloc, &exchange, &mut passes, turns, opened)?;
+    write_reports(&reports, writer)?;
+    settle(exchange, passes, writer)
+}
+
+// The same, on an exchange that is opened for it.
 fn work<
     J: Naming,
     P: Post + Send + Sync,
@@ -180,16 +245,8 @@ fn work<
         return Err(Stop::Clock);
     };
     let _passes = plan.passes();
-    let (exchange, mut passes) = Exchange::<NoGate, J>::open(alloc, plan, NoGate, octets, steps)?;
-    let mut seats = seats_of::<J, P, R>(rt, alloc, exchange.plan(), &mut passes, opened)?;
-    run_all(rt, &exchange, &mut seats, turns)?;
-    let reports = reports_of(alloc, seats, &mut passes)?;
-    write_reports(&reports, writer)?;
-    let Ok(settlement) = exchange.settle(passes) else {
-        return Err(Stop::Memory);
-    };
-    write_accounts(&settlement, writer)?;
-    Ok(())
+    let (exchange, passes) = Exchange::<NoGate, J>::open(alloc, plan, NoGate, octets, steps)?;
+    serve_on::<J, P, R, W>(rt, alloc, exchange, passes, turns, opened, writer)
 }
 
 // The same, by the ledgers and the plan that the caller names.

@@ -1,5 +1,5 @@
 //! A wire over a UDP socket of the system.
-ghost use Rattle.std.specs.Prelude.{◌≡◌, IfOk};
+ghost use Rattle.std.specs.Prelude.{◌≡◌, ◌≤◌, length, IfOk, IfSome};
 ghost use Rattle.peer_plan.specs.declared.endpoint.Endpoint.{Endpoint};
 ghost use Rattle.udp_workers.specs.declared.mio_wire.BindError.TheVariants as errors;
 
@@ -68,6 +68,37 @@ fn endpoint_of(address: SocketAddr) -> Option<Endpoint> {
     }
 }
 
+// The next datagram, with its sender, which has to be an IPv4 endpoint.
+fn received(socket: &UdpSocket, octets: &mut [u8]) -> Result<Option<(usize, Endpoint)>, WireFault>
+    ensures within { IfOk result (λ found. IfSome found (λ datagram. datagram.0 ≤ length octets.new)) }
+{
+    match socket.recv_from(octets) {
+        Ok((len, from)) => match endpoint_of(from) {
+            Some(sender) => Ok(Some((len, sender))),
+            None => Err(WireFault),
+        },
+        Err(error) => {
+            if error.kind() == io::ErrorKind::WouldBlock {
+                return Ok(None);
+            }
+            Err(WireFault)
+        }
+    }
+}
+
+// False: it would have to wait.
+fn sent(socket: &UdpSocket, to: Endpoint, octets: &[u8]) -> Result<bool, WireFault> {
+    match socket.send_to(octets, socket_address(to)) {
+        Ok(_) => Ok(true),
+        Err(error) => {
+            if error.kind() == io::ErrorKind::WouldBlock {
+                return Ok(false);
+            }
+            Err(WireFault)
+        }
+    }
+}
+
 impl MioWire {
     ghost use Rattle.udp_workers.specs.MioWire.{given_of, given_to_of, failures_of, peers_of};
 
@@ -115,37 +146,22 @@ impl Wire for MioWire {
     ghost peers = { peers_of };
 
     fn receive(&mut self, octets: &mut [u8]) -> Result<Option<(usize, Endpoint)>, WireFault> {
-        self.empty = false;
-        match self.socket.recv_from(octets) {
-            Ok((len, from)) => {
-                if let Some(sender) = endpoint_of(from) {
-                    return Ok(Some((len, sender)));
-                }
-            }
-            Err(error) => {
-                if error.kind() == io::ErrorKind::WouldBlock {
-                    self.empty = true;
-                    return Ok(None);
-                }
-            }
+        let found = received(&self.socket, octets);
+        self.empty = matches!(found, Ok(None));
+        if found.is_err() {
+            self.failures = self.failures.wrapping_add(1);
         }
-        self.failures = self.failures.wrapping_add(1);
-        Err(WireFault)
+        found
     }
 
     fn send(&mut self, to: Endpoint, octets: &[u8]) -> Result<bool, WireFault> {
         self.given = self.given.wrapping_add(1);
         self.peers.count(to);
-        match self.socket.send_to(octets, socket_address(to)) {
-            Ok(_) => return Ok(true),
-            Err(error) => {
-                if error.kind() == io::ErrorKind::WouldBlock {
-                    return Ok(false);
-                }
-            }
+        let sent = sent(&self.socket, to, octets);
+        if sent.is_err() {
+            self.failures = self.failures.wrapping_add(1);
         }
-        self.failures = self.failures.wrapping_add(1);
-        Err(WireFault)
+        sent
     }
 
     fn wait(&mut self, ms: u64) {

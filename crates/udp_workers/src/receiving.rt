@@ -8,6 +8,7 @@ use crate::wire::Wire;
 use call_auth::Challenge;
 use exchange_core::{Exchange, Gate, Pass};
 use peer_lock::Naming;
+use peer_plan::Endpoint;
 use std::sync::Wait;
 
 // The longest datagram is 2,048 octets; one more shows that a datagram is longer.
@@ -23,6 +24,34 @@ pub(crate) struct Received {
     pub(crate) refused: u64,
     pub(crate) faults: u64,
     pub(crate) retired: u64,
+}
+
+// What a datagram led to: whether it was refused, 0 or 1, and how many legs were taken out.
+#[derive(Clone, Copy)]
+struct Heard {
+    refused: u64,
+    retired: u64,
+}
+
+// Hands a datagram to the exchange. One that isn't refused makes a step.
+fn hear<G: Gate, J: Naming, R: Wait>(
+    rt: &R,
+    exchange: &Exchange<G, J>,
+    pass: &mut Pass<J>,
+    from: Endpoint,
+    octets: &[u8],
+    now: u64,
+    challenge: &Challenge,
+) -> Heard
+    ensures refused { result.refused ≤ 1 }
+    ensures steps { pass.old.credit.steps + 1 ≤ pass.new.credit.steps + result.refused }
+    ensures later { IsLater pass.old pass.new }
+{
+    let answer = exchange.datagram(rt, pass, from, octets, now, challenge);
+    Heard {
+        refused: u64::from(answer.refused.is_some()),
+        retired: answer.retired.len() as u64,
+    }
 }
 
 // Receives until nothing is there, a call of the wire fails or 64 datagrams came, and hands each to the exchange.
@@ -54,12 +83,10 @@ pub(crate) fn receive_all<W: Wire, G: Gate, J: Naming, R: Wait>(
     for _ in 0..DATAGRAMS {
         match wire.receive(&mut octets) {
             Ok(Some((len, from))) => {
-                let answer = exchange.datagram(rt, pass, from, &octets[..len], now, challenge);
+                let heard = hear(rt, exchange, pass, from, &octets[..len], now, challenge);
                 report.received += 1;
-                if answer.refused.is_some() {
-                    report.refused += 1;
-                }
-                report.retired = report.retired.wrapping_add(answer.retired.len() as u64);
+                report.refused += heard.refused;
+                report.retired = report.retired.wrapping_add(heard.retired);
             }
             Ok(None) => return report,
             Err(_) => {
