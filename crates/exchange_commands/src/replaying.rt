@@ -65,8 +65,20 @@ fn work_lines<J: Naming, R: Wait, W: Write>(
         return Err((0, Stop::Memory));
     };
     let mut open = Some((exchange, passes));
+    work_script(rt, alloc, &mut player, &mut open, script, writer)
+}
+
+// The same, with what is known and open.
+fn work_script<J: Naming, R: Wait, W: Write>(
+    rt: &R,
+    alloc: Global,
+    player: &mut Player,
+    open: &mut Option<(Exchange<NoGate, J>, Vec<Pass<J>>)>,
+    script: &[u8],
+    writer: &mut W,
+) -> Result<(), (usize, Stop)> {
     for (place, line) in script.split(|octet| *octet == b'\n').enumerate() {
-        if let Err(stop) = work_line(rt, alloc, &mut player, &mut open, line, writer) {
+        if let Err(stop) = work_line(rt, alloc, player, open, line, writer) {
             return Err((place.saturating_add(1), stop));
         }
     }

@@ -1,5 +1,7 @@
 //! The workers of a plan carry calls between real peers.
 ghost use Rattle.std.specs.Prelude.{◌≡◌, ◌+◌, ◌<◌, ◌≤◌, ◌^◌, IfOk, length, vec_len};
+ghost use Rattle.udp_workers.specs.MioWire as wires;
+ghost use Rattle.udp_workers.specs.Served.{AreEndpoints, peers_of};
 
 use crate::accounts::write_accounts;
 use crate::clock::SinceOpening;
@@ -79,6 +81,42 @@ fn name_of(stop: Stop) -> Option<&'static str> {
 
 type ServiceSeat<'r, R, J, P> = Seat<MioWire, SinceOpening<'r, R>, Digits, J, P>;
 
+// The socket of a worker of the plan.
+fn wire_of<N: Net>(
+    rt: &N,
+    alloc: Global,
+    plan: &Plan,
+    worker: &Worker,
+    place: u16,
+) -> Result<MioWire, Stop>
+    requires place { place < length plan.now.workers }
+    requires peers { worker.now.peers ≡ peers_of plan.now worker.now.place }
+    ensures { IfOk result (λ wire. AreEndpoints plan.now worker.now.peers (wires.peers_of wire)) }
+{
+    let endpoints = worker.endpoints(alloc, plan)?;
+    let wire = MioWire::bind(rt, alloc, plan.workers()[usize::from(place)], endpoints)?;
+    Ok(wire)
+}
+
+// The socket of a worker of the plan, and the digits for its challenges.
+fn wire_and_digits_of<R: Net + RandomSource>(
+    rt: &R,
+    alloc: Global,
+    plan: &Plan,
+    worker: &Worker,
+    place: u16,
+) -> Result<(MioWire, Digits), Stop>
+    requires place { place < length plan.now.workers }
+    requires peers { worker.now.peers ≡ peers_of plan.now worker.now.place }
+    ensures { IfOk result (λ both. AreEndpoints plan.now worker.now.peers (wires.peers_of both.0)) }
+{
+    let wire = wire_of(rt, alloc, plan, worker, place)?;
+    match make_rng(rt) {
+        Ok(generator) => Ok((wire, Digits { generator })),
+        Err(_) => Err(Stop::Entropy),
+    }
+}
+
 // The seat of the worker at a place of the plan, over its own socket.
 fn seat_of<'r, J: Naming, P: Post, R: Clock + Net + RandomSource>(
     rt: &'r R,
@@ -92,17 +130,13 @@ fn seat_of<'r, J: Naming, P: Post, R: Clock + Net + RandomSource>(
     requires place { place < length plan.now.workers }
 {
     let worker = Worker::new(plan, place);
-    let endpoints = worker.endpoints(alloc, plan)?;
-    let wire = MioWire::bind(rt, alloc, plan.workers()[usize::from(place)], endpoints)?;
-    let Ok(generator) = make_rng(rt) else {
-        return Err(Stop::Entropy);
-    };
+    let (wire, digits) = wire_and_digits_of(rt, alloc, plan, &worker, place)?;
     let moments = SinceOpening {
         rt,
         opened,
         last: 0,
     };
-    Ok(Seat::new(worker, wire, pass, moments, Digits { generator }))
+    Ok(Seat::new(worker, wire, pass, moments, digits))
 }
 
 // The seats of all workers of the plan, in its order. Each takes the next pass, so the first worker has the first.

@@ -1,4 +1,5 @@
 pub mod Again
+pub mod Answered
 pub mod Finished
 pub mod FrameMedia
 pub mod Growth

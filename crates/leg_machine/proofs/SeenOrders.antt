@@ -68,13 +68,13 @@ row-seen : (leg : LegState) (kind : OrderKind) (right : Bool) (row : Ordered) (n
 row-seen leg kind true row now leads moves unrefused = (row.stage, leads, moves)
 row-seen leg kind false row now leads moves unrefused = cc
 
-pub seen-media : (sent : MediaSent) (leg : LegState) (octets : List ℕ) (now : ℕ) → seen (after_media sent leg octets now) ≡ seen leg
+seen-media : (sent : MediaSent) (leg : LegState) (octets : List ℕ) (now : ℕ) → seen (after_media sent leg octets now) ≡ seen leg
 seen-media media.Quelched leg octets now = refl
 seen-media media.Voice leg octets now = refl
 seen-media (media.Mini timestamp) leg octets now = refl
 
 -- a talking leg gets media, and callers see no change
-pub talking-seen : (old new : LegState) → is_talking old.stage ≡ true → seen new ≡ seen old → IsSeenOrder kinds.Media (seen old) (seen new)
+talking-seen : (old new : LegState) → is_talking old.stage ≡ true → seen new ≡ seen old → IsSeenOrder kinds.Media (seen old) (seen new)
 talking-seen old new talks same = (
   old.stage,
   media-stage old.stage ∙ ap (λ (b : Bool). cond b (Some old.stage) None) talks,
@@ -124,7 +124,7 @@ media-right media.Quelched leg e = cc
 media-right media.Voice leg e = sending-right leg _ e
 media-right (media.Mini timestamp) leg e = cc
 
-media-wrong : (leg : LegState) (now : ℕ) → WrongTogether (media_refused leg now) (stage_after kinds.Media leg.stage)
+pub media-wrong : (leg : LegState) (now : ℕ) → WrongTogether (media_refused leg now) (stage_after kinds.Media leg.stage)
 media-wrong leg now =
     either_by (λ (refusal : Option OrderError). WrongTogether refusal (stage_after kinds.Media leg.stage)) (is_talking leg.stage)
     (media_refused_as (media_sent leg now) leg) (Some errors.WrongStage)
@@ -159,3 +159,11 @@ answered-seen (Ok x) old new order now leg unrefused =
     let s = order-seen old order now unrefused in
     (s.0, s.1, ap seen leg ∙ s.2)
 answered-seen (Err e) old new order now leg unrefused = tt
+
+pub answered-media-seen : {A : Type 0} (result : Result A OrderError) (old new : LegState) (octets : List ℕ) (now : ℕ)
+    → OnOk result (new ≡ after_media (media_sent old now) old octets now) → OnOk result (media_refused old now ≡ None)
+    → OnOk result (IsSeenOrder kinds.Media (seen old) (seen new))
+answered-media-seen (Ok x) old new octets now leg unrefused =
+    let s = media-seen old octets now unrefused in
+    (s.0, s.1, ap seen leg ∙ s.2)
+answered-media-seen (Err e) old new octets now leg unrefused = tt

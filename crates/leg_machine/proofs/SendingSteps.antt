@@ -162,17 +162,6 @@ row-sent leg (Some row) now all =
           (spelled new (outgoing leg_in false (next_byte leg_in) frame ∷ []) one);
     }
 
--- what an order wrote
-pub carried-written : (leg new : LegState) (row : Option Ordered) (now : ℕ) (datagrams : List (List ℕ)) → SendsNumbered leg
-    → new ≡ (row_carried leg row now).leg → datagrams ≡ (row_carried leg row now).datagrams → HasSentOrMini new datagrams
-carried-written leg new row now datagrams all is spelt =
-    let one = row-sent leg row now all in
-    let step = row_carried leg row now in
-    record {
-      numbered = subst SendsNumbered (sym is) one.numbered;
-      sendings = subst (λ (l : LegState). All (IsSendingOrMini l) datagrams) (sym is) (All-same (IsSendingOrMini step.leg) datagrams step.datagrams spelt one.sendings);
-    }
-
 pub media-sent : (sent : MediaSent) (leg : LegState) (octets : List ℕ) (now : ℕ) → SendsNumbered leg
     → AllSent (after_media sent leg octets now) (media_frames sent leg octets now)
 media-sent media.Quelched leg octets now all = stays leg all

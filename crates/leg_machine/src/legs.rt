@@ -5,7 +5,7 @@ ghost use Rattle.iax_frames.specs.FullFrame.{spelling};
 ghost use Rattle.leg_machine.specs.Legs.{capacity_of, is_short_of_entries};
 ghost use Rattle.leg_machine.specs.Media.{media_sent, after_media, media_frames};
 ghost use Rattle.leg_machine.specs.Openings.{open_in_step, open_out_step};
-ghost use Rattle.leg_machine.specs.OrderTable.{order_row, row_refused, row_carried, order_refused, media_refused, media_datagrams, is_voice, wants_memory, IsRefusal, IsShortMedia, order_carried};
+ghost use Rattle.leg_machine.specs.OrderTable.{order_refused, media_refused, is_voice, wants_memory, IsRefusal, IsShortMedia, order_carried};
 ghost use Rattle.call_signals.specs.PeerRules.{IsPeerRules};
 ghost use Rattle.leg_machine.specs.Seen.{seen, kind_of, stage_after, fresh_leg, IsSeenFrame, IsSeenOpening, IsSeenOrder, IsSeenTick};
 ghost use Rattle.leg_machine.specs.Steps.{full_step, heard_of};
@@ -20,7 +20,7 @@ use call_signals::openings::{call_format, opening_of};
 use call_signals::{
     Format, Heard, LocalNumber, Message, Order, OrderError, PeerRules, Replies, Stage, StepError,
 };
-use iax_frames::{CallNumber, Full, write_mini};
+use iax_frames::{CallNumber, Full};
 use seq_window::Window;
 use std::alloc::{AllocError, Global};
 use std::marker::Model;
@@ -177,38 +177,7 @@ impl Leg {
         ensures none_sent { OnErr result (replies.new ≡ replies.old) }
         ensures capacity { capacity_of self.old ≤ capacity_of self.new }
     {
-        if self.machine.window.free_entries() < 4 {
-            return Err(StepError::RecordFull);
-        }
-        self.machine.window.reserve(4)?;
-        Ok(self.machine.full(frame, now, replies))
-    }
-
-    /// An order but media is carried out. What is sent is written to the empty list.
-    ///
-    /// Refusals are looked for in the order of `OrderError`; `Memory` comes only where memory was refused.
-    fn row_into(&mut self, order: &Order, now: u64, replies: &mut Replies) -> Result<(), OrderError>
-        requires empty { replies.old ≡ [] }
-        ensures leg { OnOk result (self.new.state ≡ (row_carried self.old.state (order_row self.old.state order.now) now).leg) }
-        ensures replies { OnOk result (replies.new ≡ (row_carried self.old.state (order_row self.old.state order.now) now).datagrams) }
-        ensures tied { OnOk result (SendsAtMostOne self.old.state self.new.state) }
-        ensures sendings { OnOk result (All (IsSendingOrMini self.new.state) replies.new) }
-        ensures unrefused { OnOk result (row_refused self.old.state (order_row self.old.state order.now) ≡ None) }
-        ensures refused { IfErr result (IsRefusal (row_refused self.old.state (order_row self.old.state order.now))) }
-        ensures spare { result ≡ Err OrderError.Memory → self.old.spare ≡ 0 }
-        ensures err { OnErr result (self.new ≡ self.old) }
-        ensures none_sent { OnErr result (replies.new ≡ replies.old) }
-        ensures capacity { capacity_of self.old ≤ capacity_of self.new }
-    {
-        let Some(row) = self.machine.order_row(order) else {
-            return Err(OrderError::WrongStage);
-        };
-        if let Some(refusal) = self.machine.sending_refused(row.most) {
-            return Err(refusal);
-        }
-        self.machine.window.reserve(1)?;
-        self.machine.carry_out(&row, now, replies);
-        Ok(())
+        self.machine.full_if_room(frame, now, replies)
     }
 
     /// Media of 1 to 1,380 octets goes out. A full frame is written to the empty list; of later media the caller writes
@@ -238,95 +207,7 @@ impl Leg {
         ensures none_sent { OnErr result (replies.new ≡ replies.old) }
         ensures capacity { capacity_of self.old ≤ capacity_of self.new }
     {
-        if !self.machine.stage.is_talking() {
-            return Err(OrderError::WrongStage);
-        }
-        match self.machine.media_sent(now) {
-            MediaSent::Quelched => Ok(MediaSent::Quelched),
-            MediaSent::Mini(timestamp) => Ok(MediaSent::Mini(timestamp)),
-            MediaSent::Voice => {
-                if let Some(refusal) = self.machine.sending_refused(self.machine.local_room()) {
-                    return Err(refusal);
-                }
-                self.machine.window.reserve(1)?;
-                self.machine.send_voice(media, now, replies);
-                Ok(MediaSent::Voice)
-            }
-        }
-    }
-
-    // Media goes out, as a full frame or as a mini frame.
-    fn media_order(
-        &mut self,
-        media: &[u8],
-        now: u64,
-        replies: &mut Replies,
-    ) -> Result<(), OrderError>
-        requires short { length media.now ≤ 1380 }
-        requires empty { replies.old ≡ [] }
-        ensures leg { OnOk result (self.new.state ≡ after_media (media_sent self.old.state now) self.old.state media.now now) }
-        ensures replies { OnOk result (replies.new ≡ media_datagrams (media_sent self.old.state now) self.old.state media.now now) }
-        ensures tied { OnOk result (SendsAtMostOne self.old.state self.new.state) }
-        ensures sendings { OnOk result (All (IsSendingOrMini self.new.state) replies.new) }
-        ensures unrefused { OnOk result (media_refused self.old.state now ≡ None) }
-        ensures refused { IfErr result (IsRefusal (media_refused self.old.state now)) }
-        ensures memory { result ≡ Err OrderError.Memory → is_voice (media_sent self.old.state now) ≡ true }
-        ensures spare { result ≡ Err OrderError.Memory → self.old.spare ≡ 0 }
-        ensures err { OnErr result (self.new ≡ self.old) }
-        ensures none_sent { OnErr result (replies.new ≡ replies.old) }
-        ensures capacity { capacity_of self.old ≤ capacity_of self.new }
-    {
-        match self.media_into(media, now, replies)? {
-            MediaSent::Quelched => {}
-            MediaSent::Voice => {}
-            MediaSent::Mini(timestamp) => {
-                match write_mini(self.machine.number.get(), timestamp, media) {
-                    Ok(out) => replies.push(out),
-                    Err(_) => unreachable!(),
-                }
-            }
-        }
-        Ok(())
-    }
-
-    // Any order is carried out.
-    fn any_order(
-        &mut self,
-        order: &Order,
-        now: u64,
-        replies: &mut Replies,
-    ) -> Result<(), OrderError>
-        requires media { IsShortMedia order.now }
-        requires empty { replies.old ≡ [] }
-        ensures leg { OnOk result (self.new.state ≡ (order_carried self.old.state order.now now).leg) }
-        ensures replies { OnOk result (replies.new ≡ (order_carried self.old.state order.now now).datagrams) }
-        ensures tied { OnOk result (SendsAtMostOne self.old.state self.new.state) }
-        ensures sendings { OnOk result (All (IsSendingOrMini self.new.state) replies.new) }
-        ensures unrefused { OnOk result (order_refused self.old.state order.now now ≡ None) }
-        ensures refused { IfErr result (IsRefusal (order_refused self.old.state order.now now)) }
-        ensures memory { result ≡ Err OrderError.Memory → wants_memory self.old.state order.now now ≡ true }
-        ensures spare { result ≡ Err OrderError.Memory → self.old.spare ≡ 0 }
-        ensures err { OnErr result (self.new ≡ self.old) }
-        ensures none_sent { OnErr result (replies.new ≡ replies.old) }
-        ensures capacity { capacity_of self.old ≤ capacity_of self.new }
-    {
-        match order {
-            Order::Accept => self.row_into(order, now, replies),
-            Order::Reject(_) => self.row_into(order, now, replies),
-            Order::Indicate(_) => self.row_into(order, now, replies),
-            Order::Answer => self.row_into(order, now, replies),
-            Order::Dtmf(_) => self.row_into(order, now, replies),
-            Order::Media(media) => self.media_order(media, now, replies),
-            Order::Hangup => self.row_into(order, now, replies),
-            Order::Doom => {
-                self.machine.doom();
-                Ok(())
-            }
-            Order::Paid => {
-                self.machine.pay();
-                Ok(())
-            }
-        }
+        self.machine.media(media, now, replies)
     }
 
     /// An order is carried out; media has 1 to 1,380 octets. What is sent is written to the empty list.
@@ -354,7 +235,9 @@ impl Leg {
         ensures none_sent { OnErr result (replies.new ≡ replies.old) }
         ensures capacity { capacity_of self.old ≤ capacity_of self.new }
     {
-        self.any_order(order, now, replies)
+        // A mini frame bears the leg's number, which isn't 0.
+        let _ = self.machine.number.get();
+        self.machine.order(order, now, replies)
     }
 
     /// Time goes on. What is sent is written to the empty list. The answer is how many frames were due and had no memory;

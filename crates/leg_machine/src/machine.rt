@@ -1,13 +1,13 @@
 //! A leg's own state, and the small changes of which its steps are made.
-ghost use Rattle.std.specs.Prelude.{◌≡◌, ◌+◌, ◌<◌, ◌≤◌, ◌^◌, ◌∷◌, ◌++◌, [], false, length};
+ghost use Rattle.std.specs.Prelude.{◌≡◌, ◌+◌, ◌<◌, ◌≤◌, ◌^◌, ◌∷◌, ◌++◌, ◌↔◌, [], true, false, length, Err, OnOk, OnErr};
 ghost use Rattle.iax_frames.specs.FullFrame.{spelling};
 ghost use Rattle.seq_window.specs.Window.{held_count, judged_acknowledgement};
-ghost use Rattle.leg_machine.specs.Legs.{local_room};
+ghost use Rattle.leg_machine.specs.Legs.{local_room, is_short_of_entries};
 ghost use Rattle.leg_machine.specs.Replies as replies;
 ghost use Rattle.leg_machine.specs.Working as steps;
 
 use call_auth::Challenge;
-use call_signals::{Format, LocalNumber, Message, PeerRules, Replies, Reply, Stage};
+use call_signals::{Format, LocalNumber, Message, PeerRules, Replies, Reply, Stage, StepError};
 use iax_frames::{CallNumber, Frame, Full, FullHead, Payload};
 use seq_window::{Acknowledged, Window};
 
@@ -72,6 +72,22 @@ impl Machine {
         if self.stage.is_closing() && self.window.held_len() == 0 {
             self.enter(Stage::Ended);
         }
+    }
+
+    /// Makes room for what a full frame can add to the record.
+    pub fn room_for_frame(&mut self) -> Result<(), StepError>
+        ensures leg { leg_of self.new ≡ leg_of self.old }
+        ensures room { OnOk result (HasRoom 4 self.new) }
+        ensures record_full { (result ≡ Err StepError.RecordFull) ↔ (is_short_of_entries (leg_of self.old) ≡ true) }
+        ensures memory { result ≡ Err StepError.Memory → self.old.window.spare < 4 }
+        ensures err { OnErr result (self.new ≡ self.old) }
+        ensures capacity { capacity_of (whole_leg self.old) ≤ capacity_of (whole_leg self.new) }
+    {
+        if self.window.free_entries() < 4 {
+            return Err(StepError::RecordFull);
+        }
+        self.window.reserve(4)?;
+        Ok(())
     }
 
     /// Judges the acknowledgement of a frame, and answers whether it counts.

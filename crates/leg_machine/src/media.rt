@@ -1,12 +1,14 @@
 //! Media at a leg ("Mini Frames", "Voice Frames").
-ghost use Rattle.std.specs.Prelude.{◌≡◌, ◌<◌, ◌≤◌, ◌++◌, length, map};
+ghost use Rattle.std.specs.Prelude.{◌≡◌, ◌≤◌, true, [], ◌∷◌, length, map, None, Err, IfOk, IfErr, OnOk, OnErr};
 ghost use Rattle.iax_frames.specs.FullFrame.{spelling};
-ghost use Rattle.seq_window.specs.Window.{held_count};
+ghost use Rattle.iax_frames.specs.MiniFrame.{mini_spelling};
 ghost use Rattle.leg_machine.specs.Media as rules;
+ghost use Rattle.leg_machine.specs.OrderTable as orders;
 
 use crate::leg_table::is_media;
 use crate::machine::Machine;
-use call_signals::{MediaSpan, Replies};
+use call_signals::{MediaSpan, OrderError, Replies};
+use iax_frames::write_mini;
 
 /// How media went out.
 #[derive(Clone, Copy, Debug, PartialEq, Eq)]
@@ -19,8 +21,18 @@ pub enum MediaSent {
     Mini(u16),
 }
 
+// The high half of the present timestamp isn't that of the last voice frame that was sent.
+fn is_other_half(last: Option<u32>, present: u32) -> bool
+    ensures { result ≡ rules.is_other_half last present }
+{
+    match last {
+        Some(last) => present / 0x1_0000 != last / 0x1_0000,
+        None => true,
+    }
+}
+
 impl Machine {
-    ghost use Rattle.leg_machine.specs.Legs.{leg_of, whole_leg, capacity_of, HasRoom};
+    ghost use Rattle.leg_machine.specs.Legs.{leg_of, whole_leg, capacity_of};
 
     /// Whether media of the other side counts.
     pub fn accepts_media(&self, span: MediaSpan) -> bool
@@ -30,15 +42,10 @@ impl Machine {
         self.stage.is_talking() && self.voice_taken && is_media
     }
 
-    // The high half of the present timestamp isn't that of the last voice frame that was sent.
     fn is_voice_due(&self, now: u64) -> bool
         ensures { result ≡ rules.is_voice_due (leg_of self.now) now }
     {
-        let present = self.present(now);
-        match self.voice_sent {
-            Some(last) => present / 0x1_0000 != last / 0x1_0000,
-            None => true,
-        }
+        is_other_half(self.voice_sent, self.present(now))
     }
 
     /// How media goes out at this moment.
@@ -54,19 +61,92 @@ impl Machine {
         }
     }
 
-    /// Media goes out as a full frame.
-    pub fn send_voice(&mut self, media: &[u8], now: u64, outs: &mut Replies)
+    // Media goes out as a full frame.
+    fn send_voice(&mut self, media: &[u8], now: u64, outs: &mut Replies) -> Result<(), OrderError>
         requires short { length media.now ≤ 1380 }
-        requires room { HasRoom 1 self.old }
-        requires more { length outs.old < 128 }
-        requires window { held_count self.old.window.state < self.old.window.state.width }
-        ensures leg { leg_of self.new ≡ rules.after_media MediaSent.Voice (leg_of self.old) media.now now }
-        ensures replies { outs.new ≡ outs.old ++ map spelling (rules.media_frames MediaSent.Voice (leg_of self.old) media.now now) }
+        requires empty { outs.old ≡ [] }
+        ensures leg { OnOk result (leg_of self.new ≡ rules.after_media MediaSent.Voice (leg_of self.old) media.now now) }
+        ensures replies { OnOk result (outs.new ≡ map spelling (rules.media_frames MediaSent.Voice (leg_of self.old) media.now now)) }
+        ensures unrefused { OnOk result (orders.media_refused_as MediaSent.Voice (leg_of self.old) ≡ None) }
+        ensures refused { IfErr result (orders.IsRefusal (orders.media_refused_as MediaSent.Voice (leg_of self.old))) }
+        ensures spare { result ≡ Err OrderError.Memory → self.old.window.spare ≡ 0 }
+        ensures err { OnErr result (self.new ≡ self.old) }
+        ensures none_sent { OnErr result (outs.new ≡ outs.old) }
         ensures capacity { capacity_of (whole_leg self.old) ≤ capacity_of (whole_leg self.new) }
     {
+        self.room_for_sending(self.local_room())?;
         let present = self.present(now);
         let frame = self.voice_frame(media, now);
         self.send_frame(frame, now, outs);
         self.voice_sent = Some(present);
+        Ok(())
+    }
+
+    /// Media goes out: a full frame is written, and a mini frame or trunk entry is left to the caller.
+    pub fn media(
+        &mut self,
+        media: &[u8],
+        now: u64,
+        outs: &mut Replies,
+    ) -> Result<MediaSent, OrderError>
+        requires short { length media.now ≤ 1380 }
+        requires empty { outs.old ≡ [] }
+        ensures sent { IfOk result (λ sent. sent ≡ rules.media_sent (leg_of self.old) now) }
+        ensures leg { OnOk result (leg_of self.new ≡ rules.after_media (rules.media_sent (leg_of self.old) now) (leg_of self.old) media.now now) }
+        ensures replies { OnOk result (outs.new ≡
+            map spelling (rules.media_frames (rules.media_sent (leg_of self.old) now) (leg_of self.old) media.now now)) }
+        ensures unrefused { OnOk result (orders.media_refused (leg_of self.old) now ≡ None) }
+        ensures refused { IfErr result (orders.IsRefusal (orders.media_refused (leg_of self.old) now)) }
+        ensures memory { result ≡ Err OrderError.Memory → orders.is_voice (rules.media_sent (leg_of self.old) now) ≡ true }
+        ensures spare { result ≡ Err OrderError.Memory → self.old.window.spare ≡ 0 }
+        ensures err { OnErr result (self.new ≡ self.old) }
+        ensures none_sent { OnErr result (outs.new ≡ outs.old) }
+        ensures capacity { capacity_of (whole_leg self.old) ≤ capacity_of (whole_leg self.new) }
+    {
+        if !self.stage.is_talking() {
+            return Err(OrderError::WrongStage);
+        }
+        let sent = self.media_sent(now);
+        if sent == MediaSent::Voice {
+            self.send_voice(media, now, outs)?;
+        }
+        Ok(sent)
+    }
+
+    // Media is written as a mini frame.
+    fn mini(&self, timestamp: u16, media: &[u8], outs: &mut Replies)
+        requires short { length media.now ≤ 1380 }
+        requires empty { outs.old ≡ [] }
+        ensures { outs.new ≡ mini_spelling (record { source = self.now.number; timestamp = timestamp; media = media.now }) ∷ [] }
+    {
+        match write_mini(self.number.get(), timestamp, media) {
+            Ok(out) => outs.push(out),
+            Err(_) => unreachable!(),
+        }
+    }
+
+    /// Media goes out, as a full frame or as a mini frame.
+    pub fn media_order(
+        &mut self,
+        media: &[u8],
+        now: u64,
+        outs: &mut Replies,
+    ) -> Result<(), OrderError>
+        requires short { length media.now ≤ 1380 }
+        requires empty { outs.old ≡ [] }
+        ensures leg { OnOk result (leg_of self.new ≡ rules.after_media (rules.media_sent (leg_of self.old) now) (leg_of self.old) media.now now) }
+        ensures replies { OnOk result (outs.new ≡ orders.media_datagrams (rules.media_sent (leg_of self.old) now) (leg_of self.old) media.now now) }
+        ensures unrefused { OnOk result (orders.media_refused (leg_of self.old) now ≡ None) }
+        ensures refused { IfErr result (orders.IsRefusal (orders.media_refused (leg_of self.old) now)) }
+        ensures memory { result ≡ Err OrderError.Memory → orders.is_voice (rules.media_sent (leg_of self.old) now) ≡ true }
+        ensures spare { result ≡ Err OrderError.Memory → self.old.window.spare ≡ 0 }
+        ensures err { OnErr result (self.new ≡ self.old) }
+        ensures none_sent { OnErr result (outs.new ≡ outs.old) }
+        ensures capacity { capacity_of (whole_leg self.old) ≤ capacity_of (whole_leg self.new) }
+    {
+        if let MediaSent::Mini(timestamp) = self.media(media, now, outs)? {
+            self.mini(timestamp, media, outs);
+        }
+        Ok(())
     }
 }

@@ -1,5 +1,5 @@
 //! The orders of the layer above, row by row ("Call Setup", "Control Frames").
-ghost use Rattle.std.specs.Prelude.{◌≡◌, ◌+◌, ◌<◌, ◌≤◌, [], IfSome, IfNone, Some};
+ghost use Rattle.std.specs.Prelude.{◌≡◌, ◌+◌, ◌<◌, ◌≤◌, true, [], IfSome, IfNone, None, Some, Err, IfErr, OnOk, OnErr};
 ghost use Rattle.seq_window.specs.Window.{held_count, entry_count};
 ghost use Rattle.leg_machine.specs.OrderTable as orders;
 
@@ -84,8 +84,26 @@ impl Machine {
         }
     }
 
+    /// Makes room for a numbered frame, which goes out while fewer frames than this are held.
+    pub fn room_for_sending(&mut self, most: usize) -> Result<(), OrderError>
+        ensures leg { leg_of self.new ≡ leg_of self.old }
+        ensures room { OnOk result (HasRoom 1 self.new) }
+        ensures window { OnOk result (held_count self.new.window.state < most) }
+        ensures unrefused { OnOk result (orders.sending_refused (leg_of self.old) most ≡ None) }
+        ensures refused { IfErr result (orders.IsRefusal (orders.sending_refused (leg_of self.old) most)) }
+        ensures spare { result ≡ Err OrderError.Memory → self.old.window.spare ≡ 0 }
+        ensures err { OnErr result (self.new ≡ self.old) }
+        ensures capacity { capacity_of (whole_leg self.old) ≤ capacity_of (whole_leg self.new) }
+    {
+        if let Some(refusal) = self.sending_refused(most) {
+            return Err(refusal);
+        }
+        self.window.reserve(1)?;
+        Ok(())
+    }
+
     /// A row is carried out.
-    pub fn carry_out(&mut self, row: &Ordered, now: u64, outs: &mut Replies)
+    fn carry_out(&mut self, row: &Ordered, now: u64, outs: &mut Replies)
         requires room { HasRoom 1 self.old }
         requires window { held_count self.old.window.state < self.old.window.state.width }
         requires empty { outs.old ≡ [] }
@@ -97,8 +115,29 @@ impl Machine {
         self.send(row.reply, now, outs);
     }
 
+    // An order of the rows in which a numbered frame goes out.
+    fn row(&mut self, order: &Order, now: u64, outs: &mut Replies) -> Result<(), OrderError>
+        requires { outs.old ≡ [] }
+        ensures leg { OnOk result (leg_of self.new ≡ (orders.row_carried (leg_of self.old) (orders.order_row (leg_of self.old) order.now) now).leg) }
+        ensures replies { OnOk result (outs.new ≡
+            (orders.row_carried (leg_of self.old) (orders.order_row (leg_of self.old) order.now) now).datagrams) }
+        ensures unrefused { OnOk result (orders.row_refused (leg_of self.old) (orders.order_row (leg_of self.old) order.now) ≡ None) }
+        ensures refused { IfErr result (orders.IsRefusal (orders.row_refused (leg_of self.old) (orders.order_row (leg_of self.old) order.now))) }
+        ensures spare { result ≡ Err OrderError.Memory → self.old.window.spare ≡ 0 }
+        ensures err { OnErr result (self.new ≡ self.old) }
+        ensures none_sent { OnErr result (outs.new ≡ outs.old) }
+        ensures capacity { capacity_of (whole_leg self.old) ≤ capacity_of (whole_leg self.new) }
+    {
+        let Some(row) = self.order_row(order) else {
+            return Err(OrderError::WrongStage);
+        };
+        self.room_for_sending(row.most)?;
+        self.carry_out(&row, now, outs);
+        Ok(())
+    }
+
     /// The leg is doomed, unless it is over.
-    pub fn doom(&mut self)
+    fn doom(&mut self)
         ensures leg { leg_of self.new ≡ orders.doomed (leg_of self.old) }
         ensures window { self.new.window ≡ self.old.window }
     {
@@ -106,10 +145,38 @@ impl Machine {
     }
 
     /// A leg that is over owes nothing any more.
-    pub fn pay(&mut self)
+    fn pay(&mut self)
         ensures leg { leg_of self.new ≡ orders.paid (leg_of self.old) }
         ensures window { self.new.window ≡ self.old.window }
     {
         self.owes = self.owes && !self.stage.is_over();
+    }
+
+    /// An order is carried out.
+    pub fn order(&mut self, order: &Order, now: u64, outs: &mut Replies) -> Result<(), OrderError>
+        requires media { orders.IsShortMedia order.now }
+        requires empty { outs.old ≡ [] }
+        ensures leg { OnOk result (leg_of self.new ≡ (orders.order_carried (leg_of self.old) order.now now).leg) }
+        ensures replies { OnOk result (outs.new ≡ (orders.order_carried (leg_of self.old) order.now now).datagrams) }
+        ensures unrefused { OnOk result (orders.order_refused (leg_of self.old) order.now now ≡ None) }
+        ensures refused { IfErr result (orders.IsRefusal (orders.order_refused (leg_of self.old) order.now now)) }
+        ensures memory { result ≡ Err OrderError.Memory → orders.wants_memory (leg_of self.old) order.now now ≡ true }
+        ensures spare { result ≡ Err OrderError.Memory → self.old.window.spare ≡ 0 }
+        ensures err { OnErr result (self.new ≡ self.old) }
+        ensures none_sent { OnErr result (outs.new ≡ outs.old) }
+        ensures capacity { capacity_of (whole_leg self.old) ≤ capacity_of (whole_leg self.new) }
+    {
+        match order {
+            Order::Media(media) => self.media_order(media, now, outs),
+            Order::Doom => {
+                self.doom();
+                Ok(())
+            }
+            Order::Paid => {
+                self.pay();
+                Ok(())
+            }
+            _ => self.row(order, now, outs),
+        }
     }
 }

@@ -1,14 +1,17 @@
 //! What a full frame does, in its working order ("Message Transport").
-ghost use Rattle.std.specs.Prelude.{◌≡◌, ◌+◌, ◌<◌, ◌≤◌, ◌++◌, [], true, length, map};
+ghost use Rattle.std.specs.Prelude.{◌≡◌, ◌+◌, ◌<◌, ◌≤◌, ◌++◌, ◌↔◌, [], true, length, map, Err, IfOk, OnOk, OnErr};
 ghost use Rattle.iax_frames.specs.FullFrame.{spelling};
 ghost use Rattle.seq_window.specs.Window.{held_count, judged_number, judged_acknowledgement};
 ghost use Rattle.leg_machine.specs.Effects.{is_reply, marked};
+ghost use Rattle.leg_machine.specs.Legs.{is_short_of_entries};
 ghost use Rattle.leg_machine.specs.Steps as steps;
 ghost use Rattle.leg_machine.specs.Working.{counts};
 
 use crate::machine::Machine;
 use call_signals::effects::unless_over;
-use call_signals::{Answering, Effect, Heard, Judged, Mark, Message, Replies, Signal, Stage};
+use call_signals::{
+    Answering, Effect, Heard, Judged, Mark, Message, Replies, Signal, Stage, StepError,
+};
 use iax_frames::Full;
 use seq_window::Received;
 
@@ -90,6 +93,13 @@ impl Machine {
         }
     }
 
+    // What a frame is by its number.
+    fn judged(&self, frame: &Full) -> Received
+        ensures { result ≡ judged_number self.now.window.state.history frame.now.head.oseqno }
+    {
+        self.window.judge(frame.oseqno())
+    }
+
     // A numbered frame comes.
     fn judge(&mut self, frame: &Full, message: &Message, now: u64, outs: &mut Replies) -> Heard
         requires room { HasRoom 3 self.old }
@@ -100,7 +110,7 @@ impl Machine {
         ensures heard { result ≡ steps.heard_of (steps.judged_step (judged_number self.old.window.state.history frame.now.head.oseqno) (leg_of self.old) frame.now message.now now) }
         ensures capacity { capacity_of (whole_leg self.old) ≤ capacity_of (whole_leg self.new) }
     {
-        match self.window.judge(frame.oseqno()) {
+        match self.judged(frame) {
             Received::Taken => {
                 let effect = self.effect_of(frame, message);
                 self.take(&effect, frame, message, now, outs)
@@ -171,8 +181,8 @@ impl Machine {
         counts
     }
 
-    /// A full frame comes.
-    pub fn full(&mut self, frame: &Full, now: u64, outs: &mut Replies) -> Heard
+    // A full frame comes, and there is room for it.
+    fn full(&mut self, frame: &Full, now: u64, outs: &mut Replies) -> Heard
         requires room { HasRoom 4 self.old }
         requires short { length frame.now.payload ≤ 1388 }
         requires empty { outs.old ≡ [] }
@@ -196,5 +206,27 @@ impl Machine {
             judged: Judged::Unnumbered,
             signal: None,
         }
+    }
+
+    /// A full frame comes, where there is room for what it can add to the record.
+    pub fn full_if_room(
+        &mut self,
+        frame: &Full,
+        now: u64,
+        outs: &mut Replies,
+    ) -> Result<Heard, StepError>
+        requires short { length frame.now.payload ≤ 1388 }
+        requires empty { outs.old ≡ [] }
+        ensures leg { OnOk result (leg_of self.new ≡ (steps.full_step (leg_of self.old) frame.now now).leg) }
+        ensures replies { OnOk result (outs.new ≡ map spelling (steps.full_step (leg_of self.old) frame.now now).replies) }
+        ensures heard { IfOk result (λ heard. heard ≡ steps.heard_of (steps.full_step (leg_of self.old) frame.now now)) }
+        ensures record_full { (result ≡ Err StepError.RecordFull) ↔ (is_short_of_entries (leg_of self.old) ≡ true) }
+        ensures memory { result ≡ Err StepError.Memory → self.old.window.spare < 4 }
+        ensures err { OnErr result (self.new ≡ self.old) }
+        ensures none_sent { OnErr result (outs.new ≡ outs.old) }
+        ensures capacity { capacity_of (whole_leg self.old) ≤ capacity_of (whole_leg self.new) }
+    {
+        self.room_for_frame()?;
+        Ok(self.full(frame, now, outs))
     }
 }

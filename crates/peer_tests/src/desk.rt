@@ -161,17 +161,19 @@ pub fn opened<
     requires octets { (octets.name ≡ O.name) × (octets.parts ≡ O.parts) × (octets.parts ≡ 2) }
     requires steps { (steps.name ≡ S.name) × (steps.parts ≡ S.parts) × (steps.parts ≡ 2) }
 {
+    let book = book_of(alloc)?;
     let (octets, no_octets) = two_shares_of::<O>(alloc, octets, OCTETS)?;
     let (steps, no_steps) = two_shares_of::<S>(alloc, steps, STEPS)?;
-    let pass = Pass::new(no_octets, no_steps);
-    let state = state_of(alloc, plan, peer, octets, steps)?;
-    Some(Desk {
-        alloc,
-        book: book_of(alloc)?,
-        state,
-        pass,
-        onwards: Onwards::new(alloc),
-    })
+    match state_of(alloc, plan, peer, octets, steps) {
+        Some(state) => Some(Desk {
+            alloc,
+            book,
+            state,
+            pass: Pass::new(no_octets, no_steps),
+            onwards: Onwards::new(alloc),
+        }),
+        None => None,
+    }
 }
 
 /// The same, where there must be memory.

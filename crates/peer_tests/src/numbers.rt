@@ -33,7 +33,18 @@ enum Row {
     ThreeHundredAnswers,
 }
 
-// The peer in the west, with plenty of credit, plays a row.
+// A peer plays a row.
+fn plays_row<J: Naming>(rt: &impl Abort, desk: &mut Desk<J>, row: Row) {
+    match row {
+        Row::BusyNumbers => refuses_busy_numbers(rt, desk),
+        Row::UnknownCall => answers_unknown_calls(rt, desk),
+        Row::RepeatedNew => acknowledges_a_repeated_new(rt, desk),
+        Row::NoNumber => finds_no_number(rt, desk),
+        Row::ThreeHundredAnswers => keeps_answers(rt, desk, 300, 256),
+    }
+}
+
+// The same: the peer in the west, with plenty of credit.
 fn plays<O: Ledger + Send + Sync, S: Ledger + Send + Sync, R: Abort>(
     rt: &R,
     alloc: Global,
@@ -46,13 +57,7 @@ fn plays<O: Ledger + Send + Sync, S: Ledger + Send + Sync, R: Abort>(
     requires steps { (steps.name ≡ S.name) × (steps.parts ≡ S.parts) × (steps.parts ≡ 2) }
 {
     let mut desk = desk_of::<O, S, PLENTY, PLENTY>(rt, alloc, plan, 0, octets, steps);
-    match row {
-        Row::BusyNumbers => refuses_busy_numbers(rt, &mut desk),
-        Row::UnknownCall => answers_unknown_calls(rt, &mut desk),
-        Row::RepeatedNew => acknowledges_a_repeated_new(rt, &mut desk),
-        Row::NoNumber => finds_no_number(rt, &mut desk),
-        Row::ThreeHundredAnswers => keeps_answers(rt, &mut desk, 300, 256),
-    }
+    plays_row(rt, &mut desk, row);
 }
 
 // The same, with ledgers of its own and these further lines for the peer in the plan.

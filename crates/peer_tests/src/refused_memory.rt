@@ -154,6 +154,14 @@ fn sends_an_octet<J: Naming>(rt: &impl Abort, desk: &mut Desk<J>) {
     desk.obeys_at_last(rt, 70, &Order::Media(b"a"));
 }
 
+// A whole call.
+fn has_a_call<J: Naming>(rt: &impl Abort, desk: &mut Desk<J>) {
+    calls(rt, desk);
+    answers(rt, desk);
+    talks(rt, desk);
+    carries(rt, desk);
+}
+
 // The peer in the west has a whole call. None: it had no shares of the credit.
 fn plays<O: Ledger + Send + Sync, S: Ledger + Send + Sync, R: Abort>(
     rt: &R,
@@ -166,10 +174,7 @@ fn plays<O: Ledger + Send + Sync, S: Ledger + Send + Sync, R: Abort>(
     requires steps { (steps.name ≡ S.name) × (steps.parts ≡ S.parts) × (steps.parts ≡ 2) }
 {
     let mut desk = opened::<O, S, PLENTY, PLENTY>(alloc, plan, 0, octets, steps)?;
-    calls(rt, &mut desk);
-    answers(rt, &mut desk);
-    talks(rt, &mut desk);
-    carries(rt, &mut desk);
+    has_a_call(rt, &mut desk);
     Some(())
 }
 

@@ -1,5 +1,6 @@
 //! Two workers are inside the sections of two peers at once.
-ghost use Rattle.std.specs.Prelude.{◌≡◌, ◌+◌, ◌^◌, ◌<◌, length};
+ghost use Rattle.std.specs.Prelude.{◌≡◌, ◌+◌, ◌^◌, ◌<◌, length, IfSome};
+ghost use Rattle.udp_workers.specs.Served.{AreEndpoints, peers_of};
 
 use crate::memory_wire::MemoryWire;
 use crate::plans::TWO_WORKERS;
@@ -82,6 +83,15 @@ impl Challenges for Zero {
 
 type TestSeat<J, P> = Seat<MemoryWire, AtOnce, Zero, J, P>;
 
+// A wire in memory for a worker of a plan.
+fn wire_of(alloc: Global, plan: &Plan, worker: &Worker) -> Option<MemoryWire>
+    requires { worker.now.peers ≡ peers_of plan.now worker.now.place }
+    ensures { IfSome result (λ wire. AreEndpoints plan.now worker.now.peers wire.peers.endpoints.items) }
+{
+    let endpoints = worker.endpoints(alloc, plan).ok()?;
+    MemoryWire::new(alloc, endpoints, 0).ok()
+}
+
 // The seat of the worker at a place of a plan, over a wire in memory.
 fn seat_of<J: Naming, P: Post>(
     alloc: Global,
@@ -92,11 +102,12 @@ fn seat_of<J: Naming, P: Post>(
     requires plan { plan.now ≡ P.plan }
     requires place { place < length plan.now.workers }
 {
-    let challenge = Challenge::new(b"0")?;
     let worker = Worker::new(plan, place);
-    let endpoints = worker.endpoints(alloc, plan).ok()?;
-    let wire = MemoryWire::new(alloc, endpoints, 0).ok()?;
-    Some(Seat::new(worker, wire, pass, AtOnce, Zero(challenge)))
+    let wire = wire_of(alloc, plan, &worker)?;
+    match Challenge::new(b"0") {
+        Some(challenge) => Some(Seat::new(worker, wire, pass, AtOnce, Zero(challenge))),
+        None => None,
+    }
 }
 
 // The seats of the workers of a plan, in its order, each with a pass of its own.
@@ -125,6 +136,25 @@ fn turns_of<J: Naming, P: Post>(seats: Vec<TestSeat<J, P>>) -> u64 {
     turns
 }
 
+// Makes one turn of each worker. Gives how many workers made theirs.
+fn turn_on<'a, J: Naming, P: Post + Send + Sync, R: Clock + Threads + Wait + Sync>(
+    rt: &R,
+    alloc: Global,
+    exchange: &Exchange<Meeting<'a, R>, J>,
+    passes: Vec<Pass<J>>,
+) -> Option<u64>
+    requires { exchange.now ≡ P.plan }
+{
+    let mut seats = seats_of::<J, P>(alloc, exchange.plan(), passes)?;
+    if seats.len() > 8 {
+        return None;
+    }
+    match run_all(rt, exchange, &mut seats, 1) {
+        Ok(()) => Some(turns_of(seats)),
+        Err(_) => None,
+    }
+}
+
 // Makes one turn of both workers, on an exchange of two ledgers. Gives how many workers made theirs.
 fn turn_both<J: Naming, P: Post + Send + Sync, R: Clock + Threads + Wait + Sync>(
     rt: &R,
@@ -142,12 +172,7 @@ fn turn_both<J: Naming, P: Post + Send + Sync, R: Clock + Threads + Wait + Sync>
     let gate = Meeting { rt, entered };
     let opened = Exchange::<_, J>::open(alloc, plan, gate, octets, steps);
     let (exchange, passes) = opened.ok()?;
-    let mut seats = seats_of::<J, P>(alloc, exchange.plan(), passes)?;
-    if seats.len() > 8 {
-        return None;
-    }
-    run_all(rt, &exchange, &mut seats, 1).ok()?;
-    Some(turns_of(seats))
+    turn_on::<J, P, R>(rt, alloc, &exchange, passes)
 }
 
 // The same, by the ledgers that the caller names.

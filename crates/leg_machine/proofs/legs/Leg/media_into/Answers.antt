@@ -1,50 +1,77 @@
-use Rattle.std.specs.Prelude.{map}
-use Rattle.std.proofs.Common.{◌≡◌, true, refl, sym, ap, ◌∙◌, subst, rules}
+use Rattle.std.specs.Prelude.{None, map, IfErr, OnOk, OnErr}
+use Rattle.std.proofs.Common.{◌≡◌, ap, subst}
+use Rattle.std.proofs.lemmas.Result.{on_ok_weaker, on_err_weaker}
 use Rattle.iax_frames.specs.FullFrame.{spelling}
+use Rattle.call_signals.specs.declared.orders.OrderKind.TheVariants as kinds
 use Rattle.leg_machine.specs.Legs.{Leg, leg_of}
 use Rattle.leg_machine.specs.Media.{media_sent, after_media, media_frames}
-use Rattle.leg_machine.specs.Seen.{seen}
-use Rattle.call_signals.specs.Stages.{is_talking}
-use Rattle.leg_machine.specs.Tie.{SendsAtMostOne, SendsNumbered, HasSent}
-use Rattle.leg_machine.proofs.SendingSteps.{written, media-sent}
-use Rattle.leg_machine.proofs.SeenOrders.{seen-media, talking-seen}
-use Rattle.leg_machine.proofs.TiedSends.{media-sends}
+use Rattle.leg_machine.specs.OrderTable.{media_refused, IsRefusal}
+use Rattle.leg_machine.specs.Seen.{stage_after}
+use Rattle.leg_machine.specs.Tie.{SendsNumbered, HasSent}
+use Rattle.leg_machine.proofs.Answered.{still-numbered, media-tied, media-written}
+use Rattle.leg_machine.proofs.SeenOrders.{answered-media-seen, answered-wrong, media-wrong}
 use Rattle.leg_machine.proofs.legs.Leg.media_into.Goals as goal
-use Rattle.leg_machine.proofs.legs.Leg.media_into.Goals.{After-send_voice}
+use Rattle.leg_machine.proofs.legs.Leg.media_into.Goals.{After-media}
 
-pub returns-in_ok-reserve-in-Voice-clause-tied : goal.returns-in_ok-reserve-in-Voice-clause-tied
-returns-in_ok-reserve-in-Voice-clause-tied c =
-    let leg : leg_of c.send_voice.new.self ≡ after_media (media_sent c.args.self.now.state c.args.now) c.args.self.now.state c.args.media.now c.args.now = search rules in
-    subst (SendsAtMostOne c.args.self.now.state) (sym leg) (media-sends (media_sent c.args.self.now.state c.args.now) c.args.self.now.state c.args.media.now c.args.now)
+leg : (c : After-media)
+    → OnOk c.media.result (leg_of c.media.new.self ≡ after_media (media_sent c.args.self.now.state c.args.now) c.args.self.now.state c.args.media.now c.args.now)
+leg c =
+    subst (λ (l : Leg). OnOk c.media.result (leg_of c.media.new.self ≡ after_media (media_sent l.state c.args.now) l.state c.args.media.now c.args.now))
+    c.self.view_is c.media.ensures.leg
 
-pub returns-in-Quelched-clause-seen : goal.returns-in-Quelched-clause-seen
-returns-in-Quelched-clause-seen c =
-    let talks : is_talking c.args.self.now.state.stage ≡ true = search rules in
-    talking-seen c.args.self.now.state c.args.self.now.state talks refl
+replies : (c : After-media)
+    → OnOk c.media.result (c.media.new.outs
+    ≡ map spelling (media_frames (media_sent c.args.self.now.state c.args.now) c.args.self.now.state c.args.media.now c.args.now))
+replies c =
+    subst (λ (l : Leg). OnOk c.media.result (c.media.new.outs ≡ map spelling (media_frames (media_sent l.state c.args.now) l.state c.args.media.now c.args.now)))
+    c.self.view_is c.media.ensures.replies
 
-pub returns-in-Mini-clause-seen : goal.returns-in-Mini-clause-seen
-returns-in-Mini-clause-seen c =
-    let talks : is_talking c.args.self.now.state.stage ≡ true = search rules in
-    talking-seen c.args.self.now.state c.args.self.now.state talks refl
+unrefused : (c : After-media) → OnOk c.media.result (media_refused c.args.self.now.state c.args.now ≡ None)
+unrefused c = subst (λ (l : Leg). OnOk c.media.result (media_refused l.state c.args.now ≡ None)) c.self.view_is c.media.ensures.unrefused
 
-pub returns-in_ok-reserve-in-Voice-clause-seen : goal.returns-in_ok-reserve-in-Voice-clause-seen
-returns-in_ok-reserve-in-Voice-clause-seen c =
-    let talks : is_talking c.args.self.now.state.stage ≡ true = search rules in
-    let leg : leg_of c.send_voice.new.self ≡ after_media (media_sent c.args.self.now.state c.args.now) c.args.self.now.state c.args.media.now c.args.now = search rules in
-    talking-seen c.args.self.now.state (leg_of c.send_voice.new.self) talks
-    (ap seen leg ∙ seen-media (media_sent c.args.self.now.state c.args.now) c.args.self.now.state c.args.media.now c.args.now)
+refused : (c : After-media) → IfErr c.media.result (IsRefusal (media_refused c.args.self.now.state c.args.now))
+refused c = subst (λ (l : Leg). IfErr c.media.result (IsRefusal (media_refused l.state c.args.now))) c.self.view_is c.media.ensures.refused
 
-sent : (c : After-send_voice) → HasSent (leg_of c.send_voice.new.self) c.send_voice.new.outs
+stays : (c : After-media) → OnErr c.media.result (leg_of c.media.new.self ≡ c.args.self.now.state)
+stays c =
+    on_err_weaker c.media.result (λ same. subst (λ (l : Leg). leg_of c.media.new.self ≡ l.state) c.self.view_is (ap leg_of same)) c.media.ensures.err
+
+numbered : (c : After-media) → SendsNumbered c.args.self.now.state
+numbered c = subst (λ (l : Leg). SendsNumbered l.state) c.self.view_is c.self.invariant
+
+sent : (c : After-media) → OnOk c.media.result (HasSent (leg_of c.media.new.self) c.media.new.outs)
 sent c =
-    let how = media_sent c.args.self.now.state c.args.now in
-    let frames = media_frames how c.args.self.now.state c.args.media.now c.args.now in
-    let leg : leg_of c.send_voice.new.self ≡ after_media how c.args.self.now.state c.args.media.now c.args.now = search rules in
-    let replies : c.send_voice.new.outs ≡ map spelling frames = search rules in
-    written (after_media how c.args.self.now.state c.args.media.now c.args.now) (leg_of c.send_voice.new.self) frames c.send_voice.new.outs
-    (media-sent how c.args.self.now.state c.args.media.now c.args.now (subst (λ (l : Leg). SendsNumbered l.state) c.self.view_is c.self.invariant)) leg replies
+    media-written c.media.result c.args.self.now.state (leg_of c.media.new.self) c.args.media.now c.args.now c.media.new.outs
+    (numbered c) (leg c) (replies c)
 
-pub invariant_of-self-in-Voice : goal.invariant_of-self-in-Voice
-invariant_of-self-in-Voice c = (sent c).numbered
+pub returns-clause-leg : goal.returns-clause-leg
+returns-clause-leg c = leg c
 
-pub returns-in_ok-reserve-in-Voice-clause-sendings : goal.returns-in_ok-reserve-in-Voice-clause-sendings
-returns-in_ok-reserve-in-Voice-clause-sendings c = (sent c).sendings
+pub returns-clause-replies : goal.returns-clause-replies
+returns-clause-replies c = replies c
+
+pub returns-clause-unrefused : goal.returns-clause-unrefused
+returns-clause-unrefused c = unrefused c
+
+pub returns-clause-refused : goal.returns-clause-refused
+returns-clause-refused c = refused c
+
+pub returns-clause-tied : goal.returns-clause-tied
+returns-clause-tied c = media-tied c.media.result c.args.self.now.state (leg_of c.media.new.self) c.args.media.now c.args.now (leg c)
+
+pub returns-clause-sendings : goal.returns-clause-sendings
+returns-clause-sendings c = on_ok_weaker c.media.result (λ sent. sent.sendings) (sent c)
+
+pub invariant_of-self : goal.invariant_of-self
+invariant_of-self c =
+    still-numbered c.media.result c.args.self.now.state (leg_of c.media.new.self) (numbered c)
+    (on_ok_weaker c.media.result (λ sent. sent.numbered) (sent c)) (stays c)
+
+pub returns-clause-seen : goal.returns-clause-seen
+returns-clause-seen c =
+    answered-media-seen c.media.result c.args.self.now.state (leg_of c.media.new.self) c.args.media.now c.args.now (leg c) (unrefused c)
+
+pub returns-clause-wrong_stage : goal.returns-clause-wrong_stage
+returns-clause-wrong_stage c =
+    answered-wrong c.media.result (media_refused c.args.self.now.state c.args.now) (stage_after kinds.Media c.args.self.now.state.stage)
+    (media-wrong c.args.self.now.state c.args.now) (unrefused c) (refused c)

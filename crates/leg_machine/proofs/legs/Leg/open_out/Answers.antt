@@ -1,0 +1,11 @@
+use Rattle.std.specs.Prelude.{None}
+use Rattle.std.proofs.Common.{ℕ, List, ap}
+use Rattle.call_signals.specs.declared.outcomes.Judged.TheVariants.{Unnumbered}
+use Rattle.leg_machine.proofs.Answered.{outcome}
+use Rattle.leg_machine.proofs.legs.Leg.open_out.Goals as goal
+
+pub returns-clause-leg : goal.returns-clause-leg
+returns-clause-leg c = c.in_ok-leg.ensures.leg
+
+pub returns-clause-outcome : goal.returns-clause-outcome
+returns-clause-outcome c = ap (λ (datagrams : List (List ℕ)). outcome Unnumbered datagrams None) c.in_ok-leg.ensures.replies
