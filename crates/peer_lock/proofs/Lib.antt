@@ -5,6 +5,7 @@ pub mod NumberTicks
 pub mod Opened
 pub mod Packing
 pub mod Puts
+pub mod Reached
 pub mod Refusing
 pub mod SeenArrivals
 pub mod SeenChanges

@@ -1,13 +1,13 @@
--- What a NEW that comes makes of a peer.
+-- What a NEW that comes, or one that goes out, makes of a peer.
 use Rattle.std.specs.Prelude.{map}
-use Rattle.std.proofs.Common.{◌≡◌, ℕ, List, Some, None, ap, ◌∙◌}
+use Rattle.std.proofs.Common.{◌≡◌, ℕ, List, Option, Some, None, ap, ◌∙◌}
 use Rattle.call_book.specs.declared.leg_name.LegName.{LegName}
 use Rattle.call_signals.specs.declared.outcomes.Heard.{Heard}
 use Rattle.iax_frames.specs.FullFrame.{FullFrame, spelling}
 use Rattle.leg_machine.specs.Legs.{LegState}
-use Rattle.leg_machine.specs.Openings.{open_in_step}
+use Rattle.leg_machine.specs.Openings.{open_in_step, open_out_step}
+use Rattle.call_signals.specs.declared.formats.Format.{Format}
 use Rattle.leg_machine.specs.Steps.{heard_of}
-use Rattle.peer_accounts.specs.Accounts.{stepped}
 use Rattle.peer_legs.specs.Legs.{PeerLegs, leg_of_remote, with_place}
 use Rattle.peer_lock.specs.Openings.{opens_in}
 use Rattle.peer_lock.specs.Outbox.{put}
@@ -18,31 +18,43 @@ pub new_remote : (legs : PeerLegs) (leg : LegState) (source : ℕ) → leg.remot
     → (remote : ℕ) → leg.remote ≡ Some remote → leg_of_remote legs remote ≡ None
 new_remote legs leg source is none remote here = let same : source ≡ remote = cc in rw (← same) none
 
-module _ (view old : PeerView) (name : LegName) (number : ℕ) (frame : FullFrame) (now : ℕ) (challenge : List ℕ) (view_is : view ≡ old) (number_is : number ≡ name.number) where
-  pub opened_leg : (leg : LegState) → leg ≡ (open_in_step view.rules number frame now challenge).leg → leg ≡ (open_in_step old.rules name.number frame now challenge).leg
-  opened_leg leg is =
-      is ∙ ap (λ (n : ℕ). (open_in_step view.rules n frame now challenge).leg) number_is
-      ∙ ap (λ (v : PeerView). (open_in_step v.rules name.number frame now challenge).leg) view_is
+-- what it sends goes to the outbox
+pub took_new : (view old : PeerView) (name : LegName) (number : ℕ) (frame : FullFrame) (now : ℕ) (challenge : List ℕ) (outbox replies : List (List ℕ))
+    → view ≡ old → number ≡ name.number → outbox ≡ put view.outbox replies → replies ≡ map spelling (open_in_step view.rules number frame now challenge).replies
+    → record view { outbox = outbox } ≡ record old { outbox = put old.outbox (map spelling (open_in_step old.rules name.number frame now challenge).replies) }
+took_new view old name number frame now challenge outbox replies view_is number_is outbox_is replies_are =
+    ap (λ (sent : List (List ℕ)). record view { outbox = sent }) (outbox_is ∙ ap (put view.outbox) replies_are)
+    ∙ ap (λ (n : ℕ). record view { outbox = put view.outbox (map spelling (open_in_step view.rules n frame now challenge).replies) }) number_is
+    ∙ ap (λ (v : PeerView). record v { outbox = put v.outbox (map spelling (open_in_step v.rules name.number frame now challenge).replies) }) view_is
 
-  pub opened_heard : (heard : Heard) → heard ≡ heard_of (open_in_step view.rules number frame now challenge) → heard ≡ heard_of (open_in_step old.rules name.number frame now challenge)
-  opened_heard heard is =
-      is ∙ ap (λ (n : ℕ). heard_of (open_in_step view.rules n frame now challenge)) number_is
-      ∙ ap (λ (v : PeerView). heard_of (open_in_step v.rules name.number frame now challenge)) view_is
+-- what a leg that calls sends goes to the outbox
+pub sent_new : (view old : PeerView) (name : LegName) (number : ℕ) (called : List ℕ) (calling : Option (List ℕ)) (format : Format) (now : ℕ) (outbox replies : List (List ℕ))
+    → view ≡ old → number ≡ name.number → outbox ≡ put view.outbox replies → replies ≡ map spelling (open_out_step view.rules number called calling format now).replies
+    → record view { outbox = outbox } ≡ record old { outbox = put old.outbox (map spelling (open_out_step old.rules name.number called calling format now).replies) }
+sent_new view old name number called calling format now outbox replies view_is number_is outbox_is replies_are =
+    ap (λ (sent : List (List ℕ)). record view { outbox = sent }) (outbox_is ∙ ap (put view.outbox) replies_are)
+    ∙ ap (λ (n : ℕ). record view { outbox = put view.outbox (map spelling (open_out_step view.rules n called calling format now).replies) }) number_is
+    ∙ ap (λ (v : PeerView). record v { outbox = put v.outbox (map spelling (open_out_step v.rules name.number called calling format now).replies) }) view_is
 
-  pub opened_peer : (new : PeerView) (leg : LegState) (outbox replies : List (List ℕ))
-      → new ≡ record (counted (record view { outbox = outbox })) { legs = with_place view.legs name.number (Some (record { name = name; leg = leg })) }
-      → outbox ≡ put view.outbox replies → leg ≡ (open_in_step view.rules number frame now challenge).leg
-      → replies ≡ map spelling (open_in_step view.rules number frame now challenge).replies → new ≡ (opens_in old name frame now challenge).peer
-  opened_peer new leg outbox replies is outbox_is leg_is replies_are =
+module _ (old : PeerView) (name lease : LegName) (frame : FullFrame) (now : ℕ) (challenge : List ℕ) (name_is : name ≡ lease) where
+  pub opened_leg : (leg : LegState) → leg ≡ (open_in_step old.rules name.number frame now challenge).leg → leg ≡ (open_in_step old.rules lease.number frame now challenge).leg
+  opened_leg leg is = is ∙ ap (λ (n : LegName). (open_in_step old.rules n.number frame now challenge).leg) name_is
+
+  pub opened_heard : (heard : Heard) → heard ≡ heard_of (open_in_step old.rules name.number frame now challenge) → heard ≡ heard_of (open_in_step old.rules lease.number frame now challenge)
+  opened_heard heard is = is ∙ ap (λ (n : LegName). heard_of (open_in_step old.rules n.number frame now challenge)) name_is
+
+  pub opened_peer : (between new : PeerView) (leg : LegState)
+      → new ≡ record (counted between) { legs = with_place between.legs lease.number (Some (record { name = lease; leg = leg })) }
+      → between ≡ record old { outbox = put old.outbox (map spelling (open_in_step old.rules name.number frame now challenge).replies) }
+      → leg ≡ (open_in_step old.rules name.number frame now challenge).leg → new ≡ (opens_in old lease frame now challenge).peer
+  opened_peer between new leg is between_is leg_is =
       is
-      ∙ (λ i. record view {
-        legs = with_place view.legs name.number (Some (record { name = name; leg = leg_is i }));
-        outbox = (outbox_is ∙ ap (put view.outbox) replies_are) i;
-        accounts = stepped view.accounts;
-      })
-      ∙ ap (λ (n : ℕ). record view {
-        legs = with_place view.legs name.number (Some (record { name = name; leg = (open_in_step view.rules n frame now challenge).leg }));
-        outbox = put view.outbox (map spelling (open_in_step view.rules n frame now challenge).replies);
-        accounts = stepped view.accounts;
-      }) number_is
-      ∙ ap (λ (v : PeerView). (opens_in v name frame now challenge).peer) view_is
+      ∙ ap (λ (v : PeerView). record (counted v) { legs = with_place v.legs lease.number (Some (record { name = lease; leg = leg })) }) between_is
+      ∙ ap (λ (l : LegState). record (counted old) {
+        legs = with_place old.legs lease.number (Some (record { name = lease; leg = l }));
+        outbox = put old.outbox (map spelling (open_in_step old.rules name.number frame now challenge).replies);
+      }) leg_is
+      ∙ ap (λ (n : LegName). record (counted old) {
+        legs = with_place old.legs lease.number (Some (record { name = lease; leg = (open_in_step old.rules n.number frame now challenge).leg }));
+        outbox = put old.outbox (map spelling (open_in_step old.rules n.number frame now challenge).replies);
+      }) name_is

@@ -2,7 +2,8 @@
 ghost use Rattle.std.specs.Prelude.{◌≡◌, ◌≢◌, ◌+◌, ◌-◌, ◌<◌, ◌≤◌, ◌⊎◌, ◌↔◌, [], length, map, true, None, Some, Err, IsSome, IfOk, IfErr, OnOk, OnErr, IfSome, IsNone, IsTrue};
 ghost use Rattle.leg_machine.specs.Legs.{is_short_of_entries};
 ghost use Rattle.leg_machine.specs.Steps.{full_step, heard_of};
-ghost use Rattle.peer_accounts.specs.Accounts.{stepped, with_step as with_credit};
+ghost use Rattle.peer_accounts.specs.Accounts.{stepped, with_accepted, with_step as with_credit};
+ghost use Rattle.peer_accounts.specs.Grants.{granted};
 ghost use Rattle.iax_frames.specs.FullFrame.{spelling};
 ghost use Rattle.peer_lock.specs.Arrivals.{reached_step, delivered_step, datagram_step, datagram_refused};
 ghost use Rattle.peer_lock.specs.Arrivals as answer;
@@ -13,7 +14,8 @@ ghost use Rattle.peer_legs.specs.Legs.{NamedLeg as NamedLegValue, leg_at, leg_of
 ghost use Rattle.peer_accounts.specs.HandedUp.{IsNothing};
 ghost use Rattle.peer_lock.specs.Makes.{Makes, IsUnchanged, IsDue};
 ghost use Rattle.peer_lock.specs.Peer as spec;
-ghost use Rattle.peer_lock.specs.Peer.{handed_up, offer_with, no_leg, counted, with_datagram};
+ghost use Rattle.peer_lock.specs.Outbox.{put};
+ghost use Rattle.peer_lock.specs.Peer.{handed_up, leg_alone, offer_with, no_leg, counted, with_datagram};
 ghost use Rattle.iax_frames.specs.declared.datagram.Datagram.{Datagram as DatagramValue};
 ghost use Rattle.peer_lock.specs.declared.errors.PeerError.{PeerError as PeerErrorValue};
 ghost use Rattle.peer_lock.specs.Unworked.{IsSoundFull, IsRefusedFull, IsCutFrame, IsSound, IsRefusedRead, IsShortDatagram, IsWorked, IsUnworked};
@@ -23,7 +25,7 @@ use crate::state::PeerState;
 use crate::steps::Step;
 use iax_frames::{Datagram, Full, FullHead, Out, read, write_full};
 use info_elements::elements;
-use leg_machine::{ElementText, Judged, Message, Signal};
+use leg_machine::{ElementText, Heard, Judged, Message, Signal, StepError};
 use peer_accounts::{Naming, Offer, Onwards, Pass};
 use peer_legs::NamedLeg;
 
@@ -91,6 +93,66 @@ fn inval_for(frame: &Full) -> Out
 }
 
 impl<J: Naming> PeerState<J> {
+    // Whether fewer than four entries are free in the record of a number's leg.
+    fn is_short(&self, number: u16) -> bool
+        requires { IsSome (leg_at self.now.legs number) }
+        ensures { (named : NamedLegValue) → leg_at self.now.legs number ≡ Some named → result ≡ is_short_of_entries named.leg }
+    {
+        self.legs.is_short(number)
+    }
+
+    // A full frame goes to the leg of a number, and what the leg sends to the outbox.
+    fn hear(&mut self, number: u16, frame: &Full, now: u64) -> Result<Heard, StepError>
+        requires short { length frame.now.payload ≤ 1388 }
+        requires there { can_reach self.old.legs frame.now.head.source (leg_at self.old.legs number) ≡ true }
+        ensures peer { OnOk result ((named : NamedLegValue) → leg_at self.old.legs number ≡ Some named → self.new ≡ record self.old {
+          legs = with_leg self.old.legs named.name (full_step named.leg frame.now now).leg;
+          outbox = put self.old.outbox (map spelling (full_step named.leg frame.now now).replies);
+        }) }
+        ensures accounts { self.new.accounts ≡ self.old.accounts }
+        ensures heard { IfOk result (λ heard. (named : NamedLegValue) → leg_at self.old.legs number ≡ Some named → heard ≡ heard_of (full_step named.leg frame.now now)) }
+        ensures kept { OnOk result (IsSome (leg_at self.new.legs number)) }
+        ensures there { OnOk result ((named : NamedLegValue) → leg_at self.old.legs number ≡ Some named
+            → leg_at self.new.legs number ≡ Some (record { name = named.name; leg = (full_step named.leg frame.now now).leg })) }
+        ensures record_full { (named : NamedLegValue) → leg_at self.old.legs number ≡ Some named → (result ≡ Err StepError.RecordFull) ↔ (is_short_of_entries named.leg ≡ true) }
+        ensures err { OnErr result (self.new ≡ self.old) }
+    {
+        self.replies.clear();
+        let heard = self.legs.full_kept(number, frame, now, &mut self.replies)?;
+        self.outbox.put_all(&self.replies);
+        Ok(heard)
+    }
+
+    // What the leg of a number heard is counted and handed up.
+    fn hand_on(
+        &mut self,
+        pass: &mut Pass<J>,
+        number: u16,
+        heard: Heard,
+        onwards: &mut Onwards,
+    ) -> Step
+        requires steps { self.old.accounts.steps ≢ J.first_steps }
+        requires there { IsSome (leg_at self.old.legs number) }
+        requires room { 1 ≤ onwards.old.room }
+        requires nothing { IsNothing onwards.old }
+        ensures peer { self.new ≡ record self.old { accounts = with_accepted (stepped self.old.accounts) (granted J.first_octets self.old.accounts.accepted heard.signal).octets } }
+        ensures step { (named : NamedLegValue) → leg_at self.old.legs number ≡ Some named → result ≡ leg_alone named.name heard.judged }
+        ensures signals { (named : NamedLegValue) → leg_at self.old.legs number ≡ Some named
+            → onwards.new.signals ≡ handed_up named.name (granted J.first_octets self.old.accounts.accepted heard.signal).signal }
+        ensures offer { (named : NamedLegValue) → leg_at self.old.legs number ≡ Some named
+            → onwards.new.offer ≡ offer_with named.leg (granted J.first_octets self.old.accounts.accepted heard.signal).signal }
+        ensures credit { pass.new ≡ with_credit pass.old (granted J.first_octets self.old.accounts.accepted heard.signal).octets }
+    {
+        self.account.count_step(pass);
+        let signal = self.account.grant(pass, heard.signal);
+        let named = self.legs.get(number).unwrap();
+        hand_up(onwards, named, signal);
+        Step {
+            judged: heard.judged,
+            touched: Some(named.name()),
+        }
+    }
+
     // A full frame goes to the leg of a number.
     fn reach(
         &mut self,
@@ -110,21 +172,21 @@ impl<J: Naming> PeerState<J> {
         ensures refused { IfErr result (λ e. (named : NamedLegValue) → leg_at self.old.legs number ≡ Some named → IsDue (delivery_refused (Reaches named)) e) }
         ensures err { OnErr result (IsUnchanged self.old self.new pass.old pass.new onwards.new) }
     {
-        if self.legs.is_short(number) {
+        if self.is_short(number) {
             return Err(PeerError::RecordFull);
         }
         onwards.reserve(1)?;
-        self.replies.clear();
-        let heard = self.legs.full_kept(number, frame, now, &mut self.replies)?;
+        let heard = self.hear(number, frame, now)?;
+        Ok(self.hand_on(pass, number, heard, onwards))
+    }
+
+    // The peer counts a step.
+    pub(crate) fn count_step(&mut self, pass: &mut Pass<J>)
+        requires { self.old.accounts.steps ≢ J.first_steps }
+        ensures peer { self.new ≡ counted self.old }
+        ensures credit { pass.new ≡ with_credit pass.old 0 }
+    {
         self.account.count_step(pass);
-        let signal = self.account.grant(pass, heard.signal);
-        self.outbox.put_all(&self.replies);
-        let named = self.legs.get(number).unwrap();
-        hand_up(onwards, named, signal);
-        Ok(Step {
-            judged: heard.judged,
-            touched: Some(named.name()),
-        })
     }
 
     // A step without a leg.
@@ -134,7 +196,7 @@ impl<J: Naming> PeerState<J> {
         ensures step { result ≡ no_leg }
         ensures credit { pass.new ≡ with_credit pass.old 0 }
     {
-        self.account.count_step(pass);
+        self.count_step(pass);
         Step {
             judged: Judged::Unnumbered,
             touched: None,

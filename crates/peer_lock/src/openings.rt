@@ -10,6 +10,9 @@ ghost use Rattle.peer_lock.specs.Peer.{counted, handed_up, leg_alone, offer_with
 ghost use Rattle.peer_accounts.specs.HandedUp.{IsNothing};
 ghost use Rattle.peer_lock.specs.Makes.{IsUnchanged};
 ghost use Rattle.peer_legs.specs.Legs.{is_free_name};
+ghost use Rattle.leg_machine.specs.Openings.{open_in_step, open_out_step};
+ghost use Rattle.leg_machine.specs.Steps.{heard_of};
+ghost use Rattle.peer_lock.specs.Outbox.{put};
 ghost use Rattle.peer_lock.specs.Openings.{IsOpening, IsOpenRefusal, open_in_refused, open_out_refused, opens_in, opens_out, with_opened};
 
 use crate::arrivals::hand_up;
@@ -22,6 +25,7 @@ use iax_frames::{CallNumber, Full};
 use leg_machine::{Format, Heard, Judged, Leg};
 use peer_accounts::{Naming, Onwards, Pass};
 use peer_legs::open_in;
+use std::alloc::AllocError;
 
 impl<J: Naming> PeerState<J> {
     // A leg that was opened takes its place.
@@ -52,6 +56,19 @@ impl<J: Naming> PeerState<J> {
         None
     }
 
+    // Why a NEW opens no leg under a name.
+    fn new_refused(&self, name: LegName, frame: &Full) -> Option<OpenError>
+        ensures { result ≡ open_in_refused self.now J.first_steps name frame.now.head.source }
+    {
+        if let Some(refusal) = self.opening_refused(name) {
+            return Some(refusal);
+        }
+        if self.legs.of_remote(frame.source()).is_some() {
+            return Some(OpenError::RemoteBusy);
+        }
+        None
+    }
+
     // The call number of a free name.
     fn free_number(&self, name: LegName) -> CallNumber
         requires { is_free_name self.now.legs name ≡ true }
@@ -60,6 +77,39 @@ impl<J: Naming> PeerState<J> {
     {
         let _sound = self.legs.count();
         CallNumber::new(name.number)
+    }
+
+    // A NEW that came makes a leg for a name, and what the leg sends goes to the outbox.
+    fn take_new(
+        &mut self,
+        name: LegName,
+        frame: &Full,
+        now: u64,
+        challenge: &Challenge,
+    ) -> Result<(Leg, Heard), AllocError>
+        requires opening { IsOpening frame.now }
+        requires free { is_free_name self.old.legs name ≡ true }
+        ensures peer { OnOk result (self.new ≡ record self.old { outbox = put self.old.outbox (map spelling (open_in_step self.old.rules name.number frame.now now challenge.now).replies) }) }
+        ensures leg { IfOk result (λ opened. opened.0.state ≡ (open_in_step self.old.rules name.number frame.now now challenge.now).leg) }
+        ensures number { IfOk result (λ opened. opened.0.state.number ≡ name.number) }
+        ensures remote { IfOk result (λ opened. opened.0.state.remote ≡ Some frame.now.head.source) }
+        ensures ruled { IfOk result (λ opened. IsLegOf self.old.rules opened.0.state) }
+        ensures heard { IfOk result (λ opened. opened.1 ≡ heard_of (open_in_step self.old.rules name.number frame.now now challenge.now)) }
+        ensures err { OnErr result (self.new ≡ self.old) }
+    {
+        let number = self.free_number(name);
+        self.replies.clear();
+        let opened = open_in(
+            self.alloc,
+            &self.rules,
+            number,
+            frame,
+            now,
+            challenge,
+            &mut self.replies,
+        )?;
+        self.outbox.put_all(&self.replies);
+        Ok(opened)
     }
 
     /// A NEW that came opens a leg, under the lease: one step. It is one that `datagram` answers by `NeedsNumber`. What is handed up
@@ -87,31 +137,15 @@ impl<J: Naming> PeerState<J> {
         ensures lease { IfErr result (λ back. back.0 ≡ lease) }
         ensures err { OnErr result (IsUnchanged self.old self.new pass.old pass.new onwards.new) }
     {
-        if let Some(refusal) = self.opening_refused(lease.name()) {
+        if let Some(refusal) = self.new_refused(lease.name(), frame) {
             return Err((lease, refusal));
-        }
-        if self.legs.of_remote(frame.source()).is_some() {
-            return Err((lease, OpenError::RemoteBusy));
         }
         if onwards.reserve(1).is_err() {
             return Err((lease, OpenError::Memory));
         }
-        let number = self.free_number(lease.name());
-        self.replies.clear();
-        match open_in(
-            self.alloc,
-            &self.rules,
-            number,
-            frame,
-            now,
-            challenge,
-            &mut self.replies,
-        ) {
+        match self.take_new(lease.name(), frame, now, challenge) {
+            Ok((leg, heard)) => Ok(self.opened(pass, lease, leg, heard, onwards)),
             Err(_) => Err((lease, OpenError::Memory)),
-            Ok((leg, heard)) => {
-                self.outbox.put_all(&self.replies);
-                Ok(self.opened(pass, lease, leg, heard, onwards))
-            }
         }
     }
 
@@ -147,6 +181,42 @@ impl<J: Naming> PeerState<J> {
         }
     }
 
+    // A leg is made for a name, to call a number of at most 255 octets, and what it sends goes to the outbox.
+    fn send_new(
+        &mut self,
+        name: LegName,
+        called: &[u8],
+        calling: Option<&[u8]>,
+        format: Format,
+        now: u64,
+    ) -> Result<Leg, AllocError>
+        requires called { length called.now ≤ 255 }
+        requires calling { ForSome calling (λ text. length text.now ≤ 255) }
+        requires free { is_free_name self.old.legs name ≡ true }
+        ensures peer { OnOk result (self.new ≡ record self.old { outbox = put self.old.outbox (map spelling (open_out_step self.old.rules name.number called.now (option_copied calling.entry) format now).replies) }) }
+        ensures leg { IfOk result (λ leg. leg.state ≡ (open_out_step self.old.rules name.number called.now (option_copied calling.entry) format now).leg) }
+        ensures ruled { IfOk result (λ leg. IsLegOf self.old.rules leg.state) }
+        ensures err { OnErr result (self.new ≡ self.old) }
+    {
+        leg_machine::laws::steps_send_as_sides();
+        let number = self.free_number(name);
+        self.replies.clear();
+        let leg = Leg::open_out_into(
+            self.alloc,
+            &self.rules,
+            number,
+            called,
+            calling,
+            format,
+            now,
+            &mut self.replies,
+        )?;
+        let _legal = leg.window().record();
+        let _held = leg.window().held_len();
+        self.outbox.put_all(&self.replies);
+        Ok(leg)
+    }
+
     /// A call goes out under the lease, for a number of at most 255 octets: one step.
     ///
     /// Refusals are looked for in the order of `OpenError`, of which `RemoteBusy` never comes; the lease comes back. `Memory` comes
@@ -170,27 +240,11 @@ impl<J: Naming> PeerState<J> {
         ensures lease { IfErr result (λ back. back.0 ≡ lease) }
         ensures err { OnErr result ((self.new ≡ self.old) × (pass.new ≡ pass.old)) }
     {
-        leg_machine::laws::steps_send_as_sides();
         if let Some(refusal) = self.opening_refused(lease.name()) {
             return Err((lease, refusal));
         }
-        let number = self.free_number(lease.name());
-        self.replies.clear();
-        match Leg::open_out_into(
-            self.alloc,
-            &self.rules,
-            number,
-            called,
-            calling,
-            format,
-            now,
-            &mut self.replies,
-        ) {
-            Err(_) => Err((lease, OpenError::Memory)),
+        match self.send_new(lease.name(), called, calling, format, now) {
             Ok(leg) => {
-                let _legal = leg.window().record();
-                let _held = leg.window().held_len();
-                self.outbox.put_all(&self.replies);
                 let name = lease.name();
                 self.seat(pass, lease, leg);
                 Ok(Step {
@@ -198,6 +252,7 @@ impl<J: Naming> PeerState<J> {
                     touched: Some(name),
                 })
             }
+            Err(_) => Err((lease, OpenError::Memory)),
         }
     }
 }

@@ -1,7 +1,8 @@
 //! The steps of a peer in which a leg obeys an order ("Call Setup", "Control Frames", "Mini Frames", "Meta Frames").
-ghost use Rattle.std.specs.Prelude.{◌≡◌, ◌≢◌, ◌+◌, ◌-◌, ◌<◌, ◌≤◌, [], length, map, None, Some, Err, true, IsSome, IsTrue, ◌↔◌, IfOk, IfErr, OnOk, OnErr};
+ghost use Rattle.std.specs.Prelude.{◌≡◌, ◌≢◌, ◌+◌, ◌-◌, ◌<◌, ◌≤◌, [], length, map, None, Some, Err, true, IsSome, IsTrue, ◌↔◌, IsNone, IfSome, IfOk, IfErr, OnOk, OnErr, ℕ};
+ghost use Rattle.call_signals.specs.declared.orders.Order.{Order as OrderValue};
 ghost use Rattle.std.specs.Option.{ForSome};
-ghost use Rattle.leg_machine.specs.OrderTable.{IsShortMedia, is_voice, wants_memory, media_refused, order_refused, order_carried};
+ghost use Rattle.leg_machine.specs.OrderTable.{IsRefusal, IsShortMedia, is_voice, wants_memory, media_refused, order_refused, order_carried};
 ghost use Rattle.peer_accounts.specs.Accounts.{with_step as with_credit};
 ghost use Rattle.leg_machine.specs.Media.{media_sent};
 ghost use Rattle.call_signals.specs.declared.outcomes.Judged.TheVariants.{Unnumbered};
@@ -15,7 +16,7 @@ use crate::state::PeerState;
 use crate::steps::Step;
 use call_book::LegName;
 use iax_frames::{CallNumber, write_mini};
-use leg_machine::{Judged, MediaSent, Order};
+use leg_machine::{Judged, MediaSent, Order, OrderError as LegOrderError};
 use peer_accounts::{Carried, Naming, Pass};
 
 impl<J: Naming> PeerState<J> {
@@ -108,6 +109,26 @@ impl<J: Naming> PeerState<J> {
         })
     }
 
+    // The leg of a name obeys another order, and what it sends goes to the outbox.
+    fn obey(&mut self, name: LegName, order: &Order, now: u64) -> Result<(), LegOrderError>
+        requires there { IsSome (leg_at self.old.legs name.number) }
+        requires media { IsShortMedia order.now }
+        ensures peer { (named : NamedLegValue) → leg_at self.old.legs name.number ≡ Some named
+            → OnOk result (counted self.new ≡ with_order self.old named (order_carried named.leg order.now now)) }
+        ensures accounts { self.new.accounts ≡ self.old.accounts }
+        ensures unrefused { (named : NamedLegValue) → leg_at self.old.legs name.number ≡ Some named → OnOk result (order_refused named.leg order.now now ≡ None) }
+        ensures refused { (named : NamedLegValue) → leg_at self.old.legs name.number ≡ Some named
+            → IfErr result (IsRefusal (order_refused named.leg order.now now)) }
+        ensures memory { result ≡ Err LegOrderError.Memory → (named : NamedLegValue) → leg_at self.old.legs name.number ≡ Some named
+            → wants_memory named.leg order.now now ≡ true }
+        ensures err { OnErr result (self.new ≡ self.old) }
+    {
+        self.replies.clear();
+        self.legs.order(name.number, order, now, &mut self.replies)?;
+        self.outbox.put_all(&self.replies);
+        Ok(())
+    }
+
     // The leg of a name obeys another order.
     fn order_leg(
         &mut self,
@@ -130,14 +151,28 @@ impl<J: Naming> PeerState<J> {
             → wants_memory named.leg order.now now ≡ true }
         ensures err { OnErr result ((self.new ≡ self.old) × (pass.new ≡ pass.old)) }
     {
-        self.replies.clear();
-        self.legs.order(name.number, order, now, &mut self.replies)?;
-        self.outbox.put_all(&self.replies);
-        self.account.count_step(pass);
+        self.obey(name, order, now)?;
+        self.count_step(pass);
         Ok(Step {
             judged: Judged::Unnumbered,
             touched: Some(name),
         })
+    }
+
+    // Why no leg obeys an order under a name.
+    fn ordering_refused(&self, name: LegName) -> Option<OrderError>
+        ensures none { IsNone result → (self.now.accounts.steps ≢ J.first_steps) × IsSome (leg_named self.now.legs name) }
+        ensures at { IsNone result → leg_at self.now.legs name.number ≡ leg_named self.now.legs name }
+        ensures some { IfSome result (λ refusal. (order : OrderValue) (now : ℕ) → order_refused_by self.now J.first_steps name order now ≡ Some refusal) }
+        ensures not_memory { IfSome result (λ refusal. refusal ≢ OrderError.Memory) }
+    {
+        if self.account.is_spent() {
+            return Some(OrderError::StepsSpent);
+        }
+        if self.legs.named(name).is_none() {
+            return Some(OrderError::Gone);
+        }
+        None
     }
 
     /// The leg of a name obeys an order: one step. Media is 1 to 1,380 octets, for which the pass has the credit; the credit comes
@@ -163,22 +198,12 @@ impl<J: Naming> PeerState<J> {
             → wants_memory named.leg order.now now ≡ true }
         ensures err { OnErr result ((self.new ≡ self.old) × (pass.new ≡ pass.old)) }
     {
-        if self.account.is_spent() {
-            return Err(OrderError::StepsSpent);
-        }
-        if self.legs.named(name).is_none() {
-            return Err(OrderError::Gone);
+        if let Some(refusal) = self.ordering_refused(name) {
+            return Err(refusal);
         }
         match order {
-            Order::Accept => self.order_leg(pass, name, order, now),
-            Order::Reject(_) => self.order_leg(pass, name, order, now),
-            Order::Indicate(_) => self.order_leg(pass, name, order, now),
-            Order::Answer => self.order_leg(pass, name, order, now),
-            Order::Dtmf(_) => self.order_leg(pass, name, order, now),
             Order::Media(media) => self.order_media(pass, name, media, now),
-            Order::Hangup => self.order_leg(pass, name, order, now),
-            Order::Doom => self.order_leg(pass, name, order, now),
-            Order::Paid => self.order_leg(pass, name, order, now),
+            _ => self.order_leg(pass, name, order, now),
         }
     }
 }

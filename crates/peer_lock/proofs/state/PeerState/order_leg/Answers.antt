@@ -1,9 +1,0 @@
-use Rattle.std.proofs.Common.{rules}
-use Rattle.peer_lock.proofs.state.PeerState.order_leg.Goals as goal
-
-pub invariant_of-self-2 : goal.invariant_of-self-2
-invariant_of-self-2 g c = record {
-  rules = c.self.invariant.rules;
-  ruled = c.order.ensures.ruled c.self.inside.rules c.self.invariant.ruled;
-  queued = search rules;
-}
