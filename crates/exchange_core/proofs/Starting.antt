@@ -1,13 +1,13 @@
 -- An exchange at its opening is a start of the law's world.
-use Rattle.std.specs.Prelude.{nat_le, ◌-◌, option_map, slice_get}
-use Rattle.std.proofs.Common.{◌≡◌, ℕ, zero, suc, inl, inr, None, nat_cmp, replicate, refl, sym, ap}
+use Rattle.std.specs.Prelude.{nat_le, ◌-◌, option_map, slice_get, List, Result, Ok, Err, IfOk, OnOk}
+use Rattle.std.proofs.Common.{◌≡◌, ℕ, zero, suc, inl, inr, None, nat_cmp, replicate, refl, sym, ap, subst, ◌∙◌}
 use Rattle.std.proofs.lemmas.Bool.{cases_Bool}
 use Rattle.std.specs.FinMap.{get-empty}
 use Rattle.std.specs.List.{AllByRecursion}
-use Rattle.call_book.specs.Book.{IsBook}
+use Rattle.call_book.specs.Book.{Book, IsBook, fresh_book}
 use Rattle.peer_lock.specs.Legs.{filled, leg_at}
 use Rattle.peer_lock.specs.Seen.{seen_named}
-use Rattle.peer_plan.specs.Plan.{PlanView}
+use Rattle.peer_plan.specs.Plan.{PlanView, counts_of}
 use Rattle.call_steps.specs.Law.{IsFresh}
 use Rattle.exchange_core.specs.Start.{first_book, first_legs, idle, IsStart}
 
@@ -26,8 +26,14 @@ no_leg plan peer number = elim (cases_Bool (nat_le (first_legs plan peer).first 
   | inr e ↦ rw e refl
 ]
 
-pub starts : (plan : PlanView) → IsBook (first_book plan) → IsStart plan
+starts : (plan : PlanView) → IsBook (first_book plan) → IsStart plan
 starts plan sound = record {
   opened = record { book = sound; no_name = λ number. get-empty nat_cmp number; no_leg = refl; idle = all_idle plan.passes };
   sees = λ peer number. sym (ap (option_map seen_named) (no_leg plan peer number));
 }
+
+-- with the book that is made of its counts
+pub starts_with : {E : Type 0} (plan : PlanView) (counts : List ℕ) (made : Result Book E) → counts ≡ counts_of plan.peers
+    → IfOk made (λ book. book ≡ fresh_book counts 0) → IfOk made IsBook → OnOk made (IsStart plan)
+starts_with plan counts (Ok book) are fresh sound = starts plan (subst IsBook (fresh ∙ ap (λ c. fresh_book c 0) are) sound)
+starts_with plan counts (Err error) are fresh sound = fresh

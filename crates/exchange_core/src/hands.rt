@@ -1,14 +1,16 @@
 //! What a call was given, and what it has in its hands.
-ghost use Rattle.std.specs.Prelude.{◌≡◌, [], None};
+ghost use Rattle.std.specs.Prelude.{◌≡◌, ◌<◌, [], None, Some, vec_len, vec_capacity};
 ghost use Rattle.call_steps.specs.Beginnings.{beginning_at};
 ghost use Rattle.exchange_core.specs.Denials.{noted};
 ghost use Rattle.exchange_core.specs.Traces.{told};
+ghost use Rattle.peer_lock.specs.Statuses.{IsHistory};
 
 use crate::answers::Retired;
 use crate::denials::Denial;
 use call_auth::Challenge;
 use call_book::{Lease, LegName};
 use call_steps::{Reply, Work};
+use seq_window::Record;
 use std::alloc::Global;
 
 // What a call was given from outside.
@@ -63,6 +65,18 @@ impl Hands {
             retired: Vec::new(alloc),
             denial: None,
         }
+    }
+
+    // Takes over a leg that was taken out, for which there is room, and its lease.
+    pub(crate) fn take_over(&mut self, name: LegName, lease: Lease, history: Record)
+        requires room { vec_len self.old.retired < vec_capacity self.old.retired }
+        requires legal { IsHistory history.entries }
+        ensures lease { self.new.lease ≡ Some lease }
+        ensures denial { self.new.denial ≡ self.old.denial }
+        ensures named { self.new.named ≡ self.old.named }
+    {
+        self.retired.push_reserved(Retired { name, history });
+        self.lease = Some(lease);
     }
 
     // Tells the steps of the call an answer, and notes why the call is refused, where this is the answer to a first step of it.

@@ -1,33 +1,49 @@
 //! Each step that a call can need, made as it is named.
 ghost use Rattle.std.specs.Option.{ForSome};
 ghost use Rattle.std.specs.List.{AllByRecursion};
-ghost use Rattle.std.specs.Prelude.{◌≡◌, ◌≢◌, ◌+◌, ◌<◌, ◌≤◌, length, Option, None, Some, Err, true, false, IfOk, IsSome, OnOk, OnErr};
+ghost use Rattle.std.specs.Prelude.{◌≡◌, ◌≢◌, ◌+◌, ◌<◌, ◌≤◌, length, Option, None, Some, Err, true, false, IfOk, IfErr, IsSome, OnOk, OnErr};
 ghost use Rattle.call_book.specs.declared.leg_name.LegName.{LegName as LegNameValue};
+ghost use Rattle.call_signals.specs.Orders.{kind_of};
+ghost use Rattle.call_steps.specs.Acts.{act_kind, act_media};
 ghost use Rattle.call_steps.specs.Beginnings.{is_answer, is_made};
 ghost use Rattle.call_steps.specs.Leases.{lease_needed, lease_after};
 ghost use Rattle.call_steps.specs.WorkState.{offer_in};
 ghost use Rattle.call_steps.specs.MediaLeft.{media_of, media_needed, handed_by};
 ghost use Rattle.call_steps.specs.declared.needs.Need.TheVariants as needs;
 ghost use Rattle.call_steps.specs.declared.replies.Reply.TheVariants as replies;
-ghost use Rattle.exchange_core.specs.Covered.{IsCovered};
+ghost use Rattle.exchange_core.specs.Covered.{IsCovered, TakesCredit};
 ghost use Rattle.exchange_core.specs.FirstSteps.{InPlan, IsOpened, IsOpenedOut, IsOpeningDue, KeepsPeer, named_after};
 ghost use Rattle.exchange_core.specs.Newcomers.{SpellsOpening};
 ghost use Rattle.exchange_core.specs.Numbers.{IsCalled};
-ghost use Rattle.exchange_core.specs.Traces.{Makes, call_of};
+ghost use Rattle.exchange_core.specs.Traces.{Makes, call_of, octets_of};
 ghost use Rattle.exchange_core.specs.declared.hands.Given.{Given as GivenValue};
+ghost use Rattle.leg_machine.specs.OrderTable.{IsShortMedia};
+ghost use Rattle.noted_steps.specs.Notes.{media_of as order_media};
 ghost use Rattle.peer_lock.specs.Accounts.{with_step};
 ghost use Rattle.peer_lock.specs.CarriedMedia.{LiesWithin, handed_octets};
+ghost use Rattle.peer_lock.specs.Orders.{order_octets};
 ghost use Rattle.peer_accounts.specs.declared.onwards.Offer.{Offer as OfferValue};
 
-use crate::answers::Retired;
 use crate::exchange::Exchange;
 use crate::gates::Gate;
 use crate::hands::{Given, Hands};
 use call_book::{LegName, ReserveError, Stale};
 use call_steps::{Act, Heard, Need, Reply, Work};
+use leg_machine::Order;
 use noted_steps::Pass;
-use peer_lock::{Naming, OpenError, OrderError, Status, StepsSpent};
+use peer_lock::{Naming, OpenError, OrderError, PeerError, Status, StepsSpent};
 use std::sync::Wait;
+
+// The order of an act, with the octets of its media.
+fn order_of<'o>(_name: LegName, act: Act, octets: &'o [u8]) -> Order<'o>
+    requires { AllByRecursion (LiesWithin (length octets.now)) (media_of _name act) }
+    ensures kind { kind_of result ≡ act_kind act }
+    ensures media { order_media result ≡ octets_of (act_media act octets.now) }
+    ensures short { IsShortMedia result }
+    ensures octets { order_octets result ≡ handed_octets (media_of _name act) }
+{
+    act.order(octets)
+}
 
 impl<G: Gate, J: Naming> Exchange<G, J> {
     // The datagram goes to its peer.
@@ -50,15 +66,33 @@ impl<G: Gate, J: Naming> Exchange<G, J> {
         ensures not_out { IsOpenedOut result → ⊥ }
         ensures no_remote { result ≢ replies.OpenOut (Err OpenError.RemoteBusy) }
     {
+        Reply::Datagram(self.heard(rt, pass, peer, given))
+    }
+
+    // The datagram goes to its peer, with room for what it hands up.
+    fn heard<R: Wait>(
+        &self,
+        rt: &R,
+        pass: &mut Pass<J>,
+        peer: u16,
+        given: &Given<'_, '_, '_>,
+    ) -> Result<Heard, PeerError>
+        requires peer { peer < length self.now.peers }
+        ensures noted { (offer : Option OfferValue) → Makes (call_of self.now given.entry.now) offer (needs.Datagram peer) (replies.Datagram result) pass.old pass.new }
+        ensures steps { OnOk result (pass.new.credit.steps ≡ pass.old.credit.steps + 1) }
+        ensures media { IfOk result (λ heard. TakesCredit (length given.entry.now.octets.now) pass.old.credit pass.new.credit heard.onwards.signals) }
+        ensures refused { OnErr result (pass.new.credit ≡ pass.old.credit) }
+        ensures opening { IfErr result (λ error. error ≡ PeerError.NeedsNumber → SpellsOpening given.entry.now.octets.now) }
+    {
         let mut onwards = pass.lend(self.alloc);
         match self.hear(rt, pass, peer, given.octets, given.now, &mut onwards) {
-            Ok(step) => Reply::Datagram(Ok(Heard {
+            Ok(step) => Ok(Heard {
                 touched: step.touched,
                 onwards,
-            })),
+            }),
             Err(error) => {
                 pass.keep(onwards);
-                Reply::Datagram(Err(error))
+                Err(error)
             }
         }
     }
@@ -99,7 +133,7 @@ impl<G: Gate, J: Naming> Exchange<G, J> {
             pass.note_unasked();
             return Err(OrderError::Gone);
         }
-        let order = act.order(given.octets);
+        let order = order_of(name, act, given.octets);
         match self.order(rt, pass, name, &order, given.now) {
             Ok(_) => Ok(()),
             Err(error) => Err(error),
@@ -139,8 +173,7 @@ impl<G: Gate, J: Naming> Exchange<G, J> {
         let Some((lease, history)) = self.retire(rt, pass, name) else {
             return false;
         };
-        hands.retired.push_reserved(Retired { name, history });
-        hands.lease = Some(lease);
+        hands.take_over(name, lease, history);
         true
     }
 

@@ -65,7 +65,6 @@ impl<G: Gate, J: Naming> Exchange<G, J> {
 }
 
 // The book of a plan, with every number free. Its first serial is 0.
-#[tactic(auto, using(crate::proofs::Starting::starts))]
 fn book_of(alloc: Global, plan: &Plan) -> Result<CallBook, AllocError>
     ensures book { IfOk result (λ book. book ≡ first_book plan.now) }
     ensures start { OnOk result (IsStart plan.now) }

@@ -10,7 +10,6 @@ ghost use Rattle.peer_lock.specs.Statuses.{IsHistory};
 
 use crate::exchange::Exchange;
 use crate::gates::Gate;
-use crate::peer_sections::expect_peer;
 use call_book::{Lease, LegName};
 use leg_machine::Order;
 use noted_steps::Pass;
@@ -37,10 +36,7 @@ impl<G: Gate, J: Naming> Exchange<G, J> {
         ensures touched { IfOk result (λ step. step.touched ≡ Some name) }
         ensures refused { OnErr result (pass.new.credit ≡ pass.old.credit) }
     {
-        let mut state = self.peers[usize::from(name.peer)].lock(rt);
-        self.gate.enter(name.peer);
-        expect_peer(rt, &*state, name.peer);
-        state.order(pass, name, order, now)
+        self.locked(rt, name.peer).order(pass, name, order, now)
     }
 
     // Time goes on at a peer.
@@ -56,10 +52,7 @@ impl<G: Gate, J: Naming> Exchange<G, J> {
         ensures credit { OnOk result (pass.new.credit ≡ with_step pass.old.credit 0) }
         ensures refused { OnErr result (pass.new.credit ≡ pass.old.credit) }
     {
-        let mut state = self.peers[usize::from(peer)].lock(rt);
-        self.gate.enter(peer);
-        expect_peer(rt, &*state, peer);
-        state.tick(pass, now)
+        self.locked(rt, peer).tick(pass, now)
     }
 
     // Takes out the leg of a name, where it has ended and owes nothing: its lease and its record. That is no step.
@@ -74,9 +67,6 @@ impl<G: Gate, J: Naming> Exchange<G, J> {
         ensures lease { IfSome result (λ retired. retired.0 ≡ name) }
         ensures legal { IfSome result (λ retired. IsHistory retired.1.entries) }
     {
-        let mut state = self.peers[usize::from(name.peer)].lock(rt);
-        self.gate.enter(name.peer);
-        expect_peer(rt, &*state, name.peer);
-        state.retire(pass, name)
+        self.locked(rt, name.peer).retire(pass, name)
     }
 }

@@ -1,13 +1,16 @@
 //! The calls of workers and callers.
-ghost use Rattle.std.specs.Prelude.{◌≡◌, ◌≢◌, ◌+◌, ◌<◌, ◌≤◌, ◌↔◌, Err, None, IfNone, IfOk, IsSome, IsTrue, OnOk, OnErr, length};
+ghost use Rattle.std.specs.Prelude.{◌≡◌, ◌≢◌, ◌+◌, ◌<◌, ◌≤◌, ◌↔◌, Err, None, IfNone, IfOk, IfErr, IfSome, IsSome, Some, IsTrue, OnOk, OnErr, length};
+ghost use Rattle.call_steps.specs.Beginnings.{OfCall, OfHangUp};
 ghost use Rattle.call_steps.specs.Work as work;
 ghost use Rattle.call_steps.specs.WorkState.{begun};
+ghost use Rattle.exchange_core.specs.Denials.{Denies};
 ghost use Rattle.exchange_core.specs.Numbers.{IsCalled};
 ghost use Rattle.exchange_core.specs.Traces.{IsHeard, MakesAll, moment};
 ghost use Rattle.peer_plan.specs.Plan.{counts_of, range_of};
 ghost use Rattle.peer_lock.specs.Accounts.{with_step};
 
-use crate::answers::{Answer, CallError, Refusal};
+use crate::answers::{Answer, CallError, Refusal, Retired};
+use crate::denials::Denial;
 use crate::exchange::Exchange;
 use crate::gates::Gate;
 use crate::hands::{Given, Hands};
@@ -32,6 +35,48 @@ fn is_called(text: &[u8]) -> bool
     text.iter().all(|octet| octet.is_ascii_graphic())
 }
 
+// The answer of a call that began when the pass had so many steps.
+fn answer_since<J: Naming>(
+    pass: &Pass<J>,
+    first: u64,
+    refused: Option<Refusal>,
+    retired: Vec<Retired>,
+) -> Answer
+    requires { first ≤ pass.now.credit.steps }
+    ensures steps { pass.now.credit.steps ≡ first + result.steps }
+    ensures refused { result.refused ≡ refused }
+{
+    Answer {
+        steps: pass.steps() - first,
+        refused,
+        retired,
+    }
+}
+
+// Whether a call went out.
+fn went_out(denial: Option<Denial>) -> Result<(), CallError>
+    requires { IfSome denial (Denies (Some OfCall)) }
+    ensures went { OnOk result (denial ≡ None) }
+    ensures denied { IfErr result (λ error. IsSome denial × (error ≢ CallError.BadNumber)) }
+{
+    match denial {
+        Some(denial) => Err(denial.of_call()),
+        None => Ok(()),
+    }
+}
+
+// Whether a leg was hung up.
+fn hung_up(denial: Option<Denial>) -> Result<(), OrderError>
+    requires { IfSome denial (Denies (Some OfHangUp)) }
+    ensures hung_up { OnOk result (denial ≡ None) }
+    ensures denied { OnErr result (IsSome denial) }
+{
+    match denial {
+        Some(denial) => Err(denial.of_hang_up()),
+        None => Ok(()),
+    }
+}
+
 impl<G: Gate, J: Naming> Exchange<G, J> {
     /// A datagram comes from an endpoint: the step of its peer, then what follows from it.
     ///
@@ -52,12 +97,11 @@ impl<G: Gate, J: Naming> Exchange<G, J> {
         ensures refused { IsSome result.refused → (result.steps ≡ 0) × (pass.new.credit ≡ pass.old.credit) }
     {
         let first = pass.steps();
-        let mut hands = Hands::empty(self.alloc);
         let Some(peer) = self.plan.peer_of(from) else {
             return Answer {
                 steps: 0,
                 refused: Some(Refusal::Stranger),
-                retired: hands.retired,
+                retired: Vec::new(self.alloc),
             };
         };
         let given = Given {
@@ -67,6 +111,7 @@ impl<G: Gate, J: Naming> Exchange<G, J> {
             now,
         };
         let mut work = Work::of_datagram(peer);
+        let mut hands = Hands::empty(self.alloc);
         self.run(rt, pass, &mut work, &given, &mut hands);
         if let Some(onwards) = work.into_onwards() {
             pass.keep(onwards);
@@ -75,11 +120,7 @@ impl<G: Gate, J: Naming> Exchange<G, J> {
             Some(denial) => Some(denial.of_datagram()),
             None => None,
         };
-        Answer {
-            steps: pass.steps() - first,
-            refused,
-            retired: hands.retired,
-        }
+        answer_since(pass, first, refused, hands.retired)
     }
 
     /// Time goes on at a peer of the plan: its step, then each of its legs that has ended is finished, by ascending number.
@@ -102,11 +143,7 @@ impl<G: Gate, J: Naming> Exchange<G, J> {
             Some(denial) => Some(denial.of_tick()),
             None => None,
         };
-        Answer {
-            steps: pass.steps() - first,
-            refused,
-            retired: hands.retired,
-        }
+        answer_since(pass, first, refused, hands.retired)
     }
 
     /// A call goes out to a peer of the plan, for a number of 1 to 64 octets 0x21 ..= 0x7e: one step. Its format is the lowest of
@@ -141,10 +178,8 @@ impl<G: Gate, J: Naming> Exchange<G, J> {
         let mut work = Work::of_call(peer);
         let mut hands = Hands::empty(self.alloc);
         self.run(rt, pass, &mut work, &given, &mut hands);
-        match hands.denial {
-            Some(denial) => Err(denial.of_call()),
-            None => Ok(hands.named.unwrap()),
-        }
+        went_out(hands.denial)?;
+        Ok(hands.named.unwrap())
     }
 
     /// Hangs up the leg of a name, whose peer is of the plan, and finishes it.
@@ -167,13 +202,7 @@ impl<G: Gate, J: Naming> Exchange<G, J> {
         let mut work = Work::of_hang_up(name);
         let mut hands = Hands::empty(self.alloc);
         self.run(rt, pass, &mut work, &Given::moment(now), &mut hands);
-        if let Some(denial) = hands.denial {
-            return Err(denial.of_hang_up());
-        }
-        Ok(Answer {
-            steps: pass.steps() - first,
-            refused: None,
-            retired: hands.retired,
-        })
+        hung_up(hands.denial)?;
+        Ok(answer_since(pass, first, None, hands.retired))
     }
 }

@@ -1,6 +1,7 @@
 //! The locked sections of peers: each takes one peer's lock, and makes at most one step.
 ghost use Rattle.std.specs.Prelude.{◌≡◌, ◌≢◌, ℕ, ◌+◌, ◌<◌, ◌≤◌, Some, length, option_copied, IfOk, IfErr, OnOk, OnErr};
 ghost use Rattle.std.specs.Option.{ForSome};
+ghost use Rattle.std.specs.Sync.Mutex.{mutex_guard_value};
 ghost use Rattle.exchange_core.specs.Covered.{TakesCredit};
 ghost use Rattle.exchange_core.specs.Newcomers.{SpellsOpening};
 ghost use Rattle.noted_steps.specs.Notes.{Notes, note, without_lease};
@@ -18,10 +19,10 @@ use leg_machine::Format;
 use noted_steps::{NotedPeer, Pass};
 use peer_lock::laws::media_is_the_datagrams;
 use peer_lock::{Naming, Onwards, OpenError, PeerError, Status, Step};
-use std::sync::Wait;
+use std::sync::{MutexGuard, Wait};
 
 // The peer that lies under a lock is that of the lock. A call that found another would never return.
-pub(crate) fn expect_peer<R: Wait, J: Naming>(rt: &R, state: &NotedPeer<J>, peer: u16)
+fn expect_peer<R: Wait, J: Naming>(rt: &R, state: &NotedPeer<J>, peer: u16)
     ensures { state.now.number ≡ peer }
 {
     if state.number() != peer {
@@ -31,6 +32,17 @@ pub(crate) fn expect_peer<R: Wait, J: Naming>(rt: &R, state: &NotedPeer<J>, peer
 }
 
 impl<G: Gate, J: Naming> Exchange<G, J> {
+    // The peer at this place of the plan, under its lock.
+    pub(crate) fn locked<R: Wait>(&self, rt: &R, peer: u16) -> MutexGuard<'_, NotedPeer<J>>
+        requires { peer < length self.now.peers }
+        ensures { (mutex_guard_value result).number ≡ peer }
+    {
+        let state = self.peers[usize::from(peer)].lock(rt);
+        self.gate.enter(peer);
+        expect_peer(rt, &*state, peer);
+        state
+    }
+
     /// The oldest datagram for a peer of the plan: a frame that was written for it.
     pub fn take_out<R: Wait>(&self, rt: &R, _pass: &mut Pass<J>, peer: u16) -> Option<Out>
         requires { peer < length self.now.peers }
@@ -68,10 +80,7 @@ impl<G: Gate, J: Naming> Exchange<G, J> {
         requires { peer < length self.now.peers }
         ensures { pass.new ≡ note (mades.Look peer number result) pass.old }
     {
-        let state = self.peers[usize::from(peer)].lock(rt);
-        self.gate.enter(peer);
-        expect_peer(rt, &*state, peer);
-        state.look(pass, number)
+        self.locked(rt, peer).look(pass, number)
     }
 
     // A datagram comes from a peer. What is handed up is written to the list, which is empty.
@@ -95,10 +104,7 @@ impl<G: Gate, J: Naming> Exchange<G, J> {
         ensures needs { IfErr result (λ error. error ≡ PeerError.NeedsNumber → SpellsOpening octets.now) }
     {
         media_is_the_datagrams();
-        let mut state = self.peers[usize::from(from)].lock(rt);
-        self.gate.enter(from);
-        expect_peer(rt, &*state, from);
-        state.datagram(pass, octets, now, onwards)
+        self.locked(rt, from).datagram(pass, octets, now, onwards)
     }
 
     // A NEW that came from a peer opens a leg, under the lease. What is handed up is written to the list, which is empty.
@@ -124,10 +130,8 @@ impl<G: Gate, J: Naming> Exchange<G, J> {
         ensures refused { OnErr result ((pass.new.credit ≡ pass.old.credit) × IsNothing onwards.new) }
     {
         let peer = lease.name().peer;
-        let mut state = self.peers[usize::from(peer)].lock(rt);
-        self.gate.enter(peer);
-        expect_peer(rt, &*state, peer);
-        state.open_in(pass, lease, frame, now, challenge, onwards)
+        self.locked(rt, peer)
+            .open_in(pass, lease, frame, now, challenge, onwards)
     }
 
     // A call goes out to a peer under the lease, for a number of at most 255 octets.
@@ -152,9 +156,7 @@ impl<G: Gate, J: Naming> Exchange<G, J> {
         ensures refused { OnErr result (pass.new.credit ≡ pass.old.credit) }
     {
         let peer = lease.name().peer;
-        let mut state = self.peers[usize::from(peer)].lock(rt);
-        self.gate.enter(peer);
-        expect_peer(rt, &*state, peer);
-        state.open_out(pass, lease, called, calling, format, now)
+        self.locked(rt, peer)
+            .open_out(pass, lease, called, calling, format, now)
     }
 }

@@ -1,5 +1,5 @@
 //! The accounts of all peers, once every pass is back.
-ghost use Rattle.std.specs.Prelude.{◌≡◌, ◌≢◌, ◌+◌, ◌<◌, ◌≤◌, ◌^◌, IfOk, IfErr, OnOk, length, vec_len};
+ghost use Rattle.std.specs.Prelude.{◌≡◌, ◌≢◌, ◌+◌, ◌<◌, ◌≤◌, ◌^◌, [], IfOk, IfErr, OnOk, length, vec_len, vec_capacity};
 ghost use Rattle.exchange_core.specs.Sums.{accepted_of, packed_of, queued_of, dropped_of, quelched_of, steps_of, left_with, steps_under, begun_with, noted_under};
 
 use crate::exchange::Exchange;
@@ -138,12 +138,37 @@ impl<G: Gate, J: Naming> Exchange<G, J> {
     {
         let pass_count = usize::from(self.plan.passes());
         let shares = self.peers.len() + pass_count;
-        let Ok(parts) = Parts::<J>::with_room(self.alloc, self.peers.len(), shares) else {
-            return Err((self, passes, SettleError::Memory));
+        let refused = match Parts::<J>::with_room(self.alloc, self.peers.len(), shares) {
+            Ok(parts) => {
+                if passes.len() == pass_count {
+                    return Ok(self.settle_into(parts, passes));
+                }
+                SettleError::Missing
+            }
+            Err(_) => SettleError::Memory,
         };
-        if passes.len() != pass_count {
-            return Err((self, passes, SettleError::Missing));
-        }
+        Err((self, passes, refused))
+    }
+
+    // Parts all peers and all passes from their shares, for which there is room, and gathers these.
+    fn settle_into(self, parts: Parts<J>, passes: Vec<Pass<J>>) -> Settlement<J>
+        requires all { vec_len passes ≡ self.passes }
+        requires empty { (parts.peers.items ≡ []) × (parts.octets.items ≡ []) × (parts.steps.items ≡ []) }
+        requires peers { length self.peers ≤ vec_capacity parts.peers }
+        requires octets { length self.peers + self.passes ≤ vec_capacity parts.octets }
+        requires steps { length self.peers + self.passes ≤ vec_capacity parts.steps }
+        ensures peers { vec_len result.peers ≡ length self.peers }
+        ensures accepted { result.accepted ≡ accepted_of result.peers.items }
+        ensures packed { result.packed ≡ packed_of result.peers.items }
+        ensures queued { result.queued ≡ queued_of result.peers.items }
+        ensures dropped { result.dropped ≡ dropped_of result.peers.items + left_with passes.items }
+        ensures quelched { result.quelched ≡ quelched_of result.peers.items }
+        ensures part { result.quelched ≤ result.dropped }
+        ensures steps { result.steps ≡ steps_of result.peers.items }
+        ensures balances { result.accepted ≡ result.packed + result.queued + result.dropped }
+        ensures made { result.steps ≡ steps_under passes.items }
+        ensures noted { result.steps ≡ begun_with passes.items + noted_under passes.items }
+    {
         let Exchange {
             alloc: _,
             gate: _,
@@ -163,6 +188,6 @@ impl<G: Gate, J: Naming> Exchange<G, J> {
         let (Ok(_), Ok(_)) = (gather(&octet_supply, octets), gather(&step_supply, steps)) else {
             unreachable!()
         };
-        Ok(settled(book.into_inner().into_book(), peers))
+        settled(book.into_inner().into_book(), peers)
     }
 }

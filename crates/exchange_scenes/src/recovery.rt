@@ -194,12 +194,25 @@ fn still_open<G: Gate, J: Naming>(
     let mut passes = passes;
     let pass = passes.pop()?;
     let others = passes.len();
-    let (exchange, mut passes) = refused_for_a_pass(exchange, passes)?;
-    if passes.len() != others {
-        return None;
+    match refused_for_a_pass(exchange, passes) {
+        Some((exchange, passes)) => with_pass(exchange, passes, pass, others),
+        None => None,
     }
-    passes.push(pass).ok()?;
-    Some((exchange, passes))
+}
+
+// So many passes, and one more. `None` where there are others.
+fn with_pass<G: Gate, J: Naming>(
+    exchange: Exchange<G, J>,
+    passes: Vec<Pass<J>>,
+    pass: Pass<J>,
+    others: usize,
+) -> Option<(Exchange<G, J>, Vec<Pass<J>>)> {
+    let mut passes = passes;
+    if passes.len() == others && passes.push(pass).is_ok() {
+        Some((exchange, passes))
+    } else {
+        None
+    }
 }
 
 /// The accounts are closed. `None` where a pass is missing, or they don't balance.
