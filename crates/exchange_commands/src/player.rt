@@ -151,22 +151,29 @@ impl Player {
             Line::Settle => Ok(()),
             Line::At(moment) => self.at(*moment),
             Line::Challenge(text) => self.challenge(text),
-            Line::Rx(peer, digits) => {
-                self.rx(rt, alloc, exchange, pass, peer, digits, writer)?;
+            _ => {
+                self.event(rt, alloc, exchange, pass, line, writer)?;
                 self.finish(rt, exchange, pass, writer)
             }
-            Line::Call(peer, number) => {
-                self.call(rt, exchange, pass, peer, number, writer)?;
-                self.finish(rt, exchange, pass, writer)
-            }
-            Line::HangUp(number) => {
-                self.hang_up(rt, exchange, pass, *number, writer)?;
-                self.finish(rt, exchange, pass, writer)
-            }
-            Line::Tick => {
-                self.tick(rt, exchange, pass, writer)?;
-                self.finish(rt, exchange, pass, writer)
-            }
+        }
+    }
+
+    // What happens at the exchange by a line.
+    fn event<J: Naming, R: Wait, W: Write>(
+        &mut self,
+        rt: &R,
+        alloc: Global,
+        exchange: &Exchange<NoGate, J>,
+        pass: &mut Pass<J>,
+        line: &Line<'_>,
+        writer: &mut W,
+    ) -> Result<(), Stop> {
+        match line {
+            Line::Rx(peer, digits) => self.rx(rt, alloc, exchange, pass, peer, digits, writer),
+            Line::Call(peer, number) => self.call(rt, exchange, pass, peer, number, writer),
+            Line::HangUp(number) => self.hang_up(rt, exchange, pass, *number, writer),
+            Line::Tick => self.tick(rt, exchange, pass, writer),
+            _ => Ok(()),
         }
     }
 

@@ -5,8 +5,14 @@ ghost use Rattle.std.specs.Prelude.{◌<◌, IfSome};
 
 use exchange_commands::{check, replay, serve};
 use script_lines::decimal;
+use std::alloc::Global;
+use std::net::Net;
 use std::process::ExitCode;
+use std::random::RandomSource;
 use std::rt::Files;
+use std::sync::Wait;
+use std::thread::Threads;
+use std::time::Clock;
 use std::{env, fs, io};
 
 const USAGE: &str =
@@ -54,47 +60,96 @@ fn turns_of(word: &str) -> Option<u32>
     u32::try_from(turns).ok()
 }
 
+fn check_file<R: Files + Print + Alloc>(rt: &R, alloc: Global, plan: &str) -> u8 {
+    match octets_of(rt, plan) {
+        Some(plan) => check(alloc, &plan, &mut io::writer(rt)),
+        None => 1,
+    }
+}
+
+fn replay_files<R: Files + Print + Alloc + Wait>(
+    rt: &R,
+    alloc: Global,
+    plan: &str,
+    script: &str,
+) -> u8 {
+    match octets_of(rt, plan) {
+        Some(plan) => replay_file(rt, alloc, &plan, script),
+        None => 1,
+    }
+}
+
+fn replay_file<R: Files + Print + Alloc + Wait>(
+    rt: &R,
+    alloc: Global,
+    plan: &[u8],
+    script: &str,
+) -> u8 {
+    match octets_of(rt, script) {
+        Some(script) => replay(rt, alloc, plan, &script, &mut io::writer(rt)),
+        None => 1,
+    }
+}
+
+fn serve_file<R: Files + Print + Alloc + Clock + Net + RandomSource + Threads + Wait + Sync>(
+    rt: &R,
+    alloc: Global,
+    plan: &str,
+    turns: u32,
+) -> u8 {
+    match octets_of(rt, plan) {
+        Some(plan) => serve(rt, alloc, &plan, turns, &mut io::writer(rt)),
+        None => 1,
+    }
+}
+
+fn refuse_usage<R: Eprint>(rt: &R) -> u8 {
+    let _ = eprintln!(rt; "{USAGE}");
+    2
+}
+
+// One command, by the program's arguments.
+fn run<R: Files + Print + Eprint + Alloc + Clock + Net + RandomSource + Threads + Wait + Sync>(
+    rt: &R,
+    alloc: Global,
+    words: &[String],
+) -> u8 {
+    match words {
+        [_, command, plan] if command.as_str() == "check" => check_file(rt, alloc, plan.as_str()),
+        [_, command, plan, script] if command.as_str() == "replay" => {
+            replay_files(rt, alloc, plan.as_str(), script.as_str())
+        }
+        [_, command, plan, turns] if command.as_str() == "serve" => {
+            match turns_of(turns.as_str()) {
+                Some(turns) => serve_file(rt, alloc, plan.as_str(), turns),
+                None => refuse_usage(rt),
+            }
+        }
+        _ => refuse_usage(rt),
+    }
+}
+
+// The program's arguments, if there is memory for them.
+fn words_of(alloc: Global, arguments: env::Args) -> Option<Vec<String>> {
+    let mut words = Vec::new(alloc);
+    for argument in arguments {
+        if words.push(argument).is_err() {
+            return None;
+        }
+    }
+    Some(words)
+}
+
 fn main(rt: HostRuntime) -> ExitCode {
     let arguments = match env::args(&rt) {
         Ok(arguments) => arguments,
         Err(error) => return ExitCode::from(refuse_arguments(&rt, &error)),
     };
-    let mut words = Vec::new(rt.alloc());
-    for argument in arguments {
-        if words.push(argument).is_err() {
+    let status = match words_of(rt.alloc(), arguments) {
+        Some(words) => run(&rt, rt.alloc(), words.as_slice()),
+        None => {
             let _ = println!(rt; "refused Memory");
-            return ExitCode::from(1);
-        }
-    }
-    let status = match words.as_slice() {
-        [_, command, plan] if command.as_str() == "check" => {
-            let Some(plan) = octets_of(&rt, plan.as_str()) else {
-                return ExitCode::from(1);
-            };
-            check(rt.alloc(), &plan, &mut io::writer(&rt))
-        }
-        [_, command, plan, script] if command.as_str() == "replay" => {
-            let Some(plan) = octets_of(&rt, plan.as_str()) else {
-                return ExitCode::from(1);
-            };
-            let Some(script) = octets_of(&rt, script.as_str()) else {
-                return ExitCode::from(1);
-            };
-            replay(&rt, rt.alloc(), &plan, &script, &mut io::writer(&rt))
-        }
-        [_, command, plan, turns] if command.as_str() == "serve" => {
-            let Some(turns) = turns_of(turns.as_str()) else {
-                let _ = eprintln!(rt; "{USAGE}");
-                return ExitCode::from(2);
-            };
-            let Some(plan) = octets_of(&rt, plan.as_str()) else {
-                return ExitCode::from(1);
-            };
-            serve(&rt, rt.alloc(), &plan, turns, &mut io::writer(&rt))
-        }
-        _ => {
-            let _ = eprintln!(rt; "{USAGE}");
-            2
+            1
         }
     };
     ExitCode::from(status)

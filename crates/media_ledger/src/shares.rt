@@ -114,10 +114,22 @@ pub fn gather<L: Ledger>(
     ensures supplied { IfOk result (λ n. n ≡ supply.now.amount) }
     ensures returned { IfErr result (λ refused. refused.0.items ≡ shares.items) }
 {
-    let mut shares = shares;
     if (shares.len() as u64) < supply.shares {
         return Err((shares, Missing));
     }
+    Ok(merged(supply, shares))
+}
+
+// The sum of all shares of a supply.
+fn merged<L: Ledger>(supply: &Supply<L>, shares: Vec<Share<L>>) -> u64
+    requires { supply.now.shares ≤ vec_len shares }
+    ensures all { vec_len shares ≡ supply.now.shares }
+    ensures sum { result ≡ sum shares.items }
+    ensures supplied { result ≡ supply.now.amount }
+{
+    // (what holds of the supply)
+    let _shares = supply.shares;
+    let mut shares = shares;
     let Some(last) = shares.pop() else {
         unreachable!()
     };
@@ -137,5 +149,5 @@ pub fn gather<L: Ledger>(
         amount += more;
     }
     supply.audit(&mut all);
-    Ok(amount)
+    amount
 }

@@ -1,6 +1,7 @@
 //! A wire over a UDP socket of the system.
-ghost use Rattle.std.specs.Prelude.{◌≡◌, ◌≤◌, length, IfOk, IfSome};
+ghost use Rattle.std.specs.Prelude.{◌≡◌, ◌≢◌, ◌≤◌, length, Contains, IfOk, IfSome};
 ghost use Rattle.peer_plan.specs.declared.endpoint.Endpoint.{Endpoint};
+ghost use Rattle.udp_workers.specs.Counts.{RisesBy};
 ghost use Rattle.udp_workers.specs.declared.mio_wire.BindError.TheVariants as errors;
 
 use crate::peer_counts::PeerCounts;
@@ -132,6 +133,19 @@ impl MioWire {
             failures: 0,
         })
     }
+
+    // A datagram is given to it, for this endpoint.
+    fn count(&mut self, to: Endpoint)
+        requires { Contains (peers_of self.old) to }
+        ensures given { RisesBy (given_of self.old) (given_of self.new) 1 }
+        ensures to { RisesBy (given_to_of self.old to) (given_to_of self.new to) 1 }
+        ensures others { (other : Endpoint) → other ≢ to → given_to_of self.new other ≡ given_to_of self.old other }
+        ensures failures { failures_of self.new ≡ failures_of self.old }
+        ensures peers { peers_of self.new ≡ peers_of self.old }
+    {
+        self.given = self.given.wrapping_add(1);
+        self.peers.count(to);
+    }
 }
 
 impl Wire for MioWire {
@@ -155,8 +169,7 @@ impl Wire for MioWire {
     }
 
     fn send(&mut self, to: Endpoint, octets: &[u8]) -> Result<bool, WireFault> {
-        self.given = self.given.wrapping_add(1);
-        self.peers.count(to);
+        self.count(to);
         let sent = sent(&self.socket, to, octets);
         if sent.is_err() {
             self.failures = self.failures.wrapping_add(1);

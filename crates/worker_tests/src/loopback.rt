@@ -96,6 +96,16 @@ fn call_worker<J: Naming, R: Net + Wait>(
     Some((rejected, wire.given_to(WEST), wire.given_to(EAST)))
 }
 
+// The same, under the first pass.
+fn call_first<J: Naming, R: Net + Wait>(
+    rt: &R,
+    alloc: Global,
+    exchange: &Exchange<NoGate, J>,
+    passes: &mut [Pass<J>],
+) -> Option<(bool, u64, u64)> {
+    call_worker(rt, alloc, exchange, passes.first_mut()?)
+}
+
 // The same, on an exchange of two ledgers.
 fn call_200<J: Naming, R: Net + Wait>(
     rt: &R,
@@ -108,9 +118,10 @@ fn call_200<J: Naming, R: Net + Wait>(
     requires steps { (steps.name ≡ J.Steps.name) × (steps.parts ≡ J.Steps.parts) × (steps.parts ≡ length plan.peers + plan.passes) }
     requires first { (J.first_octets ≡ 2 ^ 48) × (J.first_steps ≡ 2 ^ 48) }
 {
-    let opened = Exchange::<NoGate, J>::open(alloc, plan, NoGate, octets, steps);
-    let (exchange, mut passes) = opened.ok()?;
-    call_worker(rt, alloc, &exchange, passes.first_mut()?)
+    match Exchange::<NoGate, J>::open(alloc, plan, NoGate, octets, steps) {
+        Ok((exchange, mut passes)) => call_first(rt, alloc, &exchange, passes.as_mut_slice()),
+        Err(_) => None,
+    }
 }
 
 // The same, by the ledgers that the caller names.
