@@ -1,7 +1,9 @@
 //! What is noted of a step.
+ghost use Rattle.std.specs.Prelude.{◌≡◌, [], ◌∷◌, ◌++◌};
+ghost use Rattle.noted_steps.specs.Notes.{without_lease};
 
 use call_auth::Challenge;
-use call_book::{BridgeError, LegName, ReserveError, Stale};
+use call_book::{BridgeError, Lease, LegName, ReserveError, Stale};
 use iax_frames::FullHead;
 use leg_machine::{Format, OrderKind};
 use peer_lock::{Onwards, OpenError, OrderError, PeerError, Status, Step, StepsSpent, TickReport};
@@ -48,4 +50,21 @@ pub enum Made {
     Release(LegName, Result<Option<LegName>, Stale>),
     /// No locked state was asked.
     Unasked,
+}
+
+// An answer without the lease that came back.
+pub(crate) fn told<T: Copy, E: Copy>(answer: &Result<T, (Lease, E)>) -> Result<T, E>
+    ensures { result ≡ without_lease answer.now }
+{
+    match answer {
+        Ok(made) => Ok(*made),
+        Err((_, error)) => Err(*error),
+    }
+}
+
+// Notes a step behind those before it.
+pub(crate) fn note(trail: &mut Trail<Made>, made: Made)
+    ensures { trail.new ≡ trail.old ++ made ∷ [] }
+{
+    trail.add(&made);
 }

@@ -5,7 +5,7 @@ ghost use Rattle.call_book.specs.Book.{IsBook, IsNumberOf, after_reserve, bridge
 ghost use Rattle.noted_steps.specs.Notes.{note, without_lease};
 ghost use Rattle.noted_steps.specs.declared.made.Made.TheVariants as mades;
 
-use crate::made::Made;
+use crate::made::{Made, note, told};
 use crate::pass::Pass;
 use call_book::{BridgeError, CallBook, Lease, LegName, ReserveError, Stale};
 use peer_lock::Naming;
@@ -25,6 +25,16 @@ impl Model for NotedBook {
     ghost coded = { book_code };
 
     ghost view = { λ b. b.book };
+}
+
+// The name that was given, if one was.
+fn named(answer: &Result<Lease, ReserveError>) -> Result<LegName, ReserveError>
+    ensures { result ≡ answer.now }
+{
+    match answer {
+        Ok(lease) => Ok(lease.name()),
+        Err(error) => Err(*error),
+    }
 }
 
 impl NotedBook {
@@ -52,11 +62,7 @@ impl NotedBook {
         ensures sound { IsBook self.new }
     {
         let answer = self.book.reserve(peer);
-        let named = match &answer {
-            Ok(lease) => Ok(lease.name()),
-            Err(error) => Err(*error),
-        };
-        pass.made.add(&Made::Reserve(peer, named));
+        note(&mut pass.made, Made::Reserve(peer, named(&answer)));
         answer
     }
 
@@ -69,7 +75,7 @@ impl NotedBook {
         ensures sound { IsBook self.now }
     {
         let answer = self.book.partner(name);
-        pass.made.add(&Made::Partner(name, answer));
+        note(&mut pass.made, Made::Partner(name, answer));
         answer
     }
 
@@ -91,7 +97,7 @@ impl NotedBook {
         ensures sound { OnOk result (IsBook self.new) }
     {
         let answer = self.book.bridge(a, b);
-        pass.made.add(&Made::Bridge(a, b, answer));
+        note(&mut pass.made, Made::Bridge(a, b, answer));
         answer
     }
 
@@ -117,11 +123,7 @@ impl NotedBook {
     {
         let name = lease.name();
         let answer = self.book.release(lease);
-        let told = match &answer {
-            Ok(former) => Ok(*former),
-            Err((_, stale)) => Err(*stale),
-        };
-        pass.made.add(&Made::Release(name, told));
+        note(&mut pass.made, Made::Release(name, told(&answer)));
         answer
     }
 

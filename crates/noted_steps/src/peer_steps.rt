@@ -22,7 +22,7 @@ ghost use Rattle.seq_window.specs.History.{IsLegal};
 ghost use Rattle.noted_steps.specs.Notes.{Notes, media_of, note, without_lease};
 ghost use Rattle.noted_steps.specs.declared.made.Made.TheVariants as mades;
 
-use crate::made::{Made, Octets};
+use crate::made::{Made, Octets, note, told};
 use crate::noted_peer::NotedPeer;
 use crate::pass::Pass;
 use call_auth::Challenge;
@@ -55,16 +55,6 @@ fn text_in(text: Option<&[u8]>) -> Option<Octets>
     }
 }
 
-// An answer without the lease that came back.
-fn told(answer: &Result<Step, (Lease, OpenError)>) -> Result<Step, OpenError>
-    ensures { result ≡ without_lease answer.now }
-{
-    match answer {
-        Ok(step) => Ok(*step),
-        Err((_, error)) => Err(*error),
-    }
-}
-
 impl<J: Naming> NotedPeer<J> {
     /// A datagram comes from the peer, at most 2,048 octets: one step, at the leg that it concerns, if any. What is handed up is
     /// written to the list, which is empty.
@@ -92,7 +82,8 @@ impl<J: Naming> NotedPeer<J> {
     {
         let answer = self.state.datagram(&mut pass.credits, octets, now, onwards);
         let handed = Seen::of(&*onwards);
-        pass.made.add(&Made::Datagram(self.number, Octets::of(octets), now, answer, handed));
+        let made = Made::Datagram(self.number, Octets::of(octets), now, answer, handed);
+        note(&mut pass.made, made);
         answer
     }
 
@@ -129,7 +120,7 @@ impl<J: Naming> NotedPeer<J> {
             .state
             .open_in(&mut pass.credits, lease, frame, now, challenge, onwards);
         let handed = Seen::of(&*onwards);
-        pass.made.add(&Made::OpenIn(
+        let made = Made::OpenIn(
             self.number,
             name,
             frame.head(),
@@ -138,7 +129,8 @@ impl<J: Naming> NotedPeer<J> {
             Seen::of(challenge),
             told(&answer),
             handed,
-        ));
+        );
+        note(&mut pass.made, made);
         answer
     }
 
@@ -172,7 +164,7 @@ impl<J: Naming> NotedPeer<J> {
         let answer = self
             .state
             .open_out(&mut pass.credits, lease, called, calling, format, now);
-        pass.made.add(&Made::OpenOut(
+        let made = Made::OpenOut(
             self.number,
             name,
             Octets::of(called),
@@ -180,7 +172,8 @@ impl<J: Naming> NotedPeer<J> {
             format,
             now,
             told(&answer),
-        ));
+        );
+        note(&mut pass.made, made);
         answer
     }
 
@@ -211,14 +204,15 @@ impl<J: Naming> NotedPeer<J> {
         ensures err { OnErr result ((self.new.state ≡ self.old.state) × (pass.new.credit ≡ pass.old.credit)) }
     {
         let answer = self.state.order(&mut pass.credits, name, order, now);
-        pass.made.add(&Made::Order(
+        let made = Made::Order(
             self.number,
             name,
             order.kind(),
             media_in(order),
             now,
             answer,
-        ));
+        );
+        note(&mut pass.made, made);
         answer
     }
 
@@ -235,7 +229,7 @@ impl<J: Naming> NotedPeer<J> {
         ensures err { OnErr result ((self.new.state ≡ self.old.state) × (pass.new.credit ≡ pass.old.credit)) }
     {
         let answer = self.state.tick(&mut pass.credits, now);
-        pass.made.add(&Made::Tick(self.number, now, answer));
+        note(&mut pass.made, Made::Tick(self.number, now, answer));
         answer
     }
 
@@ -246,7 +240,7 @@ impl<J: Naming> NotedPeer<J> {
         ensures noted { pass.new ≡ note (mades.Look self.now.number number result) pass.old }
     {
         let answer = self.state.look(number);
-        pass.made.add(&Made::Look(self.number, number, answer));
+        note(&mut pass.made, Made::Look(self.number, number, answer));
         answer
     }
 
@@ -266,8 +260,8 @@ impl<J: Naming> NotedPeer<J> {
         ensures same { IfNone result (self.new.state ≡ self.old.state) }
     {
         let answer = self.state.retire(name);
-        pass.made
-            .add(&Made::Retire(self.number, name, answer.is_some()));
+        let made = Made::Retire(self.number, name, answer.is_some());
+        note(&mut pass.made, made);
         answer
     }
 }

@@ -1,4 +1,4 @@
-use Rattle.std.proofs.Common.{sym}
+use Rattle.std.proofs.Common.{ap, sym}
 use Rattle.noted_steps.proofs.noted_peer.NotedPeer.datagram.Goals as goal
 
 pub returns-clause-made : goal.returns-clause-made
@@ -18,3 +18,6 @@ returns-clause-refused g c = rw (sym c.self.view_is) c.datagram-answer.ensures.r
 
 pub returns-clause-err : goal.returns-clause-err
 returns-clause-err g c = rw (sym c.self.view_is, sym c.pass.view_is) c.datagram-answer.ensures.err
+
+pub returns-clause-noted : goal.returns-clause-noted
+returns-clause-noted g c = record { made = rw (sym c.self.view_is, sym c.pass.view_is, sym c.of.ensures, sym c.of-handed.ensures) c.note.ensures; begun = ap (λ pass. pass.begun) c.pass.view_is }

@@ -1,4 +1,4 @@
-use Rattle.std.proofs.Common.{sym}
+use Rattle.std.proofs.Common.{ap, sym}
 use Rattle.noted_steps.proofs.noted_peer.NotedPeer.tick.Goals as goal
 
 pub returns-clause-spent : goal.returns-clause-spent
@@ -15,3 +15,6 @@ returns-clause-credit g c = rw (sym c.pass.view_is) c.tick-answer.ensures.credit
 
 pub returns-clause-err : goal.returns-clause-err
 returns-clause-err g c = rw (sym c.self.view_is, sym c.pass.view_is) c.tick-answer.ensures.err
+
+pub returns-clause-noted : goal.returns-clause-noted
+returns-clause-noted g c = record { made = rw (sym c.self.view_is, sym c.pass.view_is) c.note.ensures; begun = ap (λ pass. pass.begun) c.pass.view_is }
