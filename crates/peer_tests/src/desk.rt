@@ -1,5 +1,5 @@
 //! A peer under test: datagrams come, legs are opened, time goes on, and the outbox is emptied.
-ghost use Rattle.std.specs.Prelude.{◌≡◌, [], ◌∷◌, IfSome, IsTrue};
+ghost use Rattle.std.specs.Prelude.{◌≡◌, IfSome, IsTrue};
 ghost use Rattle.peer_lock.specs.Openings.{IsOpening};
 ghost use Rattle.peer_lock.specs.Unworked.{IsCutFrame};
 
@@ -84,26 +84,15 @@ pub fn plan_of(alloc: Global, west: &str) -> Result<Plan, PlanError> {
     Plan::read(alloc, text.as_bytes())
 }
 
-// The shares of a supply, of which the first has all.
-fn shares_of<L: Ledger>(alloc: Global, blank: Blank, all: u64) -> Option<Vec<Share<L>>>
-    requires blank { (blank.name ≡ L.name) × (blank.parts ≡ L.parts) × (blank.parts ≡ 2) }
-    ensures { IfSome result (λ shares. shares.items ≡ all ∷ 0 ∷ []) }
-{
-    match supply::<L>(alloc, blank, &[all, 0]) {
-        Ok((_, shares)) => Some(shares),
-        Err(_) => None,
-    }
-}
-
 // The two shares of a supply, of which the first has all.
-fn two_shares_of<L: Ledger>(alloc: Global, blank: Blank, all: u64) -> Option<(Share<L>, Share<L>)>
+fn shares_of<L: Ledger>(alloc: Global, blank: Blank, all: u64) -> Option<(Share<L>, Share<L>)>
     requires blank { (blank.name ≡ L.name) × (blank.parts ≡ L.parts) × (blank.parts ≡ 2) }
     ensures { IfSome result (λ shares. shares.0 ≡ all) }
 {
-    let mut shares = shares_of(alloc, blank, all)?;
-    let rest = shares.pop();
-    let first = shares.pop();
-    first.zip(rest)
+    let (_, mut shares) = supply::<L>(alloc, blank, &[all, 0]).ok()?;
+    let rest = shares.pop()?;
+    let first = shares.pop()?;
+    Some((first, rest))
 }
 
 // The peer at a place of the plan, without a leg. Memory is asked for once more, where it is refused.
@@ -161,19 +150,17 @@ pub fn opened<
     requires octets { (octets.name ≡ O.name) × (octets.parts ≡ O.parts) × (octets.parts ≡ 2) }
     requires steps { (steps.name ≡ S.name) × (steps.parts ≡ S.parts) × (steps.parts ≡ 2) }
 {
-    let book = book_of(alloc)?;
-    let (octets, no_octets) = two_shares_of::<O>(alloc, octets, OCTETS)?;
-    let (steps, no_steps) = two_shares_of::<S>(alloc, steps, STEPS)?;
-    match state_of(alloc, plan, peer, octets, steps) {
-        Some(state) => Some(Desk {
-            alloc,
-            book,
-            state,
-            pass: Pass::new(no_octets, no_steps),
-            onwards: Onwards::new(alloc),
-        }),
-        None => None,
-    }
+    let (octets, no_octets) = shares_of::<O>(alloc, octets, OCTETS)?;
+    let (steps, no_steps) = shares_of::<S>(alloc, steps, STEPS)?;
+    let pass = Pass::new(no_octets, no_steps);
+    let state = state_of(alloc, plan, peer, octets, steps)?;
+    Some(Desk {
+        alloc,
+        book: book_of(alloc)?,
+        state,
+        pass,
+        onwards: Onwards::new(alloc),
+    })
 }
 
 /// The same, where there must be memory.

@@ -74,12 +74,8 @@ fn is_refused<J: Naming>(
     lease: Lease,
     error: OpenError,
 ) {
-    let name = lease.name();
-    let Some(Err((back, refusal))) = desk.opens(text, lease, b"0") else {
-        return holds(rt, "a refusal", false);
-    };
-    same(rt, &back, &name);
-    same(rt, &refusal, &error);
+    let expected = (lease.name(), error);
+    same(rt, &desk.opens(text, lease, b"0"), &Some(Err(expected)));
 }
 
 // A remote number serves one leg, and so does a local one.
