@@ -46,6 +46,45 @@ fn words(line: &[u8]) -> [Option<&[u8]>; 4] {
     [parts.next(), parts.next(), parts.next(), parts.next()]
 }
 
+// What a line of one word says.
+fn said_by_one(word: &[u8]) -> Option<Line<'_>> {
+    match word {
+        b"tick" => Some(Line::Tick),
+        b"settle" => Some(Line::Settle),
+        _ => None,
+    }
+}
+
+// What a line of a command and one word more says.
+fn said_by_two<'a>(command: &[u8], word: &'a [u8]) -> Option<Line<'a>> {
+    match command {
+        b"at" => Some(Line::At(decimal(word)?)),
+        b"challenge" => Some(Line::Challenge(word)),
+        b"hangup" => Some(Line::HangUp(decimal(word)?)),
+        _ => None,
+    }
+}
+
+// What a line of a command, a peer and one word more says.
+fn said_by_three<'a>(command: &[u8], peer: &'a [u8], word: &'a [u8]) -> Option<Line<'a>> {
+    match command {
+        _ if word.is_empty() => None,
+        b"rx" => Some(Line::Rx(peer, word)),
+        b"call" => Some(Line::Call(peer, word)),
+        _ => None,
+    }
+}
+
+// What a line that asks for something says.
+fn said_by(line: &[u8]) -> Option<Line<'_>> {
+    match words(line) {
+        [Some(word), None, None, None] => said_by_one(word),
+        [Some(command), Some(word), None, None] => said_by_two(command, word),
+        [Some(command), Some(peer), Some(word), None] => said_by_three(command, peer, word),
+        _ => None,
+    }
+}
+
 /// What a line says; `None` where it isn't of these forms.
 pub fn line_of(line: &[u8]) -> Option<Line<'_>>
     ensures empty { length line.now ≡ 0 → result ≡ Some Nothing }
@@ -53,18 +92,5 @@ pub fn line_of(line: &[u8]) -> Option<Line<'_>>
     if line.is_empty() || line.starts_with(b"#") {
         return Some(Line::Nothing);
     }
-    match words(line) {
-        [Some(b"tick"), None, None, None] => Some(Line::Tick),
-        [Some(b"settle"), None, None, None] => Some(Line::Settle),
-        [Some(b"at"), Some(digits), None, None] => Some(Line::At(decimal(digits)?)),
-        [Some(b"challenge"), Some(text), None, None] => Some(Line::Challenge(text)),
-        [Some(b"hangup"), Some(digits), None, None] => Some(Line::HangUp(decimal(digits)?)),
-        [Some(b"rx"), Some(peer), Some(octets), None] if !octets.is_empty() => {
-            Some(Line::Rx(peer, octets))
-        }
-        [Some(b"call"), Some(peer), Some(number), None] if !number.is_empty() => {
-            Some(Line::Call(peer, number))
-        }
-        _ => None,
-    }
+    said_by(line)
 }
