@@ -1,5 +1,5 @@
-//! Tests of the layers below a whole leg, one module each, by what they offer to those above: outside values, and each public
-//! function once.
+//! Tests of the layers below a peer, one module each, by what they offer to those above: outside values, and each public function
+//! once. Those of a whole leg stand in `leg`.
 #![tactic(auto)]
 
 #[cfg(test)]
@@ -14,6 +14,8 @@ mod frames;
 mod held_frames;
 #[cfg(test)]
 mod ledger;
+#[cfg(test)]
+mod leg;
 #[cfg(test)]
 mod plans;
 #[cfg(test)]

@@ -2,6 +2,11 @@
 ghost use Rattle.std.specs.Prelude.{◌≡◌, ◌≤◌, [], length, IfSome};
 ghost use Rattle.leg_machine.specs.OrderTable.{IsShortMedia};
 
+mod challenges;
+mod media;
+mod refused_memory;
+mod windows;
+
 use crate::same::{same, same_octets};
 use call_auth::Challenge;
 use iax_frames::{CallNumber, Datagram, Full, read};
