@@ -2,6 +2,7 @@
 #![tactic(auto)]
 
 mod accounts;
+mod arguments;
 mod checking;
 mod clock;
 mod digits;
@@ -10,6 +11,7 @@ mod player;
 mod replaying;
 mod serving;
 
+pub use arguments::turn_count;
 pub use checking::check;
 pub use replaying::replay;
 pub use serving::serve;

@@ -1,10 +1,7 @@
 //! The program of the exchange: `exchange_main check PLAN`, `exchange_main replay PLAN SCRIPT` and `exchange_main serve PLAN TURNS`.
 #![tactic(auto)]
 
-ghost use Rattle.std.specs.Prelude.{◌<◌, IfSome};
-
-use exchange_commands::{check, replay, serve};
-use script_lines::decimal;
+use exchange_commands::{check, replay, serve, turn_count};
 use std::alloc::Global;
 use std::net::Net;
 use std::process::ExitCode;
@@ -47,17 +44,6 @@ fn refuse_arguments<R: Eprint + Print>(rt: &R, error: &io::Error) -> u8 {
         let _ = eprintln!(rt; "{USAGE}");
         2
     }
-}
-
-// A number of turns: decimal digits, from 1 on.
-fn turns_of(word: &str) -> Option<u32>
-    ensures { IfSome result (λ turns. 0 < turns) }
-{
-    let turns = decimal(word.as_bytes())?;
-    if turns == 0 {
-        return None;
-    }
-    u32::try_from(turns).ok()
 }
 
 fn check_file<R: Files + Print + Alloc>(rt: &R, alloc: Global, plan: &str) -> u8 {
@@ -120,7 +106,7 @@ fn run<R: Files + Print + Eprint + Alloc + Clock + Net + RandomSource + Threads 
             replay_files(rt, alloc, plan.as_str(), script.as_str())
         }
         [_, command, plan, turns] if command.as_str() == "serve" => {
-            match turns_of(turns.as_str()) {
+            match turn_count(turns.as_str()) {
                 Some(turns) => serve_file(rt, alloc, plan.as_str(), turns),
                 None => refuse_usage(rt),
             }

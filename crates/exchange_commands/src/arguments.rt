@@ -1,0 +1,15 @@
+//! What the words after a command say.
+ghost use Rattle.std.specs.Prelude.{◌<◌, IfSome};
+
+use script_lines::decimal;
+
+/// The number of turns that a word asks for: decimal digits, from 1 to 4,294,967,295. `None` where it says none.
+pub fn turn_count(word: &str) -> Option<u32>
+    ensures { IfSome result (λ turns. 0 < turns) }
+{
+    let turns = decimal(word.as_bytes())?;
+    if turns == 0 {
+        return None;
+    }
+    u32::try_from(turns).ok()
+}
