@@ -1,6 +1,6 @@
 //! Datagrams as peers send them, and how they are spoilt by a fixed generator.
 
-use exchange_scenes::{LONGEST, WEST_PLACE};
+use crate::scenes::{LONGEST, WEST_PLACE};
 
 /// Numbers by xorshift: a fixed sequence for each seed that isn't 0.
 #[derive(Drop)]

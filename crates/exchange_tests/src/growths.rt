@@ -4,9 +4,9 @@
 
 use crate::opened::{Scene, is_ended, play_on};
 use crate::same::{holds, same};
+use crate::scenes::plans::PLAN;
+use crate::scenes::{give_all, recovers, status_of};
 use exchange_core::{Exchange, NoGate, Pass};
-use exchange_scenes::plans::PLAN;
-use exchange_scenes::{give_all, recovers, status_of};
 use leg_machine::Stage;
 use peer_lock::Naming;
 use peer_plan::PlanError;

@@ -2,9 +2,9 @@
 
 use crate::opened::{Scene, is_ended, play_on};
 use crate::same::{holds, same};
+use crate::scenes::plans::PLAN;
+use crate::scenes::{Told, WEST_PLACE, heard, heard_from, take_out};
 use exchange_core::{Exchange, NoGate, Pass, Refusal};
-use exchange_scenes::plans::PLAN;
-use exchange_scenes::{Told, WEST_PLACE, heard, heard_from, take_out};
 use peer_lock::Naming;
 use peer_plan::Endpoint;
 use std::process::Abort;

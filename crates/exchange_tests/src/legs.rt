@@ -1,8 +1,8 @@
 //! How the legs of all numbers stand before and after a datagram, and which of them it concerns.
 
 use crate::datagrams::Sent;
+use crate::scenes::{EAST_PLACE, WEST_PLACE, status_of};
 use exchange_core::{Exchange, NoGate, Pass};
-use exchange_scenes::{EAST_PLACE, WEST_PLACE, status_of};
 use peer_lock::{Naming, Status};
 use std::sync::Wait;
 

@@ -15,6 +15,8 @@ mod opened;
 #[cfg(test)]
 mod same;
 #[cfg(test)]
+mod scenes;
+#[cfg(test)]
 mod settling;
 #[cfg(test)]
 mod storm;

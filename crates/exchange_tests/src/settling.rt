@@ -2,9 +2,9 @@
 
 use crate::opened::{Scene, play_on};
 use crate::same::{holds, same};
+use crate::scenes::plans::TWO_PASSES;
+use crate::scenes::{EAST_PLACE, give_all, heard};
 use exchange_core::{Exchange, NoGate, Pass};
-use exchange_scenes::plans::TWO_PASSES;
-use exchange_scenes::{EAST_PLACE, give_all, heard};
 use peer_lock::Naming;
 use std::process::Abort;
 use std::sync::Wait;

@@ -4,11 +4,9 @@ ghost use Rattle.std.specs.Prelude.{◌≡◌, ◌+◌, ◌^◌, length};
 
 use crate::datagrams::{Call, Dice, Sent, new_call};
 use crate::legs::Legs;
+use crate::scenes::plans::PLAN;
+use crate::scenes::{EAST_PLACE, Sums, Told, WEST_PLACE, ended, heard, recovers, take_out, ticked};
 use exchange_core::{Exchange, NoGate, Pass, Refusal};
-use exchange_scenes::plans::PLAN;
-use exchange_scenes::{
-    EAST_PLACE, Sums, Told, WEST_PLACE, ended, heard, recovers, take_out, ticked,
-};
 use media_ledger::Blank;
 use peer_lock::{Naming, Service};
 use peer_plan::{Plan, PlanError};

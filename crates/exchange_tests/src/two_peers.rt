@@ -3,9 +3,9 @@ ghost use Rattle.std.specs.Prelude.{◌≡◌, ◌+◌, ◌^◌, length};
 
 use crate::opened::is_ended;
 use crate::same::holds;
+use crate::scenes::plans::TWO_PASSES;
+use crate::scenes::{EAST_PLACE, Sums, WEST_PLACE, ended, ticked};
 use exchange_core::{Exchange, Gate, Pass};
-use exchange_scenes::plans::TWO_PASSES;
-use exchange_scenes::{EAST_PLACE, Sums, WEST_PLACE, ended, ticked};
 use media_ledger::Blank;
 use peer_lock::{Naming, Service};
 use peer_plan::{Plan, PlanError};

@@ -1,13 +1,12 @@
 //! What tests of an exchange share: plans, lines that are given to an exchange, and its recovery: every leg is got rid of, and the accounts
 //! are closed.
-#![tactic(auto)]
 
 mod lines;
 pub mod plans;
 mod recovery;
 
-pub use lines::{
+pub use crate::scenes::lines::{
     EAST_PLACE, LONGEST, Told, WEST_PLACE, call, give_all, hang_up, hear, heard, heard_from,
     octets_of, place_of, status, take_out, tick, ticked,
 };
-pub use recovery::{NUMBERS, Sums, ended, recovers, settled, status_of};
+pub use crate::scenes::recovery::{NUMBERS, Sums, ended, recovers, settled, status_of};

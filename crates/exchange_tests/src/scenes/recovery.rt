@@ -1,6 +1,6 @@
 //! What holds of an exchange whatever befell it: every leg can be got rid of, callers get all numbers, and the accounts balance.
 
-use crate::lines::{EAST_PLACE, WEST_PLACE, hang_up, hear, status, tick};
+use crate::scenes::lines::{EAST_PLACE, WEST_PLACE, hang_up, hear, status, tick};
 use exchange_core::{Exchange, Gate, NoGate, Pass, SettleError, Settlement};
 use peer_lock::{Naming, OrderError, Status};
 use std::sync::Wait;
