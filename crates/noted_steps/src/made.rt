@@ -63,7 +63,7 @@ pub(crate) fn told<T: Copy, E: Copy>(answer: &Result<T, (Lease, E)>) -> Result<T
 }
 
 // Notes a step behind those before it.
-pub(crate) fn note(trail: &mut Trail<Made>, made: Made)
+pub(crate) fn push(trail: &mut Trail<Made>, made: Made)
     ensures { trail.new ≡ trail.old ++ made ∷ [] }
 {
     trail.add(&made);

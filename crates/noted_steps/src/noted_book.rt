@@ -5,7 +5,7 @@ ghost use Rattle.call_book.specs.Book.{IsBook, IsNumberOf, after_reserve, bridge
 ghost use Rattle.noted_steps.specs.Notes.{note, without_lease};
 ghost use Rattle.noted_steps.specs.declared.made.Made.TheVariants as mades;
 
-use crate::made::{Made, note, told};
+use crate::made::{Made, push, told};
 use crate::pass::Pass;
 use call_book::{BridgeError, CallBook, Lease, LegName, ReserveError, Stale};
 use peer_lock::Naming;
@@ -62,7 +62,7 @@ impl NotedBook {
         ensures sound { IsBook self.new }
     {
         let answer = self.book.reserve(peer);
-        note(&mut pass.made, Made::Reserve(peer, named(&answer)));
+        push(&mut pass.made, Made::Reserve(peer, named(&answer)));
         answer
     }
 
@@ -75,7 +75,7 @@ impl NotedBook {
         ensures sound { IsBook self.now }
     {
         let answer = self.book.partner(name);
-        note(&mut pass.made, Made::Partner(name, answer));
+        push(&mut pass.made, Made::Partner(name, answer));
         answer
     }
 
@@ -97,7 +97,7 @@ impl NotedBook {
         ensures sound { OnOk result (IsBook self.new) }
     {
         let answer = self.book.bridge(a, b);
-        note(&mut pass.made, Made::Bridge(a, b, answer));
+        push(&mut pass.made, Made::Bridge(a, b, answer));
         answer
     }
 
@@ -123,7 +123,7 @@ impl NotedBook {
     {
         let name = lease.name();
         let answer = self.book.release(lease);
-        note(&mut pass.made, Made::Release(name, told(&answer)));
+        push(&mut pass.made, Made::Release(name, told(&answer)));
         answer
     }
 

@@ -2,7 +2,7 @@
 ghost use Rattle.std.specs.Prelude.{◌≡◌, ◌+◌, []};
 ghost use Rattle.peer_accounts.specs.HandedUp.{IsNothing};
 
-use crate::made::{Made, note};
+use crate::made::{Made, push};
 use media_ledger::Share;
 use peer_lock::{Naming, Onwards, Pass as Credits};
 use std::alloc::Global;
@@ -84,7 +84,7 @@ impl<J: Naming> Pass<J> {
     pub fn note_unasked(&mut self)
         ensures { self.new ≡ note mades.Unasked self.old }
     {
-        note(&mut self.made, Made::Unasked);
+        push(&mut self.made, Made::Unasked);
     }
 
     pub fn part(self) -> (Share<J::Octets>, Share<J::Steps>)

@@ -22,7 +22,7 @@ ghost use Rattle.seq_window.specs.History.{IsLegal};
 ghost use Rattle.noted_steps.specs.Notes.{Notes, media_of, note, without_lease};
 ghost use Rattle.noted_steps.specs.declared.made.Made.TheVariants as mades;
 
-use crate::made::{Made, Octets, note, told};
+use crate::made::{Made, Octets, push, told};
 use crate::noted_peer::NotedPeer;
 use crate::pass::Pass;
 use call_auth::Challenge;
@@ -83,7 +83,7 @@ impl<J: Naming> NotedPeer<J> {
         let answer = self.state.datagram(&mut pass.credits, octets, now, onwards);
         let handed = Seen::of(&*onwards);
         let made = Made::Datagram(self.number, Octets::of(octets), now, answer, handed);
-        note(&mut pass.made, made);
+        push(&mut pass.made, made);
         answer
     }
 
@@ -130,7 +130,7 @@ impl<J: Naming> NotedPeer<J> {
             told(&answer),
             handed,
         );
-        note(&mut pass.made, made);
+        push(&mut pass.made, made);
         answer
     }
 
@@ -173,7 +173,7 @@ impl<J: Naming> NotedPeer<J> {
             now,
             told(&answer),
         );
-        note(&mut pass.made, made);
+        push(&mut pass.made, made);
         answer
     }
 
@@ -212,7 +212,7 @@ impl<J: Naming> NotedPeer<J> {
             now,
             answer,
         );
-        note(&mut pass.made, made);
+        push(&mut pass.made, made);
         answer
     }
 
@@ -229,7 +229,7 @@ impl<J: Naming> NotedPeer<J> {
         ensures err { OnErr result ((self.new.state ≡ self.old.state) × (pass.new.credit ≡ pass.old.credit)) }
     {
         let answer = self.state.tick(&mut pass.credits, now);
-        note(&mut pass.made, Made::Tick(self.number, now, answer));
+        push(&mut pass.made, Made::Tick(self.number, now, answer));
         answer
     }
 
@@ -240,7 +240,7 @@ impl<J: Naming> NotedPeer<J> {
         ensures noted { pass.new ≡ note (mades.Look self.now.number number result) pass.old }
     {
         let answer = self.state.look(number);
-        note(&mut pass.made, Made::Look(self.number, number, answer));
+        push(&mut pass.made, Made::Look(self.number, number, answer));
         answer
     }
 
@@ -261,7 +261,7 @@ impl<J: Naming> NotedPeer<J> {
     {
         let answer = self.state.retire(name);
         let made = Made::Retire(self.number, name, answer.is_some());
-        note(&mut pass.made, made);
+        push(&mut pass.made, made);
         answer
     }
 }

@@ -26,4 +26,4 @@ pub returns-clause-err : goal.returns-clause-err
 returns-clause-err g c = rw (sym c.self.view_is, sym c.pass.view_is) c.order-answer.ensures.err
 
 pub returns-clause-noted : goal.returns-clause-noted
-returns-clause-noted g c = record { made = rw (sym c.self.view_is, sym c.pass.view_is, sym c.kind.ensures, sym c.media_in.ensures) c.note.ensures; begun = ap (λ pass. pass.begun) c.pass.view_is }
+returns-clause-noted g c = record { made = rw (sym c.self.view_is, sym c.pass.view_is, sym c.kind.ensures, sym c.media_in.ensures) c.push.ensures; begun = ap (λ pass. pass.begun) c.pass.view_is }

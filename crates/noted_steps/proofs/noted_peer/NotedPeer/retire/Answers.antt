@@ -1,4 +1,5 @@
 use Rattle.std.proofs.Common.{ap, sym}
+use Rattle.noted_steps.proofs.Noting.{noted_with}
 use Rattle.noted_steps.proofs.noted_peer.NotedPeer.retire.Goals as goal
 
 pub returns-clause-none : goal.returns-clause-none
@@ -20,4 +21,4 @@ pub returns-clause-same : goal.returns-clause-same
 returns-clause-same g c = rw (sym c.self.view_is) c.retire-answer.ensures.same
 
 pub returns-clause-noted : goal.returns-clause-noted
-returns-clause-noted g c = rw (sym c.self.view_is, sym c.pass.view_is, sym c.is_some.ensures) (ap (λ made. record { credit = c.pass.inside.credits; begun = c.pass.inside.begun; made = made }) c.note.ensures)
+returns-clause-noted g c = rw (sym c.self.view_is, sym c.pass.view_is, sym c.is_some.ensures) (ap (noted_with c.pass.inside.credits c.pass.inside.begun) c.push.ensures)
