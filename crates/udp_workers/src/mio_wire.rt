@@ -100,6 +100,14 @@ fn sent(socket: &UdpSocket, to: Endpoint, octets: &[u8]) -> Result<bool, WireFau
     }
 }
 
+// A socket that is bound to this endpoint; the system tells of its datagrams where they are polled.
+fn readable<N: Net>(rt: &N, poll: &Poll, at: Endpoint) -> Result<UdpSocket, BindError> {
+    let mut socket = UdpSocket::bind(rt, socket_address(at))?;
+    poll.registry()
+        .register(&mut socket, Token(0), Interest::READABLE)?;
+    Ok(socket)
+}
+
 impl MioWire {
     ghost use Rattle.udp_workers.specs.MioWire.{given_of, given_to_of, failures_of, peers_of};
 
@@ -120,10 +128,17 @@ impl MioWire {
         let peers = PeerCounts::new(alloc, peers)?;
         let poll = Poll::new(rt)?;
         let events = Events::with_capacity(alloc, 1)?;
-        let mut socket = UdpSocket::bind(rt, socket_address(at))?;
-        poll.registry()
-            .register(&mut socket, Token(0), Interest::READABLE)?;
-        Ok(MioWire {
+        let socket = readable(rt, &poll, at)?;
+        Ok(MioWire::over(socket, poll, events, peers))
+    }
+
+    // Over a socket that is bound and polled.
+    fn over(socket: UdpSocket, poll: Poll, events: Events, peers: PeerCounts) -> MioWire
+        ensures peers { result.peers ≡ peers }
+        ensures given { given_of result ≡ 0 }
+        ensures failures { failures_of result ≡ 0 }
+    {
+        MioWire {
             socket,
             poll,
             events,
@@ -131,7 +146,7 @@ impl MioWire {
             peers,
             given: 0,
             failures: 0,
-        })
+        }
     }
 
     // A datagram is given to it, for this endpoint.

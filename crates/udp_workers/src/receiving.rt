@@ -26,13 +26,6 @@ pub(crate) struct Received {
     pub(crate) retired: u64,
 }
 
-// What a datagram led to: whether it was refused, 0 or 1, and how many legs were taken out.
-#[derive(Clone, Copy)]
-struct Heard {
-    refused: u64,
-    retired: u64,
-}
-
 // Hands a datagram to the exchange. One that isn't refused makes a step.
 fn hear<G: Gate, J: Naming, R: Wait>(
     rt: &R,
@@ -42,15 +35,55 @@ fn hear<G: Gate, J: Naming, R: Wait>(
     octets: &[u8],
     now: u64,
     challenge: &Challenge,
-) -> Heard
+) -> Received
+    ensures received { result.received ≡ 1 }
     ensures refused { result.refused ≤ 1 }
+    ensures no_fault { result.faults ≡ 0 }
     ensures steps { pass.old.credit.steps + 1 ≤ pass.new.credit.steps + result.refused }
     ensures later { IsLater pass.old pass.new }
 {
     let answer = exchange.datagram(rt, pass, from, octets, now, challenge);
-    Heard {
+    Received {
+        received: 1,
         refused: u64::from(answer.refused.is_some()),
+        faults: 0,
         retired: answer.retired.len() as u64,
+    }
+}
+
+// Receives a datagram, if one is there, and hands it to the exchange.
+fn receive_one<W: Wire, G: Gate, J: Naming, R: Wait>(
+    rt: &R,
+    wire: &mut W,
+    exchange: &Exchange<G, J>,
+    pass: &mut Pass<J>,
+    octets: &mut [u8],
+    now: u64,
+    challenge: &Challenge,
+) -> Received
+    ensures given { W.given wire.new ≡ W.given wire.old }
+    ensures given_to { (to : Endpoint) → W.given_to wire.new to ≡ W.given_to wire.old to }
+    ensures faults { RisesBy (W.failures wire.old) (W.failures wire.new) result.faults }
+    ensures peers { W.peers wire.new ≡ W.peers wire.old }
+    ensures one { result.received + result.faults ≤ 1 }
+    ensures refused { result.refused ≤ result.received }
+    ensures steps { pass.old.credit.steps + result.received ≤ pass.new.credit.steps + result.refused }
+    ensures later { IsLater pass.old pass.new }
+{
+    match wire.receive(octets) {
+        Ok(Some((len, from))) => hear(rt, exchange, pass, from, &octets[..len], now, challenge),
+        Ok(None) => Received {
+            received: 0,
+            refused: 0,
+            faults: 0,
+            retired: 0,
+        },
+        Err(_) => Received {
+            received: 0,
+            refused: 0,
+            faults: 1,
+            retired: 0,
+        },
     }
 }
 
@@ -81,18 +114,13 @@ pub(crate) fn receive_all<W: Wire, G: Gate, J: Naming, R: Wait>(
         retired: 0,
     };
     for _ in 0..DATAGRAMS {
-        match wire.receive(&mut octets) {
-            Ok(Some((len, from))) => {
-                let heard = hear(rt, exchange, pass, from, &octets[..len], now, challenge);
-                report.received += 1;
-                report.refused += heard.refused;
-                report.retired = report.retired.wrapping_add(heard.retired);
-            }
-            Ok(None) => return report,
-            Err(_) => {
-                report.faults = 1;
-                return report;
-            }
+        let one = receive_one(rt, wire, exchange, pass, &mut octets, now, challenge);
+        report.received += one.received;
+        report.refused += one.refused;
+        report.faults += one.faults;
+        report.retired = report.retired.wrapping_add(one.retired);
+        if one.received == 0 {
+            return report;
         }
     }
     report
