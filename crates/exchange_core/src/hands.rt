@@ -1,5 +1,5 @@
 //! What a call was given, and what it has in its hands.
-ghost use Rattle.std.specs.Prelude.{◌≡◌, ◌<◌, [], None, Some, vec_len, vec_capacity};
+ghost use Rattle.std.specs.Prelude.{◌≡◌, ◌<◌, [], None, Some, option_copied, vec_len, vec_capacity};
 ghost use Rattle.call_steps.specs.Beginnings.{beginning_at};
 ghost use Rattle.exchange_core.specs.Denials.{noted};
 ghost use Rattle.exchange_core.specs.Traces.{told};
@@ -39,6 +39,19 @@ impl Given<'_, '_, '_> {
             challenge: None,
             called: None,
             now,
+        }
+    }
+
+    // A call from outside for this number.
+    pub(crate) fn number<'o, 'c, 'n>(called: &'n [u8], now: u64) -> Given<'o, 'c, 'n>
+        ensures octets { result.octets.now ≡ [] }
+        ensures challenge { result.challenge ≡ None }
+        ensures called { option_copied result.called ≡ Some called.now }
+        ensures now { result.now ≡ now }
+    {
+        Given {
+            called: Some(called),
+            ..Given::moment(now)
         }
     }
 }

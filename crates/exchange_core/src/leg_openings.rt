@@ -1,6 +1,6 @@
 //! The openings of legs: by a NEW that came, of a far leg, and of a call from outside.
 ghost use Rattle.std.specs.Option.{ForSome};
-ghost use Rattle.std.specs.Prelude.{◌≡◌, ◌≢◌, ◌+◌, ◌<◌, length, None, Option, Some, Err, option_copied, option_map, slice_get, IfOk, IfErr, IsSome, OnOk, OnErr};
+ghost use Rattle.std.specs.Prelude.{◌≡◌, ◌≢◌, ◌+◌, ◌<◌, ◌≤◌, length, None, Option, Some, Err, option_copied, option_map, slice_get, IfOk, IfErr, IsSome, OnOk, OnErr};
 ghost use Rattle.call_signals.specs.Formats.{lowest_format};
 ghost use Rattle.exchange_core.specs.Covered.{TakesCredit};
 ghost use Rattle.exchange_core.specs.Newcomers.{SpellsOpening};
@@ -34,6 +34,17 @@ fn opening_in(octets: &[u8]) -> Full<'_>
     match read(octets) {
         Ok(Datagram::Full(frame)) => frame,
         _ => unreachable!(),
+    }
+}
+
+// The number that calls, as it is offered.
+fn calling_of(offer: &Offer) -> Option<&[u8]>
+    ensures same { option_copied result ≡ offer.now.calling }
+    ensures short { ForSome result (λ text. length text.now ≤ 255) }
+{
+    match &offer.calling {
+        Some(calling) => Some(calling.as_slice()),
+        None => None,
     }
 }
 
@@ -87,13 +98,8 @@ impl<G: Gate, J: Naming> Exchange<G, J> {
         ensures no_remote { IfErr result (λ back. back.1 ≢ OpenError.RemoteBusy) }
     {
         let called = offer.called.as_slice();
-        match &offer.calling {
-            Some(calling) => {
-                let calling = Some(calling.as_slice());
-                self.open_out(rt, pass, lease, called, calling, offer.format, now)
-            }
-            None => self.open_out(rt, pass, lease, called, None, offer.format, now),
-        }
+        let calling = calling_of(offer);
+        self.open_out(rt, pass, lease, called, calling, offer.format, now)
     }
 
     // A leg is opened under a lease: that of a call from outside, where there is one, else the far leg of what is offered.

@@ -1,5 +1,5 @@
 //! Opening an exchange.
-ghost use Rattle.std.specs.Prelude.{◌≡◌, ◌+◌, ◌*◌, ◌<◌, ◌≤◌, ◌^◌, ◌++◌, [], Some, IfOk, OnOk, All, length, map, option_map, replicate, slice_get, vec_len};
+ghost use Rattle.std.specs.Prelude.{◌≡◌, ℕ, ◌+◌, ◌-◌, ◌*◌, ◌<◌, ◌≤◌, ◌^◌, ◌++◌, [], Some, IfOk, OnOk, All, length, map, option_map, replicate, slice_get, vec_len};
 ghost use Rattle.exchange_core.specs.Start.{first_book, first_legs, IsStart};
 ghost use Rattle.peer_lock.specs.Accounts.{no_accounts};
 
@@ -40,28 +40,91 @@ impl<G: Gate, J: Naming> Exchange<G, J> {
         // It is a start of the world in which the law over many calls holds, with a caller for each pass.
         ensures start { IfOk result (λ opened. IsStart plan) }
     {
-        let peer_count = plan.peer_count();
-        let pass_count = plan.passes();
-        let book = book_of(alloc, &plan)?;
-        let (octet_supply, first_octets, no_octets) = issue::<J::Octets>(
-            alloc, octets, peer_count, pass_count,
-        )?;
-        let (step_supply, first_steps, no_steps) = issue::<J::Steps>(
-            alloc, steps, peer_count, pass_count,
-        )?;
-        let peers = cells(alloc, &plan, peer_count, first_octets, first_steps)?;
-        let passes = passes_of(alloc, pass_count, no_octets, no_steps)?;
+        let (book, stock) = stock_with_book(alloc, &plan, octets, steps)?;
+        let Stock {
+            peers,
+            passes,
+            octets,
+            steps,
+        } = stock;
         let exchange = Exchange {
             alloc,
             gate,
             plan,
             peers,
             book: Mutex::new(NotedBook::new(book)),
-            octets: octet_supply,
-            steps: step_supply,
+            octets,
+            steps,
         };
         Ok((exchange, passes))
     }
+}
+
+// What an exchange is opened with beside its book: the peers under their locks, the passes, and what was supplied to them.
+#[derive(Drop)]
+struct Stock<J: Naming> {
+    peers: Vec<PeerCell<J>>,
+    passes: Vec<Pass<J>>,
+    octets: Supply<J::Octets>,
+    steps: Supply<J::Steps>,
+}
+
+// The book of a plan and the stock of its exchange.
+fn stock_with_book<J: Naming>(
+    alloc: Global,
+    plan: &Plan,
+    octets: Blank,
+    steps: Blank,
+) -> Result<(CallBook, Stock<J>), AllocError>
+    requires octets { (octets.name ≡ J.Octets.name) × (octets.parts ≡ J.Octets.parts) × (octets.parts ≡ length plan.now.peers + plan.now.passes) }
+    requires steps { (steps.name ≡ J.Steps.name) × (steps.parts ≡ J.Steps.parts) × (steps.parts ≡ length plan.now.peers + plan.now.passes) }
+    requires first { (J.first_octets ≡ 2 ^ 48) × (J.first_steps ≡ 2 ^ 48) }
+    ensures start { OnOk result (IsStart plan.now) }
+    ensures range { OnOk result ((length plan.now.peers ≤ 32) × (plan.now.passes ≤ 64)) }
+    ensures peers { IfOk result (λ made. vec_len made.1.peers ≡ length plan.now.peers) }
+    ensures passes { IfOk result (λ made. vec_len made.1.passes ≡ plan.now.passes) }
+    ensures empty { IfOk result (λ made. All (λ pass. (pass.credit.octets ≡ 0) × (pass.credit.steps ≡ 0)) made.1.passes.items) }
+    ensures unused { IfOk result (λ made. All (λ pass. (pass.begun ≡ 0) × (pass.made ≡ [])) made.1.passes.items) }
+    ensures octets { IfOk result (λ made. (made.1.octets.shares ≡ length plan.now.peers + plan.now.passes) × (made.1.octets.amount ≡ length plan.now.peers * J.first_octets)) }
+    ensures steps { IfOk result (λ made. (made.1.steps.shares ≡ length plan.now.peers + plan.now.passes) × (made.1.steps.amount ≡ length plan.now.peers * J.first_steps)) }
+{
+    let book = book_of(alloc, plan)?;
+    let stock = stock_of(alloc, plan, octets, steps)?;
+    Ok((book, stock))
+}
+
+// The stock of a plan's exchange.
+fn stock_of<J: Naming>(
+    alloc: Global,
+    plan: &Plan,
+    octets: Blank,
+    steps: Blank,
+) -> Result<Stock<J>, AllocError>
+    requires octets { (octets.name ≡ J.Octets.name) × (octets.parts ≡ J.Octets.parts) × (octets.parts ≡ length plan.now.peers + plan.now.passes) }
+    requires steps { (steps.name ≡ J.Steps.name) × (steps.parts ≡ J.Steps.parts) × (steps.parts ≡ length plan.now.peers + plan.now.passes) }
+    requires first { (J.first_octets ≡ 2 ^ 48) × (J.first_steps ≡ 2 ^ 48) }
+    ensures range { OnOk result ((length plan.now.peers ≤ 32) × (plan.now.passes ≤ 64)) }
+    ensures peers { IfOk result (λ stock. vec_len stock.peers ≡ length plan.now.peers) }
+    ensures passes { IfOk result (λ stock. vec_len stock.passes ≡ plan.now.passes) }
+    ensures empty { IfOk result (λ stock. All (λ pass. (pass.credit.octets ≡ 0) × (pass.credit.steps ≡ 0)) stock.passes.items) }
+    ensures unused { IfOk result (λ stock. All (λ pass. (pass.begun ≡ 0) × (pass.made ≡ [])) stock.passes.items) }
+    ensures octets { IfOk result (λ stock. (stock.octets.shares ≡ length plan.now.peers + plan.now.passes) × (stock.octets.amount ≡ length plan.now.peers * J.first_octets)) }
+    ensures steps { IfOk result (λ stock. (stock.steps.shares ≡ length plan.now.peers + plan.now.passes) × (stock.steps.amount ≡ length plan.now.peers * J.first_steps)) }
+{
+    let peer_count = plan.peer_count();
+    let pass_count = plan.passes();
+    let (octets, first_octets, no_octets) = issue::<J::Octets>(
+        alloc, octets, peer_count, pass_count,
+    )?;
+    let (steps, first_steps, no_steps) = issue::<J::Steps>(alloc, steps, peer_count, pass_count)?;
+    let peers = cells(alloc, plan, peer_count, first_octets, first_steps)?;
+    let passes = passes_of(alloc, pass_count, no_octets, no_steps)?;
+    Ok(Stock {
+        peers,
+        passes,
+        octets,
+        steps,
+    })
 }
 
 // The book of a plan, with every number free. Its first serial is 0.
@@ -97,17 +160,24 @@ fn issue<L: Ledger>(
     Ok((supply, shares, empty))
 }
 
+// The octets or the steps of each peer and each pass.
 fn amounts_of(alloc: Global, peers: u16, passes: u16) -> Result<Vec<u64>, AllocError>
     ensures { IfOk result (λ v. v.items ≡ replicate peers (2 ^ 48) ++ replicate passes 0) }
 {
     let mut amounts = Vec::new(alloc);
-    for _i in 0..peers {
-        amounts.push(FIRST_CREDIT)?;
-    }
-    for _i in 0..passes {
-        amounts.push(0)?;
-    }
+    push_equal(&mut amounts, peers, FIRST_CREDIT)?;
+    push_equal(&mut amounts, passes, 0)?;
     Ok(amounts)
+}
+
+// So many times the same amount goes behind the others.
+fn push_equal(amounts: &mut Vec<u64>, count: u16, amount: u64) -> Result<(), AllocError>
+    ensures { OnOk result (amounts.new.items ≡ amounts.old.items ++ replicate count amount) }
+{
+    for _i in 0..count {
+        amounts.push(amount)?;
+    }
+    Ok(())
 }
 
 // A peer of the plan without a leg, with first shares of both supplies.
@@ -141,6 +211,18 @@ fn state_of<J: Naming>(
     }
 }
 
+// Takes the last share out.
+fn last_of<L: Ledger>(shares: &mut Vec<Share<L>>) -> Share<L>
+    requires some { 1 ≤ vec_len shares.old }
+    // Where all are equal, it is one of them.
+    ensures equal { (n amount : ℕ) → shares.old.items ≡ replicate n amount → (result ≡ amount) × (shares.new.items ≡ replicate (n - 1) amount) }
+{
+    match shares.pop() {
+        Some(share) => share,
+        None => unreachable!(),
+    }
+}
+
 // The peers of the plan under their locks, in its order, each with first shares of both supplies.
 fn cells<J: Naming>(
     alloc: Global,
@@ -157,13 +239,32 @@ fn cells<J: Naming>(
     let mut octets = octets;
     let mut steps = steps;
     let mut cells = Vec::new(alloc);
-    for peer in 0..peers {
-        let (Some(o), Some(s)) = (octets.pop(), steps.pop()) else {
-            unreachable!()
-        };
-        cells.push(Mutex::new(state_of(alloc, plan, peer, o, s)?))?;
-    }
+    push_cells(alloc, plan, peers, &mut octets, &mut steps, &mut cells)?;
     Ok(cells)
+}
+
+// The peers of the plan go into the list, which is empty.
+fn push_cells<J: Naming>(
+    alloc: Global,
+    plan: &Plan,
+    peers: u16,
+    octets: &mut Vec<Share<J::Octets>>,
+    steps: &mut Vec<Share<J::Steps>>,
+    cells: &mut Vec<PeerCell<J>>,
+) -> Result<(), AllocError>
+    requires peers { peers ≡ length plan.now.peers }
+    requires octets { octets.old.items ≡ replicate peers J.first_octets }
+    requires steps { steps.old.items ≡ replicate peers J.first_steps }
+    requires none { vec_len cells.old ≡ 0 }
+    ensures { OnOk result (vec_len cells.new ≡ peers) }
+{
+    for peer in 0..peers {
+        let o = last_of(octets);
+        let s = last_of(steps);
+        let state = state_of(alloc, plan, peer, o, s)?;
+        cells.push(Mutex::new(state))?;
+    }
+    Ok(())
 }
 
 // A pass of empty shares, under which nothing was made.
@@ -192,11 +293,28 @@ fn passes_of<J: Naming>(
     let mut octets = octets;
     let mut steps = steps;
     let mut passes = Vec::new(alloc);
+    push_passes(count, &mut octets, &mut steps, &mut passes)?;
+    Ok(passes)
+}
+
+// So many passes go into the list, which is empty.
+fn push_passes<J: Naming>(
+    count: u16,
+    octets: &mut Vec<Share<J::Octets>>,
+    steps: &mut Vec<Share<J::Steps>>,
+    passes: &mut Vec<Pass<J>>,
+) -> Result<(), AllocError>
+    requires octets { octets.old.items ≡ replicate count 0 }
+    requires steps { steps.old.items ≡ replicate count 0 }
+    requires none { passes.old.items ≡ [] }
+    ensures len { OnOk result (vec_len passes.new ≡ count) }
+    ensures empty { OnOk result (All (λ pass. (pass.credit.octets ≡ 0) × (pass.credit.steps ≡ 0)) passes.new.items) }
+    ensures unused { OnOk result (All (λ pass. (pass.begun ≡ 0) × (pass.made ≡ [])) passes.new.items) }
+{
     for _i in 0..count {
-        let (Some(o), Some(s)) = (octets.pop(), steps.pop()) else {
-            unreachable!()
-        };
+        let o = last_of(octets);
+        let s = last_of(steps);
         passes.push(unused_pass(o, s))?;
     }
-    Ok(passes)
+    Ok(())
 }

@@ -171,13 +171,9 @@ impl<G: Gate, J: Naming> Exchange<G, J> {
         if !is_called(called) {
             return Err(CallError::BadNumber);
         }
-        let given = Given {
-            called: Some(called),
-            ..Given::moment(now)
-        };
         let mut work = Work::of_call(peer);
         let mut hands = Hands::empty(self.alloc);
-        self.run(rt, pass, &mut work, &given, &mut hands);
+        self.run(rt, pass, &mut work, &Given::number(called, now), &mut hands);
         went_out(hands.denial)?;
         Ok(hands.named.unwrap())
     }

@@ -1,5 +1,5 @@
 //! Peers and passes are parted from their shares.
-ghost use Rattle.std.specs.Prelude.{◌≡◌, ◌+◌, ◌*◌, ◌≤◌, [], IfOk, sum, vec_len, vec_capacity};
+ghost use Rattle.std.specs.Prelude.{◌≡◌, ◌+◌, ◌*◌, ◌<◌, ◌≤◌, ◌++◌, ◌∷◌, [], IfOk, sum, vec_len, vec_capacity};
 ghost use Rattle.exchange_core.specs.Sums.{accepted_of, packed_of, queued_of, dropped_of, quelched_of, steps_of, left_with, steps_under, begun_with, noted_under};
 ghost use Rattle.peer_lock.specs.Accounts.{carried};
 
@@ -52,6 +52,16 @@ fn part_peer<J: Naming>(cell: PeerCell<J>) -> (ClosedPeer<J>, Share<J::Octets>, 
     (peer, octets, steps)
 }
 
+// A peer goes behind the others, for which there is room.
+fn put<J: Naming>(peer: ClosedPeer<J>, peers: &mut Vec<ClosedPeer<J>>)
+    requires { vec_len peers.old < vec_capacity peers.old }
+    ensures items { peers.new.items ≡ peers.old.items ++ peer ∷ [] }
+    ensures len { vec_len peers.new ≡ vec_len peers.old + 1 }
+    ensures capacity { vec_capacity peers.new ≡ vec_capacity peers.old }
+{
+    peers.push_reserved(peer);
+}
+
 // Takes each peer from its lock and parts it from its shares, in order.
 pub(crate) fn part_peers<J: Naming>(
     cells: Vec<PeerCell<J>>,
@@ -73,7 +83,7 @@ pub(crate) fn part_peers<J: Naming>(
     cells.reverse();
     while let Some(cell) = cells.pop() {
         let (peer, o, s) = part_peer(cell);
-        peers.push_reserved(peer);
+        put(peer, peers);
         octets.push_reserved(o);
         steps.push_reserved(s);
     }

@@ -1,14 +1,15 @@
 //! The accounts of all peers, once every pass is back.
-ghost use Rattle.std.specs.Prelude.{◌≡◌, ◌≢◌, ◌+◌, ◌<◌, ◌≤◌, ◌^◌, [], IfOk, IfErr, OnOk, length, vec_len, vec_capacity};
+ghost use Rattle.std.specs.Prelude.{◌≡◌, ◌≢◌, ◌+◌, ◌<◌, ◌≤◌, ◌^◌, [], IfOk, IfErr, OnOk, length, sum, vec_len, vec_capacity};
 ghost use Rattle.exchange_core.specs.Sums.{accepted_of, packed_of, queued_of, dropped_of, quelched_of, steps_of, left_with, steps_under, begun_with, noted_under};
 
 use crate::exchange::Exchange;
 use crate::gates::Gate;
 use crate::parting::{Parts, part_passes, part_peers};
 use call_book::CallBook;
-use media_ledger::gather;
+use media_ledger::{Share, Supply, gather};
 use noted_steps::Pass;
 use peer_lock::{ClosedPeer, Naming};
+use std::sync::ledger::Ledger;
 
 /// What the locks held, and the sums over all peers and passes.
 #[derive(Drop)]
@@ -75,6 +76,37 @@ fn steps_in<J: Naming>(peers: &[ClosedPeer<J>]) -> u64
     peers.iter().map(|peer| peer.steps()).sum()
 }
 
+// The sums over peers.
+#[derive(Clone, Copy)]
+struct Sums {
+    accepted: u64,
+    packed: u64,
+    queued: u64,
+    quelched: u64,
+    steps: u64,
+}
+
+fn sums_of<J: Naming>(peers: &[ClosedPeer<J>]) -> Sums
+    requires accepted { accepted_of peers.now < 2 ^ 64 }
+    requires packed { packed_of peers.now < 2 ^ 64 }
+    requires queued { queued_of peers.now < 2 ^ 64 }
+    requires quelched { quelched_of peers.now < 2 ^ 64 }
+    requires steps { steps_of peers.now < 2 ^ 64 }
+    ensures accepted { result.accepted ≡ accepted_of peers.now }
+    ensures packed { result.packed ≡ packed_of peers.now }
+    ensures queued { result.queued ≡ queued_of peers.now }
+    ensures quelched { result.quelched ≡ quelched_of peers.now }
+    ensures steps { result.steps ≡ steps_of peers.now }
+{
+    Sums {
+        accepted: accepted_in(peers),
+        packed: packed_in(peers),
+        queued: queued_in(peers),
+        quelched: quelched_in(peers),
+        steps: steps_in(peers),
+    }
+}
+
 // The sums over peers whose accounts balance but for octets that were left with passes.
 fn settled<J: Naming>(book: CallBook, peers: Vec<ClosedPeer<J>>) -> Settlement<J>
     requires accepted { accepted_of peers.items < 2 ^ 64 }
@@ -90,20 +122,28 @@ fn settled<J: Naming>(book: CallBook, peers: Vec<ClosedPeer<J>>) -> Settlement<J
     ensures balances { result.accepted ≡ result.packed + result.queued + result.dropped }
     ensures steps { result.steps ≡ steps_of peers.items }
 {
-    let accepted = accepted_in(&peers);
-    let packed = packed_in(&peers);
-    let queued = queued_in(&peers);
-    let quelched = quelched_in(&peers);
-    let steps = steps_in(&peers);
+    let sums = sums_of(&peers);
     Settlement {
         book,
         peers,
-        accepted,
-        packed,
-        queued,
-        dropped: accepted - packed - queued,
-        quelched,
-        steps,
+        accepted: sums.accepted,
+        packed: sums.packed,
+        queued: sums.queued,
+        dropped: sums.accepted - sums.packed - sums.queued,
+        quelched: sums.quelched,
+        steps: sums.steps,
+    }
+}
+
+// The sum of all shares of a supply.
+fn gathered<L: Ledger>(supply: &Supply<L>, shares: Vec<Share<L>>) -> u64
+    requires { vec_len shares ≡ supply.now.shares }
+    ensures sum { result ≡ sum shares.items }
+    ensures supplied { result ≡ supply.now.amount }
+{
+    match gather(supply, shares) {
+        Ok(amount) => amount,
+        Err(_) => unreachable!(),
     }
 }
 
@@ -185,9 +225,8 @@ impl<G: Gate, J: Naming> Exchange<G, J> {
         } = parts;
         part_peers(cells, &mut peers, &mut octets, &mut steps);
         part_passes(passes, &mut octets, &mut steps);
-        let (Ok(_), Ok(_)) = (gather(&octet_supply, octets), gather(&step_supply, steps)) else {
-            unreachable!()
-        };
+        let _octets = gathered(&octet_supply, octets);
+        let _steps = gathered(&step_supply, steps);
         settled(book.into_inner().into_book(), peers)
     }
 }
