@@ -8,7 +8,7 @@ use leg_machine::Stage;
 use peer_lock::{Naming, Status};
 use peer_plan::Plan;
 use script_lines::Line;
-use std::alloc::Global;
+use std::alloc::{AllocError, Global};
 use std::io;
 use std::io::Write;
 use std::sync::Wait;
@@ -27,6 +27,12 @@ pub enum Stop {
 impl From<io::Error> for Stop {
     fn from(_error: io::Error) -> Stop {
         Stop::Writer
+    }
+}
+
+impl From<AllocError> for Stop {
+    fn from(_error: AllocError) -> Stop {
+        Stop::Memory
     }
 }
 

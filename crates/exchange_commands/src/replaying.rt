@@ -1,7 +1,7 @@
 //! A script is replayed, line by line, through an exchange.
 ghost use Rattle.std.specs.Prelude.{◌≡◌, ◌+◌, ◌<◌, ◌^◌, length, IfSome};
 
-use crate::accounts::write_accounts;
+use crate::accounts::settle;
 use crate::player::{Player, Stop};
 use exchange_core::{Exchange, NoGate, Pass};
 use media_ledger::Blank;
@@ -13,18 +13,6 @@ use std::io::Write;
 use std::marker::Brand;
 use std::sync::Wait;
 use std::sync::ledger::Ledger;
-
-// The accounts are closed and written.
-fn settle<J: Naming, W: Write>(
-    exchange: Exchange<NoGate, J>,
-    passes: Vec<Pass<J>>,
-    writer: &mut W,
-) -> Result<(), Stop> {
-    match exchange.settle(passes) {
-        Ok(settlement) => Ok(write_accounts(&settlement, writer)?),
-        Err(_) => Err(Stop::Memory),
-    }
-}
 
 // One line is worked. After `settle` no line may follow that isn't skipped.
 fn work_line<J: Naming, R: Wait, W: Write>(

@@ -3,7 +3,7 @@ ghost use Rattle.std.specs.Prelude.{◌≡◌, ◌+◌, ◌<◌, ◌≤◌, ◌^
 ghost use Rattle.udp_workers.specs.MioWire as wires;
 ghost use Rattle.udp_workers.specs.Served.{AreEndpoints, peers_of};
 
-use crate::accounts::write_accounts;
+use crate::accounts::settle;
 use crate::clock::SinceOpening;
 use crate::digits::Digits;
 use exchange_core::{Exchange, NoGate, Pass};
@@ -217,18 +217,6 @@ fn turns_of<
     let mut seats = seats_of::<J, P, R>(rt, alloc, exchange.plan(), passes, opened)?;
     run_all(rt, exchange, &mut seats, turns)?;
     reports_of(alloc, seats, passes)
-}
-
-// The accounts are closed and written.
-fn settle<J: Naming, W: Write>(
-    exchange: Exchange<NoGate, J>,
-    passes: Vec<Pass<J>>,
-    writer: &mut W,
-) -> Result<(), Stop> {
-    match exchange.settle(passes) {
-        Ok(settlement) => Ok(write_accounts(&settlement, writer)?),
-        Err(_) => Err(Stop::Memory),
-    }
 }
 
 // All workers make their turns on an exchange; then their reports and its accounts are written.
