@@ -5,13 +5,15 @@ use Rattle.std.proofs.lemmas.Bool.{le-leb}
 use Rattle.std.proofs.lemmas.List.{length-replicate}
 use Rattle.std.proofs.lemmas.Option.{slice_get-get_or}
 use Rattle.call_book.specs.declared.leg_name.LegName.{LegName}
+use Rattle.iax_frames.specs.FullFrame.{FullFrame}
 use Rattle.leg_machine.specs.Legs.{LegState}
-use Rattle.leg_machine.specs.Tie.{SendsAtMostOne}
+use Rattle.leg_machine.specs.Tie.{SendsAtMostOne, TakesTurn}
 use Rattle.peer_legs.specs.Legs.{NamedLeg, PeerLegs, AreLegs, filled, leg_at, leg_of_remote, is_from, with_leg}
 use Rattle.peer_legs.specs.LegsInside.{HasRemote, IsIndex}
 use Rattle.peer_legs.specs.RemoteNumbers.{AreNone, noted}
 use Rattle.peer_legs.proofs.LegIndex.{apart-index, remote_of, placed, IsFree, IsPlaced, IsWritten, kept_index, entered_index, cleared_index, index_after, legs_after}
 use Rattle.peer_legs.proofs.LegSearch.{none_first}
+use Rattle.peer_legs.proofs.PlaceLaws.{slice_set_same}
 use Rattle.peer_legs.proofs.SameCall.{IsSameCall, MayLearn}
 
 -- what is so of the legs and of the array of their remote numbers
@@ -169,6 +171,15 @@ learned legs place named leg index index' source number remote are at may from t
     (noted_index legs place (Some named) new index remote at are.index_is (sym is_remote)
     (λ other was. is_remote ∙ kept_remote named.leg.remote leg.remote source may.remote other was) within))
 
+-- a refused step leaves the legs
+pub still_there : (legs value : PeerLegs) (place : ℕ) (named : NamedLeg) (leg : LegState)
+    → legs ≡ value → slice_get legs.places place ≡ Some (Some named) → leg ≡ named.leg
+    → placed legs place (Some (record { name = named.name; leg = leg })) ≡ value
+still_there legs value place named leg view at is =
+    ap (λ (l : LegState). placed legs place (Some (record { name = named.name; leg = l }))) is
+    ∙ ap (λ (places : List (Option NamedLeg)). record legs { places = places }) (slice_set_same legs.places place (Some named) at)
+    ∙ view
+
 -- a step that was carried out or refused
 pub same_either : {T E : Type 0} (result : Result T E) (old new after : LegState) → IsSameCall old after → OnOk result (new ≡ after) → OnErr result (new ≡ old) → IsSameCall old new
 same_either (Ok answer) old new after same carried refused = subst (IsSameCall old) (sym carried) same
@@ -177,3 +188,15 @@ same_either (Err refusal) old new after same carried refused = subst (IsSameCall
 pub sends_either : {T E : Type 0} (result : Result T E) (old new after : LegState) → OnOk result (new ≡ after) → OnOk result (SendsAtMostOne old new) → OnOk result (SendsAtMostOne old after)
 sends_either (Ok answer) old new after carried sends = subst (SendsAtMostOne old) carried sends
 sends_either (Err refusal) old new after carried sends = tt
+
+pub learns_either : {T E : Type 0} (result : Result T E) (source : ℕ) (old new after : LegState) → MayLearn source old after
+    → OnOk result (new ≡ after) → OnErr result (new ≡ old) → MayLearn source old new
+learns_either (Ok answer) source old new after may carried refused = subst (MayLearn source old) (sym carried) may
+learns_either (Err refusal) source old new after may carried refused =
+    subst (MayLearn source old) (sym refused)
+    (record { number = refl; remote = inl refl; ruled = record { rules = refl; width = refl; limit = refl } })
+
+pub turns_either : {T E : Type 0} (result : Result T E) (old new after : LegState) (frame : FullFrame)
+    → OnOk result (new ≡ after) → OnOk result (TakesTurn old frame new) → OnOk result (TakesTurn old frame after)
+turns_either (Ok answer) old new after frame carried turns = subst (TakesTurn old frame) carried turns
+turns_either (Err refusal) old new after frame carried turns = tt

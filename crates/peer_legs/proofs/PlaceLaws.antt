@@ -17,6 +17,12 @@ slice_get-set_other (y ∷ ys) zero (suc j) x ne = refl
 slice_get-set_other (y ∷ ys) (suc i) zero x ne = refl
 slice_get-set_other (y ∷ ys) (suc i) (suc j) x ne = slice_get-set_other ys i j x (λ e. ne (ap suc e))
 
+-- a write of what stands there already
+pub slice_set_same : {A : Type 0} (xs : List A) (i : ℕ) (x : A) → slice_get xs i ≡ Some x → slice_set xs i x ≡ xs
+slice_set_same [] i x there = cc
+slice_set_same (y ∷ ys) zero x there = let is : x ≡ y = cc in ap (λ first. first ∷ ys) is
+slice_set_same (y ∷ ys) (suc i) x there = ap (λ rest. y ∷ rest) (slice_set_same ys i x there)
+
 -- ---- the leg of a number
 
 pub filled_at : (o : Option (Option NamedLeg)) (named : NamedLeg) → filled o ≡ Some named → o ≡ Some (Some named)

@@ -69,14 +69,6 @@ stepped_legs_of legs value place named leg rules view at keeps all =
       held = now.held;
     }))
 
--- a refused step leaves the leg
-pub refused_step : (old new : LegState) → new ≡ old → IsLegStep old new
-refused_step old new is = rw is (record {
-  ruled = record { rules = refl; width = refl; limit = refl };
-  numbered = λ was. was;
-  recorded = λ was. was;
-})
-
 -- a step that was carried out or refused
 pub numbered_either : {T E : Type 0} (result : Result T E) (old new after : LegState) → (SendsNumbered old → SendsNumbered after)
     → OnOk result (new ≡ after) → OnErr result (new ≡ old) → SendsNumbered old → SendsNumbered new

@@ -255,13 +255,13 @@ impl PeerLegs {
         let Some(named) = &mut self.places[index] else {
             unreachable!()
         };
-        let heard = named.leg.full_into(frame, now, replies)?;
+        let heard = named.leg.full_into(frame, now, replies);
         let _legal = named.leg.window().record();
         let _held = named.leg.window().held_len();
         let remote = named.leg.remote();
         self.rest_until = self.rest_until.min(named.rest_until());
         self.by_remote.note(remote, Some(number));
-        Ok(heard)
+        heard
     }
 
     /// An order to the leg of a local number; media of an order has 1 to 1,380 octets.

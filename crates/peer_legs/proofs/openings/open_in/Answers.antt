@@ -1,9 +1,18 @@
-use Rattle.std.proofs.Common.{◌∙◌, ap, subst, sym}
+use Rattle.std.proofs.Common.{◌∙◌, ap, rules, subst, sym}
 use Rattle.leg_machine.specs.Legs.{LegState}
 use Rattle.leg_machine.specs.Tie.{SendsNumbered}
 use Rattle.peer_legs.proofs.RuleChanges.{recorded}
 use Rattle.peer_legs.proofs.SameCall.{open_in_is}
 use Rattle.peer_legs.proofs.openings.open_in.Goals as goal
+
+pub returns-in-Ok-clause-leg : goal.returns-in-Ok-clause-leg
+returns-in-Ok-clause-leg c = search rules
+
+pub returns-in-Ok-clause-replies : goal.returns-in-Ok-clause-replies
+returns-in-Ok-clause-replies c = search rules
+
+pub returns-in-Ok-clause-heard : goal.returns-in-Ok-clause-heard
+returns-in-Ok-clause-heard c = search rules
 
 pub returns-in-Ok-clause-number : goal.returns-in-Ok-clause-number
 returns-in-Ok-clause-number c =

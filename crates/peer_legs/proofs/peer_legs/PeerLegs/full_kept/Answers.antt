@@ -4,6 +4,12 @@ use Rattle.peer_legs.specs.Legs.{PeerLegs, leg_at}
 use Rattle.peer_legs.proofs.LegThere.{kept_there, some_there}
 use Rattle.peer_legs.proofs.peer_legs.PeerLegs.full_kept.Goals as goal
 
+pub returns-in-Ok-clause-leg : goal.returns-in-Ok-clause-leg
+returns-in-Ok-clause-leg c = c.in-Ok.ensures.leg
+
+pub returns-in-Ok-clause-replies : goal.returns-in-Ok-clause-replies
+returns-in-Ok-clause-replies c = c.in-Ok.ensures.replies
+
 pub returns-in-Ok-clause-heard : goal.returns-in-Ok-clause-heard
 returns-in-Ok-clause-heard c = c.in-Ok.ensures.heard
 

@@ -5,7 +5,7 @@ use Rattle.leg_machine.specs.Legs.{Leg, LegState}
 use Rattle.leg_machine.specs.OrderTable.{order_carried}
 use Rattle.peer_legs.specs.Legs.{NamedLeg}
 use Rattle.peer_legs.specs.LegsInside.{legs_of}
-use Rattle.peer_legs.proofs.LegChanges.{AreIndexed, stepped, placed_is_with_leg, same_either, sends_either}
+use Rattle.peer_legs.proofs.LegChanges.{AreIndexed, stepped, placed_is_with_leg, same_either, sends_either, still_there}
 use Rattle.peer_legs.proofs.LegIndex.{placed}
 use Rattle.peer_legs.proofs.LegSearch.{IsFound, found}
 use Rattle.peer_legs.proofs.RuleChanges.{IsLegStep, recorded, numbered_either, stepped_legs_of, number_fits}
@@ -92,3 +92,10 @@ returns-clause-refused c = λ x e. rw ((is_found c).only x e) c.order_into-obeye
 
 pub returns-clause-memory : goal.returns-clause-memory
 returns-clause-memory c = λ x e. rw ((is_found c).only x e) c.order_into-obeyed.ensures.memory
+
+pub returns-clause-err : goal.returns-clause-err
+returns-clause-err c =
+    on_err_weaker c.order_into-obeyed.result
+    (still_there (legs_of c.self.inside) c.args.self.now c.place_of-index.result (before c) c.order_into-obeyed.new.self.state
+    c.self.view_is (is_found c).at)
+    (still c)

@@ -1,4 +1,6 @@
-use Rattle.std.proofs.Common.{◌≡◌, ◌==◌, ◌<◌, None, Some, length, slice_get, slice_set, sym, ap, ◌∙◌, subst, arith}
+use Rattle.std.specs.Prelude.{map}
+use Rattle.std.proofs.Common.{◌≡◌, ◌==◌, ◌<◌, None, Some, length, slice_get, slice_set, sym, ap, ◌∙◌, subst, arith, rules}
+use Rattle.iax_frames.specs.FullFrame.{spelling}
 use Rattle.leg_machine.specs.Legs.{LegState}
 use Rattle.leg_machine.specs.Ticks.{tick_step}
 use Rattle.leg_machine.specs.Tie.{SendsAtMostOne, SendsNumbered}
@@ -19,18 +21,31 @@ before c = record { name = c.named.inside.lease; leg = c.named.inside.leg.state 
 abbrev after : goal.After-self-2-1 → LegState
 after c = (tick_step (c.tick_into-skipped.result == 0) c.named.inside.leg.state c.args.now).leg
 
+leg_is : (c : goal.After-self-2-1) → c.tick_into-skipped.new.self.state ≡ after c
+leg_is c = search rules
+
+replies_are : (c : goal.After-self-2-1)
+    → c.tick_into-skipped.new.replies ≡ map spelling
+    (tick_step (c.tick_into-skipped.result == 0) c.named.inside.leg.state c.args.now).replies
+replies_are c = search rules
+
+skipped_is : (c : goal.After-self-2-1)
+    → c.tick_into-skipped.result ≡ (tick_step (c.tick_into-skipped.result == 0) c.named.inside.leg.state c.args.now).skipped
+skipped_is c = search rules
+
 is_found : (c : goal.After-self-2-1) → IsFoundAt (legs_of c.self.inside) c.args.self.now c.args.index (before c)
 is_found c =
     let within : c.args.index < length c.self.inside.places.items = omega (arith, c.len.ensures, c.if-index-len.false) in
     found_at (legs_of c.self.inside) c.args.self.now c.args.index c.index_mut.result.now c.in-Some.named (before c) c.self.view_is within c.index_mut.ensures.value c.in-Some.is c.named.view_is
 
 same : (c : goal.After-self-2-1) → IsSameCall c.named.inside.leg.state c.tick_into-skipped.new.self.state
-same c = rw c.tick_into-skipped.ensures.leg (same_tick (c.tick_into-skipped.result == 0) c.named.inside.leg.state c.args.now)
+same c = rw (leg_is c) (same_tick (c.tick_into-skipped.result == 0) c.named.inside.leg.state c.args.now)
 
 is_step : (c : goal.After-self-2-1) → IsLegStep c.named.inside.leg.state c.tick_into-skipped.new.self.state
 is_step c = record {
   ruled = (same c).ruled;
-  numbered = λ numbered. subst SendsNumbered (sym c.tick_into-skipped.ensures.leg) (c.steps_send_as_sides.ensures.ticks (c.tick_into-skipped.result == 0) c.named.inside.leg.state c.args.now numbered).numbered;
+  numbered = λ numbered. subst SendsNumbered (sym (leg_is c))
+      (c.steps_send_as_sides.ensures.ticks (c.tick_into-skipped.result == 0) c.named.inside.leg.state c.args.now numbered).numbered;
   recorded = λ _. recorded c.tick_into-skipped.new.self.state c.window.result.now.state c.window-2.result.now.state c.held_len-held.result c.window.ensures c.window-2.ensures
       c.record-legal.ensures.legal c.held_len-held.ensures.value c.held_len-held.ensures.held;
 }
@@ -55,23 +70,25 @@ pub returns-clause-leg : goal.returns-clause-leg
 returns-clause-leg c = λ x e.
     let is = is_found c in
     rw (is.only x e)
-    (placed_is_with_leg (legs_of c.self.inside) c.args.self.now c.args.index (before c) c.tick_into-skipped.new.self.state (after c) c.self.view_is c.self.invariant.legs is.at c.tick_into-skipped.ensures.leg)
+    (placed_is_with_leg (legs_of c.self.inside) c.args.self.now c.args.index (before c) c.tick_into-skipped.new.self.state
+    (after c) c.self.view_is c.self.invariant.legs is.at (leg_is c))
 
 pub returns-clause-place : goal.returns-clause-place
 returns-clause-place c = λ x e.
     rw ((is_found c).only x e)
-    (ap (λ (leg : LegState). slice_set c.self.inside.places.items c.args.index (Some (record { name = c.named.inside.lease; leg = leg }))) c.tick_into-skipped.ensures.leg
+    (ap (λ (leg : LegState). slice_set c.self.inside.places.items c.args.index
+    (Some (record { name = c.named.inside.lease; leg = leg }))) (leg_is c)
     ∙ ap (λ (v : PeerLegs). slice_set v.places c.args.index (Some (record { name = c.named.inside.lease; leg = after c }))) c.self.view_is)
 
 pub returns-clause-replies : goal.returns-clause-replies
-returns-clause-replies c = λ x e. rw ((is_found c).only x e) c.tick_into-skipped.ensures.replies
+returns-clause-replies c = λ x e. rw ((is_found c).only x e) (replies_are c)
 
 pub returns-clause-skipped : goal.returns-clause-skipped
-returns-clause-skipped c = λ x e. rw ((is_found c).only x e) c.tick_into-skipped.ensures.skipped
+returns-clause-skipped c = λ x e. rw ((is_found c).only x e) (skipped_is c)
 
 pub returns-clause-tied : goal.returns-clause-tied
 returns-clause-tied c = λ x e.
-    rw ((is_found c).only x e) (subst (SendsAtMostOne c.named.inside.leg.state) c.tick_into-skipped.ensures.leg c.tick_into-skipped.ensures.tied)
+    rw ((is_found c).only x e) (subst (SendsAtMostOne c.named.inside.leg.state) (leg_is c) c.tick_into-skipped.ensures.tied)
 
 pub returns-clause-none : goal.returns-clause-none
 returns-clause-none c = rw (is_found c).leg_is tt
