@@ -1,7 +1,11 @@
 -- The keys of a plan, in their order.
-use Rattle.std.specs.Prelude.{ℕ, List, codes}
+use Rattle.std.specs.Prelude.{ℕ, List, [], ◌∷◌, Bool, ◌||◌, ◌&&◌, ◌==◌, codes}
+use Rattle.std.specs.List.{list_any}
+use Rattle.std.specs.Str.{bytes_eq}
 use Rattle.peer_plan.specs.declared.key.Key.{Key}
 use Rattle.peer_plan.specs.declared.key.Key.TheVariants as key
+use Rattle.peer_plan.specs.declared.key.Section.{Section}
+use Rattle.peer_plan.specs.declared.key.Section.TheVariants as section
 
 -- the name of a key as the text of a plan has it
 abbrev pub key_name : Key → List ℕ
@@ -25,3 +29,19 @@ key_name key.Numbers = codes "numbers"
 key_name key.Window = codes "window"
 key_name key.Route = codes "route"
 key_name key.Prefix = codes "prefix"
+
+-- one of these keys has the name
+abbrev pub is_one_of : List Key → List ℕ → Bool
+is_one_of keys name = list_any (λ key. bytes_eq (key_name key) name) keys
+
+-- A table is read at these keys, and at no other.
+abbrev pub is_known : Section → ℕ → List ℕ → Bool
+is_known section.Plan format name =
+    is_one_of (key.Format ∷ key.RetryMs ∷ key.MaxRetries ∷ key.PingMs ∷ key.RecordLimit ∷ key.Worker ∷ key.Passes ∷ key.Peer
+    ∷ key.Route ∷ []) name
+is_known section.Worker format name = is_one_of (key.Address ∷ key.Port ∷ []) name
+is_known section.Peer format name =
+    is_one_of (key.Name ∷ key.Address ∷ key.Port ∷ key.Worker ∷ key.User ∷ key.Secret ∷ key.Formats ∷ key.Trunk
+    ∷ key.TrunkTimestamps ∷ key.Numbers ∷ []) name
+    || (format == 2 && bytes_eq (key_name key.Window) name)
+is_known section.Route format name = is_one_of (key.Prefix ∷ key.Peer ∷ []) name

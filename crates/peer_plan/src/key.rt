@@ -1,7 +1,17 @@
 //! The keys of a plan.
 ghost use Rattle.std.specs.Prelude.{◌≡◌};
+ghost use Rattle.peer_plan.specs.Keys.{is_one_of, is_known};
 
 use std::fmt;
+
+/// The tables that a plan is made of: the plan itself, and the tables of its three lists.
+#[derive(Clone, Copy, Debug, PartialEq, Eq)]
+pub enum Section {
+    Plan,
+    Worker,
+    Peer,
+    Route,
+}
 
 /// A key of a plan. It is printed as the plan has it.
 #[derive(Clone, Copy, Debug, PartialEq, Eq)]
@@ -60,6 +70,55 @@ impl Key {
             Key::Route => "route",
             Key::Prefix => "prefix",
         }
+    }
+}
+
+const PLAN_KEYS: [Key; 9] = [
+    Key::Format,
+    Key::RetryMs,
+    Key::MaxRetries,
+    Key::PingMs,
+    Key::RecordLimit,
+    Key::Worker,
+    Key::Passes,
+    Key::Peer,
+    Key::Route,
+];
+
+const WORKER_KEYS: [Key; 2] = [Key::Address, Key::Port];
+
+const PEER_KEYS: [Key; 10] = [
+    Key::Name,
+    Key::Address,
+    Key::Port,
+    Key::Worker,
+    Key::User,
+    Key::Secret,
+    Key::Formats,
+    Key::Trunk,
+    Key::TrunkTimestamps,
+    Key::Numbers,
+];
+
+const ROUTE_KEYS: [Key; 2] = [Key::Prefix, Key::Peer];
+
+fn is_one_of(keys: &[Key], name: &str) -> bool
+    ensures { result ≡ is_one_of keys.now name.now }
+{
+    keys.iter().any(|key| key.name() == name)
+}
+
+/// Whether a table of a plan of format 1 or 2 is read at the key of this name. At any other the table is not looked at.
+pub fn is_known(section: Section, format: u64, name: &str) -> bool
+    ensures { result ≡ is_known section format name.now }
+{
+    match section {
+        Section::Plan => is_one_of(&PLAN_KEYS, name),
+        Section::Worker => is_one_of(&WORKER_KEYS, name),
+        Section::Peer => {
+            is_one_of(&PEER_KEYS, name) || format == 2 && Key::Window.name() == name
+        }
+        Section::Route => is_one_of(&ROUTE_KEYS, name),
     }
 }
 

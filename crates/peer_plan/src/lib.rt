@@ -15,6 +15,6 @@ mod short_text;
 
 pub use endpoint::Endpoint;
 pub use error::PlanError;
-pub use key::Key;
+pub use key::{Key, Section, is_known};
 pub use number_range::NumberRange;
 pub use plan::Plan;

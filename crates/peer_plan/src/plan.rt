@@ -90,6 +90,23 @@ impl Plan {
         self.routes.len()
     }
 
+    /// The prefix of a route, in the order of the plan: at most 32 octets 0x21 ..= 0x7e.
+    pub fn prefix(&self, route: usize) -> &str
+        requires { route < length self.now.routes }
+        ensures { option_map (λ route. route.prefix) (slice_get self.now.routes route) ≡ Some result.now }
+    {
+        self.routes[route].prefix.as_str()
+    }
+
+    /// The peer that a route leads to.
+    pub fn target(&self, route: usize) -> u16
+        requires { route < length self.now.routes }
+        ensures value { option_map (λ route. route.peer) (slice_get self.now.routes route) ≡ Some result }
+        ensures place { result < length self.now.peers }
+    {
+        self.routes[route].peer
+    }
+
     /// How many numbers each peer has, 1 to 512.
     pub fn counts(&self) -> &[u16]
         ensures value { result.now ≡ counts_of self.now.peers }
