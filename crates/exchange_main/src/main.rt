@@ -1,7 +1,9 @@
-//! The program of the exchange: `exchange_main check PLAN`, `exchange_main replay PLAN SCRIPT` and `exchange_main serve PLAN TURNS`.
+//! The program of the exchange: `exchange_main check PLAN`, `exchange_main explain PLAN`, `exchange_main replay PLAN SCRIPT` and
+//! `exchange_main serve PLAN TURNS`.
 #![tactic(auto)]
 
 use exchange_commands::{check, replay, serve, turn_count};
+use plan_report::explain;
 use std::alloc::Global;
 use std::net::Net;
 use std::process::ExitCode;
@@ -13,7 +15,7 @@ use std::time::Clock;
 use std::{env, fs, io};
 
 const USAGE: &str =
-    "usage: exchange_main check <plan> | replay <plan> <script> | serve <plan> <turns>";
+    "usage: exchange_main check <plan> | replay <plan> <script> | serve <plan> <turns>\n       exchange_main explain <plan>";
 
 // Whether a call of the system failed for want of memory.
 fn is_memory(error: &io::Error) -> bool {
@@ -49,6 +51,13 @@ fn refuse_arguments<R: Eprint + Print>(rt: &R, error: &io::Error) -> u8 {
 fn check_file<R: Files + Print + Alloc>(rt: &R, alloc: Global, plan: &str) -> u8 {
     match octets_of(rt, plan) {
         Some(plan) => check(alloc, &plan, &mut io::writer(rt)),
+        None => 1,
+    }
+}
+
+fn explain_file<R: Files + Print + Alloc>(rt: &R, alloc: Global, plan: &str) -> u8 {
+    match octets_of(rt, plan) {
+        Some(plan) => explain(alloc, &plan, &mut io::writer(rt)),
         None => 1,
     }
 }
@@ -102,6 +111,9 @@ fn run<R: Files + Print + Eprint + Alloc + Clock + Net + RandomSource + Threads 
 ) -> u8 {
     match words {
         [_, command, plan] if command.as_str() == "check" => check_file(rt, alloc, plan.as_str()),
+        [_, command, plan] if command.as_str() == "explain" => {
+            explain_file(rt, alloc, plan.as_str())
+        }
         [_, command, plan, script] if command.as_str() == "replay" => {
             replay_files(rt, alloc, plan.as_str(), script.as_str())
         }

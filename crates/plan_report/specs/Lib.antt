@@ -1,0 +1,2 @@
+mod Estimates
+mod Warnings
