@@ -1,0 +1,16 @@
+mod Places
+mod Names
+mod WorldSteps
+mod AtPeers
+mod AtBooks
+mod Spent
+mod Called
+mod Events
+mod Shapes
+mod Kept
+mod InRuns
+mod HeldNames
+mod AtOnce
+mod Made
+mod PeerCalls
+mod Locked

@@ -1,0 +1,61 @@
+-- Many calls at once on an exchange that is stored: one change after another, whichever comes first.
+use Rattle.std.specs.Prelude.{◌≡◌, ℕ, List, [], ◌∷◌, None, Some, slice_get, slice_set}
+use Rattle.call_steps.specs.Work.{next_of, after_told}
+use Rattle.call_steps.specs.World.{Caller, Start, work_of}
+use Rattle.call_steps.specs.declared.needs.Need.{Need}
+use Rattle.call_steps.specs.declared.replies.Reply.{Reply}
+use Rattle.peer_lock.specs.Peer.{PeerView}
+use Rattle.call_runs.specs.Stored.{Stored}
+use Rattle.call_runs.specs.StoredSteps.{Makes, leases_after}
+
+-- a caller that is idle begins a call
+pub record Begins (old new : Stored) : Type 0 where
+  pub who : ℕ
+  pub caller : Caller
+  pub at : slice_get old.callers who ≡ Some caller
+  pub idle : next_of caller.work ≡ None
+  pub start : Start
+  pub callers : new.callers ≡ slice_set old.callers who (record caller { work = work_of start })
+  pub book : new.book ≡ old.book
+  pub peers : new.peers ≡ old.peers
+
+-- a caller whose step was answered so
+abbrev pub told : Caller → Need → Reply → Caller
+told caller need reply = record { work = after_told caller.work reply; leases = leases_after need reply caller.leases }
+
+-- the step that the work of a caller needs next is made, and the work is told the answer
+pub record Steps (old new : Stored) : Type 0 where
+  pub who : ℕ
+  pub caller : Caller
+  pub at : slice_get old.callers who ≡ Some caller
+  pub need : Need
+  pub needed : next_of caller.work ≡ Some need
+  pub reply : Reply
+  pub made : Makes need old new reply
+  pub callers : new.callers ≡ slice_set old.callers who (told caller need reply)
+
+-- the oldest datagram of a peer's outbox goes out
+pub record TakesOut (old new : Stored) : Type 0 where
+  pub place : ℕ
+  pub before : PeerView
+  pub at : slice_get old.peers place ≡ Some before
+  pub datagram : List ℕ
+  pub outbox : List (List ℕ)
+  pub oldest : before.outbox ≡ datagram ∷ outbox
+  pub peers : new.peers ≡ slice_set old.peers place (record before { outbox = outbox })
+  pub book : new.book ≡ old.book
+  pub callers : new.callers ≡ old.callers
+
+pub data Changes (old new : Stored) : Type 0 where
+  ByBeginning : (begins : Begins old new) → Changes old new
+  ByStep : (step : Steps old new) → Changes old new
+  ByTakingOut : (out : TakesOut old new) → Changes old new
+
+-- each state comes of the one before it
+abbrev pub IsRun : Stored → List Stored → Type 0
+IsRun first [] = Unit {0}
+IsRun first (next ∷ later) = Changes first next × IsRun next later
+
+abbrev pub last_of : Stored → List Stored → Stored
+last_of first [] = first
+last_of first (next ∷ later) = last_of next later

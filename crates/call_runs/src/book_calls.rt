@@ -1,0 +1,50 @@
+//! What the calls of the book do, as steps on the exchange that is stored: each function makes one call and nothing else, and is
+//! here for what its clauses say of that call.
+ghost use Rattle.std.specs.Prelude.{◌≡◌, [], ◌∷◌};
+ghost use Rattle.call_book.specs.Book.{after_reserve, bridge_answer, has_name, partner_of, reserve_answer};
+ghost use Rattle.call_steps.specs.declared.needs.Need.TheVariants as needs;
+ghost use Rattle.call_steps.specs.declared.replies.Reply.TheVariants as replies;
+ghost use Rattle.call_runs.specs.PeerCalls.{leases_in};
+ghost use Rattle.call_runs.specs.StoredSteps.{after_bridge, after_release, release_answer, leases_after};
+
+use call_book::{CallBook, Lease, LegName};
+use call_steps::Reply;
+
+/// A new name of a peer, with its lease.
+pub fn reserve(book: &mut CallBook, peer: u16) -> (Reply, Option<Lease>)
+    ensures book { book.new ≡ after_reserve book.old peer }
+    ensures answer { result.0 ≡ replies.Reserve (reserve_answer book.old peer) }
+    ensures leases { leases_in result.1 ≡ leases_after (needs.Reserve peer) result.0 [] }
+{
+    match book.reserve(peer) {
+        Ok(lease) => (Reply::Reserve(Ok(lease.name())), Some(lease)),
+        Err(error) => (Reply::Reserve(Err(error)), None),
+    }
+}
+
+/// Two names become partners.
+pub fn bridge(book: &mut CallBook, a: LegName, b: LegName) -> Reply
+    ensures book { book.new ≡ after_bridge book.old a b (bridge_answer book.old a b) }
+    ensures answer { result ≡ replies.Bridge (bridge_answer book.old a b) }
+{
+    Reply::Bridge(book.bridge(a, b))
+}
+
+/// The partner of a name.
+pub fn partner(book: &CallBook, name: LegName) -> Reply
+    ensures { result ≡ replies.Partner (partner_of book.now name) }
+{
+    Reply::Partner(book.partner(name))
+}
+
+/// A lease goes back. One that the book refuses is dropped.
+pub fn release(book: &mut CallBook, lease: Lease) -> Reply
+    ensures book { book.new ≡ after_release book.old lease (has_name book.old lease) }
+    ensures answer { result ≡ replies.Release (release_answer book.old lease (has_name book.old lease)) }
+    ensures leases { leases_after (needs.Release lease) result (lease ∷ []) ≡ [] }
+{
+    match book.release(lease) {
+        Ok(former) => Reply::Release(Ok(former)),
+        Err((_, stale)) => Reply::Release(Err(stale)),
+    }
+}

@@ -1,0 +1,6 @@
+//! Runs of the peers and the book that are stored, while many calls are made at once, and what holds of them ("Call Setup").
+#![tactic(auto)]
+
+pub mod book_calls;
+pub mod laws;
+pub mod peer_calls;
