@@ -1,6 +1,6 @@
 -- The full frames that a leg writes are sendings of a network's side.
 use Rattle.std.specs.Prelude.{nat_lt, All, slice_get}
-use Rattle.std.proofs.Common.{◌≡◌, ℕ, zero, suc, ◌+◌, ◌≤◌, Bool, true, false, cond, List, [], ◌∷◌, ◌++◌, length, drop, Option, None, Some, refl, sym, ap, subst, ◌∙◌, arith, zero-add, add-zero, length-append}
+use Rattle.std.proofs.Common.{◌≡◌, ℕ, zero, suc, ◌+◌, ◌≤◌, Bool, true, false, cond, List, [], ◌∷◌, ◌++◌, length, drop, Option, None, Some, refl, sym, ap, subst, ◌∙◌, arith, zero-add, add-zero}
 use Rattle.std.proofs.lemmas.List.Elements.{All-nil, All-cons, All-push, All-same}
 use Rattle.std.proofs.lemmas.Option.{get_or_from_slice_get, slice_get_within}
 use Rattle.iax_frames.specs.FullFrame.{FullFrame, subclass_meaning}
@@ -49,10 +49,6 @@ get-append [] ys i x at = cc
 get-append (y ∷ xs) ys zero x at = at
 get-append (y ∷ xs) ys (suc i) x at = get-append xs ys i x at
 
-get-push : {X : Type 0} (xs : List X) (x : X) → slice_get (xs ++ x ∷ []) (length xs) ≡ Some x
-get-push [] x = refl
-get-push (y ∷ xs) x = get-push xs x
-
 get-drop : {X : Type 0} (n : ℕ) (xs : List X) (i : ℕ) → slice_get (drop n xs) i ≡ slice_get xs (n + i)
 get-drop zero xs i = ap (slice_get xs) (sym (zero-add i))
 get-drop (suc n) [] i = refl
@@ -87,12 +83,10 @@ no-inval _ numbered = refl
 pub new-sending : (leg : LegState) (frame : Frame) → IsNumberedFrame frame → IsSendingOf (leg.window.history ++ Sent frame ∷ []) (outgoing leg false (next_byte leg) frame)
 new-sending leg frame numbered =
     let h = leg.window.history in
-    let count : sent_count h + 1 ≡ sent_count (h ++ Sent frame ∷ []) =
-    omega (arith, ap length (sent-push h frame), length-append (sent_frames h) (frame ∷ [])) in
     record {
       datagram = record { number = sent_count h; acknowledgement = taken_count (h ++ Sent frame ∷ []); frame = Some frame };
       acknowledgement = refl;
-      number = (ap (λ (fs : List Frame). slice_get fs (sent_count h)) (sent-push h frame) ∙ get-push (sent_frames h) frame, count);
+      number = (h, refl, refl);
       oseqno = refl;
       iseqno = ap (λ (fs : List Frame). byte_of (length fs)) (sym (taken-push h frame));
       frame = ap (λ (b : Bool). cond b (Some frame) None) numbered;
