@@ -13,5 +13,6 @@ pub mod SeenSteps
 pub mod Shortness
 pub mod Sides
 pub mod SidesEvents
+pub mod SidesSent
 pub mod SidesTicks
 pub mod Ticking

@@ -22,8 +22,8 @@ use Rattle.leg_machine.specs.declared.media.MediaSent.{MediaSent}
 use Rattle.leg_machine.specs.declared.media.MediaSent.TheVariants as sent
 use Rattle.peer_accounts.specs.declared.account.Carried.TheVariants.{Packed}
 use Rattle.peer_legs.specs.Finding.{found}
-use Rattle.peer_legs.specs.Legs.{NamedLeg, is_free_name, leg_at, leg_named}
-use Rattle.peer_legs.proofs.PlaceLaws.{stands_at}
+use Rattle.peer_legs.specs.Legs.{NamedLeg, is_free_name, leg_at, leg_named, with_place}
+use Rattle.peer_legs.proofs.PlaceLaws.{placed_there, stands_at}
 use Rattle.peer_legs.proofs.RuleChanges.{number_fits}
 use Rattle.peer_lock.specs.Arrivals.{datagram_step, delivered_step}
 use Rattle.peer_lock.specs.Delivery.{Delivery, NeedsNumber, GetsInval, NoCall, delivered, is_new, unknown_call}
@@ -160,6 +160,13 @@ module _ (turns : (leg : LegState) (order : Order) (now : ℕ) → SendsAtMostOn
 
 -- ---- openings
 
+-- what is put under a free name stands there
+opened_there : (peer : PeerView) (name : LegName) (leg : LegState) → is_free_name peer.legs name ≡ true
+    → leg_at (with_place peer.legs name.number (Some (record { name = name; leg = leg }))) name.number ≡ Some (record { name = name; leg = leg })
+opened_there peer name leg free =
+    let is = free_name peer.legs name free in
+    placed_there peer.legs name.number (Some (record { name = name; leg = leg })) is.first is.within
+
 module _ (turns : (rules : PeerRules) (number : ℕ) (frame : FullFrame) (now : ℕ) (challenge : List ℕ) → TakesFirstTurn frame (open_in_step rules number frame now challenge).leg)
     (sends : (rules : PeerRules) (number : ℕ) (frame : FullFrame) (now : ℕ) (challenge : List ℕ)
     → HasSent (open_in_step rules number frame now challenge).leg (map spelling (open_in_step rules number frame now challenge).replies)) where
@@ -170,6 +177,7 @@ module _ (turns : (rules : PeerRules) (number : ℕ) (frame : FullFrame) (now : 
     opens = record {
       free = (free_name peer.legs name free).none;
       legs = refl;
+      there = opened_there peer name (open_in_step peer.rules name.number frame now challenge).leg free;
       datagrams = map spelling (open_in_step peer.rules name.number frame now challenge).replies;
       outbox = refl;
       sendings = (sends peer.rules name.number frame now challenge).sendings;
@@ -188,6 +196,7 @@ module _ (turns : (rules : PeerRules) (number : ℕ) (called : List ℕ) (callin
     opens = record {
       free = (free_name peer.legs name free).none;
       legs = refl;
+      there = opened_there peer name (open_out_step peer.rules name.number called calling format now).leg free;
       datagrams = map spelling (open_out_step peer.rules name.number called calling format now).replies;
       outbox = refl;
       sendings = (sends peer.rules name.number called calling format now).sendings;

@@ -1,18 +1,22 @@
 -- What a step of a peer adds to the records of its legs, and what it sends of them, as sides of networks do ("Message Transport").
-use Rattle.std.specs.Prelude.{◌≡◌, ◌⊎◌, ℕ, List, [], ◌∷◌, ◌++◌, All, Option, None, Some}
+use Rattle.std.specs.Prelude.{◌≡◌, ◌⊎◌, ℕ, false, List, [], ◌∷◌, ◌++◌, All, Option, None, Some, slice_get}
 use Rattle.call_book.specs.declared.leg_name.LegName.{LegName}
 use Rattle.iax_frames.specs.FullFrame.{FullFrame, spelling}
+use Rattle.iax_frames.specs.MiniFrame.{MiniFrame, SpellsMini}
+use Rattle.call_signals.specs.Messages.{message_of, is_inval}
 use Rattle.call_signals.specs.declared.rules.PeerRules.{PeerRules}
 use Rattle.iax_frames.specs.declared.datagram.Datagram.{Datagram}
 use Rattle.iax_frames.specs.declared.stored_frame.Frame.{Frame}
 use Rattle.iax_frames.specs.declared.datagram.Datagram.TheVariants.{Full, Mini, Video, Trunk}
 use Rattle.leg_machine.specs.Legs.{LegState}
-use Rattle.leg_machine.specs.Tie.{numbered_frame, TakesTurn, SendsAtMostOne, TakesFirstTurn, HasSentAtMostOne, IsSending, IsSendingOrMini}
+use Rattle.leg_machine.specs.Tie.{numbered_frame, TakesTurn, SendsAtMostOne, TakesFirstTurn, HasSentAtMostOne}
+use Rattle.leg_machine.specs.Tie.{IsSendingOf, IsSending, IsSendingOrMini}
 use Rattle.peer_legs.specs.Legs.{PeerLegs, NamedLeg, leg_at, with_leg, with_place}
 use Rattle.peer_lock.specs.Arrivals.{inval_for}
 use Rattle.peer_lock.specs.Outbox.{put}
 use Rattle.peer_lock.specs.Peer.{PeerView}
-use Rattle.seq_window.specs.Network.{Datagram as Sending, Side, actions_in_turn, after_all, reply_actions}
+use Rattle.seq_window.specs.Network.{Action, SendNumbered, SendUnnumbered, Retransmit, JudgeAcknowledgement, JudgeNumber}
+use Rattle.seq_window.specs.Network.{Datagram as Sending, Side, actions_in_turn, after_all, empty_side, reply_actions}
 use Rattle.seq_window.specs.Turn.{Turn}
 use Rattle.seq_window.specs.Sequence.{byte_of}
 
@@ -62,10 +66,11 @@ pub record SendsAtLeg (old : PeerView) (name : LegName) (new : PeerView) : Type 
   pub tied : SendsAtMostOne named.leg leg
   pub sendings : All (IsSendingOrMini leg) datagrams
 
--- a leg is opened under a free name: all that it sends is a sending from its record
+-- a leg is opened under a free name, and then stands there: all that it sends is a sending from its record
 pub record OpensLeg (old : PeerView) (name : LegName) (leg : LegState) (new : PeerView) : Type 0 where
   pub free : leg_at old.legs name.number ≡ None
   pub legs : new.legs ≡ with_place old.legs name.number (Some (record { name = name; leg = leg }))
+  pub there : leg_at new.legs name.number ≡ Some (record { name = name; leg = leg })
   pub datagrams : List (List ℕ)
   pub outbox : new.outbox ≡ put old.outbox datagrams
   pub sendings : All (IsSending leg) datagrams
@@ -118,10 +123,59 @@ pub record Bears (frame : FullFrame) (datagram : Sending) : Type 0 where
   pub iseqno : frame.head.iseqno ≡ byte_of datagram.acknowledgement
   pub frame_is : numbered_frame frame ≡ datagram.frame
 
--- by the actions of one turn, which judge this datagram of the other side alone, a side comes to the record that a leg has
-abbrev pub TurnsInto : PeerRules → Side → Side → ℕ → LegState → Type 0
-TurnsInto rules own other which leg = (turn : Turn) × IsSideOf rules leg (after_all (actions_in_turn which turn) own other)
+-- a side has sent this datagram
+abbrev pub HasDatagram : Side → Sending → Type 0
+HasDatagram own datagram = (which : ℕ) × (slice_get own.datagrams which ≡ Some datagram)
 
--- by sending at most one frame
-abbrev pub SendsInto : PeerRules → Side → Side → LegState → Type 0
-SendsInto rules own other leg = (sent : Option Frame) × IsSideOf rules leg (after_all (reply_actions sent) own other)
+-- A side has sent these octets: they spell a full frame that bears one of its datagrams, and that is no INVAL.
+pub record IsSentBy (own : Side) (octets : List ℕ) : Type 0 where
+  pub frame : FullFrame
+  pub spelt : octets ≡ spelling frame
+  pub datagram : Sending
+  pub sent : HasDatagram own datagram
+  pub bears : Bears frame datagram
+  pub no_inval : is_inval (message_of frame.head) ≡ false
+
+-- or they are a mini frame, which has no part in the numbers
+abbrev pub IsSentByOrMini : Side → List ℕ → Type 0
+IsSentByOrMini own octets = IsSentBy own octets ⊎ ((mini : MiniFrame) × SpellsMini octets mini)
+
+-- a leg sends this datagram from its record, as a full frame that is a sending from it
+abbrev pub IsSentFrom : LegState → Sending → Type 0
+IsSentFrom leg datagram = (frame : FullFrame) × (sending : IsSendingOf leg.window.history frame) × (sending.datagram ≡ datagram)
+
+-- an action that sends a held frame again, or what isn't numbered: the record stays
+abbrev pub SendsNothingNew : Action → Type 0
+SendsNothingNew SendUnnumbered = Unit {0}
+SendsNothingNew (Retransmit place) = Unit {0}
+SendsNothingNew (SendNumbered frame) = ⊥
+SendsNothingNew (JudgeAcknowledgement which) = ⊥
+SendsNothingNew (JudgeNumber which) = ⊥
+
+-- By such actions a side, which keeps the record of a leg, comes to have sent all of these.
+pub record SendsAll (X : Type 0) (IsSent : Side → X → Type 0) (rules : PeerRules) (leg : LegState) (own other : Side)
+    (items : List X) : Type 0 where
+  pub actions : List Action
+  pub nothing_new : All SendsNothingNew actions
+  pub stays : IsSideOf rules leg (after_all actions own other)
+  pub sent : All (IsSent (after_all actions own other)) items
+
+-- By these actions a side comes to the record that a leg has, and then sends these datagrams.
+pub record ActsInto (IsSent : Side → List ℕ → Type 0) (rules : PeerRules) (own other : Side) (actions : List Action)
+    (leg : LegState) (datagrams : List (List ℕ)) : Type 0 where
+  pub grows : IsSideOf rules leg (after_all actions own other)
+  pub sends : SendsAll (List ℕ) IsSent rules leg (after_all actions own other) other datagrams
+
+-- by the actions of one turn, which judge this datagram of the other side alone
+abbrev pub TurnsInto : PeerRules → Side → Side → ℕ → LegState → List (List ℕ) → Type 0
+TurnsInto rules own other which leg datagrams =
+    (turn : Turn) × ActsInto IsSentBy rules own other (actions_in_turn which turn) leg datagrams
+
+-- by sending at most one new frame
+abbrev pub SendsInto : (Side → List ℕ → Type 0) → PeerRules → Side → Side → LegState → List (List ℕ) → Type 0
+SendsInto IsSent rules own other leg datagrams =
+    (sent : Option Frame) × ActsInto IsSent rules own other (reply_actions sent) leg datagrams
+
+-- a side that has done nothing, with the sizes that the peer's rules give
+abbrev pub unused_side : PeerRules → Side
+unused_side rules = empty_side (record { width = rules.window; limit = rules.record_limit })

@@ -1,24 +1,30 @@
 //! What holds of every step of a peer.
-ghost use Rattle.std.specs.Prelude.{◌≡◌, ◌≤◌, ◌⊎◌, ℕ, true, length, List, Option, None, Some, slice_get};
+ghost use Rattle.std.specs.Prelude.{◌≡◌, ◌≤◌, ◌⊎◌, ℕ, true, length, List, All, Option, None, Some, slice_get};
 ghost use Rattle.call_book.specs.declared.leg_name.LegName.{LegName};
 ghost use Rattle.iax_frames.specs.Datagram.{Spells};
 ghost use Rattle.iax_frames.specs.FullFrame.{FullFrame};
 ghost use Rattle.iax_frames.specs.declared.datagram.Datagram.{Datagram};
+ghost use Rattle.call_signals.specs.Messages.{message_of};
+ghost use Rattle.leg_machine.specs.Legs.{LegState};
 ghost use Rattle.leg_machine.specs.OrderTable.{wants_memory};
 ghost use Rattle.leg_machine.specs.Seen.{kind_of};
+ghost use Rattle.leg_machine.specs.Tie.{IsSending};
 ghost use Rattle.leg_machine.specs.Tries.{NoneDue};
 ghost use Rattle.call_signals.specs.declared.formats.Format.{Format};
 ghost use Rattle.call_signals.specs.declared.orders.Order.{Order};
+ghost use Rattle.call_signals.specs.declared.rules.PeerRules.{PeerRules};
 ghost use Rattle.call_signals.specs.declared.stages.Stage.TheVariants.{Ended};
 ghost use Rattle.peer_lock.specs.Arrivals.{datagram_step};
 ghost use Rattle.peer_lock.specs.CarriedMedia.{CarriesItsOwn};
-ghost use Rattle.peer_legs.specs.Legs.{AreLegs, PeerLegs, NamedLeg, leg_at, leg_named, with_place};
+ghost use Rattle.peer_lock.specs.Delivery.{is_new};
+ghost use Rattle.peer_legs.specs.Legs.{AreLegs, IsLegOf, PeerLegs, NamedLeg, leg_at, leg_named, with_place};
 ghost use Rattle.peer_legs.specs.Legs.{is_free_name};
 ghost use Rattle.peer_lock.specs.Openings.{opens_in, opens_out};
 ghost use Rattle.peer_lock.specs.Orders.{order_refused_by, ordered_step, IsOrderRefusal};
 ghost use Rattle.peer_lock.specs.Peer.{PeerView};
 ghost use Rattle.peer_lock.specs.Seen.{IsSeenDatagram, OpensIn, OpensOut, Obeys, IsSeenRefusal, TicksAll, Retires};
-ghost use Rattle.peer_lock.specs.Sides.{TakesDatagram, TakesTurnAtLeg, TakesNew, SendsNew, SendsAtLeg, EachSends, IsSideOf, Bears, TurnsInto, SendsInto};
+ghost use Rattle.peer_lock.specs.Sides.{TakesDatagram, TakesTurnAtLeg, TakesNew, SendsNew, SendsAtLeg, EachSends};
+ghost use Rattle.peer_lock.specs.Sides.{IsSideOf, Bears, HasDatagram, IsSentBy, IsSentByOrMini, IsSentFrom, SendsAll, TurnsInto, SendsInto, unused_side};
 ghost use Rattle.peer_lock.specs.SoundPeer.{IsSoundPeer};
 ghost use Rattle.peer_lock.specs.Statuses.{is_done};
 ghost use Rattle.peer_lock.specs.Ticks.{Ticks};
@@ -80,19 +86,35 @@ pub fn steps_are_of_sides()
     leg_machine::laws::steps_send_as_sides();
 }
 
-/// What such a step adds to a leg's record, actions of a side of a network add, by which the side comes to the record that the leg has
-/// after the step: those of one turn that judges the very datagram that came, or the sending of at most one frame.
+/// What such a step adds to a leg's record, actions of a side of a network add, by which the side comes to the record that the leg
+/// has after the step: those of one turn that judges the very datagram that came, or the sending of at most one frame. By more
+/// actions, which send only what is held or isn't numbered, the side then has sent each datagram that the step sends.
 pub fn steps_are_actions()
     // Of a full frame that bears the numbers of a datagram which the other side sent.
     ensures frames { (old new : PeerView) (frame : FullFrame) (turn : TakesTurnAtLeg old frame new) → IsSoundPeer new →
         (own other : Side) → IsSideOf new.rules turn.named.leg own →
         (which : ℕ) (sending : Sending) → slice_get other.datagrams which ≡ Some sending → Bears frame sending →
-        TurnsInto new.rules own other which turn.leg }
+        TurnsInto new.rules own other which turn.leg turn.datagrams }
     ensures orders { (old new : PeerView) (name : LegName) (sends : SendsAtLeg old name new) → IsSoundPeer new →
-        (own other : Side) → IsSideOf new.rules sends.named.leg own → SendsInto new.rules own other sends.leg }
+        (own other : Side) → IsSideOf new.rules sends.named.leg own →
+        SendsInto IsSentByOrMini new.rules own other sends.leg sends.datagrams }
+    // Of a tick, whatever of its datagrams are sendings from this leg's record.
     ensures ticks { (old new : PeerView) → EachSends old new → IsSoundPeer new →
         (number : ℕ) (named after : NamedLeg) → leg_at old.legs number ≡ Some named → leg_at new.legs number ≡ Some after →
-        (own other : Side) → IsSideOf new.rules named.leg own → SendsInto new.rules own other after.leg }
+        (datagrams : List (List ℕ)) → All (IsSending after.leg) datagrams →
+        (own other : Side) → IsSideOf new.rules named.leg own → SendsInto IsSentBy new.rules own other after.leg datagrams }
+    // An opened leg begins as a side that has done nothing: by a NEW that bears the numbers of a datagram which the other side
+    // sent,
+    ensures calls_in { (old new : PeerView) (name : LegName) (frame : FullFrame) (takes : TakesNew old name frame new) →
+        IsSoundPeer new → is_new (message_of frame.head) ≡ true →
+        (other : Side) (which : ℕ) (sending : Sending) → slice_get other.datagrams which ≡ Some sending → Bears frame sending →
+        TurnsInto new.rules (unused_side new.rules) other which takes.leg takes.opens.datagrams }
+    // or by one that goes out.
+    ensures calls_out { (old new : PeerView) (name : LegName) (sends : SendsNew old name new) → IsSoundPeer new →
+        (other : Side) → SendsInto IsSentBy new.rules (unused_side new.rules) other sends.leg sends.opens.datagrams }
+    // And whatever such a leg sends from its record, with those very numbers, a side with that record sends.
+    ensures sendings { (rules : PeerRules) (leg : LegState) → IsLegOf rules leg → (own other : Side) → IsSideOf rules leg own →
+        (datagrams : List Sending) → All (IsSentFrom leg) datagrams → SendsAll Sending HasDatagram rules leg own other datagrams }
 {
     seq_window::laws::steps_are_events();
 }
