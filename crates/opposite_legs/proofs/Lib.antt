@@ -1,0 +1,2 @@
+mod Freshness
+mod Following
