@@ -30,7 +30,8 @@ use call_book::{Lease, LegName};
 use iax_frames::Full;
 use leg_machine::{Format, Order};
 use peer_lock::{
-    Naming, Onwards, OpenError, OrderError, PeerError, Status, Step, StepsSpent, TickReport,
+    Naming, Onwards, OpenError, OrderError, PeerError, ReadDatagram, Status, Step, StepsSpent,
+    TickReport,
 };
 use seq_window::Record;
 use trails::Seen;
@@ -60,7 +61,6 @@ impl<J: Naming> NotedPeer<J> {
     /// written to the list, which is empty.
     ///
     /// Refusals are looked for in the order of `PeerError`. `Memory` comes only where memory was refused.
-    #[tactic(auto, using(crate::proofs::Counted::steps_in_longer))]
     pub fn datagram(
         &mut self,
         pass: &mut Pass<J>,
@@ -80,9 +80,40 @@ impl<J: Naming> NotedPeer<J> {
             ⊎ ((d : DatagramValue) × IsWorked J.first_steps self.old.state.accounts.steps octets.now d × IsDue (datagram_refused self.old.state d) e)) }
         ensures err { OnErr result (IsUnchanged self.old.state self.new.state pass.old.credit pass.new.credit onwards.new) }
     {
-        let answer = self.state.datagram(&mut pass.credits, octets, now, onwards);
+        self.datagram_read(pass, &ReadDatagram::of(octets), now, onwards)
+    }
+
+    /// A datagram that was read comes from the peer: `datagram` without the reading.
+    ///
+    /// Refusals are looked for in the order of `PeerError`. `Memory` comes only where memory was refused.
+    #[tactic(auto, using(crate::proofs::Counted::steps_in_longer))]
+    pub fn datagram_read(
+        &mut self,
+        pass: &mut Pass<J>,
+        datagram: &ReadDatagram<'_>,
+        now: u64,
+        onwards: &mut Onwards,
+    ) -> Result<Step, PeerError>
+        requires nothing { IsNothing onwards.old }
+        ensures noted { Notes (mades.Datagram self.old.number datagram.now now result onwards.new) pass.old pass.new }
+        ensures number { self.new.number ≡ self.old.number }
+        ensures made { IfOk result (λ step. (d : DatagramValue) → IsWorked J.first_steps self.old.state.accounts.steps datagram.now d
+            → Makes (datagram_step J.first_octets self.old.state d now) self.new.state step pass.old.credit pass.new.credit onwards.new) }
+        ensures worked { OnOk result ((d : DatagramValue) × IsWorked J.first_steps self.old.state.accounts.steps datagram.now d) }
+        ensures unrefused { OnOk result ((d : DatagramValue) → IsWorked J.first_steps self.old.state.accounts.steps datagram.now d
+            → datagram_refused self.old.state d ≡ None) }
+        ensures unworked { (e : PeerErrorValue) → IsUnworked J.first_steps self.old.state.accounts.steps datagram.now e → result ≡ Err e }
+        ensures refused { IfErr result (λ e. IsUnworked J.first_steps self.old.state.accounts.steps datagram.now e
+            ⊎ ((d : DatagramValue) × IsWorked J.first_steps self.old.state.accounts.steps datagram.now d
+            × IsDue (datagram_refused self.old.state d) e)) }
+        ensures err { OnErr result (IsUnchanged self.old.state self.new.state pass.old.credit pass.new.credit onwards.new) }
+    {
+        let answer = self
+            .state
+            .datagram_read(&mut pass.credits, datagram, now, onwards);
         let handed = Seen::of(&*onwards);
-        let made = Made::Datagram(self.number, Octets::of(octets), now, answer, handed);
+        let octets = Octets::of(datagram.octets());
+        let made = Made::Datagram(self.number, octets, now, answer, handed);
         push(&mut pass.made, made);
         answer
     }

@@ -1,7 +1,8 @@
 -- Why a datagram is refused, from how it was read and what came of it.
 use native.Mathlib.Omega.{arith}
-use Rattle.std.proofs.Common.{◌≡◌, ◌≢◌, ◌<◌, ◌≤◌, ◌⊎◌, ℕ, List, length, Result, Ok, Err, inl, inr, subst}
-use Rattle.std.specs.Prelude.{IfErr}
+use Rattle.std.proofs.Common.{◌≡◌, ◌≢◌, ◌<◌, ◌≤◌, ◌⊎◌, ◌∙◌, ℕ, Bool, false, true≢false, List, length, Result, Ok, Err}
+use Rattle.std.proofs.Common.{inl, inr, ap, refl, subst, sym}
+use Rattle.std.specs.Prelude.{IfOk, IfErr, OnErr, IsTrue}
 use Rattle.iax_frames.specs.Datagram.{Spells, Refuses}
 use Rattle.iax_frames.specs.declared.datagram.Datagram.{Datagram}
 use Rattle.iax_frames.specs.declared.datagram.Datagram.TheVariants.{Full, Mini, Video, Trunk}
@@ -11,6 +12,7 @@ use Rattle.peer_lock.specs.Arrivals.{datagram_refused}
 use Rattle.peer_lock.specs.Errors.{from_frame}
 use Rattle.peer_lock.specs.Makes.{IsDue}
 use Rattle.peer_lock.specs.Peer.{PeerView}
+use Rattle.peer_lock.specs.ReadDatagram.{IsReading}
 use Rattle.peer_lock.specs.Unworked.{IsRefusedRead, IsSound, IsUnworked, IsWorked}
 use Rattle.peer_lock.specs.declared.errors.PeerError.{PeerError}
 use Rattle.peer_lock.specs.declared.errors.PeerError.TheVariants as errors
@@ -20,6 +22,27 @@ use Rattle.peer_lock.specs.declared.steps.Step.{Step}
 pub of_error : {A E : Type 0} (P Q : E → Type 0) → ((e : E) → P e → Q e) → (result : Result A E) → IfErr result P → IfErr result Q
 of_error P Q so (Ok value) there = there
 of_error P Q so (Err e) there = so e there
+
+-- a reading, where its octets and its answer have other names
+pub reading_of : (octets other : List ℕ) (answer given : Result Datagram FrameError)
+    → IsReading octets answer → octets ≡ other → answer ≡ given → IsReading other given
+reading_of octets other answer given reading octets_are answer_is =
+    subst (IsReading other) answer_is (subst (λ o. IsReading o answer) octets_are reading)
+
+-- a peer that isn't spent has step credit left, by whatever name it goes
+pub unspent : (inside peer : PeerView) (credit : ℕ) (spent : Bool) → inside ≡ peer
+    → (inside.accounts.steps ≡ credit → IsTrue spent) → spent ≡ false → peer.accounts.steps ≢ credit
+unspent inside peer credit spent same tells is all =
+    true≢false (sym (tells (ap (λ (p : PeerView). p.accounts.steps) same ∙ all)) ∙ is)
+
+-- octets that are read are refused by nothing, and spell nothing else
+module _ (octets : List ℕ) (d : Datagram) (reading : IsReading octets (Ok d)) where
+  pub unrefused : (error : FrameError) → Refuses octets error → ⊥
+  unrefused error why = subst (λ (answer : Result Datagram FrameError). OnErr answer ⊥) (reading.only_error error why) tt
+
+  pub spelled_alone : (other : Datagram) → Spells octets other → other ≡ d
+  spelled_alone other spelled =
+      subst (λ (answer : Result Datagram FrameError). IfOk answer (λ x. x ≡ d)) (reading.only other spelled) refl
 
 module _ (credit made : ℕ) (octets : List ℕ) (steps : made ≢ credit) (short : length octets ≤ 2048) where
   -- octets that aren't read are refused for it

@@ -7,6 +7,7 @@ pub mod Openings
 pub mod Orders
 pub mod Outbox
 pub mod Peer
+pub mod ReadDatagram
 pub mod Seen
 pub mod Sides
 pub mod SoundPeer

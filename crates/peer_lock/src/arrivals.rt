@@ -21,9 +21,10 @@ ghost use Rattle.peer_lock.specs.declared.errors.PeerError.{PeerError as PeerErr
 ghost use Rattle.peer_lock.specs.Unworked.{IsSoundFull, IsRefusedFull, IsCutFrame, IsSound, IsRefusedRead, IsShortDatagram, IsWorked, IsUnworked};
 
 use crate::errors::PeerError;
+use crate::read_datagram::ReadDatagram;
 use crate::state::PeerState;
 use crate::steps::Step;
-use iax_frames::{Datagram, Full, FullHead, Out, read, write_full};
+use iax_frames::{Datagram, Full, FullHead, Out, write_full};
 use info_elements::elements;
 use leg_machine::{ElementText, Heard, Judged, Message, Signal, StepError};
 use peer_accounts::{Naming, Offer, Onwards, Pass};
@@ -93,14 +94,6 @@ fn inval_for(frame: &Full) -> Out
 }
 
 impl<J: Naming> PeerState<J> {
-    // Whether fewer than four entries are free in the record of a number's leg.
-    fn is_short(&self, number: u16) -> bool
-        requires { IsSome (leg_at self.now.legs number) }
-        ensures { (named : NamedLegValue) → leg_at self.now.legs number ≡ Some named → result ≡ is_short_of_entries named.leg }
-    {
-        self.legs.is_short(number)
-    }
-
     // A full frame goes to the leg of a number, and what the leg sends to the outbox.
     fn hear(&mut self, number: u16, frame: &Full, now: u64) -> Result<Heard, StepError>
         requires short { length frame.now.payload ≤ 1388 }
@@ -172,21 +165,12 @@ impl<J: Naming> PeerState<J> {
         ensures refused { IfErr result (λ e. (named : NamedLegValue) → leg_at self.old.legs number ≡ Some named → IsDue (delivery_refused (Reaches named)) e) }
         ensures err { OnErr result (IsUnchanged self.old self.new pass.old pass.new onwards.new) }
     {
-        if self.is_short(number) {
+        if self.legs.is_short(number) {
             return Err(PeerError::RecordFull);
         }
         onwards.reserve(1)?;
         let heard = self.hear(number, frame, now)?;
         Ok(self.hand_on(pass, number, heard, onwards))
-    }
-
-    // The peer counts a step.
-    pub(crate) fn count_step(&mut self, pass: &mut Pass<J>)
-        requires { self.old.accounts.steps ≢ J.first_steps }
-        ensures peer { self.new ≡ counted self.old }
-        ensures credit { pass.new ≡ with_credit pass.old 0 }
-    {
-        self.account.count_step(pass);
     }
 
     // A step without a leg.
@@ -196,7 +180,7 @@ impl<J: Naming> PeerState<J> {
         ensures step { result ≡ no_leg }
         ensures credit { pass.new ≡ with_credit pass.old 0 }
     {
-        self.count_step(pass);
+        self.account.count_step(pass);
         Step {
             judged: Judged::Unnumbered,
             touched: None,
@@ -337,15 +321,41 @@ impl<J: Naming> PeerState<J> {
             ⊎ ((d : DatagramValue) × IsWorked J.first_steps self.old.accounts.steps octets.now d × IsDue (datagram_refused self.old d) e)) }
         ensures err { OnErr result (IsUnchanged self.old self.new pass.old pass.new onwards.new) }
     {
+        self.datagram_read(pass, &ReadDatagram::of(octets), now, onwards)
+    }
+
+    /// A datagram that was read comes from the peer: `datagram` without the reading.
+    ///
+    /// Refusals are looked for in the order of `PeerError`. `Memory` comes only where memory was refused.
+    pub fn datagram_read(
+        &mut self,
+        pass: &mut Pass<J>,
+        datagram: &ReadDatagram<'_>,
+        now: u64,
+        onwards: &mut Onwards,
+    ) -> Result<Step, PeerError>
+        requires nothing { IsNothing onwards.old }
+        // What comes of a datagram that is worked.
+        ensures made { IfOk result (λ step. (d : DatagramValue) → IsWorked J.first_steps self.old.accounts.steps datagram.now d
+            → Makes (datagram_step J.first_octets self.old d now) self.new step pass.old pass.new onwards.new) }
+        ensures worked { OnOk result ((d : DatagramValue) × IsWorked J.first_steps self.old.accounts.steps datagram.now d) }
+        ensures unrefused { OnOk result ((d : DatagramValue) → IsWorked J.first_steps self.old.accounts.steps datagram.now d
+            → datagram_refused self.old d ≡ None) }
+        // Each refusal comes where its cause is, and has it.
+        ensures unworked { (e : PeerErrorValue) → IsUnworked J.first_steps self.old.accounts.steps datagram.now e → result ≡ Err e }
+        ensures refused { IfErr result (λ e. IsUnworked J.first_steps self.old.accounts.steps datagram.now e
+            ⊎ ((d : DatagramValue) × IsWorked J.first_steps self.old.accounts.steps datagram.now d × IsDue (datagram_refused self.old d) e)) }
+        ensures err { OnErr result (IsUnchanged self.old self.new pass.old pass.new onwards.new) }
+    {
         if self.account.is_spent() {
             return Err(PeerError::StepsSpent);
         }
-        if octets.len() > 2048 {
+        if datagram.octets.len() > 2048 {
             return Err(PeerError::TooLong);
         }
-        match read(octets) {
-            Ok(datagram) => self.arrive(pass, &datagram, now, onwards),
-            Err(error) => Err(PeerError::from(error)),
+        match &datagram.answer {
+            Ok(spelled) => self.arrive(pass, spelled, now, onwards),
+            Err(error) => Err(PeerError::from(*error)),
         }
     }
 }

@@ -152,7 +152,7 @@ impl<J: Naming> PeerState<J> {
         ensures err { OnErr result ((self.new ≡ self.old) × (pass.new ≡ pass.old)) }
     {
         self.obey(name, order, now)?;
-        self.count_step(pass);
+        self.account.count_step(pass);
         Ok(Step {
             judged: Judged::Unnumbered,
             touched: Some(name),

@@ -1,23 +1,20 @@
-use Rattle.std.proofs.Common.{ap, sym}
+use Rattle.std.proofs.Common.{sym}
 use Rattle.noted_steps.proofs.noted_peer.NotedPeer.datagram.Goals as goal
 
+pub returns-clause-noted : goal.returns-clause-noted
+returns-clause-noted g c = rw (sym c.of.ensures) c.datagram_read.ensures.noted
+
 pub returns-clause-made : goal.returns-clause-made
-returns-clause-made g c = rw (sym c.self.view_is, sym c.pass.view_is) c.datagram-answer.ensures.made
+returns-clause-made g c = rw (sym c.of.ensures) c.datagram_read.ensures.made
 
 pub returns-clause-worked : goal.returns-clause-worked
-returns-clause-worked g c = rw (sym c.self.view_is) c.datagram-answer.ensures.worked
+returns-clause-worked g c = rw (sym c.of.ensures) c.datagram_read.ensures.worked
 
 pub returns-clause-unrefused : goal.returns-clause-unrefused
-returns-clause-unrefused g c = rw (sym c.self.view_is) c.datagram-answer.ensures.unrefused
+returns-clause-unrefused g c = rw (sym c.of.ensures) c.datagram_read.ensures.unrefused
 
 pub returns-clause-unworked : goal.returns-clause-unworked
-returns-clause-unworked g c = rw (sym c.self.view_is) c.datagram-answer.ensures.unworked
+returns-clause-unworked g c = rw (sym c.of.ensures) c.datagram_read.ensures.unworked
 
 pub returns-clause-refused : goal.returns-clause-refused
-returns-clause-refused g c = rw (sym c.self.view_is) c.datagram-answer.ensures.refused
-
-pub returns-clause-err : goal.returns-clause-err
-returns-clause-err g c = rw (sym c.self.view_is, sym c.pass.view_is) c.datagram-answer.ensures.err
-
-pub returns-clause-noted : goal.returns-clause-noted
-returns-clause-noted g c = record { made = rw (sym c.self.view_is, sym c.pass.view_is, sym c.of.ensures, sym c.of-handed.ensures) c.push.ensures; begun = ap (λ pass. pass.begun) c.pass.view_is }
+returns-clause-refused g c = rw (sym c.of.ensures) c.datagram_read.ensures.refused
