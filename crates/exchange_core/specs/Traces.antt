@@ -40,7 +40,7 @@ pub record Call : Type 0 where
   pub now : ℕ
 
 abbrev pub call_of : PlanView → Given → Call
-call_of plan given = record { plan = plan; octets = given.octets.now; challenge = option_copied given.challenge; called = option_copied given.called; now = given.now }
+call_of plan given = record { plan = plan; octets = given.datagram; challenge = option_copied given.challenge; called = option_copied given.called; now = given.now }
 
 -- a call with nothing but its moment
 abbrev pub moment : PlanView → ℕ → Call

@@ -10,14 +10,15 @@ use crate::denials::Denial;
 use call_auth::Challenge;
 use call_book::{Lease, LegName};
 use call_steps::{Reply, Work};
+use peer_lock::ReadDatagram;
 use seq_window::Record;
 use std::alloc::Global;
 
 // What a call was given from outside.
-#[derive(Clone, Copy)]
+#[derive(Drop)]
 pub(crate) struct Given<'o, 'c, 'n> {
-    // The datagram; without octets where the call isn't one of a datagram.
-    pub(crate) octets: &'o [u8],
+    // The datagram, read once; without octets where the call isn't one of a datagram.
+    pub(crate) datagram: ReadDatagram<'o>,
     // For the leg that a datagram opens.
     pub(crate) challenge: Option<&'c Challenge>,
     // The number that is called from outside.
@@ -29,13 +30,13 @@ pub(crate) struct Given<'o, 'c, 'n> {
 impl Given<'_, '_, '_> {
     // A call with nothing but its moment.
     pub(crate) fn moment<'o, 'c, 'n>(now: u64) -> Given<'o, 'c, 'n>
-        ensures octets { result.octets.now ≡ [] }
+        ensures datagram { result.datagram ≡ [] }
         ensures challenge { result.challenge ≡ None }
         ensures called { result.called ≡ None }
         ensures now { result.now ≡ now }
     {
         Given {
-            octets: &[],
+            datagram: ReadDatagram::of(&[]),
             challenge: None,
             called: None,
             now,
@@ -44,7 +45,7 @@ impl Given<'_, '_, '_> {
 
     // A call from outside for this number.
     pub(crate) fn number<'o, 'c, 'n>(called: &'n [u8], now: u64) -> Given<'o, 'c, 'n>
-        ensures octets { result.octets.now ≡ [] }
+        ensures datagram { result.datagram ≡ [] }
         ensures challenge { result.challenge ≡ None }
         ensures called { option_copied result.called ≡ Some called.now }
         ensures now { result.now ≡ now }

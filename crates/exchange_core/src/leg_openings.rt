@@ -19,22 +19,19 @@ use crate::gates::Gate;
 use crate::hands::{Given, Hands};
 use call_book::{Lease, LegName};
 use call_steps::Heard;
-use iax_frames::{Datagram, Full, read};
+use iax_frames::Full;
 use leg_machine::Format;
 use noted_steps::Pass;
-use peer_lock::{Naming, Offer, OpenError, Step};
+use peer_lock::{Naming, Offer, OpenError, ReadDatagram, Step};
 use std::sync::Wait;
 
-// The NEW that the octets spell.
-fn opening_in(octets: &[u8]) -> Full<'_>
-    requires { SpellsOpening octets.now }
-    ensures opening { IsOpening result }
-    ensures spelled { SpellsFull octets.now result }
+// The NEW that a datagram is.
+fn opening_in<'d, 'o>(datagram: &'d ReadDatagram<'o>) -> &'d Full<'o>
+    requires { SpellsOpening datagram.now }
+    ensures opening { IsOpening result.now }
+    ensures spelled { SpellsFull datagram.now result.now }
 {
-    match read(octets) {
-        Ok(Datagram::Full(frame)) => frame,
-        _ => unreachable!(),
-    }
+    datagram.full().unwrap()
 }
 
 // The number that calls, as it is offered.
@@ -176,11 +173,11 @@ impl<G: Gate, J: Naming> Exchange<G, J> {
     ) -> Result<Heard, OpenError>
         requires lease { hands.old.lease ≡ Some _name }
         requires peer { _name.peer < length self.now.peers }
-        requires opening { SpellsOpening given.now.octets.now }
+        requires opening { SpellsOpening given.now.datagram }
         requires challenge { IsSome given.now.challenge }
         ensures noted { (offer : Option OfferValue) → Makes (call_of self.now given.entry.now) offer (needs.OpenIn _name) (replies.OpenIn result) pass.old pass.new }
         ensures steps { OnOk result (pass.new.credit.steps ≡ pass.old.credit.steps + 1) }
-        ensures media { IfOk result (λ heard. TakesCredit (length given.entry.now.octets.now) pass.old.credit pass.new.credit heard.onwards.signals) }
+        ensures media { IfOk result (λ heard. TakesCredit (length given.entry.now.datagram) pass.old.credit pass.new.credit heard.onwards.signals) }
         ensures refused { OnErr result (pass.new.credit ≡ pass.old.credit) }
         ensures taken { OnOk result (hands.new.lease ≡ None) }
         ensures kept { OnErr result (hands.new.lease ≡ hands.old.lease) }
@@ -188,10 +185,10 @@ impl<G: Gate, J: Naming> Exchange<G, J> {
         ensures named { hands.new.named ≡ hands.old.named }
     {
         let challenge = given.challenge.unwrap();
-        let frame = opening_in(given.octets);
+        let frame = opening_in(&given.datagram);
         let lease = hands.lease.take().unwrap();
         let mut onwards = pass.lend(self.alloc);
-        match self.open_in(rt, pass, lease, &frame, given.now, challenge, &mut onwards) {
+        match self.open_in(rt, pass, lease, frame, given.now, challenge, &mut onwards) {
             Ok(step) => Ok(Heard {
                 touched: step.touched,
                 onwards,

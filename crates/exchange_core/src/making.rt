@@ -59,9 +59,9 @@ impl<G: Gate, J: Naming> Exchange<G, J> {
         ensures noted { (offer : Option OfferValue) → Makes (call_of self.now given.entry.now) offer (needs.Datagram peer) result pass.old pass.new }
         ensures made { is_made result ≡ true → pass.new.credit.steps ≡ pass.old.credit.steps + 1 }
         ensures unmade { is_made result ≡ false → pass.new.credit ≡ pass.old.credit }
-        ensures within { AllByRecursion (LiesWithin (length given.entry.now.octets.now)) (handed_by result) }
+        ensures within { AllByRecursion (LiesWithin (length given.entry.now.datagram)) (handed_by result) }
         ensures octets { pass.old.credit.octets + handed_octets (handed_by result) ≤ pass.new.credit.octets }
-        ensures opening { IsOpeningDue result → SpellsOpening given.entry.now.octets.now }
+        ensures opening { IsOpeningDue result → SpellsOpening given.entry.now.datagram }
         ensures named { (named : Option LegNameValue) → named_after result named ≡ named }
         ensures not_out { IsOpenedOut result → ⊥ }
         ensures no_remote { result ≢ replies.OpenOut (Err OpenError.RemoteBusy) }
@@ -80,12 +80,12 @@ impl<G: Gate, J: Naming> Exchange<G, J> {
         requires peer { peer < length self.now.peers }
         ensures noted { (offer : Option OfferValue) → Makes (call_of self.now given.entry.now) offer (needs.Datagram peer) (replies.Datagram result) pass.old pass.new }
         ensures steps { OnOk result (pass.new.credit.steps ≡ pass.old.credit.steps + 1) }
-        ensures media { IfOk result (λ heard. TakesCredit (length given.entry.now.octets.now) pass.old.credit pass.new.credit heard.onwards.signals) }
+        ensures media { IfOk result (λ heard. TakesCredit (length given.entry.now.datagram) pass.old.credit pass.new.credit heard.onwards.signals) }
         ensures refused { OnErr result (pass.new.credit ≡ pass.old.credit) }
-        ensures opening { IfErr result (λ error. error ≡ PeerError.NeedsNumber → SpellsOpening given.entry.now.octets.now) }
+        ensures opening { IfErr result (λ error. error ≡ PeerError.NeedsNumber → SpellsOpening given.entry.now.datagram) }
     {
         let mut onwards = pass.lend(self.alloc);
-        match self.hear(rt, pass, peer, given.octets, given.now, &mut onwards) {
+        match self.hear(rt, pass, peer, &given.datagram, given.now, &mut onwards) {
             Ok(step) => Ok(Heard {
                 touched: step.touched,
                 onwards,
@@ -123,7 +123,7 @@ impl<G: Gate, J: Naming> Exchange<G, J> {
         act: Act,
         given: &Given<'_, '_, '_>,
     ) -> Result<(), OrderError>
-        requires media { IsCovered (length given.now.octets.now) pass.old.credit.octets (media_of name act) }
+        requires media { IsCovered (length given.now.datagram) pass.old.credit.octets (media_of name act) }
         ensures noted { (offer : Option OfferValue) → Makes (call_of self.now given.entry.now) offer (needs.Order name act) (replies.Order result) pass.old pass.new }
         ensures steps { OnOk result (pass.new.credit.steps ≡ pass.old.credit.steps + 1) }
         ensures octets { OnOk result (pass.new.credit.octets + handed_octets (media_of name act) ≡ pass.old.credit.octets) }
@@ -133,7 +133,7 @@ impl<G: Gate, J: Naming> Exchange<G, J> {
             pass.note_unasked();
             return Err(OrderError::Gone);
         }
-        let order = order_of(name, act, given.octets);
+        let order = order_of(name, act, given.datagram.octets());
         match self.order(rt, pass, name, &order, given.now) {
             Ok(_) => Ok(()),
             Err(error) => Err(error),
@@ -232,25 +232,25 @@ impl<G: Gate, J: Naming> Exchange<G, J> {
         given: &Given<'_, '_, '_>,
         hands: &mut Hands,
     ) -> Reply
-        requires media { IsCovered (length given.now.octets.now) pass.old.credit.octets (media_needed (Some need)) }
+        requires media { IsCovered (length given.now.datagram) pass.old.credit.octets (media_needed (Some need)) }
         requires lease { (name : LegNameValue) → lease_needed (Some need) ≡ Some name → hands.old.lease ≡ Some name }
         requires called { ForSome given.now.called (λ text. IsCalled text.now) }
         requires peer { InPlan (length self.now.peers) (Some need) }
-        requires opening { IsOpened (Some need) → SpellsOpening given.now.octets.now × IsSome given.now.challenge }
+        requires opening { IsOpened (Some need) → SpellsOpening given.now.datagram × IsSome given.now.challenge }
         ensures answer { is_answer (Some need) result ≡ true }
         // Just this step is noted under the pass, with this answer.
         ensures noted { Makes (call_of self.now given.entry.now) (offer_in work.now.onwards) need result pass.old pass.new }
         // A step of a peer is made exactly where the answer says so.
         ensures made { is_made result ≡ true → pass.new.credit.steps ≡ pass.old.credit.steps + 1 }
         ensures unmade { is_made result ≡ false → pass.new.credit ≡ pass.old.credit }
-        ensures within { AllByRecursion (LiesWithin (length given.entry.now.octets.now)) (handed_by result) }
+        ensures within { AllByRecursion (LiesWithin (length given.entry.now.datagram)) (handed_by result) }
         ensures octets { pass.old.credit.octets + handed_octets (handed_by result) ≤ pass.new.credit.octets + handed_octets (media_needed (Some need)) }
         ensures lease { hands.new.lease ≡ lease_after (Some need) result hands.old.lease }
         ensures denial { hands.new.denial ≡ hands.old.denial }
         ensures named { hands.new.named ≡ named_after result hands.old.named }
         ensures opened { IsOpenedOut result → pass.new.credit ≡ with_step pass.old.credit 0 }
         ensures peer { KeepsPeer (Some need) result }
-        ensures opening { IsOpeningDue result → SpellsOpening given.entry.now.octets.now }
+        ensures opening { IsOpeningDue result → SpellsOpening given.entry.now.datagram }
         ensures no_remote { result ≢ replies.OpenOut (Err OpenError.RemoteBusy) }
     {
         match need {

@@ -18,7 +18,7 @@ use call_auth::Challenge;
 use call_book::LegName;
 use call_steps::Work;
 use noted_steps::Pass;
-use peer_lock::{Naming, OrderError};
+use peer_lock::{Naming, OrderError, ReadDatagram};
 use peer_plan::Endpoint;
 use std::sync::Wait;
 
@@ -105,7 +105,7 @@ impl<G: Gate, J: Naming> Exchange<G, J> {
             };
         };
         let given = Given {
-            octets,
+            datagram: ReadDatagram::of(octets),
             challenge: Some(challenge),
             called: None,
             now,

@@ -18,7 +18,7 @@ use iax_frames::{Full, Out};
 use leg_machine::Format;
 use noted_steps::{NotedPeer, Pass};
 use peer_lock::laws::media_is_the_datagrams;
-use peer_lock::{Naming, Onwards, OpenError, PeerError, Status, Step};
+use peer_lock::{Naming, Onwards, OpenError, PeerError, ReadDatagram, Status, Step};
 use std::sync::{MutexGuard, Wait};
 
 // The peer that lies under a lock is that of the lock. A call that found another would never return.
@@ -89,22 +89,23 @@ impl<G: Gate, J: Naming> Exchange<G, J> {
         rt: &R,
         pass: &mut Pass<J>,
         from: u16,
-        octets: &[u8],
+        datagram: &ReadDatagram<'_>,
         now: u64,
         onwards: &mut Onwards,
     ) -> Result<Step, PeerError>
         requires peer { from < length self.now.peers }
         requires nothing { IsNothing onwards.old }
-        ensures noted { Notes (mades.Datagram from octets.now now result onwards.new) pass.old pass.new }
+        ensures noted { Notes (mades.Datagram from datagram.now now result onwards.new) pass.old pass.new }
         ensures steps { OnOk result (pass.new.credit.steps ≡ pass.old.credit.steps + 1) }
         ensures octets { OnOk result (pass.old.credit.octets ≤ pass.new.credit.octets) }
-        ensures media { OnOk result (TakesCredit (length octets.now) pass.old.credit pass.new.credit onwards.new.signals) }
+        ensures media { OnOk result (TakesCredit (length datagram.now) pass.old.credit pass.new.credit onwards.new.signals) }
         ensures refused { OnErr result ((pass.new.credit ≡ pass.old.credit) × IsNothing onwards.new) }
         // It needs a number only where it spells a NEW that opens a leg.
-        ensures needs { IfErr result (λ error. error ≡ PeerError.NeedsNumber → SpellsOpening octets.now) }
+        ensures needs { IfErr result (λ error. error ≡ PeerError.NeedsNumber → SpellsOpening datagram.now) }
     {
         media_is_the_datagrams();
-        self.locked(rt, from).datagram(pass, octets, now, onwards)
+        self.locked(rt, from)
+            .datagram_read(pass, datagram, now, onwards)
     }
 
     // A NEW that came from a peer opens a leg, under the lease. What is handed up is written to the list, which is empty.

@@ -15,7 +15,7 @@ use Rattle.exchange_core.proofs.exchange.Exchange.run.Goals as goal
 pub make-reply-requires-clause-media : goal.make-reply-requires-clause-media
 make-reply-requires-clause-media g c lifetimes lives =
     let law = c.media_is_carried_once.ensures in
-    covers_need law.needed law.covered (length c.args.given.now.octets.now) c.loop.pass.credit.octets c.loop.work.work c.in-Some-next.need (sym c.next-in-loop.ensures ∙ c.in-Some-next.is)
+    covers_need law.needed law.covered (length c.args.given.now.datagram) c.loop.pass.credit.octets c.loop.work.work c.in-Some-next.need (sym c.next-in-loop.ensures ∙ c.in-Some-next.is)
     c.loop.invariant.2
 
 pub make-reply-requires-clause-lease : goal.make-reply-requires-clause-lease
@@ -44,7 +44,7 @@ loop-preserved g c =
     let denial = c.tell.ensures.denial ∙ ap (noted (beginning_at c.loop.work.work.place) c.make-reply.result) c.make-reply.ensures.denial in (
       tt,
       tt,
-      covers_rest carried.within carried.octets (length c.args.given.now.octets.now) c.loop.pass.credit.octets c.make-reply.new.pass.credit.octets c.loop.work.work c.tell.new.work.work
+      covers_rest carried.within carried.octets (length c.args.given.now.datagram) c.loop.pass.credit.octets c.make-reply.new.pass.credit.octets c.loop.work.work c.tell.new.work.work
           c.in-Some-next.need c.make-reply.result need c.make-reply.ensures.within work c.make-reply.ensures.octets c.loop.invariant.2,
       c.tell.ensures.lease
           ∙ leaves_lease c.leases_are_as_named.ensures.after c.loop.work.work c.tell.new.work.work c.in-Some-next.need c.make-reply.result c.loop.hands.lease
@@ -54,7 +54,7 @@ loop-preserved g c =
           c.make-reply.ensures.unmade c.make-reply.ensures.no_remote work denial c.loop.invariant.4,
       stays_in_plan begins.made begins.past (length c.args.self.now.peers) c.loop.work.work c.tell.new.work.work c.make-reply.result work keeps
           c.loop.invariant.5,
-      opens_after begins.made begins.past c.loop.work.work c.tell.new.work.work c.make-reply.result (SpellsOpening c.args.given.now.octets.now) work
+      opens_after begins.made begins.past c.loop.work.work c.tell.new.work.work c.make-reply.result (SpellsOpening c.args.given.now.datagram) work
           c.loop.invariant.6 c.make-reply.ensures.opening,
       stands_on c.args.work.now.work.place c.args.pass.now.credit c.loop.pass.credit c.make-reply.new.pass.credit c.loop.work.work c.tell.new.work.work c.make-reply.result
           c.loop.hands.denial c.tell.new.self.denial c.loop.hands.named c.tell.new.self.named answers keeps c.make-reply.ensures.opened c.make-reply.ensures.unmade

@@ -10,9 +10,9 @@ use Rattle.exchange_core.proofs.exchange.Exchange.run.Given as goal
 abbrev pub invariant-loop : goal.invariant-loop
 invariant-loop g l =
     (goal.iterator-loop g).can_next l.iterator' × (goal.iterator-loop g).is_finite l.iterator'
-    × IsCovered (length l.given.octets.now) l.pass.credit.octets (media_left l.work.work) × (l.hands.lease ≡ lease_in l.work.work)
+    × IsCovered (length l.given.datagram) l.pass.credit.octets (media_left l.work.work) × (l.hands.lease ≡ lease_in l.work.work)
     × IsUnderWay l.initial.work.work.place l.initial.pass.credit l.pass.credit l.work.work.place l.hands.denial
     × PlaceInPlan (length l.self.peers) l.work.work.place
-    × (OpensLeg l.work.work.place → SpellsOpening l.given.octets.now)
+    × (OpensLeg l.work.work.place → SpellsOpening l.given.datagram)
     × MayStand l.initial.work.work.place l.initial.pass.credit l.pass.credit l.work.work.place l.hands.denial l.hands.named
     × Traces (call_of l.self l.given) l.initial.work l.work l.initial.pass l.pass
