@@ -4,6 +4,7 @@ pub mod Effects
 pub mod Formats
 pub mod FrameElements
 pub mod Messages
+pub mod NewElements
 pub mod Openings
 pub mod Orders
 pub mod PeerRules

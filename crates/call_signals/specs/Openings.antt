@@ -1,11 +1,12 @@
 -- What becomes of a NEW that comes, by the rules of its peer ("Call Setup").
 use Rattle.std.specs.Prelude.{◌≡◌, ◌≤◌, ◌⊎◌, ℕ, Bool, true, false, ◌&&◌, ◌||◌, ◌==◌, is_some, List, Option, None, Some, unwrap_or, bit_and, if◌then◌else◌}
 use Rattle.iax_frames.specs.FullFrame.{FullFrame}
-use Rattle.info_elements.specs.Element.{u16_in, u32_in}
-use Rattle.info_elements.specs.Numbers.{CAPABILITY, FORMAT, VERSION}
+use Rattle.info_elements.specs.Element.{u32_in}
+use Rattle.info_elements.specs.Numbers.{CAPABILITY, FORMAT}
 use Rattle.call_signals.specs.Effects.{row, rejected}
 use Rattle.call_signals.specs.Formats.{format_bit, has_format, lowest_format}
 use Rattle.call_signals.specs.FrameElements.{element_in}
+use Rattle.call_signals.specs.NewElements.{NewElements, new_elements}
 use Rattle.call_signals.specs.declared.causes.Cause.TheVariants.{CallRejected}
 use Rattle.call_signals.specs.declared.effects.Answering.TheVariants.{Answered, Silent}
 use Rattle.call_signals.specs.declared.effects.Effect.{Effect}
@@ -47,9 +48,14 @@ chosen_format common wanted =
     else if common.alaw && (wanted == format_bit Alaw) then Some Alaw
     else lowest_format common
 
+-- by the elements of a NEW
+abbrev pub format_by : Formats → NewElements → Option Format
+format_by formats elements =
+    let wanted = unwrap_or elements.format 0 in
+    chosen_format (common_formats formats wanted (unwrap_or elements.capability 0)) wanted
+
 abbrev pub call_format : Formats → FullFrame → Option Format
-call_format formats frame =
-    chosen_format (common_formats formats (bits_in frame FORMAT) (bits_in frame CAPABILITY)) (bits_in frame FORMAT)
+call_format formats frame = format_by formats (new_elements frame.payload)
 
 -- the peer has the format, and the NEW has its bit in FORMAT or CAPABILITY
 abbrev pub IsCommon : Formats → FullFrame → Format → Type 0
@@ -72,11 +78,15 @@ abbrev pub is_version_2 : Option ℕ → Bool
 is_version_2 (Some version) = version == 2
 is_version_2 None = false
 
-abbrev pub opening_of : PeerRules → FullFrame → Opening
-opening_of rules frame =
-    if is_version_2 (u16_in (element_in frame VERSION)) && is_some (call_format rules.formats frame)
+-- by the elements of a NEW
+abbrev pub opening_by : PeerRules → NewElements → Opening
+opening_by rules elements =
+    if is_version_2 elements.version && is_some (format_by rules.formats elements)
     then (if is_some rules.secret then Challenges else Offers)
     else Refused
+
+abbrev pub opening_of : PeerRules → FullFrame → Opening
+opening_of rules frame = opening_by rules (new_elements frame.payload)
 
 abbrev pub opening_effect : Opening → Effect
 opening_effect Refused = rejected CallRejected

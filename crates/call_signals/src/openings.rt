@@ -1,17 +1,17 @@
 //! How a leg begins: the rows of a NEW that comes ("Call Setup").
 ghost use Rattle.std.specs.Prelude.{◌≡◌, option_copied};
+ghost use Rattle.call_signals.specs.NewElements.{named};
 ghost use Rattle.call_signals.specs.Openings as opening;
 
 use crate::causes::Cause;
 use crate::effects::{Answering, Effect, rejected, row};
 use crate::formats::{Format, Formats};
+use crate::new_elements::NewElements;
 use crate::replies::Reply;
 use crate::rules::PeerRules;
 use crate::signals::Signal;
 use crate::stages::Stage;
 use call_auth::Challenge;
-use iax_frames::Full;
-use info_elements::{CAPABILITY, FORMAT, VERSION, u16_in, u32_in};
 
 /// What becomes of a NEW.
 #[derive(Clone, Copy, Debug, PartialEq, Eq)]
@@ -22,13 +22,6 @@ pub enum Opening {
     Challenges,
     /// The call is offered to the layer above.
     Offers,
-}
-
-// The bits of an element; none where it is absent.
-fn bits_in(frame: &Full, number: u8) -> u32
-    ensures { result ≡ opening.bits_in frame.now number }
-{
-    u32_in(frame.payload(), number).unwrap_or(0)
 }
 
 fn has_bit(bits: u32, format: Format) -> bool
@@ -70,12 +63,12 @@ fn chosen_format(common: Formats, wanted: u32) -> Option<Format>
     }
 }
 
-/// The format of the call that a NEW asks for.
-pub fn call_format(formats: Formats, frame: &Full) -> Option<Format>
-    ensures { result ≡ opening.call_format formats frame.now }
+/// The format of the call that a NEW asks for, by its elements.
+pub fn call_format(formats: Formats, elements: &NewElements) -> Option<Format>
+    ensures { result ≡ opening.format_by formats (named elements.now) }
 {
-    let wanted = bits_in(frame, FORMAT);
-    let capable = bits_in(frame, CAPABILITY);
+    let wanted = elements.format.unwrap_or(0);
+    let capable = elements.capability.unwrap_or(0);
     chosen_format(common_formats(formats, wanted, capable), wanted)
 }
 
@@ -88,12 +81,12 @@ fn is_version_2(version: Option<u16>) -> bool
     }
 }
 
-/// What becomes of a NEW.
-pub fn opening_of(rules: &PeerRules, frame: &Full) -> Opening
-    ensures { result ≡ opening.opening_of rules.now frame.now }
+/// What becomes of a NEW, by its elements.
+pub fn opening_of(rules: &PeerRules, elements: &NewElements) -> Opening
+    ensures { result ≡ opening.opening_by rules.now (named elements.now) }
 {
-    let is_version_2 = is_version_2(u16_in(frame.payload(), VERSION));
-    let has_format = call_format(rules.formats, frame).is_some();
+    let is_version_2 = is_version_2(elements.version);
+    let has_format = call_format(rules.formats, elements).is_some();
     if is_version_2 && has_format {
         if rules.secret.is_some() {
             Opening::Challenges

@@ -1,11 +1,12 @@
 -- A text of information elements is a text of items.
 use Rattle.std.proofs.Common.{◌≡◌, ℕ, ◌<◌, ◌≤◌, Bool, true, false, cond, leb, eqb, List, [], ◌∷◌, ◌++◌, length, take, drop, Option, Some, None, refl, ap, ◌∙◌, sym, subst, arith, length-append}
+use Rattle.std.specs.Prelude.{IfNone}
 use Rattle.std.proofs.lemmas.Bool.{leb-true, le-leb}
 use Rattle.std.proofs.lemmas.Bool.Decides.{nat_tests}
 use Rattle.std.proofs.lemmas.List.{take_at, drop_at, take-append-drop, length-take}
 use Rattle.iax_frames.proofs.OctetLaws.{IsOctets}
 use Rattle.iax_frames.proofs.ItemLaws.{IsFormat}
-use Rattle.iax_frames.proofs.LooseItems.{items_of-front, items_of-no_front, after_octets}
+use Rattle.iax_frames.proofs.LooseItems.{items_of-front, items_of-no_front}
 use Rattle.info_elements.specs.Element.{Element, element, IsElement, first_element, elements_of, or, last_of}
 
 pair_is : (b : Bool) (x y : Element × List ℕ) → cond b (Some x) None ≡ Some y → (b ≡ true) × (x ≡ y)
@@ -42,8 +43,10 @@ elements_of-more rest after e octets is = items_of-front element IsElement first
 pub elements_of-none : (rest : List ℕ) → first_element rest ≡ None → elements_of rest ≡ []
 elements_of-none rest is = items_of-no_front first_element rest is
 
-pub after-octets : (rest after : List ℕ) (e : Element) → IsOctets rest → first_element rest ≡ Some (e, after) → IsOctets after
-after-octets rest after e octets is = after_octets element IsElement first_element format rest after e octets is
+-- where nothing is found
+pub if_none : {X : Type 0} (found : Option X) {P Q : Type 0} → (P → Q) → IfNone found P → IfNone found Q
+if_none None so p = so p
+if_none (Some x) so p = tt
 
 or-or : (a b c : Option (List ℕ)) → or (or a b) c ≡ or a (or b c)
 or-or None b c = refl

@@ -31,6 +31,7 @@ fn split_element(octets: &[u8]) -> Option<(u8, &[u8], &[u8])>
     ensures none { IfNone result (first_element octets.now ≡ None) }
     ensures some { IfSome result (λ found. first_element octets.now ≡ Some (record { number = found.0; value = found.1.now }, found.2.now)) }
     ensures short { IfSome result (λ found. length found.1.now ≤ 255) }
+    ensures shorter { IfSome result (λ found. length found.2.now < length octets.now) }
 {
     match octets {
         [number, len, rest @ ..] if *len as usize <= rest.len() => {
@@ -39,6 +40,22 @@ fn split_element(octets: &[u8]) -> Option<(u8, &[u8], &[u8])>
         }
         _ => None,
     }
+}
+
+/// The number and the value of the element at the front, and the octets behind it. `None` where no whole element stands there.
+///
+/// Who goes from one to the next meets each element of the text once, in their order.
+pub fn next_element(octets: &[u8]) -> Option<(u8, &[u8], &[u8])>
+    ensures none { IfNone result (first_element octets.now ≡ None) }
+    ensures some { IfSome result (λ found.
+        first_element octets.now ≡ Some (record { number = found.0; value = found.1.now }, found.2.now)) }
+    ensures ended { IfNone result (elements_of octets.now ≡ []) }
+    ensures front { IfSome result (λ found.
+        elements_of octets.now ≡ record { number = found.0; value = found.1.now } ∷ elements_of found.2.now) }
+    ensures short { IfSome result (λ found. length found.1.now ≤ 255) }
+    ensures shorter { IfSome result (λ found. length found.2.now < length octets.now) }
+{
+    split_element(octets)
 }
 
 // Where the first element stands that is no whole one.
@@ -94,7 +111,7 @@ pub fn last_in(octets: &[u8], number: u8) -> Option<&[u8]>
 {
     let mut rest = octets;
     let mut found = None;
-    while let Some((first, value, after)) = split_element(rest) {
+    while let Some((first, value, after)) = next_element(rest) {
         if first == number {
             found = Some(value);
         }

@@ -1,9 +1,10 @@
 //! Information elements, read and written.
 use crate::same::{holds, same, same_octets};
+use call_signals::NewElements;
 use iax_frames::{CallNumber, FullHead, Payload, write_full};
 use info_elements::{
     CAUSE, CAUSECODE, CHALLENGE, Cut, Elements, FORMAT, VERSION, append, append_to, elements,
-    u16_in, u32_in,
+    next_element, u16_in, u32_in,
 };
 use std::process::Abort;
 
@@ -52,6 +53,48 @@ fn elements_among_octets(rt: HostRuntime) {
     same(&rt, &u32_in(EQUAL.split_at(8).0, FORMAT), &Some(4));
     // What is cut ends the text.
     same(&rt, &u16_in(EQUAL.split_at(13).0, VERSION), &Some(2));
+}
+
+#[test]
+fn elements_one_after_another(rt: HostRuntime) {
+    let (number, value, rest) = next_element(&EQUAL).expect(&rt, "a CALLTOKEN");
+    same(&rt, &(number, value.len(), rest.len()), &(0x36, 0, 14));
+    let (number, value, rest) = next_element(rest).expect(&rt, "a FORMAT");
+    same(&rt, &(number, rest.len()), &(FORMAT, 8));
+    same_octets(&rt, value, &[0, 0, 0, 4]);
+    let cut = next_element(rest.split_at(3).0).is_none();
+    holds(&rt, "what is cut is no element", cut);
+    holds(&rt, "no octets", next_element(&[]).is_none());
+}
+
+/// Of a NEW: CALLED NUMBER 300, VERSION 1, CALLED NUMBER 4, CAPABILITY 0x0e, FORMAT 2, CALLING NUMBER 20, VERSION 2, FORMAT 8,
+/// and a FORMAT that is cut off.
+const NEW: [u8; 43] = [
+    1, 3, b'3', b'0', b'0', 0x0b, 2, 0, 1, 1, 1, b'4', 8, 4, 0, 0, 0, 0x0e, 9, 4, 0, 0, 0, 2, 2, 2,
+    b'2', b'0', 0x0b, 2, 0, 2, 9, 4, 0, 0, 0, 8, 9, 4, 0, 0, 0,
+];
+
+#[test]
+fn elements_of_a_new(rt: HostRuntime) {
+    let read = NewElements::read(&NEW);
+    same_octets(&rt, read.called.expect(&rt, "a called number"), b"4");
+    same_octets(&rt, read.calling.expect(&rt, "a calling number"), b"20");
+    same(&rt, &read.format, &Some(8));
+    same(&rt, &read.capability, &Some(0x0e));
+    same(&rt, &read.version, &Some(2));
+}
+
+// What is cut off doesn't count, and of equal elements the last does, whatever its size is.
+#[test]
+fn absent_elements_of_a_new(rt: HostRuntime) {
+    let read = NewElements::read(NEW.split_at(11).0);
+    same_octets(&rt, read.called.expect(&rt, "a called number"), b"300");
+    holds(&rt, "no calling number", read.calling.is_none());
+    same(&rt, &read.version, &Some(1));
+    let read = NewElements::read(&EQUAL);
+    holds(&rt, "no called number", read.called.is_none());
+    same(&rt, &read.format, &None);
+    same(&rt, &read.capability, &None);
 }
 
 fn head() -> FullHead {

@@ -6,10 +6,14 @@ ghost use Rattle.leg_machine.specs.Media.{accepts_media};
 ghost use Rattle.leg_machine.specs.Onward.{onward_of};
 ghost use Rattle.leg_machine.specs.Openings.{opening_data, called_of, calling_of};
 ghost use Rattle.leg_machine.specs.Ticks.{is_idle};
+ghost use Rattle.call_signals.specs.NewElements.{named, new_elements};
+ghost use Rattle.call_signals.specs.declared.signals.Signal.TheVariants.{Offered};
 
 use crate::legs::Leg;
 use crate::machine::Machine;
-use call_signals::{ElementText, Format, Indication, MediaIn, MediaSpan, Onward, Signal, Stage};
+use call_signals::{
+    ElementText, Format, Indication, MediaIn, MediaSpan, NewElements, Onward, Signal, Stage,
+};
 use iax_frames::CallNumber;
 use info_elements::{CALLED_NUMBER, CALLING_NUMBER, last_in};
 use seq_window::{EntryView, Record, Window};
@@ -149,16 +153,37 @@ impl Leg {
         last_in(self.opening_data(), CALLING_NUMBER)
     }
 
+    /// The elements of the NEW that opened the leg, by one reading; all absent where no NEW came.
+    pub fn opening_elements(&self) -> NewElements<'_>
+        ensures elements { named result ≡ new_elements (opening_data self.now.state.window.history) }
+        ensures called { IfSome result.called (λ text. length text.now ≤ 255) }
+        ensures calling { IfSome result.calling (λ text. length text.now ≤ 255) }
+    {
+        NewElements::read(self.opening_data())
+    }
+
+    // What an offered call asks for.
+    fn offered(&self) -> Onward
+        ensures { result ≡ onward_of self.now.state Offered }
+    {
+        let elements = self.opening_elements();
+        let called = match elements.called {
+            Some(called) => called,
+            None => &[],
+        };
+        Onward::Offered {
+            called: ElementText::new(called),
+            calling: text_of(elements.calling),
+            format: self.machine.format,
+        }
+    }
+
     /// A signal with what it speaks of.
     pub fn onward(&self, signal: Signal) -> Onward
         ensures { result ≡ onward_of self.now.state signal }
     {
         match &signal {
-            Signal::Offered => Onward::Offered {
-                called: ElementText::new(self.called()),
-                calling: text_of(self.calling()),
-                format: self.machine.format,
-            },
+            Signal::Offered => self.offered(),
             Signal::Indicated(Indication::Ringing) => Onward::Ringing,
             Signal::Indicated(Indication::Progress) => Onward::Progress,
             Signal::Indicated(Indication::Proceeding) => Onward::Proceeding,

@@ -18,7 +18,8 @@ use crate::media::MediaSent;
 use call_auth::Challenge;
 use call_signals::openings::{call_format, opening_of};
 use call_signals::{
-    Format, Heard, LocalNumber, Message, Order, OrderError, PeerRules, Replies, Stage, StepError,
+    Format, Heard, LocalNumber, Message, NewElements, Order, OrderError, PeerRules, Replies, Stage,
+    StepError,
 };
 use iax_frames::{CallNumber, Full};
 use seq_window::Window;
@@ -79,13 +80,14 @@ impl Leg {
     {
         let mut window = Window::new(alloc, rules.window, rules.record_limit)?;
         window.reserve(4)?;
-        let opening = opening_of(rules, frame);
+        let elements = NewElements::read(frame.payload());
+        let opening = opening_of(rules, &elements);
         let mut machine = Machine {
             rules: rules.copied(),
             number: LocalNumber::new(number),
             opened: now,
             stage: Stage::Offered,
-            format: call_format(rules.formats, frame).unwrap_or(Format::Gsm),
+            format: call_format(rules.formats, &elements).unwrap_or(Format::Gsm),
             remote: Some(frame.source()),
             owes: false,
             doomed: false,

@@ -30,13 +30,18 @@ use leg_machine::{ElementText, Heard, Judged, Message, Signal, StepError};
 use peer_accounts::{Naming, Offer, Onwards, Pass};
 use peer_legs::NamedLeg;
 
-// What the offered call of a leg asks for.
+// What the offered call of a leg asks for, by one reading of its NEW.
 fn offer_of(named: &NamedLeg) -> Offer
     ensures { result ≡ spec.offer_of named.now.leg }
 {
     let leg = named.leg();
-    let called = ElementText::new(leg.called());
-    match leg.calling() {
+    let elements = leg.opening_elements();
+    let called = match elements.called {
+        Some(called) => called,
+        None => &[],
+    };
+    let called = ElementText::new(called);
+    match elements.calling {
         Some(calling) => Offer {
             called,
             calling: Some(ElementText::new(calling)),

@@ -49,6 +49,9 @@ fn challenge_answered(rt: HostRuntime) {
     let mut tested = challenged(&rt, rt.alloc());
     tested.plays(&rt, &RIGHT_ANSWER);
     same_octets(&rt, tested.leg.called(), b"200");
+    let elements = tested.leg.opening_elements();
+    same(&rt, &elements.version, &Some(2));
+    same(&rt, &elements.format, &Some(4));
 }
 
 /// A wrong answer comes.

@@ -1,0 +1,43 @@
+-- Reading the elements of a NEW one after another.
+use Rattle.std.proofs.Common.{◌≡◌, ℕ, Bool, true, false, cond, eqb, List, ◌∷◌, Option, Some, None, refl}
+use Rattle.info_elements.specs.Element.{Element, or, last_of, u16_in, u32_in}
+use Rattle.info_elements.specs.Numbers.{CALLED_NUMBER, CALLING_NUMBER, CAPABILITY, FORMAT, VERSION}
+use Rattle.call_signals.specs.NewElements.{NewElements, with_element}
+
+-- what is read in a later element, where there is one, stands for what was read before
+abbrev pub later : {A : Type 0} → (Option (List ℕ) → Option A) → Option (List ℕ) → Option A → Option A
+later read None before = before
+later read (Some value) before = read (Some value)
+
+-- with the elements that follow
+abbrev pub with_elements : NewElements → List Element → NewElements
+with_elements before es = record {
+  called = or (last_of CALLED_NUMBER es) before.called;
+  calling = or (last_of CALLING_NUMBER es) before.calling;
+  format = later u32_in (last_of FORMAT es) before.format;
+  capability = later u32_in (last_of CAPABILITY es) before.capability;
+  version = later u16_in (last_of VERSION es) before.version;
+}
+
+text-more : (following : Option (List ℕ)) (b : Bool) (value : List ℕ) (before : Option (List ℕ))
+    → or following (cond b (Some value) before) ≡ or (or following (cond b (Some value) None)) before
+text-more (Some other) b value before = refl
+text-more None true value before = refl
+text-more None false value before = refl
+
+number-more : (read : Option (List ℕ) → Option ℕ) (following : Option (List ℕ)) (b : Bool) (value : List ℕ) (before : Option ℕ)
+    → later read following (cond b (read (Some value)) before) ≡ later read (or following (cond b (Some value) None)) before
+number-more read (Some other) b value before = refl
+number-more read None true value before = refl
+number-more read None false value before = refl
+
+-- one element more was read
+pub with_elements-more : (before : NewElements) (e : Element) (es : List Element)
+    → with_elements (with_element before e) es ≡ with_elements before (e ∷ es)
+with_elements-more before e es = λ i. record {
+  called = text-more (last_of CALLED_NUMBER es) (eqb e.number CALLED_NUMBER) e.value before.called i;
+  calling = text-more (last_of CALLING_NUMBER es) (eqb e.number CALLING_NUMBER) e.value before.calling i;
+  format = number-more u32_in (last_of FORMAT es) (eqb e.number FORMAT) e.value before.format i;
+  capability = number-more u32_in (last_of CAPABILITY es) (eqb e.number CAPABILITY) e.value before.capability i;
+  version = number-more u16_in (last_of VERSION es) (eqb e.number VERSION) e.value before.version i;
+}

@@ -1,0 +1,47 @@
+-- The information elements of a NEW, by their names ("Call Setup", "Information Elements").
+use Rattle.std.specs.Prelude.{ℕ, ◌==◌, if◌then◌else◌, List, Option, Some, option_copied}
+use Rattle.info_elements.specs.Element.{Element, elements_of, last_of, u16_in, u32_in}
+use Rattle.info_elements.specs.Numbers.{CALLED_NUMBER, CALLING_NUMBER, CAPABILITY, FORMAT, VERSION}
+use Rattle.call_signals.specs.declared.new_elements.NewElements.{NewElements as ReadElements}
+
+pub record NewElements : Type 0 where
+  pub called : Option (List ℕ)
+  pub calling : Option (List ℕ)
+  -- a number is absent where its element doesn't have the right size
+  pub format : Option ℕ
+  pub capability : Option ℕ
+  pub version : Option ℕ
+
+-- of the elements of a number the last counts
+abbrev pub by_name : List Element → NewElements
+by_name es = record {
+  called = last_of CALLED_NUMBER es;
+  calling = last_of CALLING_NUMBER es;
+  format = u32_in (last_of FORMAT es);
+  capability = u32_in (last_of CAPABILITY es);
+  version = u16_in (last_of VERSION es);
+}
+
+-- the elements of a NEW's data
+abbrev pub new_elements : List ℕ → NewElements
+new_elements octets = by_name (elements_of octets)
+
+-- the elements that were read, without where their texts lie
+abbrev pub named : ReadElements → NewElements
+named read = record {
+  called = option_copied read.called;
+  calling = option_copied read.calling;
+  format = read.format;
+  capability = read.capability;
+  version = read.version;
+}
+
+-- one element more: it stands for those of its number that came before
+abbrev pub with_element : NewElements → Element → NewElements
+with_element before e = record {
+  called = if e.number == CALLED_NUMBER then Some e.value else before.called;
+  calling = if e.number == CALLING_NUMBER then Some e.value else before.calling;
+  format = if e.number == FORMAT then u32_in (Some e.value) else before.format;
+  capability = if e.number == CAPABILITY then u32_in (Some e.value) else before.capability;
+  version = if e.number == VERSION then u16_in (Some e.value) else before.version;
+}

@@ -1,0 +1,99 @@
+//! The information elements that a NEW is read for ("Call Setup", "Information Elements").
+ghost use Rattle.std.specs.Prelude.{◌≡◌, ◌≤◌, length, Some, IfSome};
+ghost use Rattle.std.specs.Option.{ForSome};
+ghost use Rattle.info_elements.specs.Element.{u16_in, u32_in};
+ghost use Rattle.call_signals.specs.NewElements.{new_elements, named, with_element};
+
+use info_elements::{CALLED_NUMBER, CALLING_NUMBER, CAPABILITY, FORMAT, VERSION, next_element};
+
+/// The information elements of a NEW, each by its name. Of the elements of one number the last counts.
+#[derive(Clone, Copy, Debug)]
+pub struct NewElements<'a> {
+    /// CALLED NUMBER, at most 255 octets.
+    pub called: Option<&'a [u8]>,
+    /// CALLING NUMBER, at most 255 octets.
+    pub calling: Option<&'a [u8]>,
+    /// FORMAT, where it has four octets.
+    pub format: Option<u32>,
+    /// CAPABILITY, where it has four octets.
+    pub capability: Option<u32>,
+    /// VERSION, where it has two octets.
+    pub version: Option<u16>,
+}
+
+// The number in a value of two octets.
+fn number_of_two(value: &[u8]) -> Option<u16>
+    ensures { result ≡ u16_in (Some value.now) }
+{
+    match value {
+        [a, b] => Some(u16::from_be_bytes([*a, *b])),
+        _ => None,
+    }
+}
+
+// The number in a value of four octets.
+fn number_of_four(value: &[u8]) -> Option<u32>
+    ensures { result ≡ u32_in (Some value.now) }
+{
+    match value {
+        [a, b, c, d] => { Some(u32::from_be_bytes([*a, *b, *c, *d])) }
+        _ => None,
+    }
+}
+
+impl<'a> NewElements<'a> {
+    /// The elements of a NEW's data, read once. Octets that are no whole element end them.
+    pub fn read(octets: &'a [u8]) -> NewElements<'a>
+        ensures elements { named result ≡ new_elements octets.now }
+        ensures called { IfSome result.called (λ text. length text.now ≤ 255) }
+        ensures calling { IfSome result.calling (λ text. length text.now ≤ 255) }
+    {
+        let mut elements = NewElements {
+            called: None,
+            calling: None,
+            format: None,
+            capability: None,
+            version: None,
+        };
+        let mut rest = octets;
+        while let Some((number, value, after)) = next_element(rest) {
+            elements = elements.with(number, value);
+            rest = after;
+        }
+        elements
+    }
+
+    // With one element more.
+    fn with(self, number: u8, value: &'a [u8]) -> NewElements<'a>
+        requires called { ForSome self.called (λ text. length text.now ≤ 255) }
+        requires calling { ForSome self.calling (λ text. length text.now ≤ 255) }
+        requires short { length value.now ≤ 255 }
+        ensures elements { named result ≡ with_element (named self.entry) (record { number = number; value = value.now }) }
+        ensures called { IfSome result.called (λ text. length text.now ≤ 255) }
+        ensures calling { IfSome result.calling (λ text. length text.now ≤ 255) }
+    {
+        match number {
+            CALLED_NUMBER => NewElements {
+                called: Some(value),
+                ..self
+            },
+            CALLING_NUMBER => NewElements {
+                calling: Some(value),
+                ..self
+            },
+            FORMAT => NewElements {
+                format: number_of_four(value),
+                ..self
+            },
+            CAPABILITY => NewElements {
+                capability: number_of_four(value),
+                ..self
+            },
+            VERSION => NewElements {
+                version: number_of_two(value),
+                ..self
+            },
+            _ => self,
+        }
+    }
+}
