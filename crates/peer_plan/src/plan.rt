@@ -75,6 +75,29 @@ impl Plan {
         self.passes
     }
 
+    /// The same plan with so many passes: at least as many as workers, at most 64.
+    pub fn with_passes(self, passes: u16) -> Plan
+        requires { IsWithin (length self.workers) 64 passes }
+        ensures { result ≡ record self { passes = passes } }
+    {
+        let Plan {
+            workers,
+            passes: _,
+            peers,
+            endpoints,
+            counts,
+            routes,
+        } = self;
+        Plan {
+            workers,
+            passes,
+            peers,
+            endpoints,
+            counts,
+            routes,
+        }
+    }
+
     /// How many peers there are, 1 to 32.
     pub fn peer_count(&self) -> u16
         ensures value { result ≡ length self.now.peers }
