@@ -1,0 +1,4 @@
+mod DigitLemmas
+mod FieldLemmas
+mod LengthLemmas
+mod RowLemmas

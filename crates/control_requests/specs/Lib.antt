@@ -1,0 +1,6 @@
+pub mod Answers
+pub mod Commands
+pub mod Digits
+pub mod Placing
+pub mod Requests
+pub mod Rows

@@ -1,0 +1,20 @@
+//! What a client of the control socket asks for, in HTTP/1.1 (RFC 9112), and the octets of each answer. Nothing here waits, reads
+//! or writes.
+#![tactic(auto)]
+
+mod answers;
+mod commands;
+mod digits;
+mod json_text;
+pub mod laws;
+mod placing;
+mod request;
+mod tables;
+mod views;
+
+pub use answers::{Answer, Status};
+pub use commands::{Command, Methods, NoCommand, command_of};
+pub use placing::{PlaceFault, PlaceOrder, place_of};
+pub use request::{BODY_LIMIT, FIELD_LIMIT, HEAD_LIMIT, Reading, Request, read_request};
+pub use tables::{TableFault, accounts_table, calls_table, peers_table};
+pub use views::{AccountsRow, CallRow, PeerRow, Rows, accounts_body, call_body};

@@ -1,0 +1,210 @@
+//! What the daemon shows: peers, calls, the accounts. Each as JSON.
+ghost use Rattle.std.specs.Prelude.{◌≡◌, ◌++◌, IfOk, OnErr, codes, string_bytes};
+ghost use Rattle.serde_json.specs.View.{view};
+ghost use Rattle.serde_json.specs.Written.{compact_text};
+ghost use Rattle.control_requests.specs.Rows.{optional, peer_data, call_data, accounts_data, followed, list_text};
+
+use crate::json_text::text_of;
+use serde_json::{Value, json};
+use std::alloc::{AllocError, Global};
+use std::marker::Model;
+
+/// A peer, as it is shown.
+#[derive(Clone, Copy, Debug, PartialEq, Eq)]
+pub struct PeerRow<'a> {
+    /// The name that the plan gives it.
+    pub name: &'a str,
+    /// Its address and port.
+    pub endpoint: &'a str,
+    /// The place of its worker, from 0.
+    pub worker: u16,
+    /// How many legs it has.
+    pub legs: u16,
+    /// How many local call numbers it has.
+    pub numbers: u16,
+    /// Milliseconds since its last datagram; none where it was never heard.
+    pub silent_ms: Option<u64>,
+    /// Datagrams that came from it and were taken.
+    pub received: u64,
+    /// Datagrams that came from it and were refused.
+    pub refused: u64,
+    /// Datagrams that went to it.
+    pub sent: u64,
+    /// Datagrams that should have gone to it and were lost.
+    pub lost: u64,
+}
+
+/// A call, as it is shown.
+#[derive(Clone, Copy, Debug, PartialEq, Eq)]
+pub struct CallRow<'a> {
+    /// The local call number.
+    pub number: u16,
+    /// Counts the legs that had this number.
+    pub serial: u64,
+    /// The name of the peer.
+    pub peer: &'a str,
+    /// The stage of the leg.
+    pub stage: &'a str,
+    /// How many frames are held.
+    pub held: u64,
+    /// How many entries the record has.
+    pub entries: u64,
+    /// The most entries of a record.
+    pub record_limit: u64,
+}
+
+/// The media accounts, in octets.
+#[derive(Clone, Copy, Debug, PartialEq, Eq)]
+pub struct AccountsRow {
+    pub accepted: u64,
+    pub packed: u64,
+    pub queued: u64,
+    pub dropped: u64,
+    /// The part of the dropped octets that went to quelched legs.
+    pub quelched: u64,
+}
+
+// A number, or `null`.
+fn optional(number: Option<u64>) -> Value
+    ensures { view result ≡ optional number }
+{
+    match number {
+        Some(number) => Value::from(number),
+        None => Value::Null,
+    }
+}
+
+fn peer_value(alloc: Global, row: PeerRow<'_>) -> Result<Value, AllocError>
+    ensures { IfOk result (λ value. view value ≡ peer_data row.entry) }
+{
+    let silent_ms = optional(row.silent_ms);
+    json!(in alloc; {
+        "endpoint": row.endpoint,
+        "legs": row.legs,
+        "lost": row.lost,
+        "name": row.name,
+        "numbers": row.numbers,
+        "received": row.received,
+        "refused": row.refused,
+        "sent": row.sent,
+        "silent_ms": silent_ms,
+        "worker": row.worker
+    })
+}
+
+fn call_value(alloc: Global, row: CallRow<'_>) -> Result<Value, AllocError>
+    ensures { IfOk result (λ value. view value ≡ call_data row.entry) }
+{
+    json!(in alloc; {
+        "entries": row.entries,
+        "held": row.held,
+        "number": row.number,
+        "peer": row.peer,
+        "record_limit": row.record_limit,
+        "serial": row.serial,
+        "stage": row.stage
+    })
+}
+
+fn accounts_value(alloc: Global, row: AccountsRow) -> Result<Value, AllocError>
+    ensures { IfOk result (λ value. view value ≡ accounts_data row) }
+{
+    json!(in alloc; {
+        "accepted": row.accepted,
+        "dropped": row.dropped,
+        "packed": row.packed,
+        "quelched": row.quelched,
+        "queued": row.queued
+    })
+}
+
+/// The JSON of one call.
+pub fn call_body(alloc: Global, row: CallRow<'_>) -> Result<String, AllocError>
+    ensures { IfOk result (λ body. string_bytes body ≡ compact_text (call_data row.entry)) }
+{
+    text_of(alloc, &call_value(alloc, row)?)
+}
+
+/// The JSON of the accounts.
+pub fn accounts_body(alloc: Global, row: AccountsRow) -> Result<String, AllocError>
+    ensures { IfOk result (λ body. string_bytes body ≡ compact_text (accounts_data row)) }
+{
+    text_of(alloc, &accounts_value(alloc, row)?)
+}
+
+fn peer_text(alloc: Global, row: PeerRow<'_>) -> Result<String, AllocError>
+    ensures { IfOk result (λ text. string_bytes text ≡ compact_text (peer_data row.entry)) }
+{
+    text_of(alloc, &peer_value(alloc, row)?)
+}
+
+fn followed(alloc: Global, rows: &str, row: String) -> Result<String, AllocError>
+    ensures { IfOk result (λ piece. rows.now ++ string_bytes piece ≡ followed rows.now (string_bytes row)) }
+{
+    if rows.is_empty() {
+        Ok(row)
+    } else {
+        format!(in alloc; ",{}", row)
+    }
+}
+
+/// Rows of peers or of calls as JSON, one after the other. Contracts see their text, with a comma between each two.
+#[derive(Drop, Debug)]
+pub struct Rows {
+    text: String,
+}
+
+impl Model for Rows {
+    ghost use Rattle.std.specs.Prelude.{List, ℕ, string_bytes};
+
+    ghost Value = { List ℕ };
+
+    ghost view = { λ rows. string_bytes rows.text };
+}
+
+impl Rows {
+    ghost use Rattle.std.specs.Prelude.{[], OnOk};
+
+    /// No rows yet.
+    pub fn new(alloc: Global) -> Rows
+        ensures { result ≡ [] }
+    {
+        Rows {
+            text: String::new(alloc),
+        }
+    }
+
+    /// One more peer. Where memory fails, the rows stay as they were.
+    pub fn push_peer(&mut self, alloc: Global, row: PeerRow<'_>) -> Result<(), AllocError>
+        ensures ok { OnOk result (self.new ≡ followed self.old (compact_text (peer_data row.entry))) }
+        ensures err { OnErr result (self.new ≡ self.old) }
+    {
+        let text = peer_text(alloc, row)?;
+        let piece = followed(alloc, &self.text, text)?;
+        self.text.push_str(&piece)
+    }
+
+    /// One more call. Where memory fails, the rows stay as they were.
+    pub fn push_call(&mut self, alloc: Global, row: CallRow<'_>) -> Result<(), AllocError>
+        ensures ok { OnOk result (self.new ≡ followed self.old (compact_text (call_data row.entry))) }
+        ensures err { OnErr result (self.new ≡ self.old) }
+    {
+        let text = call_body(alloc, row)?;
+        let piece = followed(alloc, &self.text, text)?;
+        self.text.push_str(&piece)
+    }
+
+    /// The rows as the list of peers: `{"peers":[..]}`.
+    pub fn into_peers(self, alloc: Global) -> Result<String, AllocError>
+        ensures { IfOk result (λ body. string_bytes body ≡ list_text (codes "peers") self) }
+    {
+        format!(in alloc; "{{\"peers\":[{}]}}", self.text)
+    }
+
+    /// The rows as the list of calls: `{"calls":[..]}`.
+    pub fn into_calls(self, alloc: Global) -> Result<String, AllocError>
+        ensures { IfOk result (λ body. string_bytes body ≡ list_text (codes "calls") self) }
+    {
+        format!(in alloc; "{{\"calls\":[{}]}}", self.text)
+    }
+}
