@@ -1,5 +1,5 @@
 -- Laws of the counts for each endpoint.
-use Rattle.std.proofs.Common.{◌≡◌, ◌≢◌, ℕ, ◌+◌, ◌<◌, ◌≤◌, ◌⊎◌, inl, inr, Bool, true, false, List, length, get_or, set, Option, Some, None, refl, sym, ap, subst, ◌∙◌, arith, ◌&&◌, ◌==◌}
+use Rattle.std.proofs.Common.{◌≡◌, ◌≢◌, ℕ, ◌+◌, ◌-◌, ◌<◌, ◌≤◌, ◌⊎◌, inl, inr, Bool, true, false, List, length, get_or, set, Option, Some, None, refl, sym, ap, subst, ◌∙◌, arith, ◌&&◌, ◌==◌}
 use Rattle.std.proofs.lemmas.Bool.{true≢false}
 use Rattle.std.proofs.lemmas.Bool.Decides.{nat_tests}
 use Rattle.std.proofs.lemmas.Grind.{common_steps}
@@ -12,7 +12,7 @@ use Rattle.std.specs.Prelude.{AllPairs, Contains, option_map, position, slice_ge
 use Rattle.std.specs.Str.{bytes_eq}
 use Rattle.peer_plan.specs.Reading.{is_endpoint}
 use Rattle.peer_plan.specs.declared.endpoint.Endpoint.{Endpoint}
-use Rattle.udp_workers.specs.Counts.{RisesBy, RisesByAtMost}
+use Rattle.udp_workers.specs.Counts.{RiseAlike, RisesBy, RisesByAtMost}
 use Rattle.udp_workers.specs.PeerCounts.{count_for}
 
 -- ---- endpoints are equal, or not
@@ -84,3 +84,8 @@ module _ (first before after : Endpoint → ℕ) (ends : List Endpoint) (place n
   ahead_next apart k d low high =
       let here : get_or ends place d ≡ to = get_or_from_slice_get ends place to d at in
       others (get_or ends k d) (λ same. apart place k d (omega arith) high (here ∙ sym same)) ∙ ahead k d (omega arith) high
+
+-- ---- two counts that went up by as much
+
+pub by_as_much : (before after old new : ℕ) → RiseAlike before after old new → old ≤ new → RisesBy before after (new - old)
+by_as_much before after old new alike more = omega (arith, alike, more)

@@ -1,3 +1,4 @@
 pub mod CountLaws
+pub mod EventLaws
 pub mod ServedLaws
 pub mod TickLaws

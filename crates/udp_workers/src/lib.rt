@@ -1,6 +1,8 @@
 //! Workers: each carries datagrams between its own socket and the exchange, for its own peers alone.
 #![tactic(auto)]
 
+mod draining;
+pub mod laws;
 mod mio_wire;
 mod peer_counts;
 mod receiving;
@@ -9,16 +11,19 @@ mod running;
 mod seat;
 mod sending;
 mod sources;
+mod tally;
 mod threads;
 mod turning;
+mod watch;
 mod wire;
 mod worker;
 
 pub use mio_wire::{BindError, MioWire};
 pub use peer_counts::PeerCounts;
 pub use report::TurnReport;
-pub use seat::{Place, Post, Seat, Start};
+pub use seat::{Place, Post, Seat, Start, WatchedExchange};
 pub use sources::{Challenges, Moments};
-pub use threads::{NoThread, run_all};
+pub use threads::{NoThread, run_all, start_until};
+pub use watch::{Event, ServiceStage, Unwatched, Watch};
 pub use wire::{Wire, WireFault};
 pub use worker::Worker;

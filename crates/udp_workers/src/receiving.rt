@@ -1,9 +1,16 @@
 //! Datagrams come in.
-ghost use Rattle.std.specs.Prelude.{◌≡◌, ◌+◌, ◌≤◌};
+ghost use Rattle.std.specs.Prelude.{◌≡◌, ◌+◌, ◌≤◌, IsTrue, Some};
+ghost use Rattle.exchange_core.specs.Traces.{IsHeard, moment};
 ghost use Rattle.peer_plan.specs.declared.endpoint.Endpoint.{Endpoint};
-ghost use Rattle.udp_workers.specs.Counts.{RisesBy};
+ghost use Rattle.udp_workers.specs.Counts.{RiseAlike};
+ghost use Rattle.udp_workers.specs.Draining.{IsTurnedAway};
+ghost use Rattle.udp_workers.specs.Events.{HasRoom};
+ghost use Rattle.udp_workers.specs.Receipts.{TellsReceipt};
 ghost use Rattle.udp_workers.specs.Ticked.{IsLater};
 
+use crate::draining::is_turned_away;
+use crate::tally::Tally;
+use crate::watch::{Event, ServiceStage, Watch};
 use crate::wire::Wire;
 use call_auth::Challenge;
 use exchange_core::{Exchange, Gate, Pass};
@@ -17,111 +24,173 @@ const OCTETS: usize = 2049;
 // How many datagrams are received in one turn at most.
 const DATAGRAMS: u64 = 64;
 
-// What came in.
-#[derive(Clone, Copy)]
-pub(crate) struct Received {
-    pub(crate) received: u64,
-    pub(crate) refused: u64,
-    pub(crate) faults: u64,
-    pub(crate) retired: u64,
-}
-
-// Hands a datagram to the exchange. One that isn't refused makes a step.
-fn hear<G: Gate, J: Naming, R: Wait>(
+// Hands a datagram of a peer to the exchange, and tells what became of it.
+fn hand_on<V: Watch, G: Gate, J: Naming, R: Wait>(
     rt: &R,
     exchange: &Exchange<G, J>,
     pass: &mut Pass<J>,
+    tally: &mut Tally<'_, V>,
+    peer: u16,
     from: Endpoint,
     octets: &[u8],
     now: u64,
     challenge: &Challenge,
-) -> Received
-    ensures received { result.received ≡ 1 }
-    ensures refused { result.refused ≤ 1 }
-    ensures no_fault { result.faults ≡ 0 }
-    ensures steps { pass.old.credit.steps + 1 ≤ pass.new.credit.steps + result.refused }
+)
+    requires room { HasRoom 2 tally.old.report }
+    ensures received { tally.new.report.received ≡ tally.old.report.received }
+    ensures refused { tally.new.report.refused ≤ tally.old.report.refused + 1 }
+    ensures more { tally.old.report.refused ≤ tally.new.report.refused }
+    ensures sent { tally.new.report.sent ≡ tally.old.report.sent }
+    ensures lost { tally.new.report.lost ≡ tally.old.report.lost }
+    ensures faults { tally.new.report.faults ≡ tally.old.report.faults }
+    ensures watch { tally.new.watch ≡ tally.old.watch }
+    // Where it isn't refused, it makes a step.
+    ensures steps { pass.old.credit.steps + 1 + tally.old.report.refused ≤ pass.new.credit.steps + tally.new.report.refused }
     ensures later { IsLater pass.old pass.new }
+    ensures heard { IsHeard exchange.now from (record (moment exchange.now now) { octets = octets.now; challenge = Some challenge.now }) pass.old pass.new }
 {
     let answer = exchange.datagram(rt, pass, from, octets, now, challenge);
-    Received {
-        received: 1,
-        refused: u64::from(answer.refused.is_some()),
-        faults: 0,
-        retired: answer.retired.len() as u64,
+    if let Some(refusal) = answer.refused {
+        tally.tell(Event::Refused { peer, refusal });
     }
+    tally.tell_retired(&answer.retired);
 }
 
-// Receives a datagram, if one is there, and hands it to the exchange.
-fn receive_one<W: Wire, G: Gate, J: Naming, R: Wait>(
+// Takes a datagram that was received. A stranger's is refused, and so is a NEW while the service drains; else it is handed to the
+// exchange.
+fn hear<V: Watch, G: Gate, J: Naming, R: Wait>(
+    rt: &R,
+    exchange: &Exchange<G, J>,
+    pass: &mut Pass<J>,
+    tally: &mut Tally<'_, V>,
+    stage: ServiceStage,
+    from: Endpoint,
+    octets: &[u8],
+    now: u64,
+    challenge: &Challenge,
+)
+    requires room { HasRoom 3 tally.old.report }
+    ensures received { tally.new.report.received ≡ tally.old.report.received + 1 }
+    ensures refused { tally.new.report.refused ≤ tally.old.report.refused + 1 }
+    ensures more { tally.old.report.refused ≤ tally.new.report.refused }
+    ensures sent { tally.new.report.sent ≡ tally.old.report.sent }
+    ensures lost { tally.new.report.lost ≡ tally.old.report.lost }
+    ensures faults { tally.new.report.faults ≡ tally.old.report.faults }
+    ensures watch { tally.new.watch ≡ tally.old.watch }
+    ensures told { TellsReceipt (V.told tally.old.watch.now) exchange.now from now }
+    // Where it isn't refused, it makes a step.
+    ensures steps { pass.old.credit.steps + 1 + tally.old.report.refused ≤ pass.new.credit.steps + tally.new.report.refused }
+    ensures later { IsLater pass.old pass.new }
+    // One that is turned away is refused, and makes none; any other is heard by the exchange.
+    ensures away { IsTurnedAway stage octets.now → (pass.new ≡ pass.old) × (tally.new.report.refused ≡ tally.old.report.refused + 1) }
+    ensures heard { (IsTurnedAway stage octets.now → ⊥) → IsHeard exchange.now from (record (moment exchange.now now) { octets = octets.now; challenge = Some challenge.now }) pass.old pass.new }
+{
+    let Some(peer) = exchange.plan().peer_of(from) else {
+        tally.tell(Event::Stranger { from });
+        return;
+    };
+    tally.tell(Event::Received { peer, now });
+    if is_turned_away(stage, octets) {
+        tally.tell(Event::TurnedAway { peer });
+        return;
+    }
+    hand_on(
+        rt, exchange, pass, tally, peer, from, octets, now, challenge,
+    );
+}
+
+// Receives a datagram, if one is there, and takes it. True if there may be another.
+fn receive_one<W: Wire, V: Watch, G: Gate, J: Naming, R: Wait>(
     rt: &R,
     wire: &mut W,
     exchange: &Exchange<G, J>,
     pass: &mut Pass<J>,
+    tally: &mut Tally<'_, V>,
+    stage: ServiceStage,
     octets: &mut [u8],
     now: u64,
     challenge: &Challenge,
-) -> Received
+) -> bool
+    requires room { HasRoom 3 tally.old.report }
     ensures given { W.given wire.new ≡ W.given wire.old }
     ensures given_to { (to : Endpoint) → W.given_to wire.new to ≡ W.given_to wire.old to }
-    ensures faults { RisesBy (W.failures wire.old) (W.failures wire.new) result.faults }
+    ensures failures { RiseAlike (W.failures wire.old) (W.failures wire.new) tally.old.report.faults tally.new.report.faults }
     ensures peers { W.peers wire.new ≡ W.peers wire.old }
-    ensures one { result.received + result.faults ≤ 1 }
-    ensures refused { result.refused ≤ result.received }
-    ensures steps { pass.old.credit.steps + result.received ≤ pass.new.credit.steps + result.refused }
+    ensures received { tally.old.report.received ≤ tally.new.report.received }
+    ensures one { tally.new.report.received ≤ tally.old.report.received + 1 }
+    ensures refused { tally.old.report.refused ≤ tally.new.report.refused }
+    ensures few_refused { tally.new.report.refused + tally.old.report.received ≤ tally.old.report.refused + tally.new.report.received }
+    ensures sent { tally.new.report.sent ≡ tally.old.report.sent }
+    ensures lost { tally.new.report.lost ≡ tally.old.report.lost }
+    ensures faults { tally.old.report.faults ≤ tally.new.report.faults }
+    ensures one_fault { tally.new.report.faults ≤ tally.old.report.faults + 1 }
+    ensures last { IsTrue result → tally.new.report.faults ≡ tally.old.report.faults }
+    ensures watch { tally.new.watch ≡ tally.old.watch }
+    ensures steps { pass.old.credit.steps + tally.new.report.received + tally.old.report.refused ≤ pass.new.credit.steps + tally.new.report.refused + tally.old.report.received }
     ensures later { IsLater pass.old pass.new }
 {
     match wire.receive(octets) {
-        Ok(Some((len, from))) => hear(rt, exchange, pass, from, &octets[..len], now, challenge),
-        Ok(None) => Received {
-            received: 0,
-            refused: 0,
-            faults: 0,
-            retired: 0,
-        },
-        Err(_) => Received {
-            received: 0,
-            refused: 0,
-            faults: 1,
-            retired: 0,
-        },
+        Ok(Some((len, from))) => {
+            hear(
+                rt,
+                exchange,
+                pass,
+                tally,
+                stage,
+                from,
+                &octets[..len],
+                now,
+                challenge,
+            );
+            true
+        }
+        Ok(None) => false,
+        Err(_) => {
+            tally.tell(Event::Fault);
+            false
+        }
     }
 }
 
-// Receives until nothing is there, a call of the wire fails or 64 datagrams came, and hands each to the exchange.
-pub(crate) fn receive_all<W: Wire, G: Gate, J: Naming, R: Wait>(
+// Receives until nothing is there, a call of the wire fails or 64 datagrams came, and takes each.
+pub(crate) fn receive_all<W: Wire, V: Watch, G: Gate, J: Naming, R: Wait>(
     rt: &R,
     wire: &mut W,
     exchange: &Exchange<G, J>,
     pass: &mut Pass<J>,
+    tally: &mut Tally<'_, V>,
+    stage: ServiceStage,
     now: u64,
     challenge: &Challenge,
-) -> Received
+)
+    requires room { HasRoom 66 tally.old.report }
     ensures given { W.given wire.new ≡ W.given wire.old }
     ensures given_to { (to : Endpoint) → W.given_to wire.new to ≡ W.given_to wire.old to }
-    ensures faults { RisesBy (W.failures wire.old) (W.failures wire.new) result.faults }
+    ensures failures { RiseAlike (W.failures wire.old) (W.failures wire.new) tally.old.report.faults tally.new.report.faults }
     ensures peers { W.peers wire.new ≡ W.peers wire.old }
-    ensures received { result.received ≤ 64 }
-    ensures refused { result.refused ≤ result.received }
-    ensures one_fault { result.faults ≤ 1 }
-    ensures steps { pass.old.credit.steps + result.received ≤ pass.new.credit.steps + result.refused }
+    ensures received { tally.new.report.received ≤ tally.old.report.received + 64 }
+    ensures refused { tally.new.report.refused + tally.old.report.received ≤ tally.old.report.refused + tally.new.report.received }
+    ensures sent { tally.new.report.sent ≡ tally.old.report.sent }
+    ensures lost { tally.new.report.lost ≡ tally.old.report.lost }
+    ensures one_fault { tally.new.report.faults ≤ tally.old.report.faults + 1 }
+    ensures watch { tally.new.watch ≡ tally.old.watch }
+    ensures steps { pass.old.credit.steps + tally.new.report.received + tally.old.report.refused ≤ pass.new.credit.steps + tally.new.report.refused + tally.old.report.received }
     ensures later { IsLater pass.old pass.new }
 {
     let mut octets = [0u8; OCTETS];
-    let mut report = Received {
-        received: 0,
-        refused: 0,
-        faults: 0,
-        retired: 0,
-    };
     for _ in 0..DATAGRAMS {
-        let one = receive_one(rt, wire, exchange, pass, &mut octets, now, challenge);
-        report.received += one.received;
-        report.refused += one.refused;
-        report.faults += one.faults;
-        report.retired = report.retired.wrapping_add(one.retired);
-        if one.received == 0 {
-            return report;
+        if !receive_one(
+            rt,
+            wire,
+            exchange,
+            pass,
+            tally,
+            stage,
+            &mut octets,
+            now,
+            challenge,
+        ) {
+            return;
         }
     }
-    report
 }

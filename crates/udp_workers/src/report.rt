@@ -1,6 +1,8 @@
 //! What a turn did.
 ghost use Rattle.std.specs.Prelude.{◌≡◌, ◌+◌, ◌<◌, ◌^◌};
 
+use crate::watch::Event;
+
 /// What one turn did, or several together.
 #[derive(Clone, Copy, Debug, Default, PartialEq, Eq)]
 pub struct TurnReport {
@@ -19,6 +21,29 @@ pub struct TurnReport {
 }
 
 impl TurnReport {
+    ghost use Rattle.udp_workers.specs.Events.{HasRoom, counted};
+
+    // With an event more.
+    pub(crate) fn counted(self, event: Event) -> TurnReport
+        requires { HasRoom 1 self }
+        ensures { result ≡ counted self event }
+    {
+        let mut report = self;
+        match event {
+            Event::Received { .. } => report.received += 1,
+            Event::Refused { .. } | Event::TurnedAway { .. } => report.refused += 1,
+            Event::Stranger { .. } => {
+                report.received += 1;
+                report.refused += 1;
+            }
+            Event::Sent { .. } => report.sent += 1,
+            Event::Lost { .. } => report.lost += 1,
+            Event::Fault => report.faults += 1,
+            Event::Retired { .. } => report.retired = report.retired.wrapping_add(1),
+        }
+        report
+    }
+
     // Both together.
     pub(crate) fn with(self, other: TurnReport) -> TurnReport
         requires received { self.received + other.received < 2 ^ 64 }

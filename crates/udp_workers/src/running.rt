@@ -1,11 +1,14 @@
 //! Turns one after another.
 ghost use Rattle.std.specs.Prelude.{◌≡◌, ◌+◌, ◌*◌, ◌≤◌, length};
 ghost use Rattle.udp_workers.specs.Counts.{RisesBy};
+ghost use Rattle.udp_workers.specs.Events.{MakesTurns, Tells};
 ghost use Rattle.udp_workers.specs.Served.{AreEndpoints, peers_of};
 ghost use Rattle.udp_workers.specs.Ticked.{IsLater};
 
 use crate::report::TurnReport;
 use crate::sources::{Challenges, Moments};
+use crate::tally::Tally;
+use crate::watch::{ServiceStage, Watch};
 use crate::wire::Wire;
 use crate::worker::Worker;
 use exchange_core::{Exchange, Gate, Pass};
@@ -15,8 +18,11 @@ use std::sync::Wait;
 // How long a worker waits for a datagram between two turns, in milliseconds.
 const WAIT_MS: u64 = 20;
 
+// How many turns are made at most until a service ends.
+const TURNS: u64 = 0x1_0000_0000_0000;
+
 // Waits for a datagram, but before the first turn.
-fn pause<W: Wire>(wire: &mut W, turn: u32)
+fn pause<W: Wire>(wire: &mut W, turn: u64)
     ensures given { W.given wire.new ≡ W.given wire.old }
     ensures failures { W.failures wire.new ≡ W.failures wire.old }
     ensures peers { W.peers wire.new ≡ W.peers wire.old }
@@ -54,12 +60,59 @@ impl Worker {
     {
         let mut report = TurnReport::default();
         for turn in 0..turns {
-            pause(wire, turn);
+            pause(wire, u64::from(turn));
             let now = moments.now();
             let challenge = challenges.draw();
             let made = self.turn(rt, wire, exchange, pass, now, &challenge);
             report = report.with(made);
         }
         report
+    }
+
+    /// Makes turns until the watch says that the service has ended: it is asked before each, and told what happens. Each turn has
+    /// its own moment and challenge; between them the worker waits for a datagram, at most 20 ms. Gives the sum of their reports,
+    /// which counts just what the watch was told.
+    ///
+    /// While the service drains, a NEW of a peer isn't handed to the exchange if it has no destination and OSeqno 0, also where
+    /// it is sent again for a leg that is there. It counts as received and refused. All else goes on.
+    ///
+    /// It makes 2^48 turns at most, so that no sum passes 64 bits: a turn gives the wire 8,192 datagrams at most. At ten
+    /// microseconds a turn these are eighty-nine years.
+    pub fn run_until<W: Wire, V: Watch, G: Gate, J: Naming, M: Moments, C: Challenges, R: Wait>(
+        &mut self,
+        rt: &R,
+        wire: &mut W,
+        exchange: &Exchange<G, J>,
+        pass: &mut Pass<J>,
+        watch: &V,
+        moments: &mut M,
+        challenges: &mut C,
+    ) -> TurnReport
+        requires peers { self.old.peers ≡ peers_of exchange.now self.old.place }
+        requires wire { AreEndpoints exchange.now self.old.peers (W.peers wire.old) }
+        ensures given { RisesBy (W.given wire.old) (W.given wire.new) (result.sent + result.lost) }
+        ensures faults { RisesBy (W.failures wire.old) (W.failures wire.new) result.faults }
+        ensures wire { W.peers wire.new ≡ W.peers wire.old }
+        // So many turns as it made; each of them received 64 datagrams at most, and gave the wire 256 for each peer at most.
+        ensures turns { MakesTurns (V.answered watch.now ServiceStage.Ended) self.old.turns self.new.turns result }
+        ensures told { ∥ Tells (V.told watch.now) result ∥₁ }
+        ensures refused { result.refused ≤ result.received }
+        ensures steps { pass.old.credit.steps + result.received ≤ pass.new.credit.steps + result.refused }
+        ensures later { IsLater pass.old pass.new }
+        ensures place { self.new.place ≡ self.old.place }
+        ensures peers { self.new.peers ≡ self.old.peers }
+    {
+        let mut tally = Tally::new(watch);
+        for turn in 0..TURNS {
+            pause(wire, turn);
+            let stage = watch.stage();
+            if stage == ServiceStage::Ended {
+                return tally.report;
+            }
+            let now = moments.now();
+            let challenge = challenges.draw();
+            self.turn_at(rt, wire, exchange, pass, stage, now, &challenge, &mut tally);
+        }
+        tally.report
     }
 }

@@ -6,6 +6,7 @@ ghost use Rattle.udp_workers.specs.Served.{AreEndpoints, peers_of};
 
 use crate::report::TurnReport;
 use crate::sources::{Challenges, Moments};
+use crate::watch::Watch;
 use crate::wire::Wire;
 use crate::worker::Worker;
 use exchange_core::{Exchange, Gate, Pass};
@@ -30,6 +31,15 @@ pub(crate) struct Shift<'x, G: Gate, J: Naming, P: Post> {
     pub(crate) exchange: &'x Exchange<G, J>,
     pub(crate) turns: u32,
     pub(crate) post: PhantomData<P>,
+    ghost named: { exchange.now ≡ P.plan },
+}
+
+/// The exchange of that plan, and the watch of those that serve on it.
+#[derive(Drop)]
+pub struct WatchedExchange<'x, V: Watch, G: Gate, J: Naming, P: Post> {
+    pub exchange: &'x Exchange<G, J>,
+    pub watch: &'x V,
+    pub post: PhantomData<P>,
     ghost named: { exchange.now ≡ P.plan },
 }
 
@@ -84,6 +94,9 @@ impl<W: Wire + Drop, M: Moments + Drop, C: Challenges + Drop, J: Naming, P: Post
     J,
     P,
 > {
+    ghost use Rattle.udp_workers.specs.Events.{MakesTurns, Tells};
+    ghost use Rattle.udp_workers.specs.declared.watch.ServiceStage.TheVariants as ServiceStage;
+
     // A run from here: its counts begin with what is counted so far, and all its turns are made.
     fn run<G: Gate, R: Wait>(&mut self, rt: &R, exchange: &Exchange<G, J>, turns: u32)
         requires { exchange.now ≡ P.plan }
@@ -99,6 +112,32 @@ impl<W: Wire + Drop, M: Moments + Drop, C: Challenges + Drop, J: Naming, P: Post
             exchange,
             &mut self.pass,
             turns,
+            &mut self.moments,
+            &mut self.challenges,
+        );
+    }
+
+    // A run from here until the watch says that the service has ended: its counts begin with what is counted so far.
+    fn run_until<V: Watch, G: Gate, R: Wait>(
+        &mut self,
+        rt: &R,
+        exchange: &Exchange<G, J>,
+        watch: &V,
+    )
+        requires { exchange.now ≡ P.plan }
+        ensures given { self.new.start.given ≡ W.given self.old.wire }
+        ensures failures { self.new.start.failures ≡ W.failures self.old.wire }
+        ensures steps { self.new.start.steps ≡ self.old.pass.credit.steps }
+        ensures turns { MakesTurns (V.answered watch.now ServiceStage.Ended) self.old.worker.turns self.new.worker.turns self.new.report }
+        ensures told { ∥ Tells (V.told watch.now) self.new.report ∥₁ }
+    {
+        self.start = start_of(&self.wire, &self.pass);
+        self.report = self.worker.run_until(
+            rt,
+            &mut self.wire,
+            exchange,
+            &mut self.pass,
+            watch,
             &mut self.moments,
             &mut self.challenges,
         );
@@ -141,6 +180,17 @@ impl<W: Wire + Drop, M: Moments + Drop, C: Challenges + Drop, J: Naming, P: Post
     // Makes the run of the worker, on the thread of the caller.
     pub(crate) fn run<G: Gate, R: Wait>(&self, rt: &R, shift: &Shift<'_, G, J, P>) {
         self.place.lock(rt).run(rt, shift.exchange, shift.turns);
+    }
+
+    // Makes the run of the worker until the service has ended, on the thread of the caller.
+    pub(crate) fn run_until<V: Watch, G: Gate, R: Wait>(
+        &self,
+        rt: &R,
+        service: &WatchedExchange<'_, V, G, J, P>,
+    ) {
+        self.place
+            .lock(rt)
+            .run_until(rt, service.exchange, service.watch);
     }
 
     /// The worker with all that its run needed, and the sum of the reports of its last run.

@@ -1,8 +1,9 @@
 //! Seats on threads of their own.
-ghost use Rattle.std.specs.Prelude.{◌≡◌, ◌≤◌, [], IsOk, length};
+ghost use Rattle.std.specs.Prelude.{◌≡◌, ◌≤◌, [], IsFalse, IsOk, length};
 
-use crate::seat::{Post, Seat, Shift};
+use crate::seat::{Post, Seat, Shift, WatchedExchange};
 use crate::sources::{Challenges, Moments};
+use crate::watch::Watch;
 use crate::wire::Wire;
 use exchange_core::{Exchange, Gate};
 use peer_lock::Naming;
@@ -91,4 +92,39 @@ pub fn run_all<
     } else {
         Err(NoThread)
     }
+}
+
+/// Starts a thread for each seat in a scope of the caller. It makes the seat's run until the watch says that the service has
+/// ended, and puts the sum of its reports into the seat. True if no thread was refused; the watch is told of each that was, so
+/// that it can answer `Ended` to the others.
+///
+/// The scope returns when all threads have ended, and none does before it is answered `Ended`. Until then the caller's thread
+/// does beside them what it likes.
+pub fn start_until<
+    's,
+    E,
+    V: Watch + Sync,
+    W: Wire + Drop + Send,
+    M: Moments + Drop + Send,
+    C: Challenges + Drop + Send,
+    G: Gate + Sync,
+    J: Naming,
+    P: Post + Send + Sync,
+    R: Wait + Sync,
+>(
+    rt: &'s R,
+    scope: &Scope<'s, E>,
+    service: &'s WatchedExchange<'s, V, G, J, P>,
+    seats: &'s [Seat<W, M, C, J, P>],
+) -> bool
+    ensures { IsFalse result → V.lacks_thread service.now.watch.now }
+{
+    let mut started = true;
+    for seat in seats {
+        if scope.spawn(move || seat.run_until(rt, service)).is_err() {
+            service.watch.no_thread();
+            started = false;
+        }
+    }
+    started
 }

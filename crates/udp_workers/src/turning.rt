@@ -2,13 +2,16 @@
 ghost use Rattle.std.specs.Prelude.{◌≡◌, ◌≢◌, ◌+◌, ◌*◌, ◌<◌, ◌≤◌, All, AllPairs, length};
 ghost use Rattle.peer_plan.specs.declared.endpoint.Endpoint.{Endpoint};
 ghost use Rattle.noted_steps.specs.Notes.{Noted};
-ghost use Rattle.udp_workers.specs.Counts.{RisesBy, RisesByAtMost};
+ghost use Rattle.udp_workers.specs.Counts.{RiseAlike, RisesBy, RisesByAtMost};
+ghost use Rattle.udp_workers.specs.Events.{HasRoom, OnlyRetires};
 ghost use Rattle.udp_workers.specs.Served.{AreEndpoints, peers_of};
 ghost use Rattle.udp_workers.specs.Ticked.{IsLater, TicksAll};
 
 use crate::receiving::receive_all;
 use crate::report::TurnReport;
-use crate::sending::{Sent, send_all};
+use crate::sending::send_all;
+use crate::tally::Tally;
+use crate::watch::{ServiceStage, Unwatched, Watch};
 use crate::wire::Wire;
 use crate::worker::Worker;
 use call_auth::Challenge;
@@ -50,75 +53,106 @@ impl Worker {
         ensures few { length self.new.peers ≤ 32 }
         ensures turns { RisesBy self.old.turns self.new.turns 1 }
     {
+        let mut tally = Tally::new(&Unwatched);
+        let serving = ServiceStage::Serving;
+        self.turn_at(
+            rt, wire, exchange, pass, serving, now, challenge, &mut tally,
+        );
+        tally.report
+    }
+
+    // One turn, at the stage that the watch was asked for.
+    pub(crate) fn turn_at<W: Wire, V: Watch, G: Gate, J: Naming, R: Wait>(
+        &mut self,
+        rt: &R,
+        wire: &mut W,
+        exchange: &Exchange<G, J>,
+        pass: &mut Pass<J>,
+        stage: ServiceStage,
+        now: u64,
+        challenge: &Challenge,
+        tally: &mut Tally<'_, V>,
+    )
+        requires peers { self.old.peers ≡ peers_of exchange.now self.old.place }
+        requires wire { AreEndpoints exchange.now self.old.peers (W.peers wire.old) }
+        requires asked { V.answered tally.old.watch.now stage }
+        requires going { stage ≢ ServiceStage.Ended }
+        requires room { HasRoom 10000 tally.old.report }
+        ensures given { RiseAlike (W.given wire.old) (W.given wire.new) (tally.old.report.sent + tally.old.report.lost) (tally.new.report.sent + tally.new.report.lost) }
+        ensures faults { RiseAlike (W.failures wire.old) (W.failures wire.new) tally.old.report.faults tally.new.report.faults }
+        ensures wire { W.peers wire.new ≡ W.peers wire.old }
+        ensures received { tally.new.report.received ≤ tally.old.report.received + 64 }
+        ensures refused { tally.new.report.refused + tally.old.report.received ≤ tally.old.report.refused + tally.new.report.received }
+        ensures emptied { tally.new.report.sent + tally.new.report.lost ≤ tally.old.report.sent + tally.old.report.lost + 256 * length self.old.peers }
+        ensures each { (to : Endpoint) → RisesByAtMost 256 (W.given_to wire.old to) (W.given_to wire.new to) }
+        ensures few_faults { tally.new.report.faults + tally.old.report.lost ≤ tally.old.report.faults + tally.new.report.lost + 1 }
+        ensures watch { tally.new.watch ≡ tally.old.watch }
+        ensures steps { pass.old.credit.steps + tally.new.report.received + tally.old.report.refused ≤ pass.new.credit.steps + tally.new.report.refused + tally.old.report.received }
+        ensures ticked { (mid : Noted) × IsLater pass.old mid × TicksAll exchange.now now self.old.peers mid pass.new }
+        ensures place { self.new.place ≡ self.old.place }
+        ensures peers { self.new.peers ≡ self.old.peers }
+        ensures few { length self.new.peers ≤ 32 }
+        ensures turns { RisesBy self.old.turns self.new.turns 1 }
+    {
         // No two peers of a plan have one endpoint.
         let _peers = exchange.plan().peer_count();
         self.turns = self.turns.wrapping_add(1);
-        let arrived = receive_all(rt, wire, exchange, pass, now, challenge);
+        receive_all(rt, wire, exchange, pass, tally, stage, now, challenge);
         let peers = self.peers();
-        let ended = tick_all(rt, exchange, pass, peers, now);
-        let gone = empty_all(rt, wire, exchange, pass, peers);
-        TurnReport {
-            received: arrived.received,
-            refused: arrived.refused,
-            sent: gone.sent,
-            lost: gone.lost,
-            faults: arrived.faults + gone.faults,
-            retired: arrived.retired.wrapping_add(ended),
-        }
+        tick_all(rt, exchange, pass, tally, peers, now);
+        empty_all(rt, wire, exchange, pass, tally, peers);
     }
 }
 
-// Time goes on at each of these peers. Gives how many legs were taken out.
-fn tick_all<G: Gate, J: Naming, R: Wait>(
+// Time goes on at each of these peers.
+fn tick_all<V: Watch, G: Gate, J: Naming, R: Wait>(
     rt: &R,
     exchange: &Exchange<G, J>,
     pass: &mut Pass<J>,
+    tally: &mut Tally<'_, V>,
     peers: &[u16],
     now: u64,
-) -> u64
-    requires { All (λ peer. peer < length exchange.now.peers) peers.now }
+)
+    requires peers { All (λ peer. peer < length exchange.now.peers) peers.now }
+    requires room { HasRoom 1 tally.old.report }
     ensures steps { pass.old.credit.steps ≤ pass.new.credit.steps }
     ensures ticked { TicksAll exchange.now now peers.now pass.old pass.new }
+    ensures only { OnlyRetires tally.old.report tally.new.report }
+    ensures watch { tally.new.watch ≡ tally.old.watch }
 {
-    let mut retired: u64 = 0;
     for &peer in peers {
         let answer = exchange.tick(rt, pass, peer, now);
-        retired = retired.wrapping_add(answer.retired.len() as u64);
+        tally.tell_retired(&answer.retired);
     }
-    retired
 }
 
 // Sends what is in the outboxes of these peers.
-fn empty_all<W: Wire, G: Gate, J: Naming, R: Wait>(
+fn empty_all<W: Wire, V: Watch, G: Gate, J: Naming, R: Wait>(
     rt: &R,
     wire: &mut W,
     exchange: &Exchange<G, J>,
     pass: &mut Pass<J>,
+    tally: &mut Tally<'_, V>,
     peers: &[u16],
-) -> Sent
+)
     requires few { length peers.now ≤ 32 }
     requires peers { All (λ peer. peer < length exchange.now.peers) peers.now }
     requires wire { AreEndpoints exchange.now peers.now (W.peers wire.old) }
     requires apart { AllPairs (λ one other. one ≢ other) (W.peers wire.old) }
-    ensures given { RisesBy (W.given wire.old) (W.given wire.new) (result.sent + result.lost) }
-    ensures faults { RisesBy (W.failures wire.old) (W.failures wire.new) result.faults }
+    requires room { HasRoom 9000 tally.old.report }
+    ensures given { RiseAlike (W.given wire.old) (W.given wire.new) (tally.old.report.sent + tally.old.report.lost) (tally.new.report.sent + tally.new.report.lost) }
+    ensures faults { RiseAlike (W.failures wire.old) (W.failures wire.new) tally.old.report.faults tally.new.report.faults }
     ensures wire { W.peers wire.new ≡ W.peers wire.old }
-    ensures emptied { result.sent + result.lost ≤ 256 * length peers.now }
+    ensures emptied { tally.new.report.sent + tally.new.report.lost ≤ tally.old.report.sent + tally.old.report.lost + 256 * length peers.now }
     ensures each { (to : Endpoint) → RisesByAtMost 256 (W.given_to wire.old to) (W.given_to wire.new to) }
-    ensures some_lost { result.faults ≤ result.lost }
+    ensures some_lost { tally.new.report.faults + tally.old.report.lost ≤ tally.old.report.faults + tally.new.report.lost }
+    ensures received { tally.new.report.received ≡ tally.old.report.received }
+    ensures refused { tally.new.report.refused ≡ tally.old.report.refused }
+    ensures watch { tally.new.watch ≡ tally.old.watch }
     ensures pass { pass.new ≡ pass.old }
 {
-    let mut report = Sent {
-        sent: 0,
-        lost: 0,
-        faults: 0,
-    };
     for &peer in peers {
         let to = exchange.plan().endpoint(peer);
-        let gone = send_all(rt, wire, exchange, pass, peer, to);
-        report.sent += gone.sent;
-        report.lost += gone.lost;
-        report.faults += gone.faults;
+        send_all(rt, wire, exchange, pass, tally, peer, to);
     }
-    report
 }

@@ -61,9 +61,9 @@ impl<'a, R: Clock> Gate for Meeting<'a, R> {
     }
 }
 
-// Moment 0.
+/// Moment 0.
 #[derive(Drop)]
-struct AtOnce;
+pub struct AtOnce;
 
 impl Moments for AtOnce {
     fn now(&mut self) -> u64 {
@@ -71,9 +71,9 @@ impl Moments for AtOnce {
     }
 }
 
-// The challenge `0`.
+/// The challenge `0`.
 #[derive(Drop)]
-struct Zero(Challenge);
+pub struct Zero(pub Challenge);
 
 impl Challenges for Zero {
     fn draw(&mut self) -> Challenge {
@@ -81,7 +81,8 @@ impl Challenges for Zero {
     }
 }
 
-type TestSeat<J, P> = Seat<MemoryWire, AtOnce, Zero, J, P>;
+/// A seat over a wire in memory.
+pub type TestSeat<J, P> = Seat<MemoryWire, AtOnce, Zero, J, P>;
 
 // A wire in memory for a worker of a plan.
 fn wire_of(alloc: Global, plan: &Plan, worker: &Worker) -> Option<MemoryWire>
@@ -110,8 +111,8 @@ fn seat_of<J: Naming, P: Post>(
     }
 }
 
-// The seats of the workers of a plan, in its order, each with a pass of its own.
-fn seats_of<J: Naming, P: Post>(
+/// The seats of the workers of a plan, in its order, each with a pass of its own.
+pub fn seats_of<J: Naming, P: Post>(
     alloc: Global,
     plan: &Plan,
     passes: Vec<Pass<J>>,
@@ -127,8 +128,8 @@ fn seats_of<J: Naming, P: Post>(
     Some(seats)
 }
 
-// How many turns the workers of these seats made.
-fn turns_of<J: Naming, P: Post>(seats: Vec<TestSeat<J, P>>) -> u64 {
+/// How many turns the workers of these seats made.
+pub fn turns_of<J: Naming, P: Post>(seats: Vec<TestSeat<J, P>>) -> u64 {
     let mut turns: u64 = 0;
     for seat in seats {
         turns = turns.wrapping_add(seat.into_place().worker.turns());

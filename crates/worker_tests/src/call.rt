@@ -49,6 +49,13 @@ pub const ARRIVALS: [Arrival; 7] = [
     },
 ];
 
+/// A second call from the west, while the first goes on.
+pub const SECOND_NEW: Arrival = Arrival {
+    at: 20,
+    from: WEST,
+    octets: b"\x80\x08\x00\x00\x00\x00\x00\x00\x00\x00\x06\x01\x0b\x02\x00\x02\x01\x03\x33\x30\x30\x09\x04\x00\x00\x00\x04\x08\x04\x00\x00\x00\x04",
+};
+
 /// What goes to the west, in order.
 pub const TO_WEST: [&[u8]; 3] = [
     b"\x80\x01\x00\x07\x00\x00\x00\x00\x00\x01\x06\x07\x09\x04\x00\x00\x00\x04",

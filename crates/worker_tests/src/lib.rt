@@ -6,6 +6,8 @@ mod both_at_once;
 #[cfg(test)]
 mod call;
 #[cfg(test)]
+mod counting_watch;
+#[cfg(test)]
 mod failing_wire;
 #[cfg(test)]
 mod loopback;
@@ -15,5 +17,9 @@ mod memory_wire;
 mod plans;
 #[cfg(test)]
 mod same;
+#[cfg(test)]
+mod until_ended;
+#[cfg(test)]
+mod watched_threads;
 #[cfg(test)]
 mod whole_call;

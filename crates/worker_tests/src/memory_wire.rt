@@ -1,4 +1,5 @@
 //! A wire in memory: it gives what a test puts there, keeps what it is given, and fails at one of its calls.
+use crate::call::Arrival;
 use peer_plan::Endpoint;
 use std::alloc::{AllocError, Global};
 use udp_workers::{PeerCounts, Wire, WireFault};
@@ -19,6 +20,8 @@ pub struct MemoryWire {
     failures: u64,
     // The datagram that comes next.
     next: Option<(Endpoint, &'static [u8])>,
+    // The datagrams after it, the last first. Each comes when the wire is waited for.
+    later: Vec<Arrival>,
     // What was sent, in order.
     sent: Vec<Sent>,
     // How many more calls of `receive` and `send` go well before one fails.
@@ -38,6 +41,7 @@ impl MemoryWire {
             given: 0,
             failures: 0,
             next: None,
+            later: Vec::new(alloc),
             sent: Vec::new(alloc),
             good_calls: fails_at.wrapping_sub(1),
         })
@@ -52,6 +56,28 @@ impl MemoryWire {
         }
         self.next = Some((from, octets));
         true
+    }
+
+    /// The first of these datagrams, which stand the last first, is there, and each other comes when the wire is waited for.
+    pub fn follow(&mut self, arrivals: Vec<Arrival>)
+        ensures { self.new.peers ≡ self.old.peers }
+    {
+        self.later = arrivals;
+        self.bring();
+    }
+
+    // The next datagram is there, unless the one before it wasn't received yet.
+    fn bring(&mut self)
+        ensures peers { self.new.peers ≡ self.old.peers }
+        ensures given { self.new.given ≡ self.old.given }
+        ensures failures { self.new.failures ≡ self.old.failures }
+    {
+        if self.next.is_some() {
+            return;
+        }
+        if let Some(arrival) = self.later.pop() {
+            self.next = Some((arrival.from, arrival.octets));
+        }
     }
 
     /// What was sent, in order.
@@ -109,7 +135,9 @@ impl Wire for MemoryWire {
         Ok(self.sent.push(Sent { to, octets }).is_ok())
     }
 
-    fn wait(&mut self, _ms: u64) {}
+    fn wait(&mut self, _ms: u64) {
+        self.bring();
+    }
 
     fn peers(&self) -> &[Endpoint] {
         &self.peers.endpoints

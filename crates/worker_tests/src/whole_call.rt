@@ -76,8 +76,8 @@ fn play_arrivals<J: Naming, R: Wait>(
     (sum, counted)
 }
 
-// Whether the accounts of an exchange are settled, and accepted octets are those packed, queued and dropped.
-fn balances<J: Naming>(exchange: Exchange<NoGate, J>, passes: Vec<Pass<J>>) -> bool {
+/// Whether the accounts of an exchange are settled, and accepted octets are those packed, queued and dropped.
+pub fn balances<J: Naming>(exchange: Exchange<NoGate, J>, passes: Vec<Pass<J>>) -> bool {
     match exchange.settle(passes) {
         Ok(s) => s.accepted == s.packed.wrapping_add(s.queued).wrapping_add(s.dropped),
         Err(_) => false,
@@ -157,8 +157,8 @@ pub fn play_over<R: Wait>(rt: &R, alloc: Global, fails_at: u64) -> Option<Played
     )
 }
 
-// Whether what went to an endpoint is this, in order.
-fn went(sent: &[Sent], to: Endpoint, wanted: &[&[u8]]) -> bool {
+/// Whether what went to an endpoint is this, in order.
+pub fn went(sent: &[Sent], to: Endpoint, wanted: &[&[u8]]) -> bool {
     let mut found: usize = 0;
     for datagram in sent {
         if datagram.to == to {

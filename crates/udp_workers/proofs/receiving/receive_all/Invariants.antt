@@ -1,18 +1,22 @@
 use Rattle.std.proofs.Common.{◌≡◌, ◌+◌, ◌≤◌}
 use Rattle.peer_plan.specs.declared.endpoint.Endpoint.{Endpoint}
-use Rattle.udp_workers.specs.Counts.{RisesBy}
+use Rattle.udp_workers.specs.Counts.{RiseAlike}
 use Rattle.udp_workers.specs.Ticked.{IsLater}
 use Rattle.udp_workers.proofs.receiving.receive_all.Given as goal
 
 abbrev pub invariant-loop : goal.invariant-loop
 invariant-loop g l = record {
-  received : l.report.received ≤ l.counter;
-  refused : l.report.refused ≤ l.report.received;
-  no_fault : l.report.faults ≡ 0;
+  received : l.tally.report.received ≤ l.fn.tally.report.received + l.counter;
+  more : l.fn.tally.report.received ≤ l.tally.report.received;
+  refused : l.tally.report.refused + l.fn.tally.report.received ≤ l.fn.tally.report.refused + l.tally.report.received;
+  no_fault : l.tally.report.faults ≡ l.fn.tally.report.faults;
+  sent : l.tally.report.sent ≡ l.fn.tally.report.sent;
+  lost : l.tally.report.lost ≡ l.fn.tally.report.lost;
+  watch : l.tally.watch ≡ l.fn.tally.watch;
   given : g.W.Wire.given l.wire ≡ g.W.Wire.given l.fn.wire;
   given_to : (to : Endpoint) → g.W.Wire.given_to l.wire to ≡ g.W.Wire.given_to l.fn.wire to;
-  failures : RisesBy (g.W.Wire.failures l.fn.wire) (g.W.Wire.failures l.wire) 0;
+  failures : RiseAlike (g.W.Wire.failures l.fn.wire) (g.W.Wire.failures l.wire) l.fn.tally.report.faults l.tally.report.faults;
   peers : g.W.Wire.peers l.wire ≡ g.W.Wire.peers l.fn.wire;
-  steps : l.fn.pass.credit.steps + l.report.received ≤ l.pass.credit.steps + l.report.refused;
+  steps : l.fn.pass.credit.steps + l.tally.report.received + l.fn.tally.report.refused ≤ l.pass.credit.steps + l.tally.report.refused + l.fn.tally.report.received;
   later : IsLater l.fn.pass l.pass;
 }

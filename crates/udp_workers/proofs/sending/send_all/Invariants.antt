@@ -1,16 +1,22 @@
 use Rattle.std.proofs.Common.{◌≡◌, ◌≢◌, ◌+◌, ◌≤◌}
 use Rattle.peer_plan.specs.declared.endpoint.Endpoint.{Endpoint}
-use Rattle.udp_workers.specs.Counts.{RisesBy}
+use Rattle.udp_workers.specs.Counts.{RiseAlike}
 use Rattle.udp_workers.proofs.sending.send_all.Given as goal
 
 abbrev pub invariant-loop : goal.invariant-loop
 invariant-loop g l = record {
-  emptied : l.report.sent + l.report.lost ≤ l.counter;
-  some_lost : l.report.faults ≤ l.report.lost;
-  given : RisesBy (g.W.Wire.given l.fn.wire) (g.W.Wire.given l.wire) (l.report.sent + l.report.lost);
-  to : RisesBy (g.W.Wire.given_to l.fn.wire l.to) (g.W.Wire.given_to l.wire l.to) (l.report.sent + l.report.lost);
+  emptied : l.tally.report.sent + l.tally.report.lost ≤ l.fn.tally.report.sent + l.fn.tally.report.lost + l.counter;
+  more : l.fn.tally.report.sent + l.fn.tally.report.lost ≤ l.tally.report.sent + l.tally.report.lost;
+  some_lost : l.tally.report.faults + l.fn.tally.report.lost ≤ l.fn.tally.report.faults + l.tally.report.lost;
+  few_faults : l.tally.report.faults ≤ l.fn.tally.report.faults + l.counter;
+  more_lost : l.fn.tally.report.lost ≤ l.tally.report.lost;
+  received : l.tally.report.received ≡ l.fn.tally.report.received;
+  refused : l.tally.report.refused ≡ l.fn.tally.report.refused;
+  watch : l.tally.watch ≡ l.fn.tally.watch;
+  given : RiseAlike (g.W.Wire.given l.fn.wire) (g.W.Wire.given l.wire) (l.fn.tally.report.sent + l.fn.tally.report.lost) (l.tally.report.sent + l.tally.report.lost);
+  to : RiseAlike (g.W.Wire.given_to l.fn.wire l.to) (g.W.Wire.given_to l.wire l.to) (l.fn.tally.report.sent + l.fn.tally.report.lost) (l.tally.report.sent + l.tally.report.lost);
   others : (other : Endpoint) → other ≢ l.to → g.W.Wire.given_to l.wire other ≡ g.W.Wire.given_to l.fn.wire other;
-  faults : RisesBy (g.W.Wire.failures l.fn.wire) (g.W.Wire.failures l.wire) l.report.faults;
+  faults : RiseAlike (g.W.Wire.failures l.fn.wire) (g.W.Wire.failures l.wire) l.fn.tally.report.faults l.tally.report.faults;
   peers : g.W.Wire.peers l.wire ≡ g.W.Wire.peers l.fn.wire;
   pass : l.pass ≡ l.fn.pass;
 }

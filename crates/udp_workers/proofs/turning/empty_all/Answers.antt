@@ -1,13 +1,13 @@
-use Rattle.std.proofs.Common.{◌≡◌, ◌+◌, Some, sym, ap, ◌∙◌, subst, get_or, arith}
+use Rattle.std.proofs.Common.{◌≡◌, ◌+◌, ◌-◌, ◌≤◌, Some, sym, ap, ◌∙◌, subst, get_or, arith}
 use Rattle.std.proofs.lemmas.Option.{slice_get_within}
 use Rattle.std.specs.Prelude.{Contains, slice_get}
 use Rattle.udp_workers.specs.Served.{endpoint_at}
-use Rattle.udp_workers.proofs.CountLaws.{each_next, ahead_next}
+use Rattle.udp_workers.proofs.CountLaws.{ahead_next, by_as_much, each_next}
 use Rattle.udp_workers.proofs.ServedLaws.{endpoint_among, endpoint_there}
 use Rattle.udp_workers.proofs.turning.empty_all.Goals as goal
 
-pub send_all-gone-requires-clause-to : goal.send_all-gone-requires-clause-to
-send_all-gone-requires-clause-to g c κs within =
+pub send_all-requires-clause-to : goal.send_all-requires-clause-to
+send_all-requires-clause-to g c κs within =
     let l = c.loop-peer in
     let peers = c.args.peers.now in
     let to = c.endpoint-to.result in
@@ -17,7 +17,7 @@ send_all-gone-requires-clause-to g c κs within =
 pub loop-peer-preserved : goal.loop-peer-preserved
 loop-peer-preserved g c =
     let l = c.loop-peer in
-    let gone = c.send_all-gone in
+    let gone = c.send_all in
     let peers = c.args.peers.now in
     let ends = g.W.Wire.peers c.args.wire.now in
     let to = c.endpoint-to.result in
@@ -26,13 +26,22 @@ loop-peer-preserved g c =
     let first = g.W.Wire.given_to c.args.wire.now in
     let before = g.W.Wire.given_to l.wire in
     let after = g.W.Wire.given_to gone.new.wire in
+    let was = l.tally.report.sent + l.tally.report.lost in
+    let is = gone.new.tally.report.sent + gone.new.tally.report.lost in
+    let few : is - was ≤ 256 = omega arith in
+    let rises = by_as_much (before to) (after to) was is gone.ensures.to gone.ensures.more in
     let place_within = slice_get_within ends l.peer-index to there in
     record {
       emptied = omega arith;
       some_lost = omega arith;
+      more = omega arith;
+      few_faults = omega arith;
+      received = gone.ensures.received ∙ l.invariant.received;
+      refused = gone.ensures.refused ∙ l.invariant.refused;
+      watch = gone.ensures.watch ∙ l.invariant.watch;
       given = omega arith;
-      each = each_next first before after ends l.peer-index (gone.result.sent + gone.result.lost) to there gone.ensures.others l.invariant.ahead place_within gone.ensures.emptied gone.ensures.to l.invariant.each;
-      ahead = ahead_next first before after ends l.peer-index (gone.result.sent + gone.result.lost) to there gone.ensures.others l.invariant.ahead place_within c.requires.apart;
+      each = each_next first before after ends l.peer-index (is - was) to there gone.ensures.others l.invariant.ahead place_within few rises l.invariant.each;
+      ahead = ahead_next first before after ends l.peer-index (is - was) to there gone.ensures.others l.invariant.ahead place_within c.requires.apart;
       faults = omega arith;
       peers = gone.ensures.peers ∙ l.invariant.peers;
       pass = gone.ensures.pass ∙ l.invariant.pass;

@@ -1,4 +1,5 @@
-use Rattle.std.proofs.Common.{◌≤◌, take}
+use Rattle.std.proofs.Common.{◌≡◌, ◌≤◌, take}
+use Rattle.udp_workers.specs.Events.{OnlyRetires}
 use Rattle.udp_workers.specs.Ticked.{TicksAll}
 use Rattle.udp_workers.proofs.turning.tick_all.Given as goal
 
@@ -6,4 +7,6 @@ abbrev pub invariant-loop-peer : goal.invariant-loop-peer
 invariant-loop-peer g l = record {
   steps : l.fn.pass.credit.steps ≤ l.pass.credit.steps;
   ticked : TicksAll l.exchange l.now (take l.peer-index l.peers) l.fn.pass l.pass;
+  only : OnlyRetires l.fn.tally.report l.tally.report;
+  watch : l.tally.watch ≡ l.fn.tally.watch;
 }

@@ -6,38 +6,38 @@ use Rattle.udp_workers.specs.Counts.{RisesByAtMost}
 use Rattle.udp_workers.specs.Served.{WorkerView, AreEndpoints}
 use Rattle.udp_workers.specs.Ticked.{TicksAll}
 use Rattle.udp_workers.proofs.ServedLaws.{peers_below, endpoints_apart}
-use Rattle.udp_workers.proofs.worker.Worker.turn.Goals as goal
+use Rattle.udp_workers.proofs.worker.Worker.turn_at.Goals as goal
 
-pub tick_all-ended-requires-after_bounds : goal.tick_all-ended-requires-after_bounds
-tick_all-ended-requires-after_bounds g c κs within =
+pub tick_all-requires-clause-peers : goal.tick_all-requires-clause-peers
+tick_all-requires-clause-peers g c κs within =
     let plan = c.args.exchange.now in
     let own = c.peers-peers.ensures.peers ∙ ap (λ (worker : WorkerView). worker.peers) c.self.view_is ∙ c.requires.peers in
     subst (All (λ peer. peer < length plan.peers)) (sym own) (peers_below plan c.args.self.now.place)
 
-pub empty_all-gone-requires-clause-peers : goal.empty_all-gone-requires-clause-peers
-empty_all-gone-requires-clause-peers g c κs within =
+pub empty_all-requires-clause-peers : goal.empty_all-requires-clause-peers
+empty_all-requires-clause-peers g c κs within =
     let plan = c.args.exchange.now in
     let own = c.peers-peers.ensures.peers ∙ ap (λ (worker : WorkerView). worker.peers) c.self.view_is ∙ c.requires.peers in
     subst (All (λ peer. peer < length plan.peers)) (sym own) (peers_below plan c.args.self.now.place)
 
-pub empty_all-gone-requires-clause-apart : goal.empty_all-gone-requires-clause-apart
-empty_all-gone-requires-clause-apart g c κs within =
+pub empty_all-requires-clause-apart : goal.empty_all-requires-clause-apart
+empty_all-requires-clause-apart g c κs within =
     let self = c.args.self.now in
     let plan = c.args.exchange.now in
     let ends = g.W.Wire.peers c.args.wire.now in
     let sound : IsPlan plan = subst IsPlan c.plan.ensures c.peer_count-peers.ensures.sound in
     let are : AreEndpoints plan self.peers ends = c.requires.wire in
     let apart = endpoints_apart plan self.place ends sound (subst (λ (peers : List ℕ). AreEndpoints plan peers ends) c.requires.peers are) in
-    subst (AllPairs (λ (one other : Endpoint). one ≢ other)) (sym c.receive_all-arrived.ensures.peers) apart
+    subst (AllPairs (λ (one other : Endpoint). one ≢ other)) (sym c.receive_all.ensures.peers) apart
 
 pub returns-clause-each : goal.returns-clause-each
 returns-clause-each g c to =
-    subst (λ (first : ℕ). RisesByAtMost 256 first (g.W.Wire.given_to c.empty_all-gone.new.wire to)) (c.receive_all-arrived.ensures.given_to to) (c.empty_all-gone.ensures.each to)
+    subst (λ (first : ℕ). RisesByAtMost 256 first (g.W.Wire.given_to c.empty_all.new.wire to)) (c.receive_all.ensures.given_to to) (c.empty_all.ensures.each to)
 
 pub returns-clause-ticked : goal.returns-clause-ticked
 returns-clause-ticked g c =
     let plan = c.args.exchange.now in
-    let arrived = c.receive_all-arrived.new.pass in
+    let arrived = c.receive_all.new.pass in
     let own = c.peers-peers.ensures.peers ∙ ap (λ (worker : WorkerView). worker.peers) c.self.view_is in
-    let unsent = subst (TicksAll plan c.args.now c.peers-peers.result.now arrived) (sym c.empty_all-gone.ensures.pass) c.tick_all-ended.ensures.ticked in
-    (arrived, c.receive_all-arrived.ensures.later, subst (λ peers. TicksAll plan c.args.now peers arrived c.empty_all-gone.new.pass) own unsent)
+    let unsent = subst (TicksAll plan c.args.now c.peers-peers.result.now arrived) (sym c.empty_all.ensures.pass) c.tick_all.ensures.ticked in
+    (arrived, c.receive_all.ensures.later, subst (λ peers. TicksAll plan c.args.now peers arrived c.empty_all.new.pass) own unsent)

@@ -1,0 +1,15 @@
+-- Laws of the events that a watch is told of.
+use Rattle.std.proofs.Common.{◌≡◌, sym, ap, ◌∙◌, ◌∷◌}
+use Rattle.std.proofs.Math.Logic.{∥∥₁_map}
+use Rattle.std.proofs.lemmas.List.Elements.{All-cons}
+use Rattle.udp_workers.specs.Events.{Tells, counted}
+use Rattle.udp_workers.specs.declared.report.TurnReport.{TurnReport}
+use Rattle.udp_workers.specs.declared.watch.Event.{Event}
+
+-- an event more is told and counted
+pub tells_more : (told : Event → Type 0) (report new : TurnReport) (event : Event) → told event → new ≡ counted report event → ∥ Tells told report ∥₁ → ∥ Tells told new ∥₁
+tells_more told report new event this is before = ∥∥₁_map before (λ tells. record {
+  events = event ∷ tells.events;
+  each = All-cons told event tells.events this tells.each;
+  counts = ap (λ so_far. counted so_far event) tells.counts ∙ sym is;
+})

@@ -1,0 +1,21 @@
+use Rattle.std.proofs.Common.{◌≡◌, ◌+◌, ◌*◌, ◌≤◌}
+use Rattle.udp_workers.specs.Counts.{RisesBy}
+use Rattle.udp_workers.specs.Ticked.{IsLater}
+use Rattle.udp_workers.proofs.worker.Worker.run_until.Given as goal
+
+abbrev pub invariant-loop-turn : goal.invariant-loop-turn
+invariant-loop-turn g l = record {
+  received : l.tally.report.received ≤ 64 * l.turn;
+  refused : l.tally.report.refused ≤ l.tally.report.received;
+  emptied : l.tally.report.sent + l.tally.report.lost ≤ 256 * 32 * l.turn;
+  faults : l.tally.report.faults ≤ l.tally.report.lost + l.turn;
+  watch : l.tally.watch.now ≡ l.watch;
+  given : RisesBy (g.W.Wire.given l.fn.wire) (g.W.Wire.given l.wire) (l.tally.report.sent + l.tally.report.lost);
+  failures : RisesBy (g.W.Wire.failures l.fn.wire) (g.W.Wire.failures l.wire) l.tally.report.faults;
+  wire : g.W.Wire.peers l.wire ≡ g.W.Wire.peers l.fn.wire;
+  steps : l.fn.pass.credit.steps + l.tally.report.received ≤ l.pass.credit.steps + l.tally.report.refused;
+  later : IsLater l.fn.pass l.pass;
+  place : l.self.place ≡ l.fn.self.place;
+  peers : l.self.peers ≡ l.fn.self.peers;
+  turns : RisesBy l.fn.self.turns l.self.turns l.turn;
+}

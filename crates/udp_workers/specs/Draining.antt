@@ -1,0 +1,22 @@
+-- What a draining service doesn't hand to its exchange ("NEW").
+use Rattle.std.specs.Prelude.{◌≡◌, ℕ, List, Some}
+use Rattle.iax_frames.specs.FullFrame.{FullFrame, SpellsFull, subclass_meaning}
+use Rattle.udp_workers.specs.declared.watch.ServiceStage.{ServiceStage}
+use Rattle.udp_workers.specs.declared.watch.ServiceStage.TheVariants as stages
+
+-- a NEW that may open a leg: it has no destination and OSeqno 0
+pub record IsNew (frame : FullFrame) : Type 0 where
+  pub frame_type : frame.head.frame_type ≡ 6
+  pub subclass : subclass_meaning frame.head.subclass ≡ Some 1
+  pub destination : frame.head.destination ≡ 0
+  pub oseqno : frame.head.oseqno ≡ 0
+
+-- the octets spell such a NEW
+pub record SpellsNew (octets : List ℕ) : Type 0 where
+  pub frame : FullFrame
+  pub spelled : SpellsFull octets frame
+  pub new : IsNew frame
+
+-- a datagram that isn't handed to the exchange
+abbrev pub IsTurnedAway : ServiceStage → List ℕ → Type 0
+IsTurnedAway stage octets = (stage ≡ stages.Draining) × SpellsNew octets

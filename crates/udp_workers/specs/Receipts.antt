@@ -1,0 +1,12 @@
+-- What is told of a datagram that was received.
+use Rattle.std.specs.Prelude.{◌≡◌, ◌≢◌, ℕ, ◌⊎◌, Some, option_map, slice_get, All}
+use Rattle.peer_plan.specs.Plan.{PlanView}
+use Rattle.peer_plan.specs.declared.endpoint.Endpoint.{Endpoint}
+use Rattle.udp_workers.specs.declared.watch.Event.{Event}
+use Rattle.udp_workers.specs.declared.watch.Event.TheVariants as events
+
+-- it came from an endpoint: it is told as a stranger's, or as one of the peer that has this endpoint, with its moment
+abbrev pub TellsReceipt : (Event → Type 0) → PlanView → Endpoint → ℕ → Type 0
+TellsReceipt told plan from now =
+    (All (λ peer. peer.endpoint ≢ from) plan.peers × told (events.Stranger from))
+    ⊎ ((peer : ℕ) × (option_map (λ peer. peer.endpoint) (slice_get plan.peers peer) ≡ Some from) × told (events.Received peer now))

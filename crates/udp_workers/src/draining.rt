@@ -1,0 +1,37 @@
+//! What a draining service doesn't hand to its exchange ("NEW").
+ghost use Rattle.std.specs.Prelude.{◌↔◌, IsTrue};
+ghost use Rattle.udp_workers.specs.Draining.{IsNew, IsTurnedAway, SpellsNew};
+
+use crate::watch::ServiceStage;
+use iax_frames::Full;
+use peer_lock::ReadDatagram;
+
+// Whether a full frame is a NEW that may open a leg.
+fn is_new(frame: &Full) -> bool
+    ensures { IsTrue result ↔ IsNew frame.now }
+{
+    if frame.frame_type() != 6 || frame.meaning() != Some(1) {
+        return false;
+    }
+    frame.destination().get() == 0 && frame.oseqno() == 0
+}
+
+// Whether the octets spell a NEW that may open a leg.
+fn spells_new(octets: &[u8]) -> bool
+    ensures { IsTrue result ↔ SpellsNew octets.now }
+{
+    match ReadDatagram::of(octets).full() {
+        Some(frame) => is_new(frame),
+        None => false,
+    }
+}
+
+// Whether a datagram of a peer isn't handed to the exchange.
+pub(crate) fn is_turned_away(stage: ServiceStage, octets: &[u8]) -> bool
+    ensures { IsTrue result ↔ IsTurnedAway stage octets.now }
+{
+    match stage {
+        ServiceStage::Draining => spells_new(octets),
+        ServiceStage::Serving | ServiceStage::Ended => false,
+    }
+}

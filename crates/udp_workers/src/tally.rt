@@ -1,0 +1,54 @@
+//! What was told to a watch, and counted.
+ghost use Rattle.std.specs.Prelude.{◌≡◌};
+ghost use Rattle.udp_workers.specs.Events.{Tells};
+
+use crate::report::TurnReport;
+use crate::watch::{Event, Watch};
+use exchange_core::Retired;
+
+// The events that a watch was told of, as they are counted.
+#[derive(Drop)]
+pub(crate) struct Tally<'w, V: Watch> {
+    pub(crate) watch: &'w V,
+    pub(crate) report: TurnReport,
+    ghost told: { ∥ Tells (V.told watch.now) report ∥₁ },
+}
+
+impl<'w, V: Watch> Tally<'w, V> {
+    ghost use Rattle.udp_workers.specs.Events.{HasRoom, OnlyRetires, counted, nothing};
+
+    // Nothing was told yet.
+    pub(crate) fn new(watch: &'w V) -> Self
+        ensures watch { result.watch.now ≡ watch.now }
+        ensures none { result.report ≡ nothing }
+    {
+        Tally {
+            watch,
+            report: TurnReport::default(),
+        }
+    }
+
+    // Tells the watch of an event, and counts it.
+    pub(crate) fn tell(&mut self, event: Event)
+        requires room { HasRoom 1 self.old.report }
+        ensures told { V.told self.old.watch.now event }
+        ensures counted { self.new.report ≡ counted self.old.report event }
+        ensures watch { self.new.watch ≡ self.old.watch }
+    {
+        self.watch.tell(event);
+        self.report = self.report.counted(event);
+    }
+
+    // Tells the watch of each leg that was taken out.
+    pub(crate) fn tell_retired(&mut self, legs: &[Retired])
+        requires room { HasRoom 1 self.old.report }
+        ensures only { OnlyRetires self.old.report self.new.report }
+        ensures watch { self.new.watch ≡ self.old.watch }
+    {
+        for leg in legs {
+            self.tell(Event::Retired {
+                peer: leg.name.peer,
+            });
+        }
+    }
+}
