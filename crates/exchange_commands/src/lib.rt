@@ -11,7 +11,14 @@ mod player;
 mod replaying;
 mod serving;
 
+pub use accounts::settle;
 pub use arguments::turn_count;
 pub use checking::check;
+pub use clock::SinceOpening;
+pub use digits::Digits;
+pub use names::{call_error_name, order_error_name, refusal_name, stage_name};
+pub use player::peer_named;
 pub use replaying::replay;
-pub use serving::serve;
+pub use serving::{
+    ServiceError, ServiceSeat, reports_of, seats_of, serve, service_error_name, write_reports,
+};

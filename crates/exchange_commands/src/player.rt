@@ -47,8 +47,8 @@ pub struct Player {
     retired: Vec<Retired>,
 }
 
-// The place of the peer of a name.
-fn peer_named(plan: &Plan, name: &[u8]) -> Option<u16>
+/// The place in the plan of the peer of a name; none where no peer has it.
+pub fn peer_named(plan: &Plan, name: &[u8]) -> Option<u16>
     ensures { IfSome result (λ peer. peer < length plan.now.peers) }
 {
     for peer in 0..plan.peer_count() {

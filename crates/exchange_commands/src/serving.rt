@@ -23,63 +23,64 @@ use std::thread::Threads;
 use std::time::{Clock, Instant};
 use udp_workers::{BindError, MioWire, NoThread, Place, Post, Seat, TurnReport, Worker, run_all};
 
-// Why a service ends before its turns are made, or before its accounts are written.
+/// Why a service ends before its turns are made, or before its accounts are written.
 #[derive(Clone, Copy, Debug, PartialEq, Eq)]
-enum Stop {
-    // A worker's socket isn't bound.
+pub enum ServiceError {
+    /// A worker's socket isn't bound.
     Bind,
-    // A request for memory was refused.
+    /// A request for memory was refused.
     Memory,
-    // A thread was refused.
+    /// A thread was refused.
     NoThread,
-    // The system's clock can't be read.
+    /// The system's clock can't be read.
     Clock,
-    // The system gives no random octets.
+    /// The system gives no random octets.
     Entropy,
-    // The writer can't write.
+    /// The writer can't write.
     Writer,
 }
 
-impl From<BindError> for Stop {
-    fn from(error: BindError) -> Stop {
+impl From<BindError> for ServiceError {
+    fn from(error: BindError) -> ServiceError {
         match error {
-            BindError::Bind => Stop::Bind,
-            BindError::Memory => Stop::Memory,
+            BindError::Bind => ServiceError::Bind,
+            BindError::Memory => ServiceError::Memory,
         }
     }
 }
 
-impl From<AllocError> for Stop {
-    fn from(_error: AllocError) -> Stop {
-        Stop::Memory
+impl From<AllocError> for ServiceError {
+    fn from(_error: AllocError) -> ServiceError {
+        ServiceError::Memory
     }
 }
 
-impl From<NoThread> for Stop {
-    fn from(_error: NoThread) -> Stop {
-        Stop::NoThread
+impl From<NoThread> for ServiceError {
+    fn from(_error: NoThread) -> ServiceError {
+        ServiceError::NoThread
     }
 }
 
-impl From<io::Error> for Stop {
-    fn from(_error: io::Error) -> Stop {
-        Stop::Writer
+impl From<io::Error> for ServiceError {
+    fn from(_error: io::Error) -> ServiceError {
+        ServiceError::Writer
     }
 }
 
-// What is printed after `refused`; nothing where the writer can't write.
-fn name_of(stop: Stop) -> Option<&'static str> {
-    match stop {
-        Stop::Bind => Some("Bind"),
-        Stop::Memory => Some("Memory"),
-        Stop::NoThread => Some("NoThread"),
-        Stop::Clock => Some("Clock"),
-        Stop::Entropy => Some("Entropy"),
-        Stop::Writer => None,
+/// What is printed after `refused`; nothing where the writer can't write.
+pub fn service_error_name(error: ServiceError) -> Option<&'static str> {
+    match error {
+        ServiceError::Bind => Some("Bind"),
+        ServiceError::Memory => Some("Memory"),
+        ServiceError::NoThread => Some("NoThread"),
+        ServiceError::Clock => Some("Clock"),
+        ServiceError::Entropy => Some("Entropy"),
+        ServiceError::Writer => None,
     }
 }
 
-type ServiceSeat<'r, R, J, P> = Seat<MioWire, SinceOpening<'r, R>, Digits, J, P>;
+/// A worker over a UDP socket of the system, by its clock.
+pub type ServiceSeat<'r, R, J, P> = Seat<MioWire, SinceOpening<'r, R>, Digits, J, P>;
 
 // The socket of a worker of the plan.
 fn wire_of<N: Net>(
@@ -88,7 +89,7 @@ fn wire_of<N: Net>(
     plan: &Plan,
     worker: &Worker,
     place: u16,
-) -> Result<MioWire, Stop>
+) -> Result<MioWire, ServiceError>
     requires place { place < length plan.now.workers }
     requires peers { worker.now.peers ≡ peers_of plan.now worker.now.place }
     ensures { IfOk result (λ wire. AreEndpoints plan.now worker.now.peers (wires.peers_of wire)) }
@@ -105,7 +106,7 @@ fn wire_and_digits_of<R: Net + RandomSource>(
     plan: &Plan,
     worker: &Worker,
     place: u16,
-) -> Result<(MioWire, Digits), Stop>
+) -> Result<(MioWire, Digits), ServiceError>
     requires place { place < length plan.now.workers }
     requires peers { worker.now.peers ≡ peers_of plan.now worker.now.place }
     ensures { IfOk result (λ both. AreEndpoints plan.now worker.now.peers (wires.peers_of both.0)) }
@@ -113,7 +114,7 @@ fn wire_and_digits_of<R: Net + RandomSource>(
     let wire = wire_of(rt, alloc, plan, worker, place)?;
     match make_rng(rt) {
         Ok(generator) => Ok((wire, Digits { generator })),
-        Err(_) => Err(Stop::Entropy),
+        Err(_) => Err(ServiceError::Entropy),
     }
 }
 
@@ -125,7 +126,7 @@ fn seat_of<'r, J: Naming, P: Post, R: Clock + Net + RandomSource>(
     place: u16,
     pass: Pass<J>,
     opened: Instant,
-) -> Result<ServiceSeat<'r, R, J, P>, Stop>
+) -> Result<ServiceSeat<'r, R, J, P>, ServiceError>
     requires plan { plan.now ≡ P.plan }
     requires place { place < length plan.now.workers }
 {
@@ -139,14 +140,17 @@ fn seat_of<'r, J: Naming, P: Post, R: Clock + Net + RandomSource>(
     Ok(Seat::new(worker, wire, pass, moments, digits))
 }
 
-// The seats of all workers of the plan, in its order. Each takes the next pass, so the first worker has the first.
-fn seats_of<'r, J: Naming, P: Post, R: Clock + Net + RandomSource>(
+/// The seats of all workers of the plan, in its order, at most 8. Each takes the next pass, so the first worker has the first.
+///
+/// `Bind`, `Entropy`, `Memory`: a socket isn't bound, the system gives no random octets, a request for memory was refused. Then the
+/// passes that were taken are gone.
+pub fn seats_of<'r, J: Naming, P: Post, R: Clock + Net + RandomSource>(
     rt: &'r R,
     alloc: Global,
     plan: &Plan,
     passes: &mut Vec<Pass<J>>,
     opened: Instant,
-) -> Result<Vec<ServiceSeat<'r, R, J, P>>, Stop>
+) -> Result<Vec<ServiceSeat<'r, R, J, P>>, ServiceError>
     requires plan { plan.now ≡ P.plan }
     requires enough { length plan.now.workers ≤ vec_len passes.old }
     ensures { IfOk result (λ seats. vec_len seats ≤ 8) }
@@ -156,7 +160,7 @@ fn seats_of<'r, J: Naming, P: Post, R: Clock + Net + RandomSource>(
         let pass = passes.remove(0);
         let seat = seat_of::<J, P, R>(rt, alloc, plan, place as u16, pass, opened)?;
         if seats.push(seat).is_err() {
-            return Err(Stop::Memory);
+            return Err(ServiceError::Memory);
         }
     }
     Ok(seats)
@@ -170,24 +174,24 @@ fn report_of<'r, J: Naming, P: Post, R: Clock>(
     (report, pass)
 }
 
-// The reports of the seats, in order. Their passes go back to the others.
-fn reports_of<'r, J: Naming, P: Post, R: Clock>(
+/// The reports of the seats, in order. Their passes go back to the others.
+pub fn reports_of<'r, J: Naming, P: Post, R: Clock>(
     alloc: Global,
     seats: Vec<ServiceSeat<'r, R, J, P>>,
     passes: &mut Vec<Pass<J>>,
-) -> Result<Vec<TurnReport>, Stop> {
+) -> Result<Vec<TurnReport>, ServiceError> {
     let mut reports = Vec::new(alloc);
     for seat in seats {
         let (report, pass) = report_of(seat);
         if reports.push(report).is_err() || passes.push(pass).is_err() {
-            return Err(Stop::Memory);
+            return Err(ServiceError::Memory);
         }
     }
     Ok(reports)
 }
 
-// One line for each worker, in order.
-fn write_reports<W: Write>(reports: &[TurnReport], writer: &mut W) -> io::Result<()> {
+/// Writes `worker <place> <received> <sent> <lost> <faults>` for each worker, in order.
+pub fn write_reports<W: Write>(reports: &[TurnReport], writer: &mut W) -> io::Result<()> {
     for (place, report) in reports.iter().enumerate() {
         writeln!(
             writer,
@@ -210,7 +214,7 @@ fn turns_of<
     passes: &mut Vec<Pass<J>>,
     turns: u32,
     opened: Instant,
-) -> Result<Vec<TurnReport>, Stop>
+) -> Result<Vec<TurnReport>, ServiceError>
     requires plan { exchange.now ≡ P.plan }
     requires enough { length exchange.now.workers ≤ vec_len passes.old }
 {
@@ -233,7 +237,7 @@ fn serve_on<
     turns: u32,
     opened: Instant,
     writer: &mut W,
-) -> Result<(), Stop>
+) -> Result<(), ServiceError>
     requires plan { exchange ≡ P.plan }
     requires enough { length exchange.workers ≤ vec_len passes }
 {
@@ -257,14 +261,14 @@ fn work<
     writer: &mut W,
     octets: Blank,
     steps: Blank,
-) -> Result<(), Stop>
+) -> Result<(), ServiceError>
     requires plan { plan ≡ P.plan }
     requires octets { (octets.name ≡ J.Octets.name) × (octets.parts ≡ J.Octets.parts) × (octets.parts ≡ length plan.peers + plan.passes) }
     requires steps { (steps.name ≡ J.Steps.name) × (steps.parts ≡ J.Steps.parts) × (steps.parts ≡ length plan.peers + plan.passes) }
     requires first { (J.first_octets ≡ 2 ^ 48) × (J.first_steps ≡ 2 ^ 48) }
 {
     let Ok(opened) = Instant::now(rt) else {
-        return Err(Stop::Clock);
+        return Err(ServiceError::Clock);
     };
     let _passes = plan.passes();
     let (exchange, passes) = Exchange::<NoGate, J>::open(alloc, plan, NoGate, octets, steps)?;
@@ -286,7 +290,7 @@ fn work_named<
     writer: &mut W,
     octets: Blank,
     steps: Blank,
-) -> Result<(), Stop>
+) -> Result<(), ServiceError>
     requires plan { plan ≡ P.plan }
     requires octets { (octets.name ≡ O.name) × (octets.parts ≡ O.parts) × (octets.parts ≡ length plan.peers + plan.passes) }
     requires steps { (steps.name ≡ S.name) × (steps.parts ≡ S.parts) × (steps.parts ≡ length plan.peers + plan.passes) }
@@ -326,8 +330,8 @@ pub fn serve<R: Clock + Net + RandomSource + Threads + Wait + Sync, W: Write>(
     );
     match served {
         Ok(()) => 0,
-        Err(stop) => {
-            if let Some(name) = name_of(stop) {
+        Err(error) => {
+            if let Some(name) = service_error_name(error) {
                 let _ = writeln!(writer, "refused {name}");
             }
             1

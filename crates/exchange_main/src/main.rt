@@ -1,8 +1,15 @@
-//! The program of the exchange: `exchange_main check PLAN`, `exchange_main explain PLAN`, `exchange_main replay PLAN SCRIPT` and
-//! `exchange_main serve PLAN TURNS`.
+//! The program of the exchange: `exchange_main check PLAN`, `exchange_main explain PLAN`, `exchange_main replay PLAN SCRIPT`,
+//! `exchange_main serve PLAN TURNS` and `exchange_main run PLAN`.
 #![tactic(auto)]
 
+mod command_line;
+
+use crate::command_line::command_line;
+use clap::ArgMatches;
+use clap::error::ErrorKind;
+use control_client::{give_order, order_of};
 use exchange_commands::{check, replay, serve, turn_count};
+use exchange_service::run as run_service;
 use plan_report::explain;
 use std::alloc::Global;
 use std::net::Net;
@@ -15,7 +22,7 @@ use std::time::Clock;
 use std::{env, fs, io};
 
 const USAGE: &str =
-    "usage: exchange_main check <plan> | replay <plan> <script> | serve <plan> <turns>\n       exchange_main explain <plan>";
+    "usage: exchange_main check <plan> | replay <plan> <script> | serve <plan> <turns>\n       exchange_main explain <plan>\n       exchange_main run <plan> [--control <socket>] [--drain <seconds>]\n       exchange_main ctl <socket> peers | calls | call <peer> <number> | hangup <number> | stop";
 
 // Whether a call of the system failed for want of memory.
 fn is_memory(error: &io::Error) -> bool {
@@ -123,7 +130,79 @@ fn run<R: Files + Print + Eprint + Alloc + Clock + Net + RandomSource + Threads 
                 None => refuse_usage(rt),
             }
         }
+        [_, command, socket, order @ ..] if command.as_str() == "ctl" => {
+            order_service(rt, alloc, socket.as_str(), order)
+        }
+        _ => run_by_options(rt, alloc, words),
+    }
+}
+
+// Gives a running service an order.
+fn order_service<R: Net + Print + Eprint + Alloc>(
+    rt: &R,
+    alloc: Global,
+    socket: &str,
+    words: &[String],
+) -> u8 {
+    match order_of(words) {
+        Some(order) => give_order(rt, alloc, socket, order, &mut io::writer(rt)),
+        None => refuse_usage(rt),
+    }
+}
+
+// The service of a plan, with the options that were given.
+fn run_file<R: Files + Print + Eprint + Alloc + Clock + Net + RandomSource + Threads + Wait + Sync>(
+    rt: &R,
+    alloc: Global,
+    options: &ArgMatches<'_>,
+) -> u8 {
+    let Some(plan) = options.get_str("plan") else {
+        return refuse_usage(rt);
+    };
+    let seconds = options.get_one::<u32>("drain").unwrap_or(10);
+    match octets_of(rt, plan) {
+        Some(plan) => run_service(
+            rt,
+            alloc,
+            &plan,
+            options.get_str("control"),
+            u64::from(seconds) * 1000,
+            &mut io::writer(rt),
+        ),
+        None => 1,
+    }
+}
+
+// What `clap` refuses: help and the version are printed, anything else is told by the usage.
+fn refuse_words<R: Print + Eprint>(rt: &R, error: &clap::Error) -> u8 {
+    match error.kind() {
+        ErrorKind::DisplayHelp | ErrorKind::DisplayVersion => {
+            let _ = error.print(rt);
+            0
+        }
+        ErrorKind::OutOfMemory => refuse_memory(rt),
         _ => refuse_usage(rt),
+    }
+}
+
+fn refuse_memory<R: Print>(rt: &R) -> u8 {
+    let _ = println!(rt; "refused Memory");
+    1
+}
+
+// A command that is read by its options: `run`, and what asks for help or the version.
+fn run_by_options<
+    R: Files + Print + Eprint + Alloc + Clock + Net + RandomSource + Threads + Wait + Sync,
+>(rt: &R, alloc: Global, words: &[String]) -> u8 {
+    let Ok(command) = command_line(alloc) else {
+        return refuse_memory(rt);
+    };
+    match command.try_get_matches_from(words) {
+        Ok(matches) => match matches.subcommand() {
+            Some(("run", options)) => run_file(rt, alloc, options),
+            _ => refuse_usage(rt),
+        },
+        Err(error) => refuse_words(rt, &error),
     }
 }
 

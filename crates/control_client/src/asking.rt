@@ -1,0 +1,71 @@
+//! One request, and its response.
+ghost use Rattle.std.specs.Io.{ReadsAtMost};
+
+use httparse::{EMPTY_HEADER, Response, Status};
+use std::alloc::Global;
+use std::io;
+use std::io::{ErrorKind, Read, Write};
+use std::net::Net;
+use std::os::unix::net::UnixStream;
+use std::time::Duration;
+
+// How many octets are read at once.
+const PIECE: usize = 4096;
+
+// How many seconds an answer may keep silent.
+const SECONDS: u64 = 10;
+
+/// A response: its status, and its body.
+#[derive(Drop)]
+pub(crate) struct Answered {
+    pub(crate) status: u16,
+    pub(crate) body: String,
+}
+
+// Reads until the other side ends.
+fn read_whole(alloc: Global, stream: &mut UnixStream) -> io::Result<Vec<u8>> {
+    let mut octets = Vec::new(alloc);
+    for _ in 0..u32::MAX {
+        let mut piece = [0u8; PIECE];
+        let count = stream.read(&mut piece)?;
+        if count == 0 {
+            break;
+        }
+        octets.extend_from_slice(&piece[..count])?;
+    }
+    Ok(octets)
+}
+
+// The response that these octets are.
+fn response_of(alloc: Global, octets: &[u8]) -> io::Result<Answered> {
+    let mut headers = [EMPTY_HEADER; 16];
+    let mut response = Response::new(&mut headers);
+    let head = match response.parse(octets) {
+        Ok(Status::Complete(head)) => head,
+        _ => return Err(io::Error::from(ErrorKind::InvalidData)),
+    };
+    let (Some(status), Some(body)) = (response.code, octets.get(head..)) else {
+        return Err(io::Error::from(ErrorKind::InvalidData));
+    };
+    match str::from_utf8(body) {
+        Ok(body) => Ok(Answered {
+            status,
+            body: String::from_str(alloc, body)?,
+        }),
+        Err(_) => Err(io::Error::from(ErrorKind::InvalidData)),
+    }
+}
+
+/// Sends a request to the socket at a path, and reads the whole response. An answer that is silent for ten seconds is an error.
+pub(crate) fn ask<N: Net>(
+    rt: &N,
+    alloc: Global,
+    path: &str,
+    request: &str,
+) -> io::Result<Answered> {
+    let mut stream = UnixStream::connect(rt, path)?;
+    stream.set_read_timeout(Some(Duration::from_secs(SECONDS)))?;
+    stream.write_all(request.as_bytes())?;
+    let octets = read_whole(alloc, &mut stream)?;
+    response_of(alloc, &octets)
+}

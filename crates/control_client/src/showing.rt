@@ -1,0 +1,98 @@
+//! What an order's answer is for people.
+use crate::asking::{Answered, ask};
+use crate::orders::Order;
+use control_requests::{calls_table, peers_table};
+use serde_json::Value;
+use std::alloc::{AllocError, Global};
+use std::io;
+use std::io::{ErrorKind, Write};
+use std::net::Net;
+
+// Writes what is refused.
+fn refuse<W: Write>(writer: &mut W, name: &str) -> u8 {
+    let _ = writeln!(writer, "refused {name}");
+    1
+}
+
+// Writes a text, where there is one.
+fn show<W: Write>(writer: &mut W, text: Option<String>) -> u8 {
+    let Some(text) = text else {
+        return refuse(writer, "Control");
+    };
+    let _ = writer.write_all(text.as_bytes());
+    0
+}
+
+// The member of an object that is a number.
+fn number_in(value: &Value, key: &str) -> Option<u64> {
+    value.get(key).and_then(Value::as_u64)
+}
+
+// A line for a call that was placed or hung up.
+fn call_line(alloc: Global, what: &str, body: &str) -> Option<String> {
+    let value = Value::from_str(alloc, body).ok()?;
+    let number = number_in(&value, "number")?;
+    let serial = number_in(&value, "serial")?;
+    format!(in alloc; "{what} number {number} serial {serial}\n").ok()
+}
+
+// What an order's answer says.
+fn text_of(alloc: Global, order: Order<'_>, body: &str) -> Option<String> {
+    match order {
+        Order::Peers => peers_table(alloc, body).ok(),
+        Order::Calls => calls_table(alloc, body).ok(),
+        Order::Call { .. } => call_line(alloc, "calls", body),
+        Order::HangUp(_) => call_line(alloc, "hung up", body),
+        Order::Stop => String::from_str(alloc, "stops\n").ok(),
+    }
+}
+
+// The name of what was refused.
+fn refusal_of(alloc: Global, body: &str) -> Option<String> {
+    let value = Value::from_str(alloc, body).ok()?;
+    let name = value.get("error").and_then(Value::as_str)?;
+    String::from_str(alloc, name).ok()
+}
+
+// Writes an answer.
+fn show_answer<W: Write>(
+    alloc: Global,
+    order: Order<'_>,
+    answered: &Answered,
+    writer: &mut W,
+) -> u8 {
+    let body = answered.body.as_str();
+    if (200..300).contains(&answered.status) {
+        return show(writer, text_of(alloc, order, body));
+    }
+    match refusal_of(alloc, body) {
+        Some(name) => refuse(writer, &name),
+        None => refuse(writer, "Control"),
+    }
+}
+
+// Asks, where there is memory for the request.
+fn ask_order<N: Net>(rt: &N, alloc: Global, path: &str, order: Order<'_>) -> io::Result<Answered> {
+    let request = order.request(alloc)?;
+    ask(rt, alloc, path, &request)
+}
+
+/// Gives a running service an order at its control socket, and writes the answer: tables of peers and calls, a line for each other
+/// order. Answers the status: 0, or 1 after `refused <name>`.
+///
+/// `refused Control`: nobody answers at that path, or not as a service does; `refused Memory`; any other name is the service's own.
+pub fn give_order<N: Net, W: Write>(
+    rt: &N,
+    alloc: Global,
+    path: &str,
+    order: Order<'_>,
+    writer: &mut W,
+) -> u8 {
+    match ask_order(rt, alloc, path, order) {
+        Ok(answered) => show_answer(alloc, order, &answered, writer),
+        Err(error) => match error.kind() {
+            ErrorKind::OutOfMemory => refuse(writer, "Memory"),
+            _ => refuse(writer, "Control"),
+        },
+    }
+}

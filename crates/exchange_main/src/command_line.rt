@@ -1,0 +1,92 @@
+//! The program's command line, as `clap` reads it: `run` with its options, and the texts of help and version.
+use clap::{Arg, ArgAction, Command};
+use std::alloc::{AllocError, Global};
+
+// A word that has to stand there.
+fn word<'a>(alloc: Global, id: &'a str, help: &'a str) -> Arg<'a> {
+    Arg::new(alloc, id)
+        .required(true)
+        .help(help)
+        .action(ArgAction::Set)
+}
+
+// The plan of a command.
+fn plan<'a>(alloc: Global) -> Arg<'a> {
+    word(alloc, "plan", "The file of the plan, in TOML")
+}
+
+fn check_command<'a>(alloc: Global) -> Result<Command<'a>, AllocError> {
+    Command::new(alloc, "check")
+        .about("Tells whether a plan is right, or its first fault")
+        .arg(plan(alloc))
+}
+
+fn explain_command<'a>(alloc: Global) -> Result<Command<'a>, AllocError> {
+    Command::new(alloc, "explain")
+        .about("Prints what a plan means, with its defaults, and warns of what may not be meant")
+        .arg(plan(alloc))
+}
+
+fn replay_command<'a>(alloc: Global) -> Result<Command<'a>, AllocError> {
+    Command::new(alloc, "replay")
+        .about("Replays a script on an exchange, and prints what it does")
+        .arg(plan(alloc))?
+        .arg(word(alloc, "script", "The file of the script"))
+}
+
+fn serve_command<'a>(alloc: Global) -> Result<Command<'a>, AllocError> {
+    Command::new(alloc, "serve")
+        .about("Carries calls for so many turns of each worker, then prints the accounts")
+        .arg(plan(alloc))?
+        .arg(word(
+            alloc,
+            "turns",
+            "How many turns each worker makes, at least 1",
+        ))
+}
+
+fn run_command<'a>(alloc: Global) -> Result<Command<'a>, AllocError> {
+    let control = Arg::new(alloc, "control")
+        .long("control")
+        .value_name("SOCKET")
+        .help("The path of a Unix socket that takes orders")
+        .action(ArgAction::Set);
+    let drain = Arg::new(alloc, "drain")
+        .long("drain")
+        .value_name("SECONDS")
+        .help("How long a stop waits at most for the calls to end")
+        .default_value("10")
+        .value_parser(clap::value_parser!(u32).range(0..=3600))
+        .action(ArgAction::Set);
+    Command::new(alloc, "run")
+        .about("Carries calls until it is told to stop, then prints the accounts")
+        .arg(plan(alloc))?
+        .arg(control)?
+        .arg(drain)
+}
+
+fn ctl_command<'a>(alloc: Global) -> Result<Command<'a>, AllocError> {
+    let order = Arg::new(alloc, "order")
+        .required(true)
+        .num_args(1..)
+        .help("peers | calls | call <peer> <number> | hangup <number> | stop")
+        .action(ArgAction::Append);
+    Command::new(alloc, "ctl")
+        .about("Gives a running service an order")
+        .arg(word(alloc, "socket", "The path of its control socket"))?
+        .arg(order)
+}
+
+/// The whole command line. The words of a parse have to live as long as `'a`.
+pub(crate) fn command_line<'a>(alloc: Global) -> Result<Command<'a>, AllocError> {
+    Command::new(alloc, "exchange_main")
+        .version("0.1.0")
+        .about("An exchange of IAX2 calls (RFC 5456)")
+        .subcommand_required(true)
+        .subcommand(check_command(alloc)?)?
+        .subcommand(explain_command(alloc)?)?
+        .subcommand(replay_command(alloc)?)?
+        .subcommand(serve_command(alloc)?)?
+        .subcommand(run_command(alloc)?)?
+        .subcommand(ctl_command(alloc)?)
+}

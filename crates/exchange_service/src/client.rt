@@ -1,0 +1,136 @@
+//! One client of the control socket: its octets come in until its request is whole, and its answer goes out.
+use control_requests::{Reading, read_request};
+use mio::net::UnixStream;
+use std::alloc::{AllocError, Global};
+use std::io::{ErrorKind, Read, Write};
+use std::net::Shutdown;
+use std::time::Instant;
+
+// How many octets are read at once.
+const PIECE: usize = 4096;
+
+// How many reads, and how many writes, a client gets in one round.
+const ROUNDS: u32 = 64;
+
+/// How far a client is.
+#[derive(Clone, Copy, Debug, PartialEq, Eq)]
+pub(crate) enum Stage {
+    /// Its request isn't whole.
+    Asking,
+    /// Its answer isn't sent.
+    Answered,
+    /// Its answer is sent, and what it still sends is dropped, so that the system doesn't reset the connection under the answer.
+    Draining,
+    /// It can be closed.
+    Ended,
+}
+
+/// A client, with what it sent and what it is sent.
+#[derive(Drop)]
+pub(crate) struct Client {
+    pub(crate) stream: UnixStream,
+    pub(crate) since: Instant,
+    pub(crate) stage: Stage,
+    input: Vec<u8>,
+    output: Vec<u8>,
+    sent: usize,
+}
+
+impl Client {
+    /// A client that has said nothing yet.
+    pub(crate) fn new(alloc: Global, stream: UnixStream, since: Instant) -> Client {
+        Client {
+            stream,
+            since,
+            stage: Stage::Asking,
+            input: Vec::new(alloc),
+            output: Vec::new(alloc),
+            sent: 0,
+        }
+    }
+
+    // An error of the system ends the client, but for those after which it is tried again. True: at once.
+    fn fail(&mut self, kind: ErrorKind) -> bool {
+        if kind != ErrorKind::WouldBlock && kind != ErrorKind::Interrupted {
+            self.stage = Stage::Ended;
+        }
+        kind == ErrorKind::Interrupted
+    }
+
+    // One read. False if nothing waits or nothing more comes.
+    fn take_some(&mut self) -> Result<bool, AllocError> {
+        let mut piece = [0u8; PIECE];
+        match self.stream.read(&mut piece) {
+            Ok(0) => {
+                self.stage = Stage::Ended;
+                Ok(false)
+            }
+            Ok(count) => {
+                if self.stage == Stage::Asking {
+                    self.input.extend_from_slice(&piece[..count])?;
+                }
+                Ok(true)
+            }
+            Err(error) => Ok(self.fail(error.kind())),
+        }
+    }
+
+    // One write. False if the system takes no more now.
+    fn give_some(&mut self) -> bool {
+        let Some(rest) = self.output.get(self.sent..) else {
+            return false;
+        };
+        if rest.is_empty() {
+            self.stage = match self.stream.shutdown(Shutdown::Write) {
+                Ok(()) => Stage::Draining,
+                Err(_) => Stage::Ended,
+            };
+            return false;
+        }
+        match self.stream.write(rest) {
+            Ok(count) => {
+                self.sent = self.sent.saturating_add(count);
+                count > 0
+            }
+            Err(error) => {
+                let kind = error.kind();
+                self.fail(kind)
+            }
+        }
+    }
+
+    /// Reads what is there, in at most 64 reads, until the request is whole.
+    pub(crate) fn hear(&mut self) -> Result<(), AllocError> {
+        for _ in 0..ROUNDS {
+            if self.stage == Stage::Answered || self.is_whole() || !self.take_some()? {
+                break;
+            }
+        }
+        Ok(())
+    }
+
+    // Whether its request needs nothing more.
+    fn is_whole(&self) -> bool {
+        self.stage == Stage::Asking && self.reading() != Reading::Part
+    }
+
+    /// What it has sent so far.
+    pub(crate) fn reading(&self) -> Reading<'_> {
+        read_request(&self.input)
+    }
+
+    /// What it is to be sent.
+    pub(crate) fn answer(&mut self, octets: Vec<u8>) {
+        self.output = octets;
+        self.stage = Stage::Answered;
+    }
+
+    /// Sends what the system takes, in at most 64 writes.
+    pub(crate) fn speak(&mut self) {
+        for _ in 0..ROUNDS {
+            if self.stage != Stage::Answered || !self.give_some() {
+                break;
+            }
+        }
+    }
+}

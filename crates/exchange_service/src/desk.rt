@@ -1,0 +1,257 @@
+//! What clients ask of the exchange, and its answers.
+ghost use Rattle.std.specs.Prelude.{◌≡◌, ◌<◌, IfOk, length, string_bytes};
+
+use crate::legs::{call_row, count_legs, find_leg, hang_up, hang_up_all, push_calls};
+use crate::service_watch::ServiceWatch;
+use call_book::LegName;
+use control_requests::{
+    Answer, Command, NoCommand, PeerRow, PlaceFault, PlaceOrder, Request, Rows, Status, call_body,
+    command_of, place_of,
+};
+use exchange_commands::{call_error_name, peer_named};
+use exchange_core::{CallError, Exchange, NoGate, Pass};
+use peer_lock::Naming;
+use peer_plan::{Endpoint, Plan};
+use std::alloc::{AllocError, Global};
+use std::sync::Wait;
+
+// What there is to ask, for whoever asks for `/`.
+const TABLE: &str =
+    "{\"commands\":[\"GET /\",\"GET /peers\",\"GET /calls\",\"GET /calls/<number>\",\"POST /calls\",\"DELETE /calls/<number>\",\"POST /stop\"]}";
+
+/// The exchange with a pass of its own, and what its workers tell.
+#[derive(Drop)]
+pub(crate) struct Desk<'x, J: Naming> {
+    pub(crate) exchange: &'x Exchange<NoGate, J>,
+    pub(crate) pass: Pass<J>,
+    pub(crate) watch: &'x ServiceWatch,
+}
+
+impl<'x, J: Naming> Desk<'x, J> {
+    /// Hangs up all legs that are still up. Gives how many legs there are.
+    pub(crate) fn hang_up_all<R: Wait>(&mut self, rt: &R, now: u64) -> u32 {
+        hang_up_all(rt, self.exchange, &mut self.pass, now)
+    }
+
+    /// Whether the service was told to stop, and its workers still run.
+    pub(crate) fn is_draining(&self) -> bool {
+        self.watch.is_draining()
+    }
+
+    /// Whether the workers are told to end.
+    pub(crate) fn has_ended(&self) -> bool {
+        self.watch.has_ended()
+    }
+
+    /// Has the workers end.
+    pub(crate) fn end(&self) {
+        self.watch.end();
+    }
+
+    /// Does what a request asks, and answers it.
+    pub(crate) fn answer<R: Wait>(
+        &mut self,
+        rt: &R,
+        alloc: Global,
+        request: &Request<'_>,
+        now: u64,
+    ) -> Result<Answer, AllocError> {
+        match command_of(request.method, request.path) {
+            Ok(command) => self.obey(rt, alloc, command, request.body, now),
+            Err(NoCommand::NotFound) => Answer::error(alloc, Status::NotFound, "NotFound"),
+            Err(NoCommand::NotAllowed(methods)) => {
+                Answer::error(alloc, Status::NotAllowed(methods), "NotAllowed")
+            }
+        }
+    }
+
+    // Does what a command asks.
+    fn obey<R: Wait>(
+        &mut self,
+        rt: &R,
+        alloc: Global,
+        command: Command,
+        body: &[u8],
+        now: u64,
+    ) -> Result<Answer, AllocError> {
+        match command {
+            Command::Table => answered(alloc, Status::Ok, TABLE),
+            Command::Peers => self.peers(rt, alloc, now),
+            Command::Calls => self.calls(rt, alloc),
+            Command::Call(number) => self.call(rt, alloc, number),
+            Command::Accounts => Answer::error(alloc, Status::NotFound, "NotFound"),
+            Command::Place => self.place(rt, alloc, body, now),
+            Command::HangUp(number) => self.drop_call(rt, alloc, number, now),
+            Command::Stop => {
+                self.watch.stop();
+                answered(alloc, Status::Accepted, "{}")
+            }
+        }
+    }
+
+    // `GET /peers`
+    fn peers<R: Wait>(&mut self, rt: &R, alloc: Global, now: u64) -> Result<Answer, AllocError> {
+        let exchange = self.exchange;
+        let mut rows = Rows::new(alloc);
+        for peer in 0..exchange.plan().peer_count() {
+            let legs = count_legs(rt, exchange, &mut self.pass, peer);
+            push_peer(
+                alloc,
+                &mut rows,
+                exchange.plan(),
+                self.watch,
+                peer,
+                legs,
+                now,
+            )?;
+        }
+        Ok(Answer {
+            status: Status::Ok,
+            body: rows.into_peers(alloc)?,
+        })
+    }
+
+    // `GET /calls`
+    fn calls<R: Wait>(&mut self, rt: &R, alloc: Global) -> Result<Answer, AllocError> {
+        let exchange = self.exchange;
+        let mut rows = Rows::new(alloc);
+        for peer in 0..exchange.plan().peer_count() {
+            push_calls(rt, alloc, exchange, &mut self.pass, &mut rows, peer)?;
+        }
+        Ok(Answer {
+            status: Status::Ok,
+            body: rows.into_calls(alloc)?,
+        })
+    }
+
+    // `GET /calls/<number>`
+    fn call<R: Wait>(&mut self, rt: &R, alloc: Global, number: u16) -> Result<Answer, AllocError> {
+        let exchange = self.exchange;
+        match find_leg(rt, exchange, &mut self.pass, number) {
+            Some((peer, leg)) => Ok(Answer {
+                status: Status::Ok,
+                body: call_body(alloc, call_row(exchange.plan(), peer, &leg))?,
+            }),
+            None => Answer::error(alloc, Status::NotFound, "NoLeg"),
+        }
+    }
+
+    // `DELETE /calls/<number>`
+    fn drop_call<R: Wait>(
+        &mut self,
+        rt: &R,
+        alloc: Global,
+        number: u16,
+        now: u64,
+    ) -> Result<Answer, AllocError> {
+        let Some((_, leg)) = find_leg(rt, self.exchange, &mut self.pass, number) else {
+            return Answer::error(alloc, Status::NotFound, "NoLeg");
+        };
+        match hang_up(rt, self.exchange, &mut self.pass, leg.name, now) {
+            Ok(()) => named(alloc, Status::Ok, leg.name),
+            Err(why) => Answer::error(alloc, Status::Conflict, why),
+        }
+    }
+
+    // `POST /calls`
+    fn place<R: Wait>(
+        &mut self,
+        rt: &R,
+        alloc: Global,
+        body: &[u8],
+        now: u64,
+    ) -> Result<Answer, AllocError> {
+        match place_of(alloc, body) {
+            Ok(order) => self.place_call(rt, alloc, &order, now),
+            Err(PlaceFault::Memory) => Err(AllocError),
+            Err(PlaceFault::NotJson) => Answer::error(alloc, Status::BadRequest, "NotJson"),
+            Err(fault) => Answer::error(alloc, Status::Unprocessable, fault_name(fault)),
+        }
+    }
+
+    // A call goes out, but while the service drains.
+    fn place_call<R: Wait>(
+        &mut self,
+        rt: &R,
+        alloc: Global,
+        order: &PlaceOrder,
+        now: u64,
+    ) -> Result<Answer, AllocError> {
+        if self.is_draining() || self.has_ended() {
+            return Answer::error(alloc, Status::Unavailable, "Draining");
+        }
+        let Some(peer) = peer_named(self.exchange.plan(), order.peer.as_bytes()) else {
+            return Answer::error(alloc, Status::Unprocessable, "NoPeer");
+        };
+        let number = order.number.as_bytes();
+        match self.exchange.call(rt, &mut self.pass, peer, number, now) {
+            Ok(name) => named(alloc, Status::Created, name),
+            Err(CallError::BadNumber) => {
+                Answer::error(alloc, Status::Unprocessable, "BadNumber")
+            }
+            Err(error) => Answer::error(alloc, Status::Conflict, call_error_name(error)),
+        }
+    }
+}
+
+// An answer with this body.
+fn answered(alloc: Global, status: Status, body: &str) -> Result<Answer, AllocError>
+    ensures { IfOk result (λ answer. (answer.status ≡ status) × (string_bytes answer.body ≡ body.now)) }
+{
+    Ok(Answer {
+        status,
+        body: String::from_str(alloc, body)?,
+    })
+}
+
+// An answer that names a leg.
+fn named(alloc: Global, status: Status, name: LegName) -> Result<Answer, AllocError>
+    ensures { IfOk result (λ answer. answer.status ≡ status) }
+{
+    let body = format!(in alloc; "{{\"number\":{},\"serial\":{}}}", name.number, name.serial)?;
+    Ok(Answer { status, body })
+}
+
+// Why a body places no call.
+fn fault_name(fault: PlaceFault) -> &'static str {
+    match fault {
+        PlaceFault::NotJson => "NotJson",
+        PlaceFault::NoPeer => "NoPeer",
+        PlaceFault::NoNumber => "NoNumber",
+        PlaceFault::NumberTooLong => "NumberTooLong",
+        PlaceFault::Memory => "Memory",
+    }
+}
+
+// A peer as it is shown, behind the others.
+fn push_peer(
+    alloc: Global,
+    rows: &mut Rows,
+    plan: &Plan,
+    watch: &ServiceWatch,
+    peer: u16,
+    legs: u16,
+    now: u64,
+) -> Result<(), AllocError>
+    requires { peer < length plan.now.peers }
+{
+    let Endpoint { address, port } = plan.endpoint(peer);
+    let [a, b, c, d] = address;
+    let endpoint = format!(in alloc; "{a}.{b}.{c}.{d}:{port}")?;
+    let marks = watch.marks(peer);
+    rows.push_peer(
+        alloc,
+        PeerRow {
+            name: plan.name(peer),
+            endpoint: &endpoint,
+            worker: plan.worker(peer),
+            legs,
+            numbers: plan.range(peer).count,
+            silent_ms: marks.heard.map(|heard| now.saturating_sub(heard)),
+            received: marks.received,
+            refused: marks.refused,
+            sent: marks.sent,
+            lost: marks.lost,
+        },
+    )
+}

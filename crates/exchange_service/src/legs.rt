@@ -1,0 +1,146 @@
+//! The legs of an exchange, looked at and hung up by their local numbers.
+ghost use Rattle.std.specs.Prelude.{◌<◌, IfSome, length};
+
+use call_book::LegName;
+use control_requests::{CallRow, Rows};
+use exchange_commands::{order_error_name, stage_name};
+use exchange_core::{Exchange, NoGate, Pass};
+use leg_machine::Stage;
+use peer_lock::{Naming, Status};
+use peer_plan::Plan;
+use std::alloc::{AllocError, Global};
+use std::sync::Wait;
+
+// Whether a leg of this stage has still to be hung up.
+fn is_open(stage: Stage) -> bool {
+    match stage {
+        Stage::Closing | Stage::Ended => false,
+        _ => true,
+    }
+}
+
+/// Hangs up a leg. `Err` is the name of what refuses it.
+pub(crate) fn hang_up<J: Naming, R: Wait>(
+    rt: &R,
+    exchange: &Exchange<NoGate, J>,
+    pass: &mut Pass<J>,
+    name: LegName,
+    now: u64,
+) -> Result<(), &'static str> {
+    if name.peer >= exchange.plan().peer_count() {
+        return Err("NoLeg");
+    }
+    match exchange.hang_up(rt, pass, name, now) {
+        Ok(_) => Ok(()),
+        Err(error) => Err(order_error_name(error)),
+    }
+}
+
+// Hangs up the legs of a peer that are still up. Gives how many legs it has.
+fn hang_up_peer<J: Naming, R: Wait>(
+    rt: &R,
+    exchange: &Exchange<NoGate, J>,
+    pass: &mut Pass<J>,
+    peer: u16,
+    now: u64,
+) -> u32
+    requires { peer < length exchange.now.peers }
+{
+    let range = exchange.plan().range(peer);
+    let mut legs: u32 = 0;
+    for place in 0..range.count {
+        if let Some(leg) = exchange.status(rt, pass, peer, range.first + place) {
+            legs = legs.saturating_add(1);
+            if is_open(leg.stage) {
+                let _ = hang_up(rt, exchange, pass, leg.name, now);
+            }
+        }
+    }
+    legs
+}
+
+/// Hangs up all legs that are still up. Gives how many legs there are.
+pub(crate) fn hang_up_all<J: Naming, R: Wait>(
+    rt: &R,
+    exchange: &Exchange<NoGate, J>,
+    pass: &mut Pass<J>,
+    now: u64,
+) -> u32 {
+    let mut legs: u32 = 0;
+    for peer in 0..exchange.plan().peer_count() {
+        legs = legs.saturating_add(hang_up_peer(rt, exchange, pass, peer, now));
+    }
+    legs
+}
+
+/// How many legs a peer has.
+pub(crate) fn count_legs<J: Naming, R: Wait>(
+    rt: &R,
+    exchange: &Exchange<NoGate, J>,
+    pass: &mut Pass<J>,
+    peer: u16,
+) -> u16
+    requires { peer < length exchange.now.peers }
+{
+    let range = exchange.plan().range(peer);
+    let mut legs: u16 = 0;
+    for place in 0..range.count {
+        let leg = exchange.status(rt, pass, peer, range.first + place);
+        if leg.is_some() {
+            legs = legs.saturating_add(1);
+        }
+    }
+    legs
+}
+
+/// The leg of a local number, at whatever peer, and the place of that peer in the plan.
+pub(crate) fn find_leg<J: Naming, R: Wait>(
+    rt: &R,
+    exchange: &Exchange<NoGate, J>,
+    pass: &mut Pass<J>,
+    number: u16,
+) -> Option<(u16, Status)>
+    ensures { IfSome result (λ found. found.0 < length exchange.now.peers) }
+{
+    for peer in 0..exchange.plan().peer_count() {
+        if let Some(leg) = exchange.status(rt, pass, peer, number) {
+            return Some((peer, leg));
+        }
+    }
+    None
+}
+
+/// A leg as it is shown.
+pub(crate) fn call_row<'a>(plan: &'a Plan, peer: u16, leg: &Status) -> CallRow<'a>
+    requires { peer < length plan.now.peers }
+{
+    CallRow {
+        number: leg.name.number,
+        serial: leg.name.serial,
+        peer: plan.name(peer),
+        stage: stage_name(Some(leg.stage)),
+        held: leg.held as u64,
+        entries: leg.entries as u64,
+        record_limit: u64::from(plan.rules(peer).record_limit),
+    }
+}
+
+/// The legs of a peer as they are shown, behind the others.
+pub(crate) fn push_calls<J: Naming, R: Wait>(
+    rt: &R,
+    alloc: Global,
+    exchange: &Exchange<NoGate, J>,
+    pass: &mut Pass<J>,
+    rows: &mut Rows,
+    peer: u16,
+) -> Result<(), AllocError>
+    requires { peer < length exchange.now.peers }
+{
+    let range = exchange.plan().range(peer);
+    for place in 0..range.count {
+        if let Some(leg) = exchange.status(rt, pass, peer, range.first + place) {
+            rows.push_call(alloc, call_row(exchange.plan(), peer, &leg))?;
+        }
+    }
+    Ok(())
+}

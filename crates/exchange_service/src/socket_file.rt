@@ -1,0 +1,47 @@
+//! The file of the control socket.
+use mio::net::{UnixListener, UnixStream};
+use std::alloc::Global;
+use std::fs::{Files, Permissions};
+use std::io::ErrorKind;
+use std::net::Net;
+use std::os::unix::fs::PermissionsExt;
+use std::{fs, io};
+
+// Whether a listener may be bound at the path: nothing is there, or the socket of a process that has ended.
+fn is_free<R: Files + Net>(rt: &R, path: &str) -> io::Result<bool> {
+    match UnixStream::connect(rt, path) {
+        Ok(_) => return Ok(false),
+        Err(error) => {
+            let kind = error.kind();
+            if kind != ErrorKind::NotFound && kind != ErrorKind::ConnectionRefused {
+                return Err(error);
+            }
+        }
+    }
+    match fs::symlink_metadata(rt, path) {
+        Ok(found) => Ok(!found.is_file() && !found.is_dir()),
+        Err(error) => {
+            if error.kind() == ErrorKind::NotFound {
+                return Ok(true);
+            }
+            Err(error)
+        }
+    }
+}
+
+/// Binds a listener at the path, to which its owner alone may connect. The socket of a process that has ended is replaced.
+///
+/// `AddrInUse`: somebody answers there, or what lies there is no socket. Other errors are those of the system, as for a path of 108
+/// octets or more, or one in a folder that isn't there.
+pub fn bind<R: Files + Net>(rt: &R, alloc: Global, path: &str) -> io::Result<UnixListener> {
+    if !is_free(rt, path)? {
+        return Err(io::Error::from(ErrorKind::AddrInUse));
+    }
+    // Bound beside the path and then moved over it, so that at no moment the file is there with other permissions.
+    let beside = format!(in alloc; "{path}.new")?;
+    let _ = fs::remove_file(rt, beside.as_str());
+    let listener = UnixListener::bind(rt, beside.as_str())?;
+    fs::set_permissions(rt, beside.as_str(), Permissions::from_mode(0o600))?;
+    fs::rename(rt, beside.as_str(), path)?;
+    Ok(listener)
+}
