@@ -1,5 +1,5 @@
 //! Frames that are written.
-ghost use Rattle.std.specs.Prelude.{◌≡◌, ◌<◌, ◌≤◌, ◌^◌, ◌+◌, ◌++◌, ◌↔◌, [], ◌∷◌, length, slice_index, if◌then◌else◌, IsOk, IsErr, IfOk, OnOk, OnErr};
+ghost use Rattle.std.specs.Prelude.{◌≡◌, ℕ, List, ◌<◌, ◌≤◌, ◌^◌, ◌+◌, ◌++◌, ◌↔◌, [], ◌∷◌, length, slice_index, if◌then◌else◌, IsOk, IsErr, IfOk, OnOk, OnErr};
 ghost use Rattle.iax_frames.specs.FullFrame.{FullFrame, SpellsFull, IsFullHead, full_head, with_more};
 ghost use Rattle.iax_frames.specs.MiniFrame.{SpellsMini};
 ghost use Rattle.iax_frames.specs.TrunkFrame.{TrunkFrame, SpellsTrunk, IsTrunk, with_entry, entry_of, entry, head_len, is_timed};
@@ -59,6 +59,17 @@ impl Out {
         let mut octets = ArrayVec::new();
         extend(&mut octets, self.octets.as_slice());
         Out { octets }
+    }
+
+    /// Writes over the frame one of at most 1,400 octets, which lie in two pieces.
+    pub fn replace(&mut self, front: &[u8], back: &[u8])
+        requires frame { IsFrame (front.now ++ back.now) }
+        requires fits { length front.now + length back.now ≤ 1400 }
+        ensures { self.new ≡ front.now ++ back.now }
+    {
+        self.octets.clear();
+        extend(&mut self.octets, front);
+        extend(&mut self.octets, back);
     }
 
     /// How many more octets fit.
@@ -130,19 +141,25 @@ pub fn write_full(head: &FullHead, payload: &[u8]) -> Result<Out, TooLong>
     Ok(Out { octets })
 }
 
+/// The first four octets of a mini frame, before its media.
+pub fn mini_head(number: CallNumber, timestamp: u16) -> [u8; 4]
+    ensures octets { result ≡ to_be_bytes w16 number ++ to_be_bytes w16 timestamp }
+    ensures spelled { 0 < number → (media : List ℕ)
+        → SpellsMini (result ++ media) (record { source = number; timestamp = timestamp; media = media }) }
+{
+    let number = number.get().to_be_bytes();
+    let timestamp = timestamp.to_be_bytes();
+    [number[0], number[1], timestamp[0], timestamp[1]]
+}
+
 fn mini_out(number: CallNumber, timestamp: u16, media: &[u8]) -> Out
     requires some { 0 < number }
     requires fits { length media.now ≤ 1396 }
     ensures octets { result ≡ to_be_bytes w16 number ++ to_be_bytes w16 timestamp ++ media.now }
     ensures spelled { SpellsMini result (record { source = number; timestamp = timestamp; media = media.now }) }
 {
-    let number = number.get().to_be_bytes();
-    let timestamp = timestamp.to_be_bytes();
     let mut octets = ArrayVec::new();
-    extend(
-        &mut octets,
-        &[number[0], number[1], timestamp[0], timestamp[1]],
-    );
+    extend(&mut octets, &mini_head(number, timestamp));
     extend(&mut octets, media);
     Out { octets }
 }

@@ -17,6 +17,8 @@ mod ledger;
 #[cfg(test)]
 mod leg;
 #[cfg(test)]
+mod outboxes;
+#[cfg(test)]
 mod plans;
 #[cfg(test)]
 mod same;
