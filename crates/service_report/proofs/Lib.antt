@@ -1,0 +1,2 @@
+mod PushLemmas
+mod ReadLemmas

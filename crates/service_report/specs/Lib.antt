@@ -1,0 +1,5 @@
+pub mod Figures
+pub mod Metrics
+pub mod LogRounds
+pub mod PeerSilence
+pub mod Scrape

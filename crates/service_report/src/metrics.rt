@@ -1,0 +1,106 @@
+//! Metrics, as values and in Prometheus' text form, version 0.0.4.
+ghost use Rattle.std.specs.Prelude.{◌≡◌, ◌++◌, [], IfOk, OnOk, OnErr};
+ghost use Rattle.service_report.specs.Metrics.{kind_text, family_text, scrape_text};
+
+use crate::spelling::{family_octets, head_octets};
+use std::alloc::{AllocError, Global};
+use std::marker::Model;
+
+/// What the values of a family do.
+#[derive(Clone, Copy, Debug, PartialEq, Eq)]
+pub enum Kind {
+    /// They only grow, until the service begins anew.
+    Counter,
+    /// They grow and shrink.
+    Gauge,
+}
+
+/// A label of a sample.
+#[derive(Clone, Copy, Debug, PartialEq, Eq)]
+pub struct Label<'a> {
+    /// Letters, digits and `_`.
+    pub name: &'a str,
+    /// Any text.
+    pub value: &'a str,
+}
+
+/// The labels of a sample.
+#[derive(Clone, Copy, Debug, PartialEq, Eq)]
+pub enum Labels<'a> {
+    None,
+    One(Label<'a>),
+    Two(Label<'a>, Label<'a>),
+}
+
+/// One value, of what its labels name.
+#[derive(Clone, Copy, Debug, PartialEq, Eq)]
+pub struct Sample<'a> {
+    pub labels: Labels<'a>,
+    pub value: u64,
+}
+
+/// A metric family: what is told of it, and its samples.
+#[derive(Clone, Copy, Debug, PartialEq, Eq)]
+pub struct Family<'a> {
+    /// Letters, digits and `_`.
+    pub name: &'a str,
+    /// What its values mean.
+    pub help: &'a str,
+    pub kind: Kind,
+    pub samples: &'a [Sample<'a>],
+}
+
+impl Kind {
+    /// Its name in the text form.
+    pub fn as_str(self) -> &'static str
+        ensures { result.now ≡ kind_text self }
+    {
+        match self {
+            Kind::Counter => "counter",
+            Kind::Gauge => "gauge",
+        }
+    }
+}
+
+/// Families in the text form, one after the other. Contracts see their octets.
+#[derive(Drop, Debug)]
+pub struct Metrics {
+    text: Vec<u8>,
+}
+
+impl Model for Metrics {
+    ghost use Rattle.std.specs.Prelude.{List, ℕ};
+
+    ghost Value = { List ℕ };
+
+    ghost view = { λ metrics. metrics.text.items };
+}
+
+impl Metrics {
+    /// No families yet.
+    pub fn new(alloc: Global) -> Metrics
+        ensures { result ≡ [] }
+    {
+        Metrics {
+            text: Vec::new(alloc),
+        }
+    }
+
+    /// One more family. Where memory fails, the others stay as they were.
+    pub fn push(&mut self, alloc: Global, family: &Family<'_>) -> Result<(), AllocError>
+        ensures ok { OnOk result (self.new ≡ self.old ++ family_text family.now) }
+        ensures err { OnErr result (self.new ≡ self.old) }
+    {
+        let octets = family_octets(alloc, family)?;
+        self.text.extend_from_slice(&octets)
+    }
+
+    /// The octets that go to the client: the head of an answer in HTTP/1.1, an empty line, the families.
+    pub fn into_answer(self, alloc: Global) -> Result<Vec<u8>, AllocError>
+        ensures { IfOk result (λ octets. octets.items ≡ scrape_text self) }
+    {
+        let mut octets = head_octets(alloc, self.text.len())?;
+        octets.extend_from_slice(&self.text)?;
+        Ok(octets)
+    }
+}
