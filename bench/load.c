@@ -5,7 +5,8 @@
 //
 // It starts the command, which has to bind 127.0.0.1 port 4569; it is itself the peers at ports 5001 (west) and 5002 (east). To
 // an exchange it first sets up the calls, from west to the number 300. It then keeps a fixed number of frames on their way,
-// evenly over the calls, takes the processor time of the command over the given seconds, and ends the command.
+// evenly over the calls, takes the processor time of the command over the given seconds, and ends the command. Of the set-up it
+// says what processor time each call took, of all that was carried how many frames there were, and how much memory was used.
 #define _GNU_SOURCE
 #include <arpa/inet.h>
 #include <netinet/in.h>
@@ -211,6 +212,17 @@ static void carry(double seconds) {
     }
 }
 
+// The most memory that the command has had, in kilobytes.
+static long peak_of(pid_t command) {
+    char path[64], line[256];
+    snprintf(path, sizeof path, "/proc/%d/status", (int)command);
+    FILE *status = fopen(path, "r");
+    long peak = 0;
+    while (status && fgets(line, sizeof line, status)) sscanf(line, "VmHWM: %ld", &peak);
+    if (status) fclose(status);
+    return peak;
+}
+
 int main(int count, char **words) {
     if (count < 5 || (calls = atoi(words[2])) < 1 || calls > MOST_CALLS) {
         fprintf(stderr, "usage: load exchange|relay CALLS SECONDS COMMAND [ARGUMENT..]\n");
@@ -233,13 +245,14 @@ int main(int count, char **words) {
     else if (clock_getcpuclockid(command, &processor) != 0)
         fprintf(stderr, "load: the command has ended\n");
     else {
+        double setting_up = seconds_of(processor);
         carry(0.5);
         unsigned long carried = west.carried + east.carried;
         double used = seconds_of(processor), from = seconds_of(CLOCK_MONOTONIC);
         carry(seconds);
         carried = west.carried + east.carried - carried;
         used = seconds_of(processor) - used, from = seconds_of(CLOCK_MONOTONIC) - from;
-        printf("%s %d calls: %lu frames in %.2f s, %.2f s of processor time: %.0f frames per second of processor time\n", words[1], calls, carried, from, used, (double)carried / used);
+        printf("%s %d calls: %lu frames in %.2f s, %.2f s of processor time: %.0f frames per second of processor time; set-up %.1f us a call; %lu frames in all; %ld KB\n", words[1], calls, carried, from, used, (double)carried / used, setting_up / calls * 1e6, west.carried + east.carried, peak_of(command));
         status = 0;
     }
     kill(command, SIGTERM);
