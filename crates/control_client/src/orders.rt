@@ -9,6 +9,8 @@ pub enum Order<'w> {
     Peers,
     /// `calls`
     Calls,
+    /// `accounts`
+    Accounts,
     /// `call <peer> <number>`: a call goes out.
     Call { peer: &'w str, number: &'w str },
     /// `hangup <number>`: the leg of a local number hangs up.
@@ -22,6 +24,7 @@ fn plain_order<'w>(word: &str) -> Option<Order<'w>> {
     match word {
         "peers" => Some(Order::Peers),
         "calls" => Some(Order::Calls),
+        "accounts" => Some(Order::Accounts),
         "stop" => Some(Order::Stop),
         _ => None,
     }
@@ -44,7 +47,7 @@ impl<'w> Order<'w> {
     // Its method.
     fn method(self) -> &'static str {
         match self {
-            Order::Peers | Order::Calls => "GET",
+            Order::Peers | Order::Calls | Order::Accounts => "GET",
             Order::Call { .. } | Order::Stop => "POST",
             Order::HangUp(_) => "DELETE",
         }
@@ -54,6 +57,7 @@ impl<'w> Order<'w> {
     fn path(self, alloc: Global) -> Result<String, AllocError> {
         match self {
             Order::Peers => String::from_str(alloc, "/peers"),
+            Order::Accounts => String::from_str(alloc, "/accounts"),
             Order::Calls | Order::Call { .. } => String::from_str(alloc, "/calls"),
             Order::HangUp(number) => format!(in alloc; "/calls/{number}"),
             Order::Stop => String::from_str(alloc, "/stop"),

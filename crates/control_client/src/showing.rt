@@ -1,7 +1,7 @@
 //! What an order's answer is for people.
 use crate::asking::{Answered, ask};
 use crate::orders::Order;
-use control_requests::{calls_table, peers_table};
+use control_requests::{accounts_table, calls_table, peers_table};
 use serde_json::Value;
 use std::alloc::{AllocError, Global};
 use std::io;
@@ -41,6 +41,7 @@ fn text_of(alloc: Global, order: Order<'_>, body: &str) -> Option<String> {
     match order {
         Order::Peers => peers_table(alloc, body).ok(),
         Order::Calls => calls_table(alloc, body).ok(),
+        Order::Accounts => accounts_table(alloc, body).ok(),
         Order::Call { .. } => call_line(alloc, "calls", body),
         Order::HangUp(_) => call_line(alloc, "hung up", body),
         Order::Stop => String::from_str(alloc, "stops\n").ok(),
@@ -77,7 +78,7 @@ fn ask_order<N: Net>(rt: &N, alloc: Global, path: &str, order: Order<'_>) -> io:
     ask(rt, alloc, path, &request)
 }
 
-/// Gives a running service an order at its control socket, and writes the answer: tables of peers and calls, a line for each other
+/// Gives a running service an order at its control socket, and writes the answer: tables of peers, calls and accounts, a line for each other
 /// order. Answers the status: 0, or 1 after `refused <name>`.
 ///
 /// `refused Control`: nobody answers at that path, or not as a service does; `refused Memory`; any other name is the service's own.

@@ -1,5 +1,5 @@
 -- The JSON of peers, calls and accounts. The members stand in the order of their names.
-use Rattle.std.specs.Prelude.{ℕ, ◌==◌, List, [], ◌∷◌, ◌++◌, length, codes, Option, Some, None, if◌then◌else◌}
+use Rattle.std.specs.Prelude.{ℕ, ◌==◌, List, [], ◌∷◌, ◌++◌, length, codes, option_copied, Option, Some, None, if◌then◌else◌}
 use Rattle.serde_json.specs.Data.{Data, null, number, unsigned, string, array, object, Items, no_items, item, Members, no_members, member}
 use Rattle.serde_json.specs.Written.{compact_text}
 use Rattle.control_requests.specs.declared.views.PeerRow.{PeerRow}
@@ -9,6 +9,10 @@ use Rattle.control_requests.specs.declared.views.AccountsRow.{AccountsRow}
 abbrev pub optional : Option ℕ → Data
 optional None = null
 optional (Some n) = number (unsigned n)
+
+abbrev pub optional_text : Option (List ℕ) → Data
+optional_text None = null
+optional_text (Some text) = string text
 
 abbrev pub peer_data : PeerRow → Data
 peer_data row = object (
@@ -25,13 +29,19 @@ peer_data row = object (
 
 abbrev pub call_data : CallRow → Data
 call_data row = object (
+    member (codes "age_ms") (number (unsigned row.age_ms)) (
+    member (codes "called") (optional_text (option_copied row.called)) (
+    member (codes "calling") (optional_text (option_copied row.calling)) (
     member (codes "entries") (number (unsigned row.entries)) (
+    member (codes "format") (string row.format.now) (
     member (codes "held") (number (unsigned row.held)) (
     member (codes "number") (number (unsigned row.number)) (
+    member (codes "partner") (optional row.partner) (
     member (codes "peer") (string row.peer.now) (
     member (codes "record_limit") (number (unsigned row.record_limit)) (
+    member (codes "remote") (optional row.remote) (
     member (codes "serial") (number (unsigned row.serial)) (
-    member (codes "stage") (string row.stage.now) no_members)))))))
+    member (codes "stage") (string row.stage.now) no_members)))))))))))))
 
 abbrev pub accounts_data : AccountsRow → Data
 accounts_data row = object (

@@ -33,11 +33,17 @@ const PEER_COLUMNS: [&str; 10] = [
     "lost",
 ];
 
-const CALL_COLUMNS: [&str; 7] = [
+const CALL_COLUMNS: [&str; 13] = [
     "number",
     "serial",
     "peer",
     "stage",
+    "calling",
+    "called",
+    "format",
+    "age_ms",
+    "remote",
+    "partner",
     "held",
     "entries",
     "record_limit",

@@ -1,8 +1,8 @@
 //! What the daemon shows: peers, calls, the accounts. Each as JSON.
-ghost use Rattle.std.specs.Prelude.{◌≡◌, ◌++◌, IfOk, OnErr, codes, string_bytes};
+ghost use Rattle.std.specs.Prelude.{◌≡◌, ◌++◌, IfOk, OnErr, codes, option_copied, string_bytes};
 ghost use Rattle.serde_json.specs.View.{view};
 ghost use Rattle.serde_json.specs.Written.{compact_text};
-ghost use Rattle.control_requests.specs.Rows.{optional, peer_data, call_data, accounts_data, followed, list_text};
+ghost use Rattle.control_requests.specs.Rows.{optional, optional_text, peer_data, call_data, accounts_data, followed, list_text};
 
 use crate::json_text::text_of;
 use serde_json::{Value, json};
@@ -45,6 +45,18 @@ pub struct CallRow<'a> {
     pub peer: &'a str,
     /// The stage of the leg.
     pub stage: &'a str,
+    /// The number that is called, where the call's NEW has one.
+    pub called: Option<&'a str>,
+    /// The number that calls, where the call's NEW has one.
+    pub calling: Option<&'a str>,
+    /// The format of the call.
+    pub format: &'a str,
+    /// Milliseconds since the leg was opened.
+    pub age_ms: u64,
+    /// The other side's call number, once it is known.
+    pub remote: Option<u64>,
+    /// The local call number of the leg that it is bridged with.
+    pub partner: Option<u64>,
     /// How many frames are held.
     pub held: u64,
     /// How many entries the record has.
@@ -74,6 +86,16 @@ fn optional(number: Option<u64>) -> Value
     }
 }
 
+// A text, or `null`.
+fn optional_text(alloc: Global, text: Option<&str>) -> Result<Value, AllocError>
+    ensures { IfOk result (λ value. view value ≡ optional_text (option_copied text.entry)) }
+{
+    match text {
+        Some(text) => Ok(Value::String(String::from_str(alloc, text)?)),
+        None => Ok(Value::Null),
+    }
+}
+
 fn peer_value(alloc: Global, row: PeerRow<'_>) -> Result<Value, AllocError>
     ensures { IfOk result (λ value. view value ≡ peer_data row.entry) }
 {
@@ -95,12 +117,22 @@ fn peer_value(alloc: Global, row: PeerRow<'_>) -> Result<Value, AllocError>
 fn call_value(alloc: Global, row: CallRow<'_>) -> Result<Value, AllocError>
     ensures { IfOk result (λ value. view value ≡ call_data row.entry) }
 {
+    let called = optional_text(alloc, row.called)?;
+    let calling = optional_text(alloc, row.calling)?;
+    let partner = optional(row.partner);
+    let remote = optional(row.remote);
     json!(in alloc; {
+        "age_ms": row.age_ms,
+        "called": called,
+        "calling": calling,
         "entries": row.entries,
+        "format": row.format,
         "held": row.held,
         "number": row.number,
+        "partner": partner,
         "peer": row.peer,
         "record_limit": row.record_limit,
+        "remote": remote,
         "serial": row.serial,
         "stage": row.stage
     })

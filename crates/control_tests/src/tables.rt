@@ -25,6 +25,12 @@ const CALL: CallRow<'static> = CallRow {
     serial: 2,
     peer: "west",
     stage: "Up",
+    called: Some("301"),
+    calling: None,
+    format: "ulaw",
+    age_ms: 2500,
+    remote: Some(21),
+    partner: None,
     held: 0,
     entries: 9,
     record_limit: 4096,
@@ -79,11 +85,13 @@ fn calls(rt: HostRuntime) {
     same_text(
         &rt,
         &body,
-        "{\"calls\":[{\"entries\":9,\"held\":0,\"number\":7,\"peer\":\"west\",\"record_limit\":4096,\"serial\":2,\
+        "{\"calls\":[{\"age_ms\":2500,\"called\":\"301\",\"calling\":null,\"entries\":9,\"format\":\"ulaw\",\"held\":0,\
+\"number\":7,\"partner\":null,\"peer\":\"west\",\"record_limit\":4096,\"remote\":21,\"serial\":2,\
 \"stage\":\"Up\"}]}",
     );
-    let expected = "number  serial  peer  stage  held  entries  record_limit\n\
-7       2       west  Up     0     9        4096\n";
+    let expected =
+        "number  serial  peer  stage  calling  called  format  age_ms  remote  partner  held  entries  record_limit\n\
+7       2       west  Up     -        301     ulaw    2500    21      -        0     9        4096\n";
     same_text(
         &rt,
         &calls_table(alloc, &body).ok().expect(&rt, "a table"),
@@ -102,7 +110,8 @@ fn no_rows(rt: HostRuntime) {
     let alloc = rt.alloc();
     let none = Rows::new(alloc).into_calls(alloc).expect(&rt, "a body");
     same_text(&rt, &none, "{\"calls\":[]}");
-    let head = "number  serial  peer  stage  held  entries  record_limit\n";
+    let head =
+        "number  serial  peer  stage  calling  called  format  age_ms  remote  partner  held  entries  record_limit\n";
     same_text(
         &rt,
         &calls_table(alloc, &none).ok().expect(&rt, "a table"),

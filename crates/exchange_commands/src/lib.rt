@@ -20,5 +20,6 @@ pub use names::{call_error_name, order_error_name, refusal_name, stage_name};
 pub use player::peer_named;
 pub use replaying::replay;
 pub use serving::{
-    ServiceError, ServiceSeat, reports_of, seats_of, serve, service_error_name, write_reports,
+    PlainSockets, ServiceError, ServiceSeat, Sockets, reports_of, seats_of, serve,
+    service_error_name, write_reports,
 };

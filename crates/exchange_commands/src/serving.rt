@@ -16,6 +16,7 @@ use std::io;
 use std::io::Write;
 use std::marker::Brand;
 use std::net::Net;
+use std::os::fd::RawFd;
 use std::random::RandomSource;
 use std::sync::Wait;
 use std::sync::ledger::Ledger;
@@ -82,13 +83,31 @@ pub fn service_error_name(error: ServiceError) -> Option<&'static str> {
 /// A worker over a UDP socket of the system, by its clock.
 pub type ServiceSeat<'r, R, J, P> = Seat<MioWire, SinceOpening<'r, R>, Digits, J, P>;
 
+/// What is done with the socket of each worker once it is bound.
+pub trait Sockets {
+    /// The socket of the worker at this place of the plan has this descriptor. Gives how many octets the system then keeps of
+    /// datagrams that wait, where that was asked.
+    fn set_up(&self, place: u16, descriptor: RawFd) -> Option<u64>;
+}
+
+/// Nothing is done with them.
+#[derive(Clone, Copy, Debug, Drop)]
+pub struct PlainSockets;
+
+impl Sockets for PlainSockets {
+    fn set_up(&self, _place: u16, _descriptor: RawFd) -> Option<u64> {
+        None
+    }
+}
+
 // The socket of a worker of the plan.
-fn wire_of<N: Net>(
+fn wire_of<N: Net, S: Sockets>(
     rt: &N,
     alloc: Global,
     plan: &Plan,
     worker: &Worker,
     place: u16,
+    sockets: &S,
 ) -> Result<MioWire, ServiceError>
     requires place { place < length plan.now.workers }
     requires peers { worker.now.peers ≡ peers_of plan.now worker.now.place }
@@ -96,22 +115,24 @@ fn wire_of<N: Net>(
 {
     let endpoints = worker.endpoints(alloc, plan)?;
     let wire = MioWire::bind(rt, alloc, plan.workers()[usize::from(place)], endpoints)?;
+    let _waiting = sockets.set_up(place, wire.descriptor());
     Ok(wire)
 }
 
 // The socket of a worker of the plan, and the digits for its challenges.
-fn wire_and_digits_of<R: Net + RandomSource>(
+fn wire_and_digits_of<R: Net + RandomSource, S: Sockets>(
     rt: &R,
     alloc: Global,
     plan: &Plan,
     worker: &Worker,
     place: u16,
+    sockets: &S,
 ) -> Result<(MioWire, Digits), ServiceError>
     requires place { place < length plan.now.workers }
     requires peers { worker.now.peers ≡ peers_of plan.now worker.now.place }
     ensures { IfOk result (λ both. AreEndpoints plan.now worker.now.peers (wires.peers_of both.0)) }
 {
-    let wire = wire_of(rt, alloc, plan, worker, place)?;
+    let wire = wire_of(rt, alloc, plan, worker, place, sockets)?;
     match make_rng(rt) {
         Ok(generator) => Ok((wire, Digits { generator })),
         Err(_) => Err(ServiceError::Entropy),
@@ -119,19 +140,20 @@ fn wire_and_digits_of<R: Net + RandomSource>(
 }
 
 // The seat of the worker at a place of the plan, over its own socket.
-fn seat_of<'r, J: Naming, P: Post, R: Clock + Net + RandomSource>(
+fn seat_of<'r, J: Naming, P: Post, R: Clock + Net + RandomSource, S: Sockets>(
     rt: &'r R,
     alloc: Global,
     plan: &Plan,
     place: u16,
     pass: Pass<J>,
     opened: Instant,
+    sockets: &S,
 ) -> Result<ServiceSeat<'r, R, J, P>, ServiceError>
     requires plan { plan.now ≡ P.plan }
     requires place { place < length plan.now.workers }
 {
     let worker = Worker::new(plan, place);
-    let (wire, digits) = wire_and_digits_of(rt, alloc, plan, &worker, place)?;
+    let (wire, digits) = wire_and_digits_of(rt, alloc, plan, &worker, place, sockets)?;
     let moments = SinceOpening {
         rt,
         opened,
@@ -144,12 +166,13 @@ fn seat_of<'r, J: Naming, P: Post, R: Clock + Net + RandomSource>(
 ///
 /// `Bind`, `Entropy`, `Memory`: a socket isn't bound, the system gives no random octets, a request for memory was refused. Then the
 /// passes that were taken are gone.
-pub fn seats_of<'r, J: Naming, P: Post, R: Clock + Net + RandomSource>(
+pub fn seats_of<'r, J: Naming, P: Post, R: Clock + Net + RandomSource, S: Sockets>(
     rt: &'r R,
     alloc: Global,
     plan: &Plan,
     passes: &mut Vec<Pass<J>>,
     opened: Instant,
+    sockets: &S,
 ) -> Result<Vec<ServiceSeat<'r, R, J, P>>, ServiceError>
     requires plan { plan.now ≡ P.plan }
     requires enough { length plan.now.workers ≤ vec_len passes.old }
@@ -158,7 +181,7 @@ pub fn seats_of<'r, J: Naming, P: Post, R: Clock + Net + RandomSource>(
     let mut seats = Vec::new(alloc);
     for place in 0..plan.workers().len() {
         let pass = passes.remove(0);
-        let seat = seat_of::<J, P, R>(rt, alloc, plan, place as u16, pass, opened)?;
+        let seat = seat_of::<J, P, R, S>(rt, alloc, plan, place as u16, pass, opened, sockets)?;
         if seats.push(seat).is_err() {
             return Err(ServiceError::Memory);
         }
@@ -218,7 +241,9 @@ fn turns_of<
     requires plan { exchange.now ≡ P.plan }
     requires enough { length exchange.now.workers ≤ vec_len passes.old }
 {
-    let mut seats = seats_of::<J, P, R>(rt, alloc, exchange.plan(), passes, opened)?;
+    let sockets = PlainSockets;
+    let plan = exchange.plan();
+    let mut seats = seats_of::<J, P, R, PlainSockets>(rt, alloc, plan, passes, opened, &sockets)?;
     run_all(rt, exchange, &mut seats, turns)?;
     reports_of(alloc, seats, passes)
 }

@@ -10,6 +10,7 @@ mod gates;
 mod hands;
 pub mod laws;
 mod leg_openings;
+mod looking;
 mod making;
 mod opening;
 mod order_sections;

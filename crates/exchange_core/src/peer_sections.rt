@@ -1,5 +1,6 @@
 //! The locked sections of peers: each takes one peer's lock, and makes at most one step.
 ghost use Rattle.std.specs.Prelude.{◌≡◌, ◌≢◌, ℕ, ◌+◌, ◌<◌, ◌≤◌, Some, length, option_copied, IfOk, IfErr, OnOk, OnErr};
+ghost use Rattle.std.specs.Bool.{OnFalse};
 ghost use Rattle.std.specs.Option.{ForSome};
 ghost use Rattle.std.specs.Sync.Mutex.{mutex_guard_value};
 ghost use Rattle.exchange_core.specs.Covered.{TakesCredit};
@@ -53,20 +54,16 @@ impl<G: Gate, J: Naming> Exchange<G, J> {
         state.take_out()
     }
 
-    /// How the leg of a local number of a peer of the plan stands, where there is one.
-    pub fn status<R: Wait>(
-        &self,
-        rt: &R,
-        _pass: &mut Pass<J>,
-        peer: u16,
-        number: u16,
-    ) -> Option<Status>
+    /// Takes the oldest datagram for a peer of the plan, a frame that was written for it, and writes it over this one; false, and
+    /// nothing is changed, where none waits.
+    pub fn take_into<R: Wait>(&self, rt: &R, _pass: &mut Pass<J>, peer: u16, out: &mut Out) -> bool
         requires { peer < length self.now.peers }
-        ensures { _pass.new ≡ _pass.old }
+        ensures pass { _pass.new ≡ _pass.old }
+        ensures same { OnFalse result (out.new ≡ out.old) }
     {
-        let state = self.peers[usize::from(peer)].lock(rt);
+        let mut state = self.peers[usize::from(peer)].lock(rt);
         self.gate.enter(peer);
-        state.status(number)
+        state.take_into(out)
     }
 
     // Looks at the leg of a local number of a peer of the plan, as a step of a call.

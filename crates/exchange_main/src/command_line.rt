@@ -51,6 +51,18 @@ fn run_command<'a>(alloc: Global) -> Result<Command<'a>, AllocError> {
         .value_name("SOCKET")
         .help("The path of a Unix socket that takes orders")
         .action(ArgAction::Set);
+    let metrics = Arg::new(alloc, "metrics")
+        .long("metrics")
+        .value_name("ADDRESS:PORT")
+        .help("The TCP address at which GET /metrics is answered, for Prometheus")
+        .action(ArgAction::Set);
+    let log = Arg::new(alloc, "log")
+        .long("log")
+        .value_name("LEVEL")
+        .help("What is written to standard error")
+        .default_value("warn")
+        .value_parser(["off", "error", "warn", "info", "debug"].as_slice())
+        .action(ArgAction::Set);
     let drain = Arg::new(alloc, "drain")
         .long("drain")
         .value_name("SECONDS")
@@ -58,18 +70,25 @@ fn run_command<'a>(alloc: Global) -> Result<Command<'a>, AllocError> {
         .default_value("10")
         .value_parser(clap::value_parser!(u32).range(0..=3600))
         .action(ArgAction::Set);
+    let input = Arg::new(alloc, "stop-at-end-of-input")
+        .long("stop-at-end-of-input")
+        .help("Stop, as by an order, where standard input is a pipe that ends")
+        .action(ArgAction::SetTrue);
     Command::new(alloc, "run")
         .about("Carries calls until it is told to stop, then prints the accounts")
         .arg(plan(alloc))?
         .arg(control)?
-        .arg(drain)
+        .arg(metrics)?
+        .arg(log)?
+        .arg(drain)?
+        .arg(input)
 }
 
 fn ctl_command<'a>(alloc: Global) -> Result<Command<'a>, AllocError> {
     let order = Arg::new(alloc, "order")
         .required(true)
         .num_args(1..)
-        .help("peers | calls | call <peer> <number> | hangup <number> | stop")
+        .help("peers | calls | accounts | call <peer> <number> | hangup <number> | stop")
         .action(ArgAction::Append);
     Command::new(alloc, "ctl")
         .about("Gives a running service an order")
@@ -77,10 +96,13 @@ fn ctl_command<'a>(alloc: Global) -> Result<Command<'a>, AllocError> {
         .arg(order)
 }
 
+/// The version of the program.
+pub(crate) const VERSION: &str = "0.1.0";
+
 /// The whole command line. The words of a parse have to live as long as `'a`.
 pub(crate) fn command_line<'a>(alloc: Global) -> Result<Command<'a>, AllocError> {
     Command::new(alloc, "exchange_main")
-        .version("0.1.0")
+        .version(VERSION)
         .about("An exchange of IAX2 calls (RFC 5456)")
         .subcommand_required(true)
         .subcommand(check_command(alloc)?)?

@@ -4,15 +4,17 @@
 
 mod command_line;
 
-use crate::command_line::command_line;
+use crate::command_line::{VERSION, command_line};
 use clap::ArgMatches;
 use clap::error::ErrorKind;
 use control_client::{give_order, order_of};
 use exchange_commands::{check, replay, serve, turn_count};
-use exchange_service::run as run_service;
+use exchange_service::{Settings, run as run_service};
+use log::LevelFilter;
 use plan_report::explain;
 use std::alloc::Global;
-use std::net::Net;
+use std::fs::File;
+use std::net::{Net, SocketAddr};
 use std::process::ExitCode;
 use std::random::RandomSource;
 use std::rt::Files;
@@ -22,7 +24,10 @@ use std::time::Clock;
 use std::{env, fs, io};
 
 const USAGE: &str =
-    "usage: exchange_main check <plan> | replay <plan> <script> | serve <plan> <turns>\n       exchange_main explain <plan>\n       exchange_main run <plan> [--control <socket>] [--drain <seconds>]\n       exchange_main ctl <socket> peers | calls | call <peer> <number> | hangup <number> | stop";
+    "usage: exchange_main check <plan> | replay <plan> <script> | serve <plan> <turns>\n       exchange_main explain <plan>\n       \
+exchange_main run <plan> [--control <socket>] [--metrics <address:port>] [--log <level>] [--drain <seconds>] \
+[--stop-at-end-of-input]\n       \
+exchange_main ctl <socket> peers | calls | accounts | call <peer> <number> | hangup <number> | stop";
 
 // Whether a call of the system failed for want of memory.
 fn is_memory(error: &io::Error) -> bool {
@@ -111,11 +116,18 @@ fn refuse_usage<R: Eprint>(rt: &R) -> u8 {
 }
 
 // One command, by the program's arguments.
-fn run<R: Files + Print + Eprint + Alloc + Clock + Net + RandomSource + Threads + Wait + Sync>(
-    rt: &R,
-    alloc: Global,
-    words: &[String],
-) -> u8 {
+fn run<
+    R: Files<File = File>
+        + Print
+        + Eprint
+        + Alloc
+        + Clock
+        + Net
+        + RandomSource
+        + Threads
+        + Wait
+        + Sync,
+>(rt: &R, alloc: Global, words: &[String]) -> u8 {
     match words {
         [_, command, plan] if command.as_str() == "check" => check_file(rt, alloc, plan.as_str()),
         [_, command, plan] if command.as_str() == "explain" => {
@@ -150,25 +162,53 @@ fn order_service<R: Net + Print + Eprint + Alloc>(
     }
 }
 
+// The address of the metrics, where one was given. `Err`: what was given is no address.
+fn metrics_address(options: &ArgMatches<'_>) -> Result<Option<SocketAddr>, ()> {
+    match options.get_str("metrics") {
+        Some(text) => match text.parse::<SocketAddr>() {
+            Ok(address) => Ok(Some(address)),
+            Err(_) => Err(()),
+        },
+        None => Ok(None),
+    }
+}
+
+// The level of the log: `warn` where none was given.
+fn log_level(options: &ArgMatches<'_>) -> LevelFilter {
+    match options.get_str("log") {
+        Some(text) => text.parse::<LevelFilter>().unwrap_or(LevelFilter::Warn),
+        None => LevelFilter::Warn,
+    }
+}
+
 // The service of a plan, with the options that were given.
-fn run_file<R: Files + Print + Eprint + Alloc + Clock + Net + RandomSource + Threads + Wait + Sync>(
-    rt: &R,
-    alloc: Global,
-    options: &ArgMatches<'_>,
-) -> u8 {
-    let Some(plan) = options.get_str("plan") else {
+fn run_file<
+    R: Files<File = File>
+        + Print
+        + Eprint
+        + Alloc
+        + Clock
+        + Net
+        + RandomSource
+        + Threads
+        + Wait
+        + Sync,
+>(rt: &R, alloc: Global, options: &ArgMatches<'_>) -> u8 {
+    let (Some(path), Ok(metrics)) = (options.get_str("plan"), metrics_address(options)) else {
         return refuse_usage(rt);
     };
     let seconds = options.get_one::<u32>("drain").unwrap_or(10);
-    match octets_of(rt, plan) {
-        Some(plan) => run_service(
-            rt,
-            alloc,
-            &plan,
-            options.get_str("control"),
-            u64::from(seconds) * 1000,
-            &mut io::writer(rt),
-        ),
+    let settings = Settings {
+        version: VERSION,
+        plan_path: path,
+        control: options.get_str("control"),
+        metrics,
+        stops_with_input: options.get_flag("stop-at-end-of-input"),
+        level: log_level(options),
+        drain_ms: u64::from(seconds) * 1000,
+    };
+    match octets_of(rt, path) {
+        Some(plan) => run_service(rt, alloc, &plan, &settings, &mut io::writer(rt)),
         None => 1,
     }
 }
@@ -192,7 +232,16 @@ fn refuse_memory<R: Print>(rt: &R) -> u8 {
 
 // A command that is read by its options: `run`, and what asks for help or the version.
 fn run_by_options<
-    R: Files + Print + Eprint + Alloc + Clock + Net + RandomSource + Threads + Wait + Sync,
+    R: Files<File = File>
+        + Print
+        + Eprint
+        + Alloc
+        + Clock
+        + Net
+        + RandomSource
+        + Threads
+        + Wait
+        + Sync,
 >(rt: &R, alloc: Global, words: &[String]) -> u8 {
     let Ok(command) = command_line(alloc) else {
         return refuse_memory(rt);

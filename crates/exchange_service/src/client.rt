@@ -1,9 +1,8 @@
-//! One client of the control socket: its octets come in until its request is whole, and its answer goes out.
+//! One client: its octets come in until its request is whole, and its answer goes out.
+use crate::doors::{Door, Stream};
 use control_requests::{Reading, read_request};
-use mio::net::UnixStream;
 use std::alloc::{AllocError, Global};
-use std::io::{ErrorKind, Read, Write};
-use std::net::Shutdown;
+use std::io::ErrorKind;
 use std::time::Instant;
 
 // How many octets are read at once.
@@ -28,7 +27,8 @@ pub(crate) enum Stage {
 /// A client, with what it sent and what it is sent.
 #[derive(Drop)]
 pub(crate) struct Client {
-    pub(crate) stream: UnixStream,
+    stream: Stream,
+    pub(crate) door: Door,
     pub(crate) since: Instant,
     pub(crate) stage: Stage,
     input: Vec<u8>,
@@ -38,9 +38,10 @@ pub(crate) struct Client {
 
 impl Client {
     /// A client that has said nothing yet.
-    pub(crate) fn new(alloc: Global, stream: UnixStream, since: Instant) -> Client {
+    pub(crate) fn new(alloc: Global, stream: Stream, door: Door, since: Instant) -> Client {
         Client {
             stream,
+            door,
             since,
             stage: Stage::Asking,
             input: Vec::new(alloc),
@@ -60,7 +61,7 @@ impl Client {
     // One read. False if nothing waits or nothing more comes.
     fn take_some(&mut self) -> Result<bool, AllocError> {
         let mut piece = [0u8; PIECE];
-        match self.stream.read(&mut piece) {
+        match self.stream.read_some(&mut piece) {
             Ok(0) => {
                 self.stage = Stage::Ended;
                 Ok(false)
@@ -81,13 +82,13 @@ impl Client {
             return false;
         };
         if rest.is_empty() {
-            self.stage = match self.stream.shutdown(Shutdown::Write) {
+            self.stage = match self.stream.end_output() {
                 Ok(()) => Stage::Draining,
                 Err(_) => Stage::Ended,
             };
             return false;
         }
-        match self.stream.write(rest) {
+        match self.stream.write_some(rest) {
             Ok(count) => {
                 self.sent = self.sent.saturating_add(count);
                 count > 0

@@ -1,12 +1,13 @@
 //! What clients ask of the exchange, and its answers.
 ghost use Rattle.std.specs.Prelude.{◌≡◌, ◌<◌, IfOk, length, string_bytes};
 
-use crate::legs::{call_row, count_legs, find_leg, hang_up, hang_up_all, push_calls};
+use crate::legs::{count_legs, find_leg, hang_up, hang_up_all};
 use crate::service_watch::ServiceWatch;
+use crate::showing::{push_calls, shown_accounts, shown_call};
 use call_book::LegName;
 use control_requests::{
-    Answer, Command, NoCommand, PeerRow, PlaceFault, PlaceOrder, Request, Rows, Status, call_body,
-    command_of, place_of,
+    Answer, Command, NoCommand, PeerRow, PlaceFault, PlaceOrder, Request, Rows, Status,
+    accounts_body, command_of, place_of,
 };
 use exchange_commands::{call_error_name, peer_named};
 use exchange_core::{CallError, Exchange, NoGate, Pass};
@@ -17,7 +18,7 @@ use std::sync::Wait;
 
 // What there is to ask, for whoever asks for `/`.
 const TABLE: &str =
-    "{\"commands\":[\"GET /\",\"GET /peers\",\"GET /calls\",\"GET /calls/<number>\",\"POST /calls\",\"DELETE /calls/<number>\",\"POST /stop\"]}";
+    "{\"commands\":[\"GET /\",\"GET /peers\",\"GET /calls\",\"GET /calls/<number>\",\"GET /accounts\",\"POST /calls\",\"DELETE /calls/<number>\",\"POST /stop\"]}";
 
 /// The exchange with a pass of its own, and what its workers tell.
 #[derive(Drop)]
@@ -41,6 +42,11 @@ impl<'x, J: Naming> Desk<'x, J> {
     /// Whether the workers are told to end.
     pub(crate) fn has_ended(&self) -> bool {
         self.watch.has_ended()
+    }
+
+    /// Has the service drain; where it drains already, has its workers end.
+    pub(crate) fn stop(&self) {
+        self.watch.stop();
     }
 
     /// Has the workers end.
@@ -77,9 +83,9 @@ impl<'x, J: Naming> Desk<'x, J> {
         match command {
             Command::Table => answered(alloc, Status::Ok, TABLE),
             Command::Peers => self.peers(rt, alloc, now),
-            Command::Calls => self.calls(rt, alloc),
-            Command::Call(number) => self.call(rt, alloc, number),
-            Command::Accounts => Answer::error(alloc, Status::NotFound, "NotFound"),
+            Command::Calls => self.calls(rt, alloc, now),
+            Command::Call(number) => self.call(rt, alloc, number, now),
+            Command::Accounts => self.accounts(rt, alloc),
             Command::Place => self.place(rt, alloc, body, now),
             Command::HangUp(number) => self.drop_call(rt, alloc, number, now),
             Command::Stop => {
@@ -112,11 +118,11 @@ impl<'x, J: Naming> Desk<'x, J> {
     }
 
     // `GET /calls`
-    fn calls<R: Wait>(&mut self, rt: &R, alloc: Global) -> Result<Answer, AllocError> {
+    fn calls<R: Wait>(&mut self, rt: &R, alloc: Global, now: u64) -> Result<Answer, AllocError> {
         let exchange = self.exchange;
         let mut rows = Rows::new(alloc);
         for peer in 0..exchange.plan().peer_count() {
-            push_calls(rt, alloc, exchange, &mut self.pass, &mut rows, peer)?;
+            push_calls(rt, alloc, exchange, &mut self.pass, &mut rows, peer, now)?;
         }
         Ok(Answer {
             status: Status::Ok,
@@ -125,15 +131,33 @@ impl<'x, J: Naming> Desk<'x, J> {
     }
 
     // `GET /calls/<number>`
-    fn call<R: Wait>(&mut self, rt: &R, alloc: Global, number: u16) -> Result<Answer, AllocError> {
+    fn call<R: Wait>(
+        &mut self,
+        rt: &R,
+        alloc: Global,
+        number: u16,
+        now: u64,
+    ) -> Result<Answer, AllocError> {
         let exchange = self.exchange;
-        match find_leg(rt, exchange, &mut self.pass, number) {
-            Some((peer, leg)) => Ok(Answer {
+        let Some((peer, _)) = find_leg(rt, exchange, &mut self.pass, number) else {
+            return Answer::error(alloc, Status::NotFound, "NoLeg");
+        };
+        match shown_call(rt, alloc, exchange, &mut self.pass, peer, number, now)? {
+            Some(body) => Ok(Answer {
                 status: Status::Ok,
-                body: call_body(alloc, call_row(exchange.plan(), peer, &leg))?,
+                body,
             }),
             None => Answer::error(alloc, Status::NotFound, "NoLeg"),
         }
+    }
+
+    // `GET /accounts`
+    fn accounts<R: Wait>(&mut self, rt: &R, alloc: Global) -> Result<Answer, AllocError> {
+        let row = shown_accounts(rt, self.exchange, &mut self.pass);
+        Ok(Answer {
+            status: Status::Ok,
+            body: accounts_body(alloc, row)?,
+        })
     }
 
     // `DELETE /calls/<number>`
@@ -144,11 +168,11 @@ impl<'x, J: Naming> Desk<'x, J> {
         number: u16,
         now: u64,
     ) -> Result<Answer, AllocError> {
-        let Some((_, leg)) = find_leg(rt, self.exchange, &mut self.pass, number) else {
+        let Some((_, name)) = find_leg(rt, self.exchange, &mut self.pass, number) else {
             return Answer::error(alloc, Status::NotFound, "NoLeg");
         };
-        match hang_up(rt, self.exchange, &mut self.pass, leg.name, now) {
-            Ok(()) => named(alloc, Status::Ok, leg.name),
+        match hang_up(rt, self.exchange, &mut self.pass, name, now) {
+            Ok(()) => named(alloc, Status::Ok, name),
             Err(why) => Answer::error(alloc, Status::Conflict, why),
         }
     }

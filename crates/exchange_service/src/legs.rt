@@ -1,14 +1,11 @@
-//! The legs of an exchange, looked at and hung up by their local numbers.
+//! The legs of an exchange, found and hung up by their local numbers.
 ghost use Rattle.std.specs.Prelude.{◌<◌, IfSome, length};
 
 use call_book::LegName;
-use control_requests::{CallRow, Rows};
-use exchange_commands::{order_error_name, stage_name};
+use exchange_commands::order_error_name;
 use exchange_core::{Exchange, NoGate, Pass};
 use leg_machine::Stage;
-use peer_lock::{Naming, Status};
-use peer_plan::Plan;
-use std::alloc::{AllocError, Global};
+use peer_lock::Naming;
 use std::sync::Wait;
 
 // Whether a leg of this stage has still to be hung up.
@@ -99,48 +96,13 @@ pub(crate) fn find_leg<J: Naming, R: Wait>(
     exchange: &Exchange<NoGate, J>,
     pass: &mut Pass<J>,
     number: u16,
-) -> Option<(u16, Status)>
+) -> Option<(u16, LegName)>
     ensures { IfSome result (λ found. found.0 < length exchange.now.peers) }
 {
     for peer in 0..exchange.plan().peer_count() {
         if let Some(leg) = exchange.status(rt, pass, peer, number) {
-            return Some((peer, leg));
+            return Some((peer, leg.name));
         }
     }
     None
-}
-
-/// A leg as it is shown.
-pub(crate) fn call_row<'a>(plan: &'a Plan, peer: u16, leg: &Status) -> CallRow<'a>
-    requires { peer < length plan.now.peers }
-{
-    CallRow {
-        number: leg.name.number,
-        serial: leg.name.serial,
-        peer: plan.name(peer),
-        stage: stage_name(Some(leg.stage)),
-        held: leg.held as u64,
-        entries: leg.entries as u64,
-        record_limit: u64::from(plan.rules(peer).record_limit),
-    }
-}
-
-/// The legs of a peer as they are shown, behind the others.
-pub(crate) fn push_calls<J: Naming, R: Wait>(
-    rt: &R,
-    alloc: Global,
-    exchange: &Exchange<NoGate, J>,
-    pass: &mut Pass<J>,
-    rows: &mut Rows,
-    peer: u16,
-) -> Result<(), AllocError>
-    requires { peer < length exchange.now.peers }
-{
-    let range = exchange.plan().range(peer);
-    for place in 0..range.count {
-        if let Some(leg) = exchange.status(rt, pass, peer, range.first + place) {
-            rows.push_call(alloc, call_row(exchange.plan(), peer, &leg))?;
-        }
-    }
-    Ok(())
 }

@@ -1,13 +1,22 @@
-//! A service: the workers of a plan carry calls until a client of the control socket stops them.
+//! A service: the workers of a plan carry calls until a client of the control socket stops them. It gives metrics, and writes a
+//! log.
 #![tactic(auto)]
 
 mod client;
 mod control;
 mod desk;
+mod doors;
 mod drain;
+mod journal;
 mod legs;
+mod receive_buffer;
 mod running;
+mod scraping;
 mod service_watch;
+mod showing;
+mod socket_drops;
 mod socket_file;
+mod strangers;
+mod telling;
 
-pub use running::run;
+pub use running::{Settings, run};

@@ -1,23 +1,28 @@
 //! A service: the workers of a plan serve until they are told to stop.
-ghost use Rattle.std.specs.Prelude.{◌≡◌, ◌+◌, ◌<◌, ◌≤◌, ◌^◌, length, vec_len};
+ghost use Rattle.std.specs.Prelude.{◌≡◌, ◌+◌, ◌<◌, ◌≤◌, ◌^◌, IfOk, length, vec_len};
 
 use crate::control::Control;
 use crate::desk::Desk;
-use crate::drain::Drain;
+use crate::doors::Doors;
+use crate::journal::Journal;
+use crate::receive_buffer::ReceiveBuffer;
 use crate::service_watch::ServiceWatch;
 use crate::socket_file;
+use crate::telling::tell_start;
 use exchange_commands::{
     ServiceError, ServiceSeat, reports_of, seats_of, service_error_name, settle, write_reports,
 };
 use exchange_core::{Exchange, NoGate, Pass};
+use log::LevelFilter;
 use media_ledger::Blank;
+use mio::net::{TcpListener, UnixListener};
 use peer_lock::{Naming, Service};
 use peer_plan::Plan;
 use std::alloc::Global;
-use std::fs::Files;
+use std::fs::{File, Files};
 use std::io::{ErrorKind, Write};
 use std::marker::{Brand, PhantomData};
-use std::net::Net;
+use std::net::{Net, SocketAddr};
 use std::random::RandomSource;
 use std::sync::Wait;
 use std::sync::ledger::Ledger;
@@ -26,54 +31,80 @@ use std::time::{Clock, Instant};
 use std::{fs, io, thread};
 use udp_workers::{Post, TurnReport, WatchedExchange, start_until};
 
-// What the caller's thread does beside the workers: it serves the control socket, where there is one, until they are told to end.
-fn go_beside<J: Naming, R: Clock + Wait>(
-    rt: &R,
-    alloc: Global,
-    desk: &mut Desk<'_, J>,
-    control: Option<&mut Control>,
-    drain: &mut Drain,
-    opened: Instant,
-) {
-    if let Some(control) = control {
-        control.run(rt, alloc, desk, drain, opened);
-    }
+/// How a service is run.
+#[derive(Clone, Copy)]
+pub struct Settings<'a> {
+    /// The version of the program, as the log tells it.
+    pub version: &'a str,
+    /// The file of the plan, as the log tells it.
+    pub plan_path: &'a str,
+    /// The path of the control socket.
+    pub control: Option<&'a str>,
+    /// Where the metrics are.
+    pub metrics: Option<SocketAddr>,
+    /// Whether the end of standard input stops the service, where that is a pipe, a socket or a terminal.
+    pub stops_with_input: bool,
+    /// Which levels are logged.
+    pub level: LevelFilter,
+    /// How long a drain lasts at most, in milliseconds.
+    pub drain_ms: u64,
 }
 
 // The workers serve beside the control socket until they are told to end. False if a thread was refused: then they end at once.
 fn serve_seats<
     J: Naming,
     P: Post + Send + Sync,
-    R: Clock + Net + RandomSource + Threads + Wait + Sync,
+    R: Clock + Eprint + Net + RandomSource + Threads + Wait + Sync,
 >(
     rt: &R,
-    alloc: Global,
     service: &WatchedExchange<'_, ServiceWatch, NoGate, J, P>,
     seats: &[ServiceSeat<'_, R, J, P>],
     desk: &mut Desk<'_, J>,
-    control: Option<&mut Control>,
-    drain: &mut Drain,
+    control: &mut Control<'_>,
     opened: Instant,
 ) -> bool {
     thread::scope(thread::scope_env(), rt, |scope| {
         let started = start_until(rt, scope, service, seats);
-        go_beside(rt, alloc, desk, control, drain, opened);
+        control.run(rt, desk, opened);
         started
     })
+}
+
+// The seats of the workers. The log tells the start, and what room their sockets have.
+fn told_seats<'r, J: Naming, P: Post, R: Clock + Eprint + Net + RandomSource>(
+    rt: &'r R,
+    alloc: Global,
+    plan: &Plan,
+    passes: &mut Vec<Pass<J>>,
+    settings: &Settings<'_>,
+    opened: Instant,
+) -> Result<Vec<ServiceSeat<'r, R, J, P>>, ServiceError>
+    requires plan { plan.now ≡ P.plan }
+    requires enough { length plan.now.workers ≤ vec_len passes.old }
+    ensures { IfOk result (λ seats. vec_len seats ≤ 8) }
+{
+    let log = Journal {
+        rt,
+        level: settings.level,
+    };
+    tell_start(&log, plan, settings.version, settings.plan_path);
+    let sockets = ReceiveBuffer { log: &log };
+    seats_of::<J, P, R, ReceiveBuffer<'_, Journal<'_, R>>>(
+        rt, alloc, plan, passes, opened, &sockets,
+    )
 }
 
 // The same, with the seats that it makes; their passes and that of the socket go back to the others.
 fn serve_beside<
     J: Naming,
     P: Post + Send + Sync,
-    R: Clock + Net + RandomSource + Threads + Wait + Sync,
+    R: Clock + Eprint + Net + RandomSource + Threads + Wait + Sync,
 >(
     rt: &R,
     alloc: Global,
     exchange: &Exchange<NoGate, J>,
     passes: &mut Vec<Pass<J>>,
-    control: Option<&mut Control>,
-    drain: &mut Drain,
+    control: &mut Control<'_>,
     opened: Instant,
 ) -> Result<Vec<TurnReport>, ServiceError>
     requires plan { exchange.now ≡ P.plan }
@@ -81,7 +112,8 @@ fn serve_beside<
 {
     let watch = ServiceWatch::new(alloc, exchange.plan().peer_count())?;
     let pass = passes.remove(0);
-    let seats = seats_of::<J, P, R>(rt, alloc, exchange.plan(), passes, opened)?;
+    let settings = control.settings;
+    let seats = told_seats::<J, P, R>(rt, alloc, exchange.plan(), passes, settings, opened)?;
     let mut desk = Desk {
         exchange,
         pass,
@@ -92,9 +124,7 @@ fn serve_beside<
         watch: &watch,
         post: PhantomData,
     };
-    if !serve_seats(
-        rt, alloc, &service, &seats, &mut desk, control, drain, opened,
-    ) {
+    if !serve_seats(rt, &service, &seats, &mut desk, control, opened) {
         return Err(ServiceError::NoThread);
     }
     let Desk { pass, .. } = desk;
@@ -108,14 +138,13 @@ fn serve_beside<
 fn work<
     J: Naming,
     P: Post + Send + Sync,
-    R: Clock + Net + RandomSource + Threads + Wait + Sync,
+    R: Clock + Eprint + Net + RandomSource + Threads + Wait + Sync,
     W: Write,
 >(
     rt: &R,
     alloc: Global,
     plan: Plan,
-    control: Option<&mut Control>,
-    drain: &mut Drain,
+    control: &mut Control<'_>,
     writer: &mut W,
     octets: Blank,
     steps: Blank,
@@ -132,15 +161,7 @@ fn work<
     let _passes = plan.passes();
     let (exchange, passes) = Exchange::<NoGate, J>::open(alloc, plan, NoGate, octets, steps)?;
     let mut passes = passes;
-    let reports = serve_beside::<J, P, R>(
-        rt,
-        alloc,
-        &exchange,
-        &mut passes,
-        control,
-        drain,
-        opened,
-    )?;
+    let reports = serve_beside::<J, P, R>(rt, alloc, &exchange, &mut passes, control, opened)?;
     write_reports(&reports, writer)?;
     settle(exchange, passes, writer)
 }
@@ -150,14 +171,13 @@ fn work_named<
     O: Ledger + Send + Sync,
     S: Ledger + Send + Sync,
     P: Post + Send + Sync,
-    R: Clock + Net + RandomSource + Threads + Wait + Sync,
+    R: Clock + Eprint + Net + RandomSource + Threads + Wait + Sync,
     W: Write,
 >(
     rt: &R,
     alloc: Global,
     plan: Plan,
-    control: Option<&mut Control>,
-    drain: &mut Drain,
+    control: &mut Control<'_>,
     writer: &mut W,
     octets: Blank,
     steps: Blank,
@@ -167,7 +187,7 @@ fn work_named<
     requires octets { (octets.name ≡ O.name) × (octets.parts ≡ O.parts) × (octets.parts ≡ length plan.peers + plan.passes) }
     requires steps { (steps.name ≡ S.name) × (steps.parts ≡ S.parts) × (steps.parts ≡ length plan.peers + plan.passes) }
 {
-    work::<Service<O, S>, P, R, W>(rt, alloc, plan, control, drain, writer, octets, steps)
+    work::<Service<O, S>, P, R, W>(rt, alloc, plan, control, writer, octets, steps)
 }
 
 // The plan with a pass beside those of its workers.
@@ -182,33 +202,49 @@ fn with_spare_pass(plan: Plan) -> Plan
     plan.with_passes(least)
 }
 
-// The control socket, bound at its path. `Err` is the name of what refuses it.
-fn control_at<R: Files + Net>(rt: &R, alloc: Global, path: &str) -> Result<Control, &'static str> {
-    let bound = match socket_file::bind(rt, alloc, path) {
-        Ok(listener) => Control::new(rt, alloc, listener),
-        Err(error) => Err(error),
-    };
-    match bound {
-        Ok(control) => Ok(control),
-        Err(error) => Err(control_error_name(&error)),
+// Why there is no listener: for want of memory, or by this name.
+fn listener_error_name(error: &io::Error, name: &'static str) -> &'static str {
+    match error.kind() {
+        ErrorKind::OutOfMemory => "Memory",
+        _ => name,
     }
 }
 
-// Why there is no control socket.
-fn control_error_name(error: &io::Error) -> &'static str {
-    match error.kind() {
-        ErrorKind::OutOfMemory => "Memory",
-        _ => "Control",
+// The control socket, bound at its path, where there is one. `Err` is the name of what refuses it.
+fn bind_control<R: Files + Net>(
+    rt: &R,
+    alloc: Global,
+    path: Option<&str>,
+) -> Result<Option<UnixListener>, &'static str> {
+    let Some(path) = path else {
+        return Ok(None);
+    };
+    match socket_file::bind(rt, alloc, path) {
+        Ok(listener) => Ok(Some(listener)),
+        Err(error) => Err(listener_error_name(&error, "Control")),
+    }
+}
+
+// The listener of the metrics, bound, where there is one. `Err` is the name of what refuses it.
+fn bind_metrics<R: Net>(
+    rt: &R,
+    address: Option<SocketAddr>,
+) -> Result<Option<TcpListener>, &'static str> {
+    let Some(address) = address else {
+        return Ok(None);
+    };
+    match TcpListener::bind(rt, address) {
+        Ok(listener) => Ok(Some(listener)),
+        Err(error) => Err(listener_error_name(&error, "Metrics")),
     }
 }
 
 // The service of a plan that is right.
-fn serve_plan<R: Clock + Files + Net + RandomSource + Threads + Wait + Sync, W: Write>(
+fn serve_plan<R: Clock + Eprint + Net + RandomSource + Threads + Wait + Sync, W: Write>(
     rt: &R,
     alloc: Global,
     plan: Plan,
-    control: Option<&mut Control>,
-    drain_ms: u64,
+    control: &mut Control<'_>,
     writer: &mut W,
 ) -> Result<(), ServiceError> {
     let plan = with_spare_pass(plan);
@@ -218,7 +254,6 @@ fn serve_plan<R: Clock + Files + Net + RandomSource + Threads + Wait + Sync, W: 
         alloc,
         plan,
         control,
-        &mut Drain::new(drain_ms),
         writer,
         Blank::new(parts),
         Blank::new(parts),
@@ -230,22 +265,26 @@ fn refuse<W: Write>(writer: &mut W, name: &str) -> u8 {
     1
 }
 
-// The service with a control socket, whose file is gone afterwards.
-fn serve_with_control<R: Clock + Files + Net + RandomSource + Threads + Wait + Sync, W: Write>(
+// The service with a control socket that is bound, or with none.
+fn serve_behind<
+    R: Clock + Eprint + Files<File = File> + Net + RandomSource + Threads + Wait + Sync,
+    W: Write,
+>(
     rt: &R,
     alloc: Global,
     plan: Plan,
-    path: &str,
-    drain_ms: u64,
+    control: Option<UnixListener>,
+    settings: &Settings<'_>,
     writer: &mut W,
 ) -> u8 {
-    let mut control = match control_at(rt, alloc, path) {
-        Ok(control) => control,
+    let metrics = match bind_metrics(rt, settings.metrics) {
+        Ok(metrics) => metrics,
         Err(name) => return refuse(writer, name),
     };
-    let served = serve_plan(rt, alloc, plan, Some(&mut control), drain_ms, writer);
-    let _ = fs::remove_file(rt, path);
-    status_of(served, writer)
+    match Control::new(rt, alloc, settings, Doors { control, metrics }) {
+        Ok(mut control) => { status_of(serve_plan(rt, alloc, plan, &mut control, writer), writer) }
+        Err(error) => refuse(writer, listener_error_name(&error, "Control")),
+    }
 }
 
 // The status, and what is printed of a refusal.
@@ -259,20 +298,18 @@ fn status_of<W: Write>(served: Result<(), ServiceError>, writer: &mut W) -> u8 {
     }
 }
 
-/// Has the workers of a plan carry calls until a client of the control socket stops them, or without end where there is none. Then it
-/// writes `worker <place> <received> <sent> <lost> <faults>` for each, and the accounts. Answers the status: 0, or 1 after a refusal.
+/// Has the workers of a plan carry calls until a client of the control socket stops them, or without end where there is none. Then
+/// it writes `worker <place> <received> <sent> <lost> <faults>` for each, and the accounts. Answers the status: 0, or 1 after a
+/// refusal.
 ///
-/// The plan is the octets of its file; a refused one is told as `check` tells it. `refused Control`: the control socket isn't bound,
-/// since somebody answers there, what lies there is no socket, or the system doesn't let it; the others as `serve` has them. A stop
-/// hangs up each leg, and the workers end once none is left, or after `drain_ms` milliseconds, or at a second stop.
-pub fn run<R: Clock + Files + Net + RandomSource + Threads + Wait + Sync, W: Write>(
-    rt: &R,
-    alloc: Global,
-    plan: &[u8],
-    control: Option<&str>,
-    drain_ms: u64,
-    writer: &mut W,
-) -> u8 {
+/// The plan is the octets of its file; a refused one is told as `check` tells it. `refused Control`: the control socket isn't
+/// bound, since somebody answers there, what lies there is no socket, or the system doesn't let it; `refused Metrics`: the address
+/// of the metrics isn't bound; the others as `serve` has them. A stop hangs up each leg, and the workers end once none is left, or
+/// after `drain_ms` milliseconds, or at a second stop. The file of the control socket is gone afterwards.
+pub fn run<
+    R: Clock + Eprint + Files<File = File> + Net + RandomSource + Threads + Wait + Sync,
+    W: Write,
+>(rt: &R, alloc: Global, plan: &[u8], settings: &Settings<'_>, writer: &mut W) -> u8 {
     let plan = match Plan::read(alloc, plan) {
         Ok(plan) => plan,
         Err(fault) => {
@@ -280,8 +317,13 @@ pub fn run<R: Clock + Files + Net + RandomSource + Threads + Wait + Sync, W: Wri
             return 1;
         }
     };
-    match control {
-        Some(path) => serve_with_control(rt, alloc, plan, path, drain_ms, writer),
-        None => status_of(serve_plan(rt, alloc, plan, None, drain_ms, writer), writer),
+    let control = match bind_control(rt, alloc, settings.control) {
+        Ok(control) => control,
+        Err(name) => return refuse(writer, name),
+    };
+    let status = serve_behind(rt, alloc, plan, control, settings, writer);
+    if let Some(path) = settings.control {
+        let _ = fs::remove_file(rt, path);
     }
+    status
 }

@@ -1,8 +1,12 @@
 //! What the workers of a service ask, and what they tell of each peer.
 ghost use Rattle.std.specs.Prelude.{◌≡◌};
 
+use exchange_core::Refusal;
+use peer_plan::Endpoint;
 use std::alloc::{AllocError, Global};
+use std::mem;
 use std::sync::atomic::{AtomicU64, Ordering};
+use std::sync::{Mutex, Wait};
 use udp_workers::{Event, ServiceStage, Watch};
 
 const SERVING: u64 = 0;
@@ -11,6 +15,34 @@ const DRAINING: u64 = 1;
 
 const ENDED: u64 = 2;
 
+/// How many strangers are kept until the log takes them.
+pub(crate) const STRANGERS: usize = 256;
+
+/// Why a datagram of a peer is refused.
+pub(crate) const REFUSALS: [Refusal; 14] = [
+    Refusal::StepsSpent,
+    Refusal::TooLong,
+    Refusal::Short,
+    Refusal::MetaCommand,
+    Refusal::EntryCut,
+    Refusal::NoSource,
+    Refusal::Cut,
+    Refusal::NoCall,
+    Refusal::RecordFull,
+    Refusal::SerialsSpent,
+    Refusal::NoNumber,
+    Refusal::NumberBusy,
+    Refusal::RemoteBusy,
+    Refusal::Memory,
+];
+
+// How many datagrams were refused for one reason.
+#[derive(Drop)]
+struct RefusalCount {
+    refusal: Refusal,
+    count: AtomicU64,
+}
+
 /// What is counted of a peer since the service began, modulo 2^64.
 #[derive(Drop)]
 struct PeerMarks {
@@ -18,8 +50,11 @@ struct PeerMarks {
     heard: AtomicU64,
     received: AtomicU64,
     refused: AtomicU64,
+    by_refusal: Vec<RefusalCount>,
+    turned_away: AtomicU64,
     sent: AtomicU64,
     lost: AtomicU64,
+    legs_ended: AtomicU64,
 }
 
 /// What is counted of a peer since the service began, modulo 2^64.
@@ -28,9 +63,12 @@ pub(crate) struct PeerMarksRead {
     /// The moment at which it was last heard, in milliseconds since the exchange was opened.
     pub(crate) heard: Option<u64>,
     pub(crate) received: u64,
+    /// Those that were turned away among them.
     pub(crate) refused: u64,
+    pub(crate) turned_away: u64,
     pub(crate) sent: u64,
     pub(crate) lost: u64,
+    pub(crate) legs_ended: u64,
 }
 
 /// How far a service is, and what its workers tell of each peer. All threads share it.
@@ -38,18 +76,47 @@ pub(crate) struct PeerMarksRead {
 pub(crate) struct ServiceWatch {
     stage: AtomicU64,
     peers: Vec<PeerMarks>,
+    strangers: AtomicU64,
+    faults: AtomicU64,
+    // The strangers that the log hasn't taken yet.
+    seen: Mutex<Vec<Endpoint>>,
+}
+
+// No datagram was refused for any reason.
+fn refusal_counts(alloc: Global) -> Result<Vec<RefusalCount>, AllocError> {
+    let mut counts = Vec::with_capacity(alloc, REFUSALS.len())?;
+    for refusal in REFUSALS {
+        let count = AtomicU64::new(0);
+        if counts.push(RefusalCount { refusal, count }).is_err() {
+            return Err(AllocError);
+        }
+    }
+    Ok(counts)
 }
 
 impl PeerMarks {
     // Nothing was heard of it, and nothing was sent to it.
-    fn new() -> PeerMarks {
-        PeerMarks {
+    fn new(alloc: Global) -> Result<PeerMarks, AllocError> {
+        Ok(PeerMarks {
             heard: AtomicU64::new(0),
             received: AtomicU64::new(0),
             refused: AtomicU64::new(0),
+            by_refusal: refusal_counts(alloc)?,
+            turned_away: AtomicU64::new(0),
             sent: AtomicU64::new(0),
             lost: AtomicU64::new(0),
+            legs_ended: AtomicU64::new(0),
+        })
+    }
+
+    // How many datagrams were refused for this reason.
+    fn refused_for(&self, refusal: Refusal) -> Option<&AtomicU64> {
+        for it in &self.by_refusal {
+            if it.refusal == refusal {
+                return Some(&it.count);
+            }
         }
+        None
     }
 
     fn read(&self) -> PeerMarksRead {
@@ -57,8 +124,10 @@ impl PeerMarks {
             heard: self.heard.load(Ordering::Relaxed).checked_sub(1),
             received: self.received.load(Ordering::Relaxed),
             refused: self.refused.load(Ordering::Relaxed),
+            turned_away: self.turned_away.load(Ordering::Relaxed),
             sent: self.sent.load(Ordering::Relaxed),
             lost: self.lost.load(Ordering::Relaxed),
+            legs_ended: self.legs_ended.load(Ordering::Relaxed),
         }
     }
 }
@@ -72,13 +141,16 @@ impl ServiceWatch {
     pub(crate) fn new(alloc: Global, peers: u16) -> Result<ServiceWatch, AllocError> {
         let mut marks = Vec::new(alloc);
         for _ in 0..peers {
-            if marks.push(PeerMarks::new()).is_err() {
+            if marks.push(PeerMarks::new(alloc)?).is_err() {
                 return Err(AllocError);
             }
         }
         Ok(ServiceWatch {
             stage: AtomicU64::new(SERVING),
             peers: marks,
+            strangers: AtomicU64::new(0),
+            faults: AtomicU64::new(0),
+            seen: Mutex::new(Vec::with_capacity(alloc, STRANGERS)?),
         })
     }
 
@@ -88,6 +160,33 @@ impl ServiceWatch {
             Some(marks) => marks.read(),
             None => PeerMarksRead::default(),
         }
+    }
+
+    /// How many datagrams of a peer were refused for this reason.
+    pub(crate) fn refused_for(&self, peer: u16, refusal: Refusal) -> u64 {
+        match self.peers.get(usize::from(peer)) {
+            Some(marks) => match marks.refused_for(refusal) {
+                Some(count) => count.load(Ordering::Relaxed),
+                None => 0,
+            },
+            None => 0,
+        }
+    }
+
+    /// How many datagrams came from strangers.
+    pub(crate) fn strangers(&self) -> u64 {
+        self.strangers.load(Ordering::Relaxed)
+    }
+
+    /// How many calls of the sockets failed.
+    pub(crate) fn faults(&self) -> u64 {
+        self.faults.load(Ordering::Relaxed)
+    }
+
+    /// Gives the strangers that came since they were taken, at most as many as the list that takes their place has room for.
+    pub(crate) fn take_strangers<R: Wait>(&self, rt: &R, spare: Vec<Endpoint>) -> Vec<Endpoint> {
+        let mut seen = self.seen.lock(rt);
+        mem::replace(&mut *seen, spare)
     }
 
     /// Has the service drain; where it drains already, has its workers end.
@@ -123,9 +222,37 @@ impl ServiceWatch {
     }
 
     // A datagram of a peer did nothing.
-    fn refuse(&self, peer: u16) {
+    fn refuse(&self, peer: u16, refusal: Refusal) {
         if let Some(marks) = self.peers.get(usize::from(peer)) {
             count_one(&marks.refused);
+            if let Some(count) = marks.refused_for(refusal) {
+                count_one(count);
+            }
+        }
+    }
+
+    // A datagram of a peer wasn't handed on.
+    fn turn_away(&self, peer: u16) {
+        if let Some(marks) = self.peers.get(usize::from(peer)) {
+            count_one(&marks.refused);
+            count_one(&marks.turned_away);
+        }
+    }
+
+    // A leg of a peer was taken out.
+    fn end_leg(&self, peer: u16) {
+        if let Some(marks) = self.peers.get(usize::from(peer)) {
+            count_one(&marks.legs_ended);
+        }
+    }
+
+    // A datagram of a stranger came. It is kept for the log where there is room, and nobody else looks.
+    fn see_stranger(&self, from: Endpoint) {
+        count_one(&self.strangers);
+        if let Some(mut seen) = self.seen.try_lock() {
+            if seen.len() < seen.capacity() {
+                let _ = seen.push(from);
+            }
         }
     }
 
@@ -151,10 +278,13 @@ impl Watch for ServiceWatch {
     fn tell(&self, event: Event) {
         match event {
             Event::Received { peer, now } => self.hear(peer, now),
-            Event::Refused { peer, .. } | Event::TurnedAway { peer } => self.refuse(peer),
+            Event::Refused { peer, refusal } => self.refuse(peer, refusal),
+            Event::TurnedAway { peer } => self.turn_away(peer),
+            Event::Stranger { from } => self.see_stranger(from),
             Event::Sent { peer } => self.send(peer, false),
             Event::Lost { peer } => self.send(peer, true),
-            _ => {}
+            Event::Fault => count_one(&self.faults),
+            Event::Retired { peer } => self.end_leg(peer),
         }
     }
 

@@ -11,6 +11,8 @@ mod hostile;
 #[cfg(test)]
 mod legs;
 #[cfg(test)]
+mod looking;
+#[cfg(test)]
 mod opened;
 #[cfg(test)]
 mod same;

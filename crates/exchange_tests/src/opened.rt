@@ -3,6 +3,7 @@ ghost use Rattle.std.specs.Prelude.{◌≡◌, ◌+◌, ◌^◌, length};
 
 use crate::growths::{call, call_and_end};
 use crate::hostile::{from_nobody, outbox_filled};
+use crate::looking::looked;
 use crate::same::holds;
 use crate::scenes::{Sums, ended};
 use crate::settling::queue_filled;
@@ -31,6 +32,8 @@ pub enum Scene {
     FromNobody,
     /// Nobody takes out what waits to be sent.
     OutboxFilled,
+    /// An accepted call is looked at from outside.
+    Looked,
     /// Two threads tick both peers.
     TwoTickers,
 }
@@ -45,6 +48,7 @@ fn play<R: Abort + Sync + Threads + Wait, J: Naming>(
         (Scene::TwoTickers, [one, other]) => two_tickers(rt, exchange, one, other),
         (Scene::QueueFilled, [_, pass]) => queue_filled(rt, exchange, pass),
         (Scene::Call, [pass]) => call(rt, exchange, pass),
+        (Scene::Looked, [pass]) => looked(rt, exchange, pass),
         (Scene::CallAndEnd, [pass]) => call_and_end(rt, exchange, pass),
         (Scene::FromNobody, [pass]) => from_nobody(rt, exchange, pass),
         (Scene::OutboxFilled, [pass]) => outbox_filled(rt, exchange, pass),

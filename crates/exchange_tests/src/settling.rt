@@ -38,13 +38,22 @@ fn all_taken<R: Wait, J: Naming>(
     true
 }
 
+/// A call is accepted, and has an octet of voice. The moment then.
+pub fn accepted_call<R: Abort + Wait, J: Naming>(
+    rt: &R,
+    exchange: &Exchange<NoGate, J>,
+    pass: &mut Pass<J>,
+) -> u64 {
+    give_all(rt, exchange, pass, ACCEPTED).expect(rt, "the lines")
+}
+
 /// 257 mini frames of one octet follow the voice frame of an accepted call: 256 wait in the queue, one is dropped.
 pub fn queue_filled<R: Abort + Wait, J: Naming>(
     rt: &R,
     exchange: &Exchange<NoGate, J>,
     pass: &mut Pass<J>,
 ) {
-    let now = give_all(rt, exchange, pass, ACCEPTED).expect(rt, "the lines");
+    let now = accepted_call(rt, exchange, pass);
     holds(rt, "no refusal", all_taken(rt, exchange, pass, 257, now));
 }
 

@@ -82,6 +82,13 @@ opening_data (Taken frame ∷ entries) = frame.payload
 opening_data (Sent frame ∷ entries) = []
 opening_data (Acked count ∷ entries) = []
 
+-- the data of the NEW with which a call began, whichever side sent it
+abbrev pub new_data : List Entry → List ℕ
+new_data [] = []
+new_data (Taken frame ∷ entries) = frame.payload
+new_data (Sent frame ∷ entries) = frame.payload
+new_data (Acked count ∷ entries) = []
+
 -- the number that is called; absent, it is empty
 abbrev pub called_of : LegState → List ℕ
 called_of leg = unwrap_or (last_of CALLED_NUMBER (elements_of (opening_data leg.window.history))) []

@@ -4,7 +4,7 @@ ghost use Rattle.std.specs.Option.{ForSome};
 ghost use Rattle.seq_window.specs.History.{IsLegal};
 ghost use Rattle.leg_machine.specs.Media.{accepts_media};
 ghost use Rattle.leg_machine.specs.Onward.{onward_of};
-ghost use Rattle.leg_machine.specs.Openings.{opening_data, called_of, calling_of};
+ghost use Rattle.leg_machine.specs.Openings.{opening_data, new_data, called_of, calling_of};
 ghost use Rattle.leg_machine.specs.Ticks.{is_idle};
 ghost use Rattle.call_signals.specs.NewElements.{named, new_elements};
 ghost use Rattle.call_signals.specs.declared.signals.Signal.TheVariants.{Offered};
@@ -58,6 +58,13 @@ impl Leg {
         ensures then { result + 1 < 2 ^ 64 → is_idle self.now.state result ≡ false }
     {
         self.machine.idle_until()
+    }
+
+    /// The moment at which the leg was opened, in milliseconds.
+    pub fn opened(&self) -> u64
+        ensures { result ≡ self.now.state.opened }
+    {
+        self.machine.opened
     }
 
     /// The format of the call.
@@ -160,6 +167,27 @@ impl Leg {
         ensures calling { IfSome result.calling (λ text. length text.now ≤ 255) }
     {
         NewElements::read(self.opening_data())
+    }
+
+    // The data of the NEW with which the call began, whichever side sent it.
+    fn new_data(&self) -> &[u8]
+        ensures { result.now ≡ new_data self.now.state.window.history }
+    {
+        match self.machine.window.record().entry(0) {
+            Some(EntryView::Taken(frame)) => frame.payload,
+            Some(EntryView::Sent(frame)) => frame.payload,
+            Some(EntryView::Acked(_)) => &[],
+            None => &[],
+        }
+    }
+
+    /// The elements of the NEW with which the call began, whichever side sent it.
+    pub fn new_elements(&self) -> NewElements<'_>
+        ensures elements { named result ≡ new_elements (new_data self.now.state.window.history) }
+        ensures called { IfSome result.called (λ text. length text.now ≤ 255) }
+        ensures calling { IfSome result.calling (λ text. length text.now ≤ 255) }
+    {
+        NewElements::read(self.new_data())
     }
 
     // What an offered call asks for.

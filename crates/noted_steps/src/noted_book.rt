@@ -127,6 +127,14 @@ impl NotedBook {
         answer
     }
 
+    /// The partner of a name, if the book has the name and it is bridged, for whoever asks from outside: it isn't noted.
+    pub fn partner_of(&self, name: LegName) -> Option<LegName>
+        ensures partner { result ≡ partner_of self.now name }
+        ensures mutual { IfSome result (λ partner. partner_of self.now partner ≡ Some name) }
+    {
+        self.book.partner(name)
+    }
+
     /// Gives the book back.
     pub fn into_book(self) -> CallBook
         ensures { result ≡ self }

@@ -1,10 +1,13 @@
 //! The state of a peer, as it lies under its lock.
-ghost use Rattle.std.specs.Prelude.{◌≡◌, ◌∷◌, [], option_map, MatchOption};
+ghost use Rattle.std.specs.Prelude.{◌≡◌, ◌≤◌, ◌∷◌, [], option_map, MatchOption};
+ghost use Rattle.std.specs.Bool.{OnTrue, OnFalse};
+ghost use Rattle.peer_lock.specs.Accounts.{shown};
+ghost use Rattle.peer_lock.specs.Descriptions.{description_of};
 ghost use Rattle.peer_lock.specs.Legs.{leg_at};
 ghost use Rattle.peer_lock.specs.Statuses.{status_of};
 
 use iax_frames::Out;
-use peer_lock::{Naming, PeerState, Status};
+use peer_lock::{Description, Naming, PeerState, Status, Sums};
 use std::marker::Model;
 
 /// The state of a peer, whose every step is noted under the pass that it is made with. Contracts see that state and the peer's place
@@ -50,11 +53,37 @@ impl<J: Naming> NotedPeer<J> {
         self.state.take_out()
     }
 
+    /// Takes the oldest datagram of the outbox, and writes it over this one, or changes nothing where none waits.
+    pub fn take_into(&mut self, out: &mut Out) -> bool
+        ensures taken { OnTrue result ((self.old.state.outbox ≡ out.new ∷ self.new.state.outbox)
+            × (self.new.state ≡ record self.old.state { outbox = self.new.state.outbox })) }
+        ensures empty { OnFalse result (self.old.state.outbox ≡ []) }
+        ensures same { OnFalse result ((self.new.state ≡ self.old.state) × (out.new ≡ out.old)) }
+        ensures number { self.new.number ≡ self.old.number }
+    {
+        self.state.take_into(out)
+    }
+
     /// How the leg of a local number stands, for whoever asks from outside: it isn't noted.
     pub fn status(&self, number: u16) -> Option<Status>
         ensures { result ≡ option_map status_of (leg_at self.now.state.legs number) }
     {
         self.state.look(number)
+    }
+
+    /// The leg of a local number, with what its call is about, for whoever asks from outside: it isn't noted.
+    pub fn describe(&self, number: u16) -> Option<Description>
+        ensures { result ≡ option_map description_of (leg_at self.now.state.legs number) }
+    {
+        self.state.describe(number)
+    }
+
+    /// The sums of the accounts, for whoever asks from outside: it isn't noted.
+    pub fn sums(&self) -> Sums
+        ensures sums { result ≡ shown self.now.state.accounts }
+        ensures part { result.quelched ≤ result.dropped }
+    {
+        self.state.sums()
     }
 
     /// Gives the state back.

@@ -2,6 +2,7 @@
 use Rattle.std.specs.Prelude.{ℕ, ◌+◌}
 use Rattle.peer_accounts.specs.declared.account.Carried.{Carried}
 use Rattle.peer_accounts.specs.declared.account.Carried.TheVariants.{Packed, Queued, Dropped, Quelched}
+use Rattle.peer_accounts.specs.declared.sums.Sums.{Sums}
 
 -- The media octets of a peer: those that it brought and were accepted; of those that were carried to it, those written into
 -- frames, those in its trunk queue, and those dropped, of which some were quelched; and the steps that it made.
@@ -15,6 +16,17 @@ pub record Accounts : Type 0 where
 
 abbrev pub no_accounts : Accounts
 no_accounts = record { accepted = 0; packed = 0; queued = 0; dropped = 0; quelched = 0; steps = 0 }
+
+-- the accounts, as they are shown
+abbrev pub shown : Accounts → Sums
+shown a = record {
+  accepted = a.accepted;
+  packed = a.packed;
+  queued = a.queued;
+  dropped = a.dropped;
+  quelched = a.quelched;
+  steps = a.steps;
+}
 
 -- the media octets that were carried to the peer
 abbrev pub carried : Accounts → ℕ

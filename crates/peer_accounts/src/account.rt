@@ -1,12 +1,13 @@
 //! The accounts of one peer, with the shares that pay for them.
 ghost use Rattle.std.specs.Prelude.{◌≡◌, ◌≢◌, ◌+◌, ◌<◌, ◌≤◌, ◌↔◌, IsTrue};
 ghost use Rattle.std.specs.Bool.{OnTrue, OnFalse};
-ghost use Rattle.peer_accounts.specs.Accounts.{no_accounts, carried, carry_to, stepped, with_accepted};
+ghost use Rattle.peer_accounts.specs.Accounts.{no_accounts, shown, carried, carry_to, stepped, with_accepted};
 ghost use Rattle.peer_accounts.specs.Grants.{granted};
 
 use crate::closed_account::ClosedAccount;
 use crate::naming::Naming;
 use crate::pass::Pass;
+use crate::sums::Sums;
 use leg_machine::Signal;
 use media_ledger::{Share, pass_on};
 use std::marker::{Model, PhantomData};
@@ -77,6 +78,21 @@ impl<J: Naming> Account<J> {
         ensures { IsTrue result ↔ (self.now.steps ≡ J.first_steps) }
     {
         self.steps.amount() == 0
+    }
+
+    /// The sums, as they are now.
+    pub fn sums(&self) -> Sums
+        ensures sums { result ≡ shown self.now }
+        ensures part { result.quelched ≤ result.dropped }
+    {
+        Sums {
+            accepted: self.accepted,
+            packed: self.packed,
+            queued: self.queued,
+            dropped: self.dropped,
+            quelched: self.quelched,
+            steps: self.made,
+        }
     }
 
     /// Takes in media of n octets, and passes their credit on. Refused where the peer has less unspent credit.

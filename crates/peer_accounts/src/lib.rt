@@ -6,9 +6,11 @@ mod closed_account;
 mod naming;
 mod onwards;
 mod pass;
+mod sums;
 
 pub use account::{Account, Carried};
 pub use closed_account::ClosedAccount;
 pub use naming::{Naming, Service};
 pub use onwards::{Offer, Onwards};
 pub use pass::Pass;
+pub use sums::Sums;

@@ -4,7 +4,6 @@ pub mod Entries
 pub mod NumberTicks
 pub mod Opened
 pub mod Packing
-pub mod Puts
 pub mod Reached
 pub mod Refusing
 pub mod SeenArrivals

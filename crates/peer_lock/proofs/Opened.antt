@@ -10,7 +10,7 @@ use Rattle.call_signals.specs.declared.formats.Format.{Format}
 use Rattle.leg_machine.specs.Steps.{heard_of}
 use Rattle.peer_legs.specs.Legs.{PeerLegs, leg_of_remote, with_place}
 use Rattle.peer_lock.specs.Openings.{opens_in}
-use Rattle.peer_lock.specs.Outbox.{put}
+use Rattle.outbox.specs.Outbox.{put}
 use Rattle.peer_lock.specs.Peer.{PeerView, counted}
 
 -- no leg has the remote number of one that a NEW opened

@@ -9,7 +9,7 @@ use Rattle.peer_accounts.specs.HandedUp.{HandedUp}
 use Rattle.peer_legs.specs.Legs.{NamedLeg, PeerLegs, with_leg}
 use Rattle.peer_lock.specs.Arrivals.{reached_step}
 use Rattle.peer_lock.specs.Makes.{Makes}
-use Rattle.peer_lock.specs.Outbox.{put}
+use Rattle.outbox.specs.Outbox.{put}
 use Rattle.peer_lock.specs.Peer.{PeerView, granted, handed_up, leg_alone, offer_with}
 use Rattle.peer_lock.specs.declared.steps.Step.{Step}
 

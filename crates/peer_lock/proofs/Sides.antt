@@ -29,13 +29,13 @@ use Rattle.peer_lock.specs.Arrivals.{datagram_step, delivered_step}
 use Rattle.peer_lock.specs.Delivery.{Delivery, NeedsNumber, GetsInval, NoCall, delivered, is_new, unknown_call}
 use Rattle.peer_lock.specs.Openings.{opens_in, opens_out}
 use Rattle.peer_lock.specs.Orders.{order_refused_by, refused_at, ordered_if, ordered_at, ordered_step, counted_media, short_media, queued_media, carried_media, is_full_for, with_media}
-use Rattle.peer_lock.specs.Outbox.{put}
+use Rattle.outbox.specs.Outbox.{put}
 use Rattle.peer_lock.specs.Peer.{PeerView, with_datagram}
 use Rattle.peer_lock.specs.Sides.{ComesToNone, TakesTurnAtLeg, TakesDatagram, SendsAtLeg, TakesNew, SendsNew}
 use Rattle.peer_lock.specs.SoundPeer.{IsSoundPeer}
 use Rattle.trunk_packer.specs.Queue.{QueueEntry}
 use Rattle.peer_lock.proofs.Choices.{either}
-use Rattle.peer_lock.proofs.Puts.{put_both}
+use Rattle.outbox.proofs.Puts.{put_both}
 use Rattle.peer_lock.proofs.SeenArrivals.{found_named}
 use Rattle.peer_lock.proofs.SeenChanges.{named_at}
 use Rattle.peer_lock.proofs.SeenSteps.{free_name, ordered_legs, unspent}

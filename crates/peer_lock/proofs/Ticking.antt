@@ -13,12 +13,12 @@ use Rattle.call_signals.specs.declared.replies.Reply.{Reply}
 use Rattle.call_signals.specs.declared.replies.Reply.TheVariants as replies
 use Rattle.call_signals.specs.declared.stages.Stage.TheVariants as stages
 use Rattle.peer_legs.specs.Legs.{NamedLeg}
-use Rattle.peer_lock.specs.Outbox.{put}
+use Rattle.outbox.specs.Outbox.{put}
 use Rattle.peer_lock.specs.Peer.{PeerView}
 use Rattle.peer_legs.specs.Rests.{is_quiet, is_resting}
 use Rattle.peer_lock.specs.Ticks.{LegsTick, PlaceTick, TicksLegs, place_tick, legs_tick, then_ticks}
 use Rattle.peer_lock.proofs.Choices.{either}
-use Rattle.peer_lock.proofs.Puts.{put_both, put_none}
+use Rattle.outbox.proofs.Puts.{put_both, put_none}
 use Rattle.seq_window.specs.Window.{held_count}
 
 -- what stands there already

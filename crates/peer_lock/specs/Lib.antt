@@ -1,11 +1,11 @@
 pub mod Arrivals
 pub mod CarriedMedia
 pub mod Delivery
+pub mod Descriptions
 pub mod Errors
 pub mod Makes
 pub mod Openings
 pub mod Orders
-pub mod Outbox
 pub mod Peer
 pub mod ReadDatagram
 pub mod Seen

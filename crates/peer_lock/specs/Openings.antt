@@ -10,7 +10,7 @@ use Rattle.peer_accounts.specs.Accounts.{stepped}
 use Rattle.peer_lock.specs.Delivery.{is_new}
 use Rattle.peer_legs.specs.Legs.{NamedLeg, leg_of_remote, with_place}
 pub use Rattle.peer_legs.specs.Legs.{is_free_name}
-use Rattle.peer_lock.specs.Outbox.{put}
+use Rattle.outbox.specs.Outbox.{put}
 use Rattle.peer_lock.specs.Peer.{PeerView, PeerStep, handed_up, offer_with, leg_alone}
 use Rattle.peer_lock.specs.Unworked.{IsSoundFull}
 use Rattle.peer_lock.specs.declared.errors.OpenError.{OpenError}

@@ -13,7 +13,7 @@ use Rattle.call_signals.specs.declared.orders.OrderError.{OrderError as LegError
 use Rattle.peer_accounts.specs.Accounts.{stepped, carry_to}
 use Rattle.peer_lock.specs.Errors.{from_leg}
 use Rattle.peer_legs.specs.Legs.{NamedLeg, leg_named, with_leg}
-use Rattle.peer_lock.specs.Outbox.{put}
+use Rattle.outbox.specs.Outbox.{put}
 use Rattle.peer_lock.specs.Peer.{PeerView, counted, with_datagram}
 use Rattle.peer_accounts.specs.declared.account.Carried.{Carried}
 use Rattle.peer_accounts.specs.declared.account.Carried.TheVariants.{Packed, Queued, Dropped, Quelched}

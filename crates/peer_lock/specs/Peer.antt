@@ -11,7 +11,7 @@ use Rattle.call_signals.specs.declared.signals.Signal.TheVariants.{Offered}
 use Rattle.peer_accounts.specs.Accounts.{Accounts, stepped, with_accepted}
 pub use Rattle.peer_accounts.specs.Grants.{Granted, granted_media, granted}
 use Rattle.peer_legs.specs.Legs.{PeerLegs, with_leg}
-use Rattle.peer_lock.specs.Outbox.{put}
+use Rattle.outbox.specs.Outbox.{put}
 use Rattle.peer_accounts.specs.declared.onwards.Offer.{Offer}
 use Rattle.peer_lock.specs.declared.steps.Step.{Step}
 use Rattle.trunk_packer.specs.Queue.{QueueEntry}

@@ -13,7 +13,7 @@ use Rattle.leg_machine.specs.Tie.{numbered_frame, TakesTurn, SendsAtMostOne, Tak
 use Rattle.leg_machine.specs.Tie.{IsSendingOf, IsSending, IsSendingOrMini}
 use Rattle.peer_legs.specs.Legs.{PeerLegs, NamedLeg, leg_at, with_leg, with_place}
 use Rattle.peer_lock.specs.Arrivals.{inval_for}
-use Rattle.peer_lock.specs.Outbox.{put}
+use Rattle.outbox.specs.Outbox.{put}
 use Rattle.peer_lock.specs.Peer.{PeerView}
 use Rattle.seq_window.specs.Network.{Action, SendNumbered, SendUnnumbered, Retransmit, JudgeAcknowledgement, JudgeNumber}
 use Rattle.seq_window.specs.Network.{Datagram as Sending, Side, actions_in_turn, after_all, empty_side, reply_actions}

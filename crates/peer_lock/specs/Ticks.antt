@@ -3,7 +3,7 @@ use Rattle.std.specs.Prelude.{◌≡◌, ℕ, ◌+◌, ◌<◌, ◌≤◌, ◌==
 use Rattle.iax_frames.specs.FullFrame.{spelling}
 use Rattle.leg_machine.specs.Ticks.{tick_step}
 use Rattle.peer_legs.specs.Legs.{NamedLeg}
-use Rattle.peer_lock.specs.Outbox.{put}
+use Rattle.outbox.specs.Outbox.{put}
 use Rattle.peer_lock.specs.Peer.{PeerView, counted}
 use Rattle.peer_lock.specs.declared.steps.TickReport.{TickReport}
 use Rattle.trunk_packer.specs.Queue.{QueueEntry, media_octets, PacksFront}

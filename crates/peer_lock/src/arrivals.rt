@@ -14,13 +14,14 @@ ghost use Rattle.peer_legs.specs.Legs.{NamedLeg as NamedLegValue, leg_at, leg_of
 ghost use Rattle.peer_accounts.specs.HandedUp.{IsNothing};
 ghost use Rattle.peer_lock.specs.Makes.{Makes, IsUnchanged, IsDue};
 ghost use Rattle.peer_lock.specs.Peer as spec;
-ghost use Rattle.peer_lock.specs.Outbox.{put};
+ghost use Rattle.outbox.specs.Outbox.{put};
 ghost use Rattle.peer_lock.specs.Peer.{handed_up, leg_alone, offer_with, no_leg, counted, with_datagram};
 ghost use Rattle.iax_frames.specs.declared.datagram.Datagram.{Datagram as DatagramValue};
 ghost use Rattle.peer_lock.specs.declared.errors.PeerError.{PeerError as PeerErrorValue};
 ghost use Rattle.peer_lock.specs.Unworked.{IsSoundFull, IsRefusedFull, IsCutFrame, IsSound, IsRefusedRead, IsShortDatagram, IsWorked, IsUnworked};
 
 use crate::errors::PeerError;
+use crate::outboxes::put_all;
 use crate::read_datagram::ReadDatagram;
 use crate::state::PeerState;
 use crate::steps::Step;
@@ -117,7 +118,7 @@ impl<J: Naming> PeerState<J> {
     {
         self.replies.clear();
         let heard = self.legs.full_kept(number, frame, now, &mut self.replies)?;
-        self.outbox.put_all(&self.replies);
+        put_all(&mut self.outbox, &self.replies);
         Ok(heard)
     }
 
@@ -193,9 +194,9 @@ impl<J: Naming> PeerState<J> {
     }
 
     // A step without a leg, in which this datagram is sent.
-    fn answer_alone(&mut self, pass: &mut Pass<J>, out: Out) -> Step
+    fn answer_alone(&mut self, pass: &mut Pass<J>, out: &Out) -> Step
         requires { self.old.accounts.steps ≢ J.first_steps }
-        ensures peer { self.new ≡ counted (with_datagram self.old out) }
+        ensures peer { self.new ≡ counted (with_datagram self.old out.now) }
         ensures step { result ≡ no_leg }
         ensures credit { pass.new ≡ with_credit pass.old 0 }
     {
@@ -223,7 +224,7 @@ impl<J: Naming> PeerState<J> {
         if !message.is_numbered() {
             return Err(PeerError::NoCall);
         }
-        Ok(self.answer_alone(pass, inval_for(frame)))
+        Ok(self.answer_alone(pass, &inval_for(frame)))
     }
 
     // A full frame comes for which a leg is looked for.

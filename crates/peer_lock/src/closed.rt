@@ -5,11 +5,11 @@ ghost use Rattle.peer_legs.specs.Legs.{leg_at};
 ghost use Rattle.peer_lock.specs.SoundPeer.{IsSoundPeer};
 ghost use Rattle.peer_lock.specs.Statuses.{status_of};
 
-use crate::outboxes::Outbox;
 use crate::state::PeerState;
 use crate::steps::Status;
 use leg_machine::{PeerRules, Replies};
 use media_ledger::Share;
+use outbox::Outbox;
 use peer_accounts::{ClosedAccount, Naming};
 use peer_legs::PeerLegs;
 use std::alloc::Global;

@@ -3,6 +3,7 @@
 
 mod arrivals;
 mod closed;
+mod descriptions;
 mod errors;
 pub mod laws;
 mod media_arrivals;
@@ -15,8 +16,9 @@ mod steps;
 mod ticks;
 
 pub use closed::ClosedPeer;
+pub use descriptions::Description;
 pub use errors::{OpenError, OrderError, PeerError, StepsSpent};
-pub use peer_accounts::{Naming, Offer, Onwards, Pass, Service};
+pub use peer_accounts::{Naming, Offer, Onwards, Pass, Service, Sums};
 pub use read_datagram::ReadDatagram;
 pub use state::PeerState;
 pub use steps::{Status, Step, TickReport};

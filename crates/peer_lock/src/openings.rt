@@ -12,11 +12,12 @@ ghost use Rattle.peer_lock.specs.Makes.{IsUnchanged};
 ghost use Rattle.peer_legs.specs.Legs.{is_free_name};
 ghost use Rattle.leg_machine.specs.Openings.{open_in_step, open_out_step};
 ghost use Rattle.leg_machine.specs.Steps.{heard_of};
-ghost use Rattle.peer_lock.specs.Outbox.{put};
+ghost use Rattle.outbox.specs.Outbox.{put};
 ghost use Rattle.peer_lock.specs.Openings.{IsOpening, IsOpenRefusal, open_in_refused, open_out_refused, opens_in, opens_out, with_opened};
 
 use crate::arrivals::hand_up;
 use crate::errors::OpenError;
+use crate::outboxes::put_all;
 use crate::state::PeerState;
 use crate::steps::Step;
 use call_auth::Challenge;
@@ -108,7 +109,7 @@ impl<J: Naming> PeerState<J> {
             challenge,
             &mut self.replies,
         )?;
-        self.outbox.put_all(&self.replies);
+        put_all(&mut self.outbox, &self.replies);
         Ok(opened)
     }
 
@@ -213,7 +214,7 @@ impl<J: Naming> PeerState<J> {
         )?;
         let _legal = leg.window().record();
         let _held = leg.window().held_len();
-        self.outbox.put_all(&self.replies);
+        put_all(&mut self.outbox, &self.replies);
         Ok(leg)
     }
 

@@ -12,10 +12,11 @@ ghost use Rattle.peer_lock.specs.Orders as spec;
 ghost use Rattle.peer_lock.specs.Orders.{queued_media, counted_media, carries_media, with_order, from_leg_due, IsOrderRefusal, order_refused_by, ordered_step, order_octets};
 
 use crate::errors::OrderError;
+use crate::outboxes::put_all;
 use crate::state::PeerState;
 use crate::steps::Step;
 use call_book::LegName;
-use iax_frames::{CallNumber, write_mini};
+use iax_frames::CallNumber;
 use leg_machine::{Judged, MediaSent, Order, OrderError as LegOrderError};
 use peer_accounts::{Carried, Naming, Pass};
 
@@ -48,10 +49,7 @@ impl<J: Naming> PeerState<J> {
             self.queue_media(pass, number, timestamp, media);
             return;
         }
-        match write_mini(number, timestamp, media) {
-            Ok(out) => self.outbox.put(out),
-            Err(_) => unreachable!(),
-        }
+        self.outbox.put_mini(number, timestamp, media);
         self.account
             .carry(pass, media.len() as u64, Carried::Packed);
     }
@@ -100,7 +98,7 @@ impl<J: Naming> PeerState<J> {
         let number = self.legs.call_number(name.number);
         self.replies.clear();
         let sent = self.legs.media(name.number, media, now, &mut self.replies)?;
-        self.outbox.put_all(&self.replies);
+        put_all(&mut self.outbox, &self.replies);
         self.account.count_step(pass);
         self.count_media(pass, number, sent, media);
         Ok(Step {
@@ -125,7 +123,7 @@ impl<J: Naming> PeerState<J> {
     {
         self.replies.clear();
         self.legs.order(name.number, order, now, &mut self.replies)?;
-        self.outbox.put_all(&self.replies);
+        put_all(&mut self.outbox, &self.replies);
         Ok(())
     }
 

@@ -1,5 +1,6 @@
 //! What lies under the lock of one peer.
 ghost use Rattle.std.specs.Prelude.{◌≡◌, ◌+◌, ◌^◌, ◌<◌, ◌≤◌, [], ◌∷◌, ◌↔◌, length, replicate, option_map, None, Some, false, IfOk, IfErr, IsErr, IsNone, IfNone, IfSome, OnSome, MatchOption};
+ghost use Rattle.std.specs.Bool.{OnTrue, OnFalse};
 ghost use Rattle.call_signals.specs.declared.rules.PeerRules.{PeerRules as PeerRulesValue};
 ghost use Rattle.leg_machine.specs.PeerRules.{IsPeerRules};
 ghost use Rattle.peer_accounts.specs.Accounts.{no_accounts, carried};
@@ -10,12 +11,12 @@ ghost use Rattle.peer_lock.specs.Statuses.{IsHistory, status_of, is_done};
 ghost use Rattle.trunk_packer.specs.Queue.{media_octets};
 
 use crate::closed::ClosedPeer;
-use crate::outboxes::Outbox;
 use crate::steps::Status;
 use call_book::{Lease, LegName};
 use iax_frames::Out;
 use leg_machine::{PeerRules, Replies};
 use media_ledger::Share;
+use outbox::Outbox;
 use peer_accounts::{Account, Naming};
 use peer_legs::PeerLegs;
 use seq_window::Record;
@@ -26,8 +27,8 @@ use trunk_packer::Packer;
 /// One peer: its legs, its outbox, its trunk queue and its accounts.
 ///
 /// Events come by `datagram` and `tick`, openings by `open_in` and `open_out`, orders by `order`; each is one step, which takes
-/// one step credit and gives it to the pass. `take_out` empties the outbox, `retire` gives up a leg that is over, and `look`
-/// only looks. All room but that of the legs' records is made by `new`. No call waits or looks at a clock.
+/// one step credit and gives it to the pass. `take_into` and `take_out` empty the outbox, `retire` gives up a leg that is over,
+/// and `look` only looks. All room but that of the legs' records is made by `new`. No call waits or looks at a clock.
 #[derive(Drop)]
 pub struct PeerState<J: Naming> {
     pub(crate) alloc: Global,
@@ -117,6 +118,16 @@ impl<J: Naming> PeerState<J> {
             }),
             Err(error) => Err((octets, steps, error)),
         }
+    }
+
+    /// Takes the oldest datagram of the outbox, and writes it over this one, or changes nothing where none waits.
+    pub fn take_into(&mut self, out: &mut Out) -> bool
+        ensures taken { OnTrue result ((self.old.outbox ≡ out.new ∷ self.new.outbox)
+            × (self.new ≡ record self.old { outbox = self.new.outbox })) }
+        ensures empty { OnFalse result (self.old.outbox ≡ []) }
+        ensures same { OnFalse result ((self.new ≡ self.old) × (out.new ≡ out.old)) }
+    {
+        self.outbox.take_into(out)
     }
 
     /// The oldest datagram of the outbox.

@@ -2,19 +2,20 @@
 ghost use Rattle.std.specs.Prelude.{◌≡◌, ◌≢◌, ◌+◌, ◌^◌, ◌<◌, ◌≤◌, ◌↔◌, ◌⊎◌, [], length, true, Option, Some, slice_get, slice_set, All, IsErr, IsTrue, IfSome, IfNone, IfOk, OnOk, OnErr};
 ghost use Rattle.peer_accounts.specs.Accounts.{with_step as with_credit};
 ghost use Rattle.peer_legs.specs.Legs.{NamedLeg as NamedLegValue};
-ghost use Rattle.peer_lock.specs.Outbox.{put};
+ghost use Rattle.outbox.specs.Outbox.{put};
 ghost use Rattle.peer_legs.specs.Rests.{is_quiet};
 ghost use Rattle.peer_lock.specs.Ticks.{place_tick, TicksLegs, PacksOne, IsPacked, PacksMedia, Ticks};
 ghost use Rattle.trunk_packer.specs.Queue.{media_octets};
 
 use crate::errors::StepsSpent;
+use crate::outboxes::put_all;
 use crate::state::PeerState;
 use crate::steps::TickReport;
 use peer_accounts::{Naming, Pass};
 
 impl<J: Naming> PeerState<J> {
     // Time goes on for the leg at a place, if there is one. Tells how many frames had no memory.
-    #[tactic(auto, using(crate::proofs::Ticking::place_same, crate::proofs::Puts::put_none))]
+    #[tactic(auto, using(crate::proofs::Ticking::place_same, outbox::proofs::Puts::put_none))]
     fn tick_place(&mut self, index: usize, now: u64) -> u32
         requires { index < length self.old.legs.places }
         ensures peer { (place : Option NamedLegValue) → slice_get self.old.legs.places index ≡ Some place
@@ -28,7 +29,7 @@ impl<J: Naming> PeerState<J> {
         let _ = self.outbox.is_full();
         self.replies.clear();
         let skipped = self.legs.tick(index, now, &mut self.replies);
-        self.outbox.put_all(&self.replies);
+        put_all(&mut self.outbox, &self.replies);
         skipped
     }
 
@@ -69,7 +70,7 @@ impl<J: Naming> PeerState<J> {
             return None;
         }
         let (out, octets) = self.queue.pack(now, self.rules.trunk_timestamps)?;
-        self.outbox.put(out);
+        self.outbox.put(&out);
         self.account.pack(octets);
         Some(octets)
     }

@@ -3,5 +3,6 @@ pub mod Errors
 pub mod Address
 pub mod Plan
 pub mod Fields
+pub mod FormatNames
 pub mod Reading
 pub mod PlanFields

@@ -5,6 +5,7 @@ use Rattle.std.specs.Str.{is_utf8, bytes_eq}
 use Rattle.toml.specs.Data.{Data, Items, no_items, item, Members, get_member, as_array, as_bool, as_str}
 use Rattle.toml.specs.Parse.{parse_document}
 use Rattle.call_signals.specs.Credential.{is_printable}
+use Rattle.call_signals.specs.declared.formats.Format.TheVariants.{Gsm, Ulaw, Alaw}
 use Rattle.call_signals.specs.declared.formats.Formats.{Formats}
 use Rattle.call_signals.specs.declared.rules.PeerRules.{PeerRules}
 use Rattle.peer_plan.specs.declared.key.Key.TheVariants as key
@@ -18,6 +19,7 @@ use Rattle.peer_plan.specs.declared.peer.Media.{Media}
 use Rattle.peer_plan.specs.declared.route.Route.{Route}
 use Rattle.peer_plan.specs.Address.{address_of}
 use Rattle.peer_plan.specs.Fields.{◌>>=◌, number_of, text_of, value, each, list_in}
+use Rattle.peer_plan.specs.FormatNames.{format_name}
 use Rattle.peer_plan.specs.Keys.{key_name}
 use Rattle.peer_plan.specs.Plan.{PlanView, is_name, is_prefix}
 
@@ -64,9 +66,9 @@ credentials_in ms = do
 -- `formats`: names of formats, at least one, in any order
 abbrev pub with_format : Formats → List ℕ → Option Formats
 with_format formats name =
-    if bytes_eq name (codes "gsm") then Some (record formats { gsm = true })
-    else if bytes_eq name (codes "ulaw") then Some (record formats { ulaw = true })
-    else if bytes_eq name (codes "alaw") then Some (record formats { alaw = true })
+    if bytes_eq name (format_name Gsm) then Some (record formats { gsm = true })
+    else if bytes_eq name (format_name Ulaw) then Some (record formats { ulaw = true })
+    else if bytes_eq name (format_name Alaw) then Some (record formats { alaw = true })
     else None
 
 abbrev pub with_format_in : Formats → Data → Option Formats

@@ -4,6 +4,7 @@
 mod address;
 mod endpoint;
 mod error;
+mod format_names;
 mod key;
 mod number_range;
 mod peer;
@@ -15,6 +16,7 @@ mod short_text;
 
 pub use endpoint::Endpoint;
 pub use error::PlanError;
+pub use format_names::format_name;
 pub use key::{Key, Section, is_known};
 pub use number_range::NumberRange;
 pub use plan::Plan;

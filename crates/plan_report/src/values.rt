@@ -3,7 +3,7 @@ ghost use Rattle.std.specs.Prelude.{◌<◌, length};
 ghost use Rattle.call_signals.specs.PeerRules.{IsPeerRules};
 
 use call_signals::{Format, Formats, PeerRules};
-use peer_plan::{Endpoint, Key, Plan};
+use peer_plan::{Endpoint, Key, Plan, format_name};
 use std::io;
 use std::io::Write;
 use toml::{Table, Value};
@@ -45,15 +45,6 @@ fn write_endpoint<W: Write>(endpoint: Endpoint, writer: &mut W) -> io::Result<()
     let [a, b, c, d] = endpoint.address;
     let port = endpoint.port;
     write!(writer, "{a}.{b}.{c}.{d}:{port}")
-}
-
-/// A format as a plan names it.
-pub(crate) fn format_name(format: Format) -> &'static str {
-    match format {
-        Format::Gsm => "gsm",
-        Format::Ulaw => "ulaw",
-        Format::Alaw => "alaw",
-    }
 }
 
 /// The formats, those of lower bits first.

@@ -3,9 +3,8 @@ ghost use Rattle.std.specs.Prelude.{◌≡◌, ◌<◌, length};
 ghost use Rattle.call_signals.specs.Formats.{has_format};
 ghost use Rattle.plan_report.specs.Warnings.{lacks};
 
-use crate::values::format_name;
 use call_signals::{Format, Formats};
-use peer_plan::Plan;
+use peer_plan::{Plan, format_name};
 use std::io;
 use std::io::Write;
 

@@ -12,6 +12,7 @@ use peer_plan::Endpoint;
 use std::alloc::{AllocError, Global};
 use std::io;
 use std::net::{IpAddr, Ipv4Addr, Net, SocketAddr};
+use std::os::fd::{AsRawFd, RawFd};
 use std::time::Duration;
 
 /// Why no socket was bound.
@@ -130,6 +131,11 @@ impl MioWire {
         let events = Events::with_capacity(alloc, 1)?;
         let socket = readable(rt, &poll, at)?;
         Ok(MioWire::over(socket, poll, events, peers))
+    }
+
+    /// The descriptor of its socket, for whoever sets what the system does with it.
+    pub fn descriptor(&self) -> RawFd {
+        self.socket.as_raw_fd()
     }
 
     // Over a socket that is bound and polled.

@@ -10,6 +10,7 @@ use crate::tally::Tally;
 use crate::watch::{Event, Watch};
 use crate::wire::Wire;
 use exchange_core::{Exchange, Gate, Pass};
+use iax_frames::Out;
 use peer_lock::Naming;
 use peer_plan::Endpoint;
 use std::sync::Wait;
@@ -52,7 +53,8 @@ fn send_frame<W: Wire, V: Watch>(
     }
 }
 
-// Takes up to 256 frames from the outbox of a peer, and sends each to its endpoint. What the wire doesn't take is lost.
+// Takes up to 256 frames from the outbox of a peer, one after another into the place that is lent, and sends each to its endpoint.
+// What the wire doesn't take is lost.
 pub(crate) fn send_all<W: Wire, V: Watch, G: Gate, J: Naming, R: Wait>(
     rt: &R,
     wire: &mut W,
@@ -61,6 +63,7 @@ pub(crate) fn send_all<W: Wire, V: Watch, G: Gate, J: Naming, R: Wait>(
     tally: &mut Tally<'_, V>,
     peer: u16,
     to: Endpoint,
+    out: &mut Out,
 )
     requires peer { peer < length exchange.now.peers }
     requires to { Contains (W.peers wire.old) to }
@@ -80,9 +83,9 @@ pub(crate) fn send_all<W: Wire, V: Watch, G: Gate, J: Naming, R: Wait>(
     ensures pass { pass.new ≡ pass.old }
 {
     for _ in 0..FRAMES {
-        let Some(frame) = exchange.take_out(rt, pass, peer) else {
+        if !exchange.take_into(rt, pass, peer, out) {
             return;
-        };
-        send_frame(wire, tally, peer, to, frame.octets());
+        }
+        send_frame(wire, tally, peer, to, out.octets());
     }
 }

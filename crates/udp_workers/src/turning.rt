@@ -16,6 +16,7 @@ use crate::wire::Wire;
 use crate::worker::Worker;
 use call_auth::Challenge;
 use exchange_core::{Exchange, Gate, Pass};
+use iax_frames::Out;
 use peer_lock::Naming;
 use std::sync::Wait;
 
@@ -98,9 +99,9 @@ impl Worker {
         let _peers = exchange.plan().peer_count();
         self.turns = self.turns.wrapping_add(1);
         receive_all(rt, wire, exchange, pass, tally, stage, now, challenge);
-        let peers = self.peers();
+        let peers = self.peers.as_slice();
         tick_all(rt, exchange, pass, tally, peers, now);
-        empty_all(rt, wire, exchange, pass, tally, peers);
+        empty_all(rt, wire, exchange, pass, tally, peers, &mut self.out);
     }
 }
 
@@ -134,6 +135,7 @@ fn empty_all<W: Wire, V: Watch, G: Gate, J: Naming, R: Wait>(
     pass: &mut Pass<J>,
     tally: &mut Tally<'_, V>,
     peers: &[u16],
+    out: &mut Out,
 )
     requires few { length peers.now ≤ 32 }
     requires peers { All (λ peer. peer < length exchange.now.peers) peers.now }
@@ -153,6 +155,6 @@ fn empty_all<W: Wire, V: Watch, G: Gate, J: Naming, R: Wait>(
 {
     for &peer in peers {
         let to = exchange.plan().endpoint(peer);
-        send_all(rt, wire, exchange, pass, tally, peer, to);
+        send_all(rt, wire, exchange, pass, tally, peer, to, out);
     }
 }

@@ -3,6 +3,7 @@ ghost use Rattle.std.specs.Prelude.{◌≡◌, ◌<◌, ◌≤◌, IfOk, length}
 ghost use Rattle.udp_workers.specs.Served.{AreEndpoints, peers_of};
 
 use arrayvec::ArrayVec;
+use iax_frames::Out;
 use peer_plan::{Endpoint, Plan};
 use std::alloc::{AllocError, Global};
 use std::marker::Model;
@@ -14,6 +15,8 @@ pub struct Worker {
     pub(crate) place: u16,
     pub(crate) peers: ArrayVec<u16, 32>,
     pub(crate) turns: u64,
+    // The datagram that is on its way from an outbox to the wire.
+    pub(crate) out: Out,
 }
 
 impl Model for Worker {
@@ -45,6 +48,7 @@ impl Worker {
             place,
             peers,
             turns: 0,
+            out: Out::default(),
         }
     }
 

@@ -1,6 +1,6 @@
 use Rattle.std.proofs.Common.{◌≡◌, Some, rules, subst, sym}
 use Rattle.peer_legs.specs.Legs.{leg_at}
-use Rattle.peer_lock.specs.Outbox.{put}
+use Rattle.outbox.specs.Outbox.{put}
 use Rattle.peer_lock.specs.Peer.{PeerView}
 use Rattle.peer_lock.proofs.Reached.{sent_by_leg}
 use Rattle.peer_lock.proofs.state.PeerState.hear.Goals as goal
@@ -22,9 +22,9 @@ invariant_of-self-2 g c = record {
 pub returns-clause-peer : goal.returns-clause-peer
 returns-clause-peer g c named here =
     let inside = subst (λ (v : PeerView). leg_at v.legs c.args.number ≡ Some named) (sym c.self.view_is) here in
-    let sent : c.put_all.new.self ≡ put c.self.inside.outbox c.full_kept.new.replies = search rules in
+    let sent : c.put_all.new.outbox ≡ put c.self.inside.outbox c.full_kept.new.replies = search rules in
     sent_by_leg (record { rules = c.self.inside.rules; legs = c.self.inside.legs; outbox = c.self.inside.outbox; queue = c.self.inside.queue; accounts = c.self.inside.account })
-    c.args.self.now named c.args.frame.now c.args.now c.full_kept.new.self c.put_all.new.self c.full_kept.new.replies
+    c.args.self.now named c.args.frame.now c.args.now c.full_kept.new.self c.put_all.new.outbox c.full_kept.new.replies
     c.self.view_is (c.in_ok-heard.ensures.leg named inside) sent (c.in_ok-heard.ensures.replies named inside)
 
 pub returns-clause-heard : goal.returns-clause-heard

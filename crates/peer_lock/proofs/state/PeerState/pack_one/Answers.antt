@@ -1,6 +1,6 @@
 use Rattle.std.proofs.Common.{◌≡◌, ◌<◌, ◌∷◌, ◌++◌, [], length, rules}
-use Rattle.peer_lock.specs.Outbox.{put}
-use Rattle.peer_lock.proofs.Puts.{put_fits}
+use Rattle.outbox.specs.Outbox.{put}
+use Rattle.outbox.proofs.Puts.{put_fits}
 use Rattle.peer_lock.proofs.state.PeerState.pack_one.Goals as goal
 
 pub returns-clause-some : goal.returns-clause-some

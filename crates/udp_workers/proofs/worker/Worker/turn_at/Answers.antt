@@ -11,13 +11,13 @@ use Rattle.udp_workers.proofs.worker.Worker.turn_at.Goals as goal
 pub tick_all-requires-clause-peers : goal.tick_all-requires-clause-peers
 tick_all-requires-clause-peers g c κs within =
     let plan = c.args.exchange.now in
-    let own = c.peers-peers.ensures.peers ∙ ap (λ (worker : WorkerView). worker.peers) c.self.view_is ∙ c.requires.peers in
+    let own = c.as_slice-peers.ensures.value ∙ ap (λ (worker : WorkerView). worker.peers) c.self.view_is ∙ c.requires.peers in
     subst (All (λ peer. peer < length plan.peers)) (sym own) (peers_below plan c.args.self.now.place)
 
 pub empty_all-requires-clause-peers : goal.empty_all-requires-clause-peers
 empty_all-requires-clause-peers g c κs within =
     let plan = c.args.exchange.now in
-    let own = c.peers-peers.ensures.peers ∙ ap (λ (worker : WorkerView). worker.peers) c.self.view_is ∙ c.requires.peers in
+    let own = c.as_slice-peers.ensures.value ∙ ap (λ (worker : WorkerView). worker.peers) c.self.view_is ∙ c.requires.peers in
     subst (All (λ peer. peer < length plan.peers)) (sym own) (peers_below plan c.args.self.now.place)
 
 pub empty_all-requires-clause-apart : goal.empty_all-requires-clause-apart
@@ -38,6 +38,6 @@ pub returns-clause-ticked : goal.returns-clause-ticked
 returns-clause-ticked g c =
     let plan = c.args.exchange.now in
     let arrived = c.receive_all.new.pass in
-    let own = c.peers-peers.ensures.peers ∙ ap (λ (worker : WorkerView). worker.peers) c.self.view_is in
-    let unsent = subst (TicksAll plan c.args.now c.peers-peers.result.now arrived) (sym c.empty_all.ensures.pass) c.tick_all.ensures.ticked in
+    let own = c.as_slice-peers.ensures.value ∙ ap (λ (worker : WorkerView). worker.peers) c.self.view_is in
+    let unsent = subst (TicksAll plan c.args.now c.as_slice-peers.result.now arrived) (sym c.empty_all.ensures.pass) c.tick_all.ensures.ticked in
     (arrived, c.receive_all.ensures.later, subst (λ peers. TicksAll plan c.args.now peers arrived c.empty_all.new.pass) own unsent)

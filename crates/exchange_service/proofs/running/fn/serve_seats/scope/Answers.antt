@@ -1,0 +1,24 @@
+use denote.Param.Send.{sendable}
+use Rattle.exchange_service.proofs.running.fn.serve_seats.scope.Goals as goal
+
+-- that the parameters may go to other threads, by their own bounds alone: among all that the closure holds the search gives up
+pub start_until-started-requires-send-J : goal.start_until-started-requires-send-J
+start_until-started-requires-send-J g c κs within = search sendable parts 8
+
+pub start_until-started-requires-send-P : goal.start_until-started-requires-send-P
+start_until-started-requires-send-P g c κs within = search sendable parts 8
+
+pub start_until-started-requires-send-J-Octets : goal.start_until-started-requires-send-J-Octets
+start_until-started-requires-send-J-Octets g c κs within = search sendable parts 8
+
+pub start_until-started-requires-send-J-Steps : goal.start_until-started-requires-send-J-Steps
+start_until-started-requires-send-J-Steps g c κs within = search sendable parts 8
+
+pub run-requires-send-J : goal.run-requires-send-J
+run-requires-send-J g c κs within = search sendable parts 8
+
+pub run-requires-send-J-Octets : goal.run-requires-send-J-Octets
+run-requires-send-J-Octets g c κs within = search sendable parts 8
+
+pub run-requires-send-J-Steps : goal.run-requires-send-J-Steps
+run-requires-send-J-Steps g c κs within = search sendable parts 8

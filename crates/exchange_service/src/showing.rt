@@ -1,0 +1,147 @@
+//! The legs and the accounts of an exchange, as they are shown.
+ghost use Rattle.std.specs.Prelude.{◌<◌, length};
+
+use control_requests::{AccountsRow, CallRow, Rows, call_body};
+use exchange_commands::stage_name;
+use exchange_core::{Exchange, NoGate, Pass};
+use leg_machine::ElementText;
+use peer_lock::{Description, Naming};
+use peer_plan::{Plan, format_name};
+use std::alloc::{AllocError, Global};
+use std::sync::Wait;
+
+// A number as a call's NEW has it, in any octets, as a text.
+fn number_text(alloc: Global, number: Option<&ElementText>) -> Result<Option<String>, AllocError> {
+    match number {
+        Some(number) => Ok(Some(String::from_utf8_lossy(alloc, number.as_slice())?)),
+        None => Ok(None),
+    }
+}
+
+// A leg as it is shown: the numbers that it speaks of are texts, and it has a partner or none.
+#[derive(Drop)]
+struct ShownLeg {
+    leg: Description,
+    called: Option<String>,
+    calling: Option<String>,
+    partner: Option<u64>,
+}
+
+impl ShownLeg {
+    // The leg of a local number of a peer, where there is one.
+    fn of<J: Naming, R: Wait>(
+        rt: &R,
+        alloc: Global,
+        exchange: &Exchange<NoGate, J>,
+        pass: &mut Pass<J>,
+        peer: u16,
+        number: u16,
+    ) -> Result<Option<ShownLeg>, AllocError>
+        requires { peer < length exchange.now.peers }
+    {
+        let Some(leg) = exchange.describe(rt, pass, peer, number) else {
+            return Ok(None);
+        };
+        let partner = exchange.partner_of(rt, pass, leg.status.name);
+        let called = number_text(alloc, leg.called.as_ref())?;
+        let calling = number_text(alloc, leg.calling.as_ref())?;
+        Ok(Some(ShownLeg {
+            leg,
+            called,
+            calling,
+            partner: partner.map(|name| u64::from(name.number)),
+        }))
+    }
+
+    // Its row.
+    fn row<'a>(&'a self, plan: &'a Plan, peer: u16, now: u64) -> CallRow<'a>
+        requires { peer < length plan.now.peers }
+    {
+        let Description {
+            status,
+            format,
+            remote,
+            opened,
+            ..
+        } = &self.leg;
+        CallRow {
+            number: status.name.number,
+            serial: status.name.serial,
+            peer: plan.name(peer),
+            stage: stage_name(Some(status.stage)),
+            called: self.called.as_deref(),
+            calling: self.calling.as_deref(),
+            format: format_name(*format),
+            age_ms: now.saturating_sub(*opened),
+            remote: remote.map(|number| u64::from(number.get())),
+            partner: self.partner,
+            held: status.held as u64,
+            entries: status.entries as u64,
+            record_limit: u64::from(plan.rules(peer).record_limit),
+        }
+    }
+}
+
+/// The JSON of the leg of a local number of a peer, where there is one.
+pub(crate) fn shown_call<J: Naming, R: Wait>(
+    rt: &R,
+    alloc: Global,
+    exchange: &Exchange<NoGate, J>,
+    pass: &mut Pass<J>,
+    peer: u16,
+    number: u16,
+    now: u64,
+) -> Result<Option<String>, AllocError>
+    requires { peer < length exchange.now.peers }
+{
+    match ShownLeg::of(rt, alloc, exchange, pass, peer, number)? {
+        Some(leg) => Ok(Some(call_body(alloc, leg.row(exchange.plan(), peer, now))?)),
+        None => Ok(None),
+    }
+}
+
+/// The legs of a peer as they are shown, behind the others.
+pub(crate) fn push_calls<J: Naming, R: Wait>(
+    rt: &R,
+    alloc: Global,
+    exchange: &Exchange<NoGate, J>,
+    pass: &mut Pass<J>,
+    rows: &mut Rows,
+    peer: u16,
+    now: u64,
+) -> Result<(), AllocError>
+    requires { peer < length exchange.now.peers }
+{
+    let range = exchange.plan().range(peer);
+    for place in 0..range.count {
+        let number = range.first + place;
+        if let Some(leg) = ShownLeg::of(rt, alloc, exchange, pass, peer, number)? {
+            rows.push_call(alloc, leg.row(exchange.plan(), peer, now))?;
+        }
+    }
+    Ok(())
+}
+
+/// The sums of the accounts over all peers, modulo 2^64. They are read one peer after another, while calls go on.
+pub(crate) fn shown_accounts<J: Naming, R: Wait>(
+    rt: &R,
+    exchange: &Exchange<NoGate, J>,
+    pass: &mut Pass<J>,
+) -> AccountsRow {
+    let mut row = AccountsRow {
+        accepted: 0,
+        packed: 0,
+        queued: 0,
+        dropped: 0,
+        quelched: 0,
+    };
+    for peer in 0..exchange.plan().peer_count() {
+        let sums = exchange.sums(rt, pass, peer);
+        row.accepted = row.accepted.wrapping_add(sums.accepted);
+        row.packed = row.packed.wrapping_add(sums.packed);
+        row.queued = row.queued.wrapping_add(sums.queued);
+        row.dropped = row.dropped.wrapping_add(sums.dropped);
+        row.quelched = row.quelched.wrapping_add(sums.quelched);
+    }
+    row
+}

@@ -1,0 +1,68 @@
+//! How many datagrams the system dropped at the sockets of the workers.
+use peer_plan::{Endpoint, Plan};
+use service_report::drops_of;
+use std::alloc::{AllocError, Global};
+use std::fs::{File, Files};
+use std::io::{Read, Seek, SeekFrom};
+
+/// What was dropped at a worker's socket.
+#[derive(Drop)]
+pub(crate) struct DropCount {
+    /// The place of the worker, in digits.
+    pub(crate) worker: String,
+    /// None where the table doesn't have the socket.
+    pub(crate) drops: Option<u64>,
+}
+
+/// The system's table of UDP sockets, which is read anew each time.
+#[derive(Drop)]
+pub(crate) struct SocketTable {
+    // None where the system has no table.
+    file: Option<File>,
+}
+
+impl SocketTable {
+    /// The table, where the system has one.
+    pub(crate) fn open<R: Files<File = File>>(rt: &R) -> SocketTable {
+        SocketTable {
+            file: File::open(rt, "/proc/net/udp").ok(),
+        }
+    }
+
+    // Its text now. None where it can't be read, or there is no memory.
+    fn text(&mut self, alloc: Global) -> Option<String> {
+        let file = self.file.as_mut()?;
+        file.seek(SeekFrom::Start(0)).ok()?;
+        let mut text = String::new(alloc);
+        file.read_to_string(&mut text).ok()?;
+        Some(text)
+    }
+}
+
+// An endpoint as the table has it: the address as a number in the order of the machine, which has the last octet first.
+fn local_text(alloc: Global, endpoint: Endpoint) -> Result<String, AllocError> {
+    let Endpoint { address, port } = endpoint;
+    let [a, b, c, d] = address;
+    format!(in alloc; "{d:02X}{c:02X}{b:02X}{a:02X}:{port:04X}")
+}
+
+/// What was dropped at the socket of each worker, in order. Nothing where there is no table.
+pub(crate) fn drop_counts(
+    table: &mut SocketTable,
+    alloc: Global,
+    plan: &Plan,
+) -> Result<Vec<DropCount>, AllocError> {
+    let mut counts = Vec::new(alloc);
+    let Some(table) = table.text(alloc) else {
+        return Ok(counts);
+    };
+    for (place, endpoint) in plan.workers().iter().enumerate() {
+        let local = local_text(alloc, *endpoint)?;
+        let worker = format!(in alloc; "{place}")?;
+        let drops = drops_of(&table, &local);
+        if counts.push(DropCount { worker, drops }).is_err() {
+            return Err(AllocError);
+        }
+    }
+    Ok(counts)
+}
