@@ -94,7 +94,7 @@ fn told_seats<'r, J: Naming, P: Post, R: Clock + Eprint + Net + RandomSource>(
     )
 }
 
-// The same, with the seats that it makes; their passes and that of the socket go back to the others.
+// Makes the seats and has them serve so; their passes and that of the socket go back to the others.
 fn serve_beside<
     J: Naming,
     P: Post + Send + Sync,
