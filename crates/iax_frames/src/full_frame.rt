@@ -38,6 +38,19 @@ impl<'a> Model for Full<'a> {
     ghost view = { λ f. record { head = f.head; payload = f.payload.now } };
 }
 
+/// What an octet of C and subclass means, if that is below 2^64.
+pub fn subclass_meaning(octet: u8) -> Option<u64>
+    ensures { result ≡ subclass_meaning octet }
+{
+    if octet < 128 {
+        Some(octet as u64)
+    } else if octet < 192 {
+        Some(1 << (octet - 128))
+    } else {
+        None
+    }
+}
+
 impl<'a> Full<'a> {
     pub(crate) fn new(head: FullHead, payload: &'a [u8]) -> Self
         ensures { result ≡ record { head = head; payload = payload.now } }
@@ -113,14 +126,7 @@ impl<'a> Full<'a> {
     pub fn meaning(&self) -> Option<u64>
         ensures { result ≡ subclass_meaning self.now.head.subclass }
     {
-        let octet = self.head.subclass;
-        if octet < 128 {
-            Some(octet as u64)
-        } else if octet < 192 {
-            Some(1 << (octet - 128))
-        } else {
-            None
-        }
+        subclass_meaning(self.head.subclass)
     }
 
     /// The data behind the head.

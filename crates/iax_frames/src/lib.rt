@@ -14,7 +14,7 @@ mod video_frame;
 
 pub use call_number::CallNumber;
 pub use datagram::{Datagram, FrameError};
-pub use full_frame::{Full, FullHead};
+pub use full_frame::{Full, FullHead, subclass_meaning};
 pub use mini_frame::Mini;
 pub use output::{
     Out, TooLong, append_entry, append_entry_in_two, mini_head, write_full, write_mini, write_trunk,
