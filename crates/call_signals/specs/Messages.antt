@@ -1,8 +1,9 @@
 -- What a full frame means, by its type and the meaning of C and subclass.
-use Rattle.std.specs.Prelude.{ℕ, Bool, true, false, ◌==◌, nat_lt, Option, Some, None, if◌then◌else◌}
+use Rattle.std.specs.Prelude.{ℕ, List, codes, Bool, true, false, ◌==◌, nat_lt, Option, Some, None, if◌then◌else◌}
 use Rattle.iax_frames.specs.declared.full_frame.FullHead.{FullHead}
 use Rattle.iax_frames.specs.FullFrame.{subclass_meaning}
 use Rattle.call_signals.specs.Formats.{same_format}
+use Rattle.call_signals.specs.Signals.{indication_name}
 use Rattle.call_signals.specs.declared.formats.Format.{Format}
 use Rattle.call_signals.specs.declared.formats.Format.TheVariants.{Gsm, Ulaw, Alaw}
 use Rattle.call_signals.specs.declared.signals.Indication.TheVariants.{Ringing, Progress, Proceeding}
@@ -94,3 +95,32 @@ is_vnak _ = false
 abbrev pub is_voice_in : Format → Message → Bool
 is_voice_in format (Voice voice) = same_format voice format
 is_voice_in format _ = false
+
+-- its name ("Frame Types", "Control Frames", "IAX Frames"); of what has no one name, what it is
+abbrev pub name_of : Message → List ℕ
+name_of New = codes "NEW"
+name_of Ping = codes "PING"
+name_of Pong = codes "PONG"
+name_of Ack = codes "ACK"
+name_of Hangup = codes "HANGUP"
+name_of Reject = codes "REJECT"
+name_of Accept = codes "ACCEPT"
+name_of AuthReq = codes "AUTHREQ"
+name_of AuthRep = codes "AUTHREP"
+name_of Inval = codes "INVAL"
+name_of LagRq = codes "LAGRQ"
+name_of LagRp = codes "LAGRP"
+name_of Vnak = codes "VNAK"
+name_of TxCnt = codes "TXCNT"
+name_of TxAcc = codes "TXACC"
+name_of Quelch = codes "QUELCH"
+name_of Unquelch = codes "UNQUELCH"
+name_of Poke = codes "POKE"
+name_of Unsupport = codes "UNSUPPORT"
+name_of UnknownIax = codes "unknown IAX frame"
+name_of ClearsCall = codes "clearing control frame"
+name_of (Indicates indication) = indication_name indication
+name_of Answer = codes "ANSWER"
+name_of (Dtmf digit) = codes "DTMF"
+name_of (Voice format) = codes "VOICE"
+name_of Other = codes "other frame"

@@ -1,6 +1,14 @@
 -- What a leg hands up.
-use Rattle.std.specs.Prelude.{ℕ, ◌-◌}
+use Rattle.std.specs.Prelude.{ℕ, ◌-◌, List, codes}
+use Rattle.call_signals.specs.declared.signals.Indication.{Indication}
+use Rattle.call_signals.specs.declared.signals.Indication.TheVariants.{Ringing, Progress, Proceeding}
 use Rattle.call_signals.specs.declared.signals.MediaSpan.{MediaSpan}
+
+-- "Control Frames"
+abbrev pub indication_name : Indication → List ℕ
+indication_name Ringing = codes "RINGING"
+indication_name Progress = codes "PROGRESS"
+indication_name Proceeding = codes "PROCEEDING"
 
 -- how many octets of a datagram are media
 abbrev pub span_len : MediaSpan → ℕ

@@ -4,6 +4,7 @@
 
 mod causes;
 pub mod effects;
+mod failure;
 mod formats;
 pub mod laws;
 mod local_number;
@@ -20,6 +21,7 @@ mod stages;
 
 pub use causes::Cause;
 pub use effects::{Answering, Effect, Mark};
+pub use failure::Failure;
 pub use formats::{Format, Formats};
 pub use local_number::LocalNumber;
 pub use messages::Message;

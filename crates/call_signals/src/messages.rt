@@ -1,10 +1,11 @@
 //! What a full frame means, by its type and the meaning of C and subclass.
 ghost use Rattle.std.specs.Prelude.{◌≡◌, ◌<◌, ◌^◌};
+ghost use Rattle.iax_frames.specs.FullFrame.{subclass_meaning};
 ghost use Rattle.call_signals.specs.Messages as meaning;
 
 use crate::formats::Format;
 use crate::signals::{Digit, Indication};
-use iax_frames::Full;
+use iax_frames::{Full, subclass_meaning};
 
 /// What a full frame means ("Frame Types", "Control Frames", "IAX Frames").
 #[derive(Clone, Copy, Debug, PartialEq, Eq)]
@@ -45,10 +46,17 @@ impl Message {
     pub fn of(frame: &Full) -> Message
         ensures { result ≡ meaning.message_of frame.now.head }
     {
-        match frame.meaning() {
-            Some(subclass) => Message::by_type(frame.frame_type(), subclass),
+        Message::of_octets(frame.frame_type(), frame.subclass())
+    }
+
+    /// What a full frame of this type means whose octet of C and subclass is this.
+    pub fn of_octets(frame_type: u8, octet: u8) -> Message
+        ensures { result ≡ meaning.message_by frame_type (subclass_meaning octet) }
+    {
+        match subclass_meaning(octet) {
+            Some(subclass) => Message::by_type(frame_type, subclass),
             None => {
-                if frame.frame_type() == 6 {
+                if frame_type == 6 {
                     Message::UnknownIax
                 } else {
                     Message::Other
@@ -163,6 +171,40 @@ impl Message {
         match self {
             Message::Voice(voice) => (*voice).is(format),
             _ => false,
+        }
+    }
+
+    /// Its name as RFC 5456 writes it ("Frame Types", "Control Frames", "IAX Frames"); of what has no one name, what it is: ASCII.
+    pub fn name(&self) -> &'static str
+        ensures { result.now ≡ meaning.name_of self.now }
+    {
+        match self {
+            Message::New => "NEW",
+            Message::Ping => "PING",
+            Message::Pong => "PONG",
+            Message::Ack => "ACK",
+            Message::Hangup => "HANGUP",
+            Message::Reject => "REJECT",
+            Message::Accept => "ACCEPT",
+            Message::AuthReq => "AUTHREQ",
+            Message::AuthRep => "AUTHREP",
+            Message::Inval => "INVAL",
+            Message::LagRq => "LAGRQ",
+            Message::LagRp => "LAGRP",
+            Message::Vnak => "VNAK",
+            Message::TxCnt => "TXCNT",
+            Message::TxAcc => "TXACC",
+            Message::Quelch => "QUELCH",
+            Message::Unquelch => "UNQUELCH",
+            Message::Poke => "POKE",
+            Message::Unsupport => "UNSUPPORT",
+            Message::UnknownIax => "unknown IAX frame",
+            Message::ClearsCall => "clearing control frame",
+            Message::Indicates(indication) => indication.name(),
+            Message::Answer => "ANSWER",
+            Message::Dtmf(_) => "DTMF",
+            Message::Voice(_) => "VOICE",
+            Message::Other => "other frame",
         }
     }
 }

@@ -49,6 +49,21 @@ pub enum Indication {
     Proceeding,
 }
 
+impl Indication {
+    ghost use Rattle.call_signals.specs.Signals.{indication_name};
+
+    /// Its name ("Control Frames").
+    pub fn name(&self) -> &'static str
+        ensures { result.now ≡ indication_name self.now }
+    {
+        match self {
+            Indication::Ringing => "RINGING",
+            Indication::Progress => "PROGRESS",
+            Indication::Proceeding => "PROCEEDING",
+        }
+    }
+}
+
 /// Where media lies in a datagram: octets from `start` up to `end`, without `end`.
 #[derive(Clone, Copy, Debug, PartialEq, Eq)]
 pub struct MediaSpan {

@@ -15,7 +15,7 @@ use Rattle.seq_window.specs.declared.judgements.Resent.TheVariants as resents
 use Rattle.seq_window.specs.Window.{held_count, held_frames, held_at, is_full, judged_number, judged_acknowledgement, count_of, entries_for_count, entries_for_number, resent}
 use Rattle.leg_machine.specs.Effects.{is_reply}
 use Rattle.leg_machine.specs.LegTable.{effect_of}
-use Rattle.leg_machine.specs.Legs.{LegState, entered, is_short_of_entries}
+use Rattle.leg_machine.specs.Legs.{LegState, entered, failed, is_short_of_entries}
 use Rattle.leg_machine.specs.Media.{after_media, media_frames}
 use Rattle.call_signals.specs.Messages.{message_of, is_numbered, is_inval, is_vnak}
 use Rattle.leg_machine.specs.Openings.{leg_for_call, open_out_step}
@@ -28,6 +28,7 @@ use Rattle.leg_machine.specs.Tie.{IsNumberedFrame, SendsNumbered, IsSendingOf, I
 use Rattle.leg_machine.specs.Tries.{Tried, tries, one_try, after_try, frames_again}
 use Rattle.leg_machine.specs.Working.{stored, counts}
 use Rattle.call_signals.specs.declared.causes.Cause.TheVariants.{NormalClearing}
+use Rattle.call_signals.specs.declared.failure.Failure.TheVariants as failures
 use Rattle.call_signals.specs.declared.effects.Answering.{Answering}
 use Rattle.call_signals.specs.declared.effects.Answering.TheVariants.{Acknowledged, Answered, Silent}
 use Rattle.call_signals.specs.declared.effects.Effect.{Effect}
@@ -237,7 +238,7 @@ ping-sent true leg now all =
 ping-sent false leg now all = record { sent = stays leg all; extends = extends-itself leg.window.history }
 
 last-sent : (grown spent : Bool) (leg : LegState) (now : ℕ) → SendsNumbered leg → LastSent leg (last_step grown spent leg now)
-last-sent grown true leg now all = last-quiet leg (entered leg stages.Ended) refl all
+last-sent grown true leg now all = last-quiet leg (failed leg failures.RetriesSpent) refl all
 last-sent grown false leg now all =
     either (LastSent leg) (must_ping leg now) (sends_if grown leg (pinged leg now) now replies.Ping) (quiet leg)
     (ping-sent grown leg now all) (last-quiet leg leg refl all)
@@ -294,7 +295,7 @@ pub tick-sent : (grown : Bool) (leg : LegState) (now : ℕ) → SendsNumbered le
 tick-sent grown leg now all =
     let Sends : Tick → Type 0 = λ t. AllSent t.leg t.replies in
     either Sends (is_ended leg.stage) (quiet leg) _ (stays leg all)
-    (either Sends (is_short_of_entries leg) (quiet (entered leg stages.Ended)) (due_frames grown leg now)
-    (none-sent leg (entered leg stages.Ended) refl all)
+    (either Sends (is_short_of_entries leg) (quiet (failed leg failures.RecordFull)) (due_frames grown leg now)
+    (none-sent leg (failed leg failures.RecordFull) refl all)
     (either (Finishes grown leg now) (must_hang_up leg) (sends_if grown leg (entered leg stages.Closing) now (replies.Hangup NormalClearing)) (quiet leg)
     (hung-sent grown leg now all) (tail-sent (held_count leg.window) grown leg now all)))

@@ -7,7 +7,7 @@ use Rattle.seq_window.specs.declared.judgements.Resent.{Resent}
 use Rattle.seq_window.specs.declared.judgements.Resent.TheVariants as resents
 use Rattle.seq_window.specs.Turn.{entries_for_reply}
 use Rattle.seq_window.specs.Window.{WindowState, resent, held_count}
-use Rattle.leg_machine.specs.Legs.{LegState, entered, local_room, is_short_of_entries}
+use Rattle.leg_machine.specs.Legs.{LegState, entered, failed, local_room, is_short_of_entries}
 use Rattle.leg_machine.specs.Media.{media_sent, after_media}
 use Rattle.leg_machine.specs.OrderTable.{order_row, row_carried, order_carried, doomed, paid}
 use Rattle.leg_machine.specs.Replies.{reply_frame, voice_frame}
@@ -16,6 +16,7 @@ use Rattle.leg_machine.specs.Tie.{SendsAtMostOne}
 use Rattle.leg_machine.specs.Ticks.{Tick, quiet, sends_if, must_hang_up, must_ping, pinged, last_step, due_frames, tick_step, is_ping_time}
 use Rattle.leg_machine.specs.Tries.{Tried, tries, one_try, after_try}
 use Rattle.call_signals.specs.declared.causes.Cause.TheVariants.{NormalClearing}
+use Rattle.call_signals.specs.declared.failure.Failure.TheVariants as failures
 use Rattle.leg_machine.specs.declared.media.MediaSent.{MediaSent}
 use Rattle.leg_machine.specs.declared.media.MediaSent.TheVariants as media
 use Rattle.call_signals.specs.declared.orders.Order.{Order}
@@ -89,7 +90,7 @@ last-none grown false leg now e =
     ap (λ (b : Bool). (cond b (sends_if grown leg (pinged leg now) now replies.Ping) (quiet leg)).leg.window.history) (no-ping leg now e)
 
 last-sends : (grown spent : Bool) (leg : LegState) (now : ℕ) → SendsAtMostOne leg (last_step grown spent leg now).leg
-last-sends grown true leg now = none leg (entered leg stages.Ended) refl
+last-sends grown true leg now = none leg (failed leg failures.RetriesSpent) refl
 last-sends grown false leg now =
     either (λ (t : Tick). SendsAtMostOne leg t.leg) (must_ping leg now) (sends_if grown leg (pinged leg now) now replies.Ping) (quiet leg)
     (sends-if grown leg (pinged leg now) now replies.Ping refl) (none leg leg refl)
@@ -120,5 +121,5 @@ due-sends grown leg now =
 pub tick-sends : (grown : Bool) (leg : LegState) (now : ℕ) → SendsAtMostOne leg (tick_step grown leg now).leg
 tick-sends grown leg now =
     either (λ (t : Tick). SendsAtMostOne leg t.leg) (is_ended leg.stage) (quiet leg) _ (none leg leg refl)
-    (either (λ (t : Tick). SendsAtMostOne leg t.leg) (is_short_of_entries leg) (quiet (entered leg stages.Ended)) (due_frames grown leg now)
-    (none leg (entered leg stages.Ended) refl) (due-sends grown leg now))
+    (either (λ (t : Tick). SendsAtMostOne leg t.leg) (is_short_of_entries leg) (quiet (failed leg failures.RecordFull)) (due_frames grown leg now)
+    (none leg (failed leg failures.RecordFull) refl) (due-sends grown leg now))

@@ -1,11 +1,13 @@
 -- A leg of a call, as its steps see it ("IAX Frames", "Message Transport").
-use Rattle.std.specs.Prelude.{ℕ, ◌+◌, ◌-◌, ◌/◌, ◌≤◌, Bool, ◌||◌, ◌&&◌, not, nat_lt, List, Option}
+use Rattle.std.specs.Prelude.{ℕ, ◌+◌, ◌-◌, ◌/◌, ◌%◌, ◌^◌, ◌≤◌, Bool, ◌||◌, ◌&&◌, not, nat_lt, List, Option, Some, if◌then◌else◌}
 use Rattle.seq_window.specs.Window.{WindowState, entry_count}
+use Rattle.call_signals.specs.declared.failure.Failure.{Failure}
 use Rattle.call_signals.specs.declared.formats.Format.{Format}
 use Rattle.call_signals.specs.declared.rules.PeerRules.{PeerRules}
 use Rattle.call_signals.specs.declared.stages.Stage.{Stage}
+use Rattle.call_signals.specs.declared.stages.Stage.TheVariants.{Ended}
 use Rattle.leg_machine.specs.declared.machine.Machine.{Machine}
-use Rattle.call_signals.specs.Stages.{is_over}
+use Rattle.call_signals.specs.Stages.{is_ended, is_over}
 
 pub record LegState : Type 0 where
   pub rules : PeerRules
@@ -32,6 +34,10 @@ pub record LegState : Type 0 where
   pub voice_sent : Option ℕ
   -- the moment of the last PING, or of the opening
   pub pinged : ℕ
+  -- why it ended, where no HANGUP or REJECT did that
+  pub failure : Option Failure
+  -- so many full frames went out again, modulo 2 ^ 64
+  pub resent : ℕ
   -- the record, and when each held frame was last sent
   pub window : WindowState
 
@@ -57,6 +63,8 @@ leg_of m = record {
   voice_taken = m.voice_taken;
   voice_sent = m.voice_sent;
   pinged = m.pinged;
+  failure = m.failure;
+  resent = m.resent;
   window = m.window.state;
 }
 
@@ -73,6 +81,14 @@ entered leg stage = record leg {
   stage = stage;
   owes = leg.owes || (is_over stage && not (is_over leg.stage));
 }
+
+-- The leg ends since it can't go on. What ended before stays as it ended.
+abbrev pub failed : LegState → Failure → LegState
+failed leg why = record (entered leg Ended) { failure = if is_ended leg.stage then leg.failure else Some why }
+
+-- so many full frames more went out again
+abbrev pub resent_by : LegState → ℕ → LegState
+resent_by leg frames = record leg { resent = (leg.resent + frames) % 2 ^ 64 }
 
 abbrev pub with_window : LegState → WindowState → LegState
 with_window leg window = record leg { window = window }

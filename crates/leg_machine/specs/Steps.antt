@@ -4,16 +4,17 @@ use Rattle.iax_frames.specs.FullFrame.{FullFrame}
 use Rattle.seq_window.specs.declared.judgements.Acknowledged.{Acknowledged as Judgement}
 use Rattle.seq_window.specs.declared.judgements.Received.{Received}
 use Rattle.seq_window.specs.declared.judgements.Received.TheVariants as received
-use Rattle.seq_window.specs.Window.{held_frames, is_full, judged_number, judged_acknowledgement, after_touching_all}
+use Rattle.seq_window.specs.Window.{held_count, held_frames, is_full, judged_number, judged_acknowledgement, after_touching_all}
 use Rattle.leg_machine.specs.Effects.{marked, unless_over, is_reply}
 use Rattle.leg_machine.specs.LegTable.{effect_of}
-use Rattle.leg_machine.specs.Legs.{LegState, entered, with_window}
+use Rattle.leg_machine.specs.Legs.{LegState, entered, failed, resent_by, with_window}
 use Rattle.call_signals.specs.Messages.{message_of, is_numbered, is_inval, is_vnak}
 use Rattle.leg_machine.specs.Replies.{reply_frame, outgoing, next_byte, ack, vnak, sent_again}
 use Rattle.leg_machine.specs.Working.{learnt, acknowledged, counts, settled, recorded, heard, sent}
 use Rattle.call_signals.specs.declared.effects.Answering.{Answering}
 use Rattle.call_signals.specs.declared.effects.Answering.TheVariants.{Acknowledged, Answered, Silent}
 use Rattle.call_signals.specs.declared.effects.Effect.{Effect}
+use Rattle.call_signals.specs.declared.failure.Failure.TheVariants as failures
 use Rattle.call_signals.specs.declared.messages.Message.{Message}
 use Rattle.call_signals.specs.declared.outcomes.Heard.{Heard}
 use Rattle.call_signals.specs.declared.outcomes.Judged.{Judged}
@@ -38,10 +39,10 @@ nothing_sent leg = record { leg = leg; replies = []; judged = judged.Unnumbered;
 
 -- ---- VNAK
 
--- all held frames go out again, oldest first; that is no try
+-- all held frames go out again, oldest first, and are counted; that is no try
 abbrev pub resend_step : LegState → ℕ → Step
 resend_step leg now = record {
-  leg = with_window leg (after_touching_all leg.window now);
+  leg = resent_by (with_window leg (after_touching_all leg.window now)) (held_count leg.window);
   replies = map (sent_again leg) (held_frames leg.window);
   judged = judged.Unnumbered;
   signal = None;
@@ -107,7 +108,7 @@ prepared leg frame = settled (acknowledged (learnt leg frame.head.source) frame.
 -- an INVAL ends the leg; it neither acknowledges nor teaches
 abbrev pub inval_step : LegState → Step
 inval_step leg =
-    record { leg = entered leg stages.Ended; replies = []; judged = judged.Unnumbered; signal = unless_over leg.stage signals.Hangup }
+    record { leg = failed leg failures.Inval; replies = []; judged = judged.Unnumbered; signal = unless_over leg.stage signals.Hangup }
 
 abbrev pub message_step : Message → LegState → FullFrame → ℕ → Step
 message_step message leg frame now =

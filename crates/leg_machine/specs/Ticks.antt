@@ -2,12 +2,13 @@
 use Rattle.std.specs.Prelude.{ℕ, ◌+◌, not, nat_lt, nat_le, ◌==◌, ◌&&◌, ◌||◌, Bool, false, is_none, List, [], ◌∷◌, ◌++◌, if◌then◌else◌}
 use Rattle.iax_frames.specs.FullFrame.{FullFrame}
 use Rattle.seq_window.specs.Window.{held_count, is_full, first_due}
-use Rattle.leg_machine.specs.Legs.{LegState, entered, local_room, is_short_of_entries}
+use Rattle.leg_machine.specs.Legs.{LegState, entered, failed, local_room, is_short_of_entries}
 use Rattle.leg_machine.specs.Replies.{reply_frame, outgoing, next_byte}
 use Rattle.call_signals.specs.Stages.{is_over, is_talking, is_ended}
 use Rattle.leg_machine.specs.Tries.{tries}
 use Rattle.leg_machine.specs.Working.{sent}
 use Rattle.call_signals.specs.declared.causes.Cause.TheVariants.{NormalClearing}
+use Rattle.call_signals.specs.declared.failure.Failure.TheVariants as failures
 use Rattle.call_signals.specs.declared.replies.Reply.{Reply}
 use Rattle.call_signals.specs.declared.replies.Reply.TheVariants.{Hangup, Ping}
 use Rattle.call_signals.specs.declared.stages.Stage.TheVariants as stages
@@ -61,7 +62,7 @@ ping_step grown leg now = if must_ping leg now then sends_if grown leg (pinged l
 
 -- after the tries: a spent frame ends the leg and stops the tick
 abbrev pub last_step : Bool → Bool → LegState → ℕ → Tick
-last_step grown spent leg now = if spent then quiet (entered leg stages.Ended) else ping_step grown leg now
+last_step grown spent leg now = if spent then quiet (failed leg failures.RetriesSpent) else ping_step grown leg now
 
 -- The doomed leg hangs up, then held frames that are due go out again, then a PING that is due.
 -- grown: there was memory for one frame more.
@@ -76,7 +77,7 @@ due_frames grown leg now =
 abbrev pub tick_step : Bool → LegState → ℕ → Tick
 tick_step grown leg now =
     if is_ended leg.stage then quiet leg
-    else if is_short_of_entries leg then quiet (entered leg stages.Ended)
+    else if is_short_of_entries leg then quiet (failed leg failures.RecordFull)
     else due_frames grown leg now
 
 -- ---- idleness

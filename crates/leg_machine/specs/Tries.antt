@@ -5,7 +5,7 @@ use Rattle.iax_frames.specs.FullFrame.{FullFrame}
 use Rattle.seq_window.specs.declared.judgements.Resent.{Resent}
 use Rattle.seq_window.specs.declared.judgements.Resent.TheVariants as resents
 use Rattle.seq_window.specs.Window.{held_at, is_due, resent, after_marking}
-use Rattle.leg_machine.specs.Legs.{LegState, with_window}
+use Rattle.leg_machine.specs.Legs.{LegState, resent_by, with_window}
 use Rattle.leg_machine.specs.Replies.{sent_again}
 
 -- what the tries of one tick give; spent: a frame that is due has had all its tries
@@ -17,8 +17,9 @@ pub record Tried : Type 0 where
 abbrev pub tried : LegState → Bool → Tried
 tried leg spent = record { leg = leg; replies = []; spent = spent }
 
+-- the held frame at a place goes out again, and is counted
 abbrev pub after_try : LegState → ℕ → ℕ → LegState
-after_try leg place now = with_window leg (after_marking leg.window place now)
+after_try leg place now = resent_by (with_window leg (after_marking leg.window place now)) 1
 
 -- the held frame at a place as it goes out again
 abbrev pub frames_again : LegState → ℕ → List FullFrame

@@ -12,7 +12,8 @@ ghost use Rattle.call_signals.specs.declared.signals.Signal.TheVariants.{Offered
 use crate::legs::Leg;
 use crate::machine::Machine;
 use call_signals::{
-    ElementText, Format, Indication, MediaIn, MediaSpan, NewElements, Onward, Signal, Stage,
+    ElementText, Failure, Format, Indication, MediaIn, MediaSpan, NewElements, Onward, Signal,
+    Stage,
 };
 use iax_frames::CallNumber;
 use info_elements::{CALLED_NUMBER, CALLING_NUMBER, last_in};
@@ -81,6 +82,20 @@ impl Leg {
         self.machine.remote
     }
 
+    /// Why it ended, where no HANGUP or REJECT did that; none while it hasn't ended.
+    pub fn failure(&self) -> Option<Failure>
+        ensures { result ≡ self.now.state.failure }
+    {
+        self.machine.failure
+    }
+
+    /// How many full frames went out again, modulo 2^64.
+    pub fn resent(&self) -> u64
+        ensures { result ≡ self.now.state.resent }
+    {
+        self.machine.resent
+    }
+
     /// The local number, 1 ..= 32,767.
     pub fn number(&self) -> CallNumber
         ensures value { result ≡ self.now.state.number }
@@ -124,6 +139,8 @@ impl Leg {
             voice_taken: _,
             voice_sent: _,
             pinged: _,
+            failure: _,
+            resent: _,
             window,
         } = machine;
         window.into_record()

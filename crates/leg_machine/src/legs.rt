@@ -97,6 +97,8 @@ impl Leg {
             voice_taken: false,
             voice_sent: None,
             pinged: now,
+            failure: None,
+            resent: 0,
             window,
         };
         let effect = opening.effect();
@@ -147,6 +149,8 @@ impl Leg {
             voice_taken: false,
             voice_sent: None,
             pinged: now,
+            failure: None,
+            resent: 0,
             window,
         };
         let frame = machine.new_frame(called, calling, now);

@@ -7,7 +7,9 @@ ghost use Rattle.leg_machine.specs.Replies as replies;
 ghost use Rattle.leg_machine.specs.Working as steps;
 
 use call_auth::Challenge;
-use call_signals::{Format, LocalNumber, Message, PeerRules, Replies, Reply, Stage, StepError};
+use call_signals::{
+    Failure, Format, LocalNumber, Message, PeerRules, Replies, Reply, Stage, StepError,
+};
 use iax_frames::{CallNumber, Frame, Full, FullHead, Payload};
 use seq_window::{Acknowledged, Window};
 
@@ -28,6 +30,8 @@ pub struct Machine {
     pub voice_taken: bool,
     pub voice_sent: Option<u32>,
     pub pinged: u64,
+    pub failure: Option<Failure>,
+    pub resent: u64,
     pub window: Window,
 }
 
@@ -45,7 +49,7 @@ pub fn stored(frame: &Full) -> Frame
 }
 
 impl Machine {
-    ghost use Rattle.leg_machine.specs.Legs.{leg_of, whole_leg, capacity_of, entered, HasRoom};
+    ghost use Rattle.leg_machine.specs.Legs.{leg_of, whole_leg, capacity_of, entered, failed, HasRoom};
 
     /// The other side's number is learnt from the first frame.
     pub fn learn(&mut self, source: CallNumber)
@@ -62,6 +66,17 @@ impl Machine {
     {
         self.owes = self.owes || (stage.is_over() && !self.stage.is_over());
         self.stage = stage;
+    }
+
+    /// The leg ends since it can't go on. What ended before stays as it ended.
+    pub fn fail(&mut self, failure: Failure)
+        ensures leg { leg_of self.new ≡ failed (leg_of self.old) failure }
+        ensures window { self.new.window ≡ self.old.window }
+    {
+        if !self.stage.is_ended() {
+            self.failure = Some(failure);
+        }
+        self.enter(Stage::Ended);
     }
 
     /// A closing leg that holds nothing has ended.

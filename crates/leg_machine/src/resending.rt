@@ -35,7 +35,7 @@ impl Machine {
         self.spell(true, held.number, &held.frame, outs);
     }
 
-    /// The held frames that are due go out again, in at most so many turns. Answers whether one was spent.
+    /// The held frames that are due go out again, each counted, in at most so many turns. Answers whether one was spent.
     pub fn try_again(&mut self, turns: usize, now: u64, outs: &mut Replies) -> bool
         requires { length outs.old + turns ≤ 127 }
         ensures leg { leg_of self.new ≡ (tries.tries turns (leg_of self.old) now).leg }
@@ -52,13 +52,16 @@ impl Machine {
             {
                 Resent::Nothing => return false,
                 Resent::Spent => return true,
-                Resent::Again(place) => self.again(place, outs),
+                Resent::Again(place) => {
+                    self.resent = self.resent.wrapping_add(1);
+                    self.again(place, outs);
+                }
             }
         }
         false
     }
 
-    /// All held frames go out again, which is no try.
+    /// All held frames go out again, and are counted, which is no try.
     pub fn resend(&mut self, now: u64, outs: &mut Replies) -> Heard
         requires { outs.old ≡ [] }
         ensures leg { leg_of self.new ≡ (steps.resend_step (leg_of self.old) now).leg }
@@ -67,6 +70,7 @@ impl Machine {
         ensures capacity { capacity_of (whole_leg self.old) ≤ capacity_of (whole_leg self.new) }
     {
         self.held_again(outs);
+        self.resent = self.resent.wrapping_add(self.window.held_len() as u64);
         self.window.touch_all(now);
         Heard {
             judged: Judged::Unnumbered,

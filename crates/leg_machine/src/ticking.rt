@@ -6,7 +6,7 @@ ghost use Rattle.leg_machine.specs.Legs.{is_short_of_entries};
 ghost use Rattle.leg_machine.specs.Ticks as ticks;
 
 use crate::machine::Machine;
-use call_signals::{Cause, Replies, Reply, Stage};
+use call_signals::{Cause, Failure, Replies, Reply, Stage};
 
 impl Machine {
     ghost use Rattle.leg_machine.specs.Legs.{leg_of, whole_leg, capacity_of, HasRoom};
@@ -109,7 +109,7 @@ impl Machine {
         ensures capacity { capacity_of (whole_leg self.old) ≤ capacity_of (whole_leg self.new) }
     {
         if spent {
-            self.enter(Stage::Ended);
+            self.fail(Failure::RetriesSpent);
             return 0;
         }
         self.ping(grown, now, outs)
@@ -145,7 +145,7 @@ impl Machine {
             return 0;
         }
         if self.window.free_entries() < 4 {
-            self.enter(Stage::Ended);
+            self.fail(Failure::RecordFull);
             return 0;
         }
         self.due_frames(grown, now, outs)

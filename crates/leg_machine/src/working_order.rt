@@ -10,7 +10,7 @@ ghost use Rattle.leg_machine.specs.Working.{counts};
 use crate::machine::Machine;
 use call_signals::effects::unless_over;
 use call_signals::{
-    Answering, Effect, Heard, Judged, Mark, Message, Replies, Signal, Stage, StepError,
+    Answering, Effect, Failure, Heard, Judged, Mark, Message, Replies, Signal, StepError,
 };
 use iax_frames::Full;
 use seq_window::Received;
@@ -139,7 +139,7 @@ impl Machine {
         ensures capacity { capacity_of (whole_leg self.old) ≤ capacity_of (whole_leg self.new) }
     {
         let signal = unless_over(self.stage, Signal::Hangup);
-        self.enter(Stage::Ended);
+        self.fail(Failure::Inval);
         Heard {
             judged: Judged::Unnumbered,
             signal,

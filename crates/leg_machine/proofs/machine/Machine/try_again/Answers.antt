@@ -1,10 +1,10 @@
 use Rattle.std.proofs.Common.{◌≡◌, suc, ◌+◌, ◌-◌, ◌++◌, arith, sym, ap, ◌∙◌, append_assoc}
 use Rattle.std.proofs.lemmas.List.{map-append}
-use Rattle.std.specs.Prelude.{map}
+use Rattle.std.specs.Prelude.{◌%◌, ◌^◌, map}
 use Rattle.iax_frames.specs.FullFrame.{spelling}
 use Rattle.seq_window.specs.Window.{resent, after_resent}
 use Rattle.seq_window.specs.declared.judgements.Resent.TheVariants as resents
-use Rattle.leg_machine.specs.Legs.{leg_of, with_window}
+use Rattle.leg_machine.specs.Legs.{leg_of, resent_by, with_window}
 use Rattle.leg_machine.specs.Tries.{Tried, tries, after_try, frames_again}
 use Rattle.leg_machine.proofs.OneTry.{tries-again, room_kept, capacity_kept}
 use Rattle.leg_machine.proofs.machine.Machine.try_again.Goals as goal
@@ -19,9 +19,10 @@ loop-turn-preserved c =
     let one_more : turns ≡ suc more = omega arith in
     let again : resent leg.window now leg.rules.retry_ms leg.rules.max_retries ≡ resents.Again place = sym c.in-Again.ensures.resent in
     let step = ap (λ n. tries n leg now) one_more ∙ tries-again more leg now place again in
-    let later = with_window leg c.resend.new.self.state in
+    let after = record c.loop-turn.self { window = c.resend.new.self; resent = (c.loop-turn.self.resent + 1) % 2 ^ 64 } in
+    let later = resent_by (with_window leg c.resend.new.self.state) 1 in
     let next : later ≡ after_try leg place now =
-    ap (λ w. with_window leg w) (c.in-Again.ensures.state ∙ ap (λ r. after_resent r leg.window now) again) in
+    ap (λ w. resent_by (with_window leg w) 1) (c.in-Again.ensures.state ∙ ap (λ r. after_resent r leg.window now) again) in
     let rest = (tries more later now).replies in
     let here = map spelling (frames_again later place) in
     let inner : here ++ map spelling rest ≡ map spelling (tries turns leg now).replies =
@@ -33,6 +34,6 @@ loop-turn-preserved c =
       ap (λ xs. xs ++ map spelling rest) c.again.ensures.replies ∙ append_assoc c.loop-turn.outs here (map spelling rest)
           ∙ ap (λ ys. c.loop-turn.outs ++ ys) inner ∙ c.loop-turn.invariant.2,
       omega (arith, c.loop-turn.invariant.3, c.again.ensures.one),
-      λ room. room_kept c.loop-turn.self (record c.loop-turn.self { window = c.resend.new.self }) (resent leg.window now leg.rules.retry_ms leg.rules.max_retries) now c.resend.ensures.state c.resend.ensures.spare (c.loop-turn.invariant.4 room),
-      omega (arith, c.loop-turn.invariant.5, capacity_kept c.loop-turn.self (record c.loop-turn.self { window = c.resend.new.self }) (resent leg.window now leg.rules.retry_ms leg.rules.max_retries) now c.resend.ensures.state c.resend.ensures.spare),
+      λ room. room_kept c.loop-turn.self after (resent leg.window now leg.rules.retry_ms leg.rules.max_retries) now c.resend.ensures.state c.resend.ensures.spare (c.loop-turn.invariant.4 room),
+      omega (arith, c.loop-turn.invariant.5, capacity_kept c.loop-turn.self after (resent leg.window now leg.rules.retry_ms leg.rules.max_retries) now c.resend.ensures.state c.resend.ensures.spare),
     )
