@@ -123,7 +123,7 @@ pub fn retire<J: Naming>(peer: &mut PeerState<J>, name: LegName) -> (Reply, Opti
     ensures made { Retires name peer.old peer.new result.0 }
     ensures leases { leases_in result.1 ≡ leases_after (needs.Retire name) result.0 [] }
 {
-    let Some((lease, _history)) = peer.retire(name) else {
+    let Some((lease, _leg)) = peer.retire(name) else {
         return (Reply::Retire(false), None);
     };
     (Reply::Retire(true), Some(lease))

@@ -4,4 +4,5 @@ mod Starting
 mod Media
 mod Carrying
 mod FirstSteps
+mod Leaving
 mod Tracing

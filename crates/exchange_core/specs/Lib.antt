@@ -1,6 +1,7 @@
 pub mod Covered
 pub mod Denials
 pub mod FirstSteps
+pub mod Leaving
 pub mod Newcomers
 pub mod Numbers
 pub mod Refusals

@@ -1,5 +1,5 @@
 -- The steps of a call, as they are noted under its pass.
-use Rattle.std.specs.Prelude.{◌≡◌, ◌≢◌, ℕ, ◌≤◌, ◌++◌, ◌∷◌, ◌⊎◌, [], Bool, List, Option, None, Some, Result, Ok, Err, false, length, option_copied, option_map, slice_get, All}
+use Rattle.std.specs.Prelude.{◌≡◌, ◌≢◌, ℕ, ◌≤◌, ◌++◌, ◌∷◌, ◌⊎◌, [], Bool, List, Option, None, Some, Result, Ok, Err, false, is_some, length, option_copied, option_map, slice_get, All}
 use Rattle.call_book.specs.declared.leg_name.LegName.{LegName}
 use Rattle.call_signals.specs.Formats.{lowest_format}
 use Rattle.call_signals.specs.declared.formats.Format.{Format}
@@ -103,7 +103,7 @@ IsMade call offer need reply (mades.Order peer name kind media now answer) =
     × (media ≡ octets_of (act_media act call.octets)) × (now ≡ call.now)
 IsMade call offer need reply (mades.Tick peer now answer) = (need ≡ needs.Tick peer) × (reply ≡ replies.Tick (quiet_of answer)) × (now ≡ call.now)
 IsMade call offer need reply (mades.Look peer number answer) = (need ≡ needs.Look peer number) × (reply ≡ replies.Look answer)
-IsMade call offer need reply (mades.Retire peer name answer) = (need ≡ needs.Retire name) × (reply ≡ replies.Retire answer) × (peer ≡ name.peer)
+IsMade call offer need reply (mades.Retire peer name answer) = (need ≡ needs.Retire name) × (reply ≡ replies.Retire (is_some answer)) × (peer ≡ name.peer)
 IsMade call offer need reply (mades.Reserve peer answer) = (need ≡ needs.Reserve peer) × (reply ≡ replies.Reserve answer)
 IsMade call offer need reply (mades.Bridge one other answer) = (need ≡ needs.Bridge one other) × (reply ≡ replies.Bridge answer)
 IsMade call offer need reply (mades.Partner name answer) = (need ≡ needs.Partner name) × (reply ≡ replies.Partner answer)

@@ -4,7 +4,7 @@ ghost use Rattle.peer_lock.specs.Statuses.{IsHistory};
 ghost use Rattle.exchange_core.specs.Refusals.{from_peer, from_open, from_reserve};
 
 use call_book::{LegName, ReserveError};
-use peer_lock::{OpenError, PeerError};
+use peer_lock::{LegFacts, OpenError, PeerError};
 use seq_window::Record;
 
 /// Why a call did nothing: it made no step, and changed no leg and no bridge.
@@ -91,6 +91,13 @@ impl From<ReserveError> for Refusal {
 #[derive(Drop)]
 pub struct Retired {
     pub name: LegName,
+    /// What it tells beside its history.
+    pub facts: LegFacts,
+    /// The moment at which it was taken out, in milliseconds.
+    pub ended: u64,
+    /// The leg that it was bridged with until then. None where it never was, or where that one was taken out before it: its own
+    /// `partner` is this leg then.
+    pub partner: Option<LegName>,
     pub history: Record,
     ghost legal: { ∥ IsHistory history.entries ∥₁ },
 }

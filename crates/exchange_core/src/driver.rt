@@ -6,6 +6,7 @@ ghost use Rattle.call_steps.specs.Leases.{lease_in};
 ghost use Rattle.call_steps.specs.MediaLeft.{media_left};
 ghost use Rattle.exchange_core.specs.Denials.{Denies};
 ghost use Rattle.exchange_core.specs.FirstSteps.{CallIsMade, StartsInPlan};
+ghost use Rattle.exchange_core.specs.Leaving.{LeftSince, leaving_of, nobody};
 ghost use Rattle.exchange_core.specs.Numbers.{IsCalled};
 ghost use Rattle.exchange_core.specs.Traces.{MakesAll, call_of};
 
@@ -31,11 +32,14 @@ impl<G: Gate, J: Naming> Exchange<G, J> {
     )
         requires peer { StartsInPlan (length self.now.peers) work.old.work.place }
         requires nothing { (media_left work.old.work ≡ []) × (hands.old.lease ≡ None) × (hands.old.denial ≡ None) }
+        requires nobody { leaving_of hands.old.leavers ≡ nobody }
         requires challenge { beginning_at work.old.work.place ≡ Some OfDatagram → IsSome given.now.challenge }
         requires called { ForSome given.now.called (λ text. IsCalled text.now) }
         // Just the steps that its table named are noted under the pass, each with the answer that the table was told.
         ensures all { MakesAll (call_of self.now given.entry.now) work.old pass.old pass.new }
         ensures steps { MatchOption hands.new.denial (pass.old.credit.steps + 1 ≤ pass.new.credit.steps) (λ why. (pass.new.credit ≡ pass.old.credit) × Denies (beginning_at work.old.work.place) why) }
+        // The legs that were taken out in these steps.
+        ensures left { LeftSince given.entry.now.now pass.old pass.new (leaving_of hands.new.leavers) }
         // It keeps no lease.
         ensures lease { hands.new.lease ≡ None }
         ensures call { CallIsMade work.old.work.place pass.old.credit pass.new.credit hands.new.denial hands.new.named }

@@ -1,17 +1,17 @@
 //! What a call was given, and what it has in its hands.
-ghost use Rattle.std.specs.Prelude.{◌≡◌, ◌<◌, [], None, Some, option_copied, vec_len, vec_capacity};
+ghost use Rattle.std.specs.Prelude.{◌≡◌, ◌+◌, ◌≤◌, [], None, Some, option_copied, vec_len, vec_capacity};
 ghost use Rattle.call_steps.specs.Beginnings.{beginning_at};
 ghost use Rattle.exchange_core.specs.Denials.{noted};
+ghost use Rattle.exchange_core.specs.Leaving.{all_left, given_up_at, leaving_of, nobody};
 ghost use Rattle.exchange_core.specs.Traces.{told};
 ghost use Rattle.peer_lock.specs.Statuses.{IsHistory};
 
-use crate::answers::Retired;
 use crate::denials::Denial;
+use crate::leavers::Leavers;
 use call_auth::Challenge;
 use call_book::{Lease, LegName};
 use call_steps::{Reply, Work};
-use peer_lock::ReadDatagram;
-use seq_window::Record;
+use peer_lock::{EndedLeg, ReadDatagram};
 use std::alloc::Global;
 
 // What a call was given from outside.
@@ -63,7 +63,7 @@ impl Given<'_, '_, '_> {
 pub(crate) struct Hands {
     pub(crate) lease: Option<Lease>,
     pub(crate) named: Option<LegName>,
-    pub(crate) retired: Vec<Retired>,
+    pub(crate) leavers: Leavers,
     pub(crate) denial: Option<Denial>,
 }
 
@@ -71,25 +71,26 @@ impl Hands {
     pub(crate) fn empty(alloc: Global) -> Hands
         ensures lease { result.lease ≡ None }
         ensures denial { result.denial ≡ None }
-        ensures retired { result.retired.items ≡ [] }
+        ensures nobody { leaving_of result.leavers ≡ nobody }
     {
         Hands {
             lease: None,
             named: None,
-            retired: Vec::new(alloc),
+            leavers: Leavers::none(alloc),
             denial: None,
         }
     }
 
     // Takes over a leg that was taken out, for which there is room, and its lease.
-    pub(crate) fn take_over(&mut self, name: LegName, lease: Lease, history: Record)
-        requires room { vec_len self.old.retired < vec_capacity self.old.retired }
-        requires legal { IsHistory history.entries }
+    pub(crate) fn take_over(&mut self, name: LegName, lease: Lease, leg: EndedLeg, now: u64)
+        requires room { vec_len self.old.leavers.gone + 2 ≤ vec_capacity self.old.leavers.gone }
+        requires legal { IsHistory leg.history.entries }
         ensures lease { self.new.lease ≡ Some lease }
+        ensures left { leaving_of self.new.leavers ≡ record { last = Some (given_up_at now name leg); gone = all_left (leaving_of self.old.leavers) } }
         ensures denial { self.new.denial ≡ self.old.denial }
         ensures named { self.new.named ≡ self.old.named }
     {
-        self.retired.push_reserved(Retired { name, history });
+        self.leavers.take(name, leg, now);
         self.lease = Some(lease);
     }
 
@@ -99,7 +100,7 @@ impl Hands {
         ensures denial { self.new.denial ≡ noted (beginning_at work.old.work.place) reply self.old.denial }
         ensures lease { self.new.lease ≡ self.old.lease }
         ensures named { self.new.named ≡ self.old.named }
-        ensures retired { self.new.retired ≡ self.old.retired }
+        ensures leavers { self.new.leavers ≡ self.old.leavers }
     {
         if work.is_beginning() {
             self.denial = Denial::of(&reply);

@@ -150,6 +150,7 @@ impl<G: Gate, J: Naming> Exchange<G, J> {
         ensures kept { OnErr result (hands.new.lease ≡ hands.old.lease) }
         ensures no_remote { result ≢ Err OpenError.RemoteBusy }
         ensures denial { hands.new.denial ≡ hands.old.denial }
+        ensures leavers { hands.new.leavers ≡ hands.old.leavers }
         ensures named { hands.new.named ≡ hands.old.named }
     {
         let lease = hands.lease.take().unwrap();
@@ -182,6 +183,7 @@ impl<G: Gate, J: Naming> Exchange<G, J> {
         ensures taken { OnOk result (hands.new.lease ≡ None) }
         ensures kept { OnErr result (hands.new.lease ≡ hands.old.lease) }
         ensures denial { hands.new.denial ≡ hands.old.denial }
+        ensures leavers { hands.new.leavers ≡ hands.old.leavers }
         ensures named { hands.new.named ≡ hands.old.named }
     {
         let challenge = given.challenge.unwrap();

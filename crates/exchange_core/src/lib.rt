@@ -9,6 +9,7 @@ mod exchange;
 mod gates;
 mod hands;
 pub mod laws;
+mod leavers;
 mod leg_openings;
 mod looking;
 mod making;

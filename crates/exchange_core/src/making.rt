@@ -1,7 +1,7 @@
 //! Each step that a call can need, made as it is named.
 ghost use Rattle.std.specs.Option.{ForSome};
 ghost use Rattle.std.specs.List.{AllByRecursion};
-ghost use Rattle.std.specs.Prelude.{◌≡◌, ◌≢◌, ◌+◌, ◌<◌, ◌≤◌, length, Option, None, Some, Err, true, false, IfOk, IfErr, IsSome, OnOk, OnErr};
+ghost use Rattle.std.specs.Prelude.{◌≡◌, ◌≢◌, ℕ, ◌+◌, ◌<◌, ◌≤◌, length, Option, None, Some, Err, true, false, IfOk, IfErr, IsSome, OnOk, OnErr};
 ghost use Rattle.call_book.specs.declared.leg_name.LegName.{LegName as LegNameValue};
 ghost use Rattle.call_signals.specs.Orders.{kind_of};
 ghost use Rattle.call_steps.specs.Acts.{act_kind, act_media};
@@ -14,10 +14,13 @@ ghost use Rattle.call_steps.specs.declared.replies.Reply.TheVariants as replies;
 ghost use Rattle.exchange_core.specs.Covered.{IsCovered, TakesCredit};
 ghost use Rattle.exchange_core.specs.FirstSteps.{InPlan, IsOpened, IsOpenedOut, IsOpeningDue, KeepsPeer, named_after};
 ghost use Rattle.exchange_core.specs.Newcomers.{SpellsOpening};
+ghost use Rattle.exchange_core.specs.Leaving as leaving;
+ghost use Rattle.exchange_core.specs.Leaving.{Leaves, leaving_of};
 ghost use Rattle.exchange_core.specs.Numbers.{IsCalled};
 ghost use Rattle.exchange_core.specs.Traces.{Makes, call_of, octets_of};
 ghost use Rattle.exchange_core.specs.declared.hands.Given.{Given as GivenValue};
 ghost use Rattle.leg_machine.specs.OrderTable.{IsShortMedia};
+ghost use Rattle.noted_steps.specs.Notes as notes;
 ghost use Rattle.noted_steps.specs.Notes.{media_of as order_media};
 ghost use Rattle.peer_lock.specs.Accounts.{with_step};
 ghost use Rattle.peer_lock.specs.CarriedMedia.{LiesWithin, handed_octets};
@@ -27,7 +30,7 @@ ghost use Rattle.peer_accounts.specs.declared.onwards.Offer.{Offer as OfferValue
 use crate::exchange::Exchange;
 use crate::gates::Gate;
 use crate::hands::{Given, Hands};
-use call_book::{LegName, ReserveError, Stale};
+use call_book::{Lease, LegName, ReserveError, Stale};
 use call_steps::{Act, Heard, Need, Reply, Work};
 use leg_machine::Order;
 use noted_steps::Pass;
@@ -43,6 +46,26 @@ fn order_of<'o>(_name: LegName, act: Act, octets: &'o [u8]) -> Order<'o>
     ensures octets { order_octets result ≡ handed_octets (media_of _name act) }
 {
     act.order(octets)
+}
+
+// What the book answered, without the lease that came back.
+fn without_lease(answer: Result<Option<LegName>, (Lease, Stale)>) -> Result<Option<LegName>, Stale>
+    ensures { result ≡ notes.without_lease answer }
+{
+    match answer {
+        Ok(former) => Ok(former),
+        Err((_, stale)) => Err(stale),
+    }
+}
+
+// The former partner, where the book told one.
+fn former_of(answer: Result<Option<LegName>, Stale>) -> Option<LegName>
+    ensures { result ≡ leaving.former_of answer }
+{
+    match answer {
+        Ok(former) => former,
+        Err(_) => None,
+    }
 }
 
 impl<G: Gate, J: Naming> Exchange<G, J> {
@@ -158,22 +181,24 @@ impl<G: Gate, J: Naming> Exchange<G, J> {
         rt: &R,
         pass: &mut Pass<J>,
         name: LegName,
+        now: u64,
         hands: &mut Hands,
     ) -> bool
         ensures noted { (given : GivenValue) (offer : Option OfferValue) → Makes (call_of self.now given) offer (needs.Retire name) (replies.Retire result) pass.old pass.new }
         ensures credit { pass.new.credit ≡ pass.old.credit }
         ensures lease { hands.new.lease ≡ lease_after (Some (needs.Retire name)) (replies.Retire result) hands.old.lease }
+        ensures left { Leaves now pass.old pass.new (leaving_of hands.old.leavers) (leaving_of hands.new.leavers) }
         ensures denial { hands.new.denial ≡ hands.old.denial }
         ensures named { hands.new.named ≡ hands.old.named }
     {
-        if name.peer >= self.plan.peer_count() || hands.retired.try_reserve(1).is_err() {
+        if name.peer >= self.plan.peer_count() || !hands.leavers.make_room() {
             pass.note_unasked();
             return false;
         }
-        let Some((lease, history)) = self.retire(rt, pass, name) else {
+        let Some((lease, leg)) = self.retire(rt, pass, name) else {
             return false;
         };
-        hands.take_over(name, lease, history);
+        hands.take_over(name, lease, leg, now);
         true
     }
 
@@ -189,6 +214,7 @@ impl<G: Gate, J: Naming> Exchange<G, J> {
         ensures credit { pass.new.credit ≡ pass.old.credit }
         ensures peer { IfOk result (λ name. name.peer ≡ peer) }
         ensures lease { hands.new.lease ≡ lease_after (Some (needs.Reserve peer)) (replies.Reserve result) hands.old.lease }
+        ensures leavers { hands.new.leavers ≡ hands.old.leavers }
         ensures denial { hands.new.denial ≡ hands.old.denial }
         ensures named { hands.new.named ≡ named_after (replies.Reserve result) hands.old.named }
     {
@@ -199,7 +225,8 @@ impl<G: Gate, J: Naming> Exchange<G, J> {
         Ok(name)
     }
 
-    // The lease that the call keeps, on this name, goes back. One that the book refuses is dropped.
+    // The lease that the call keeps, on this name, goes back, and the leg that was taken out with it has left. A lease that the book
+    // refuses is dropped.
     fn release_from<R: Wait>(
         &self,
         rt: &R,
@@ -211,18 +238,19 @@ impl<G: Gate, J: Naming> Exchange<G, J> {
         ensures noted { (given : GivenValue) (offer : Option OfferValue) → Makes (call_of self.now given) offer (needs.Release _name) (replies.Release result) pass.old pass.new }
         ensures credit { pass.new.credit ≡ pass.old.credit }
         ensures lease { hands.new.lease ≡ None }
+        ensures left { (now : ℕ) → Leaves now pass.old pass.new (leaving_of hands.old.leavers) (leaving_of hands.new.leavers) }
         ensures denial { hands.new.denial ≡ hands.old.denial }
         ensures named { hands.new.named ≡ hands.old.named }
     {
         let lease = hands.lease.take().unwrap();
-        match self.release(rt, pass, lease) {
-            Ok(former) => Ok(former),
-            Err((_, stale)) => Err(stale),
-        }
+        let answer = without_lease(self.release(rt, pass, lease));
+        hands.leavers.part(former_of(answer));
+        answer
     }
 
     // Makes the step that the call needs, and nothing else. The pass has the credit for the media of an order, and the call has the
     // lease that the step takes, and what a first step asks for.
+    #[tactic(auto, using(crate::proofs::Leaving::none_leave))]
     pub(crate) fn make<R: Wait>(
         &self,
         rt: &R,
@@ -246,6 +274,8 @@ impl<G: Gate, J: Naming> Exchange<G, J> {
         ensures within { AllByRecursion (LiesWithin (length given.entry.now.datagram)) (handed_by result) }
         ensures octets { pass.old.credit.octets + handed_octets (handed_by result) ≤ pass.new.credit.octets + handed_octets (media_needed (Some need)) }
         ensures lease { hands.new.lease ≡ lease_after (Some need) result hands.old.lease }
+        // The legs that it took out are those of this step.
+        ensures left { Leaves given.entry.now.now pass.old pass.new (leaving_of hands.old.leavers) (leaving_of hands.new.leavers) }
         ensures denial { hands.new.denial ≡ hands.old.denial }
         ensures named { hands.new.named ≡ named_after result hands.old.named }
         ensures opened { IsOpenedOut result → pass.new.credit ≡ with_step pass.old.credit 0 }
@@ -262,7 +292,7 @@ impl<G: Gate, J: Naming> Exchange<G, J> {
             Need::Order(name, act) => { Reply::Order(self.act(rt, pass, name, act, given)) }
             Need::Tick(peer) => Reply::Tick(self.tick_given(rt, pass, peer, given)),
             Need::Look(peer, number) => Reply::Look(self.look_at(rt, pass, peer, number)),
-            Need::Retire(name) => Reply::Retire(self.retire_into(rt, pass, name, hands)),
+            Need::Retire(name) => Reply::Retire(self.retire_into(rt, pass, name, given.now, hands)),
             Need::Reserve(peer) => Reply::Reserve(self.reserve_into(rt, pass, peer, hands)),
             Need::Bridge(one, other) => Reply::Bridge(self.bridge(rt, pass, one, other)),
             Need::Partner(name) => Reply::Partner(self.partner(rt, pass, name)),

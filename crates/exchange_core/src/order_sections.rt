@@ -1,8 +1,8 @@
 //! The locked sections of peers in which a leg is ordered, time goes on, or a leg is taken out.
-ghost use Rattle.std.specs.Prelude.{◌≡◌, ◌+◌, ◌<◌, ◌≤◌, Some, is_some, length, IfOk, IfSome, OnOk, OnErr};
+ghost use Rattle.std.specs.Prelude.{◌≡◌, ◌+◌, ◌<◌, ◌≤◌, Some, length, IfOk, IfSome, OnOk, OnErr};
 ghost use Rattle.call_signals.specs.Orders.{kind_of};
 ghost use Rattle.leg_machine.specs.OrderTable.{IsShortMedia};
-ghost use Rattle.noted_steps.specs.Notes.{Notes, media_of, note};
+ghost use Rattle.noted_steps.specs.Notes.{Notes, given_up, media_of, note};
 ghost use Rattle.noted_steps.specs.declared.made.Made.TheVariants as mades;
 ghost use Rattle.peer_lock.specs.Accounts.{with_step};
 ghost use Rattle.peer_lock.specs.Orders.{order_octets};
@@ -13,8 +13,7 @@ use crate::gates::Gate;
 use call_book::{Lease, LegName};
 use leg_machine::Order;
 use noted_steps::Pass;
-use peer_lock::{Naming, OrderError, Step, StepsSpent, TickReport};
-use seq_window::Record;
+use peer_lock::{EndedLeg, Naming, OrderError, Step, StepsSpent, TickReport};
 use std::sync::Wait;
 
 impl<G: Gate, J: Naming> Exchange<G, J> {
@@ -55,17 +54,17 @@ impl<G: Gate, J: Naming> Exchange<G, J> {
         self.locked(rt, peer).tick(pass, now)
     }
 
-    // Takes out the leg of a name, where it has ended and owes nothing: its lease and its record. That is no step.
+    // Takes out the leg of a name, where it has ended and owes nothing: its lease, its record and what it tells. That is no step.
     pub(crate) fn retire<R: Wait>(
         &self,
         rt: &R,
         pass: &mut Pass<J>,
         name: LegName,
-    ) -> Option<(Lease, Record)>
+    ) -> Option<(Lease, EndedLeg)>
         requires { name.peer < length self.now.peers }
-        ensures noted { pass.new ≡ note (mades.Retire name.peer name (is_some result)) pass.old }
+        ensures noted { pass.new ≡ note (mades.Retire name.peer name (given_up result)) pass.old }
         ensures lease { IfSome result (λ retired. retired.0 ≡ name) }
-        ensures legal { IfSome result (λ retired. IsHistory retired.1.entries) }
+        ensures legal { IfSome result (λ retired. IsHistory retired.1.history.entries) }
     {
         self.locked(rt, name.peer).retire(pass, name)
     }

@@ -1,9 +1,10 @@
 //! The calls of workers and callers.
-ghost use Rattle.std.specs.Prelude.{◌≡◌, ◌≢◌, ◌+◌, ◌<◌, ◌≤◌, ◌↔◌, Err, None, IfNone, IfOk, IfErr, IfSome, IsSome, Some, IsTrue, OnOk, OnErr, length};
+ghost use Rattle.std.specs.Prelude.{◌≡◌, ◌≢◌, ◌+◌, ◌<◌, ◌≤◌, ◌↔◌, Err, None, IfNone, IfOk, IfErr, IfSome, IsSome, Some, IsTrue, OnOk, OnErr, length, map};
 ghost use Rattle.call_steps.specs.Beginnings.{OfCall, OfHangUp};
 ghost use Rattle.call_steps.specs.Work as work;
 ghost use Rattle.call_steps.specs.WorkState.{begun};
 ghost use Rattle.exchange_core.specs.Denials.{Denies};
+ghost use Rattle.exchange_core.specs.Leaving.{Leave, departure_of};
 ghost use Rattle.exchange_core.specs.Numbers.{IsCalled};
 ghost use Rattle.exchange_core.specs.Traces.{IsHeard, MakesAll, moment};
 ghost use Rattle.peer_plan.specs.Plan.{counts_of, range_of};
@@ -45,6 +46,7 @@ fn answer_since<J: Naming>(
     requires { first ≤ pass.now.credit.steps }
     ensures steps { pass.now.credit.steps ≡ first + result.steps }
     ensures refused { result.refused ≡ refused }
+    ensures retired { result.retired ≡ retired }
 {
     Answer {
         steps: pass.steps() - first,
@@ -92,6 +94,8 @@ impl<G: Gate, J: Naming> Exchange<G, J> {
     ) -> Answer
         // The steps that were made under the pass are just those which the table of the call named, in its order, and it ended.
         ensures all { IsHeard self.now from (record (moment self.now now) { octets = octets.now; challenge = Some challenge.now }) pass.old pass.new }
+        // The legs that were taken out in these steps, and none else, with what they left behind.
+        ensures retired { Leave now pass.old pass.new (map departure_of result.retired.items) }
         ensures steps { pass.new.credit.steps ≡ pass.old.credit.steps + result.steps }
         ensures some { IfNone result.refused (1 ≤ result.steps) }
         ensures refused { IsSome result.refused → (result.steps ≡ 0) × (pass.new.credit ≡ pass.old.credit) }
@@ -120,7 +124,7 @@ impl<G: Gate, J: Naming> Exchange<G, J> {
             Some(denial) => Some(denial.of_datagram()),
             None => None,
         };
-        answer_since(pass, first, refused, hands.retired)
+        answer_since(pass, first, refused, hands.leavers.into_legs())
     }
 
     /// Time goes on at a peer of the plan: its step, then each of its legs that has ended is finished, by ascending number.
@@ -130,6 +134,7 @@ impl<G: Gate, J: Naming> Exchange<G, J> {
         requires { peer < length self.now.peers }
         // Its looks go over all numbers of the peer.
         ensures all { MakesAll (moment self.now now) (begun (work.of_tick peer (range_of (counts_of self.now.peers) peer).first (range_of (counts_of self.now.peers) peer).count)) pass.old pass.new }
+        ensures retired { Leave now pass.old pass.new (map departure_of result.retired.items) }
         ensures steps { pass.new.credit.steps ≡ pass.old.credit.steps + result.steps }
         ensures some { IfNone result.refused (1 ≤ result.steps) }
         ensures refused { IsSome result.refused → (result.steps ≡ 0) × (pass.new.credit ≡ pass.old.credit) }
@@ -143,7 +148,7 @@ impl<G: Gate, J: Naming> Exchange<G, J> {
             Some(denial) => Some(denial.of_tick()),
             None => None,
         };
-        answer_since(pass, first, refused, hands.retired)
+        answer_since(pass, first, refused, hands.leavers.into_legs())
     }
 
     /// A call goes out to a peer of the plan, for a number of 1 to 64 octets 0x21 ..= 0x7e: one step. Its format is the lowest of
@@ -190,6 +195,7 @@ impl<G: Gate, J: Naming> Exchange<G, J> {
     ) -> Result<Answer, OrderError>
         requires { name.peer < length self.now.peers }
         ensures all { MakesAll (moment self.now now) (begun (work.of_hang_up name)) pass.old pass.new }
+        ensures retired { IfOk result (λ answer. Leave now pass.old pass.new (map departure_of answer.retired.items)) }
         ensures steps { IfOk result (λ answer. pass.new.credit.steps ≡ pass.old.credit.steps + answer.steps) }
         ensures some { IfOk result (λ answer. (1 ≤ answer.steps) × (answer.refused ≡ None)) }
         ensures refused { OnErr result (pass.new.credit ≡ pass.old.credit) }
@@ -199,6 +205,6 @@ impl<G: Gate, J: Naming> Exchange<G, J> {
         let mut hands = Hands::empty(self.alloc);
         self.run(rt, pass, &mut work, &Given::moment(now), &mut hands);
         hung_up(hands.denial)?;
-        Ok(answer_since(pass, first, None, hands.retired))
+        Ok(answer_since(pass, first, None, hands.leavers.into_legs()))
     }
 }

@@ -1,7 +1,7 @@
 //! What the workers of a service ask, and what they tell of each peer.
 ghost use Rattle.std.specs.Prelude.{◌≡◌};
 
-use exchange_core::Refusal;
+use exchange_core::{Refusal, Retired};
 use peer_plan::Endpoint;
 use std::alloc::{AllocError, Global};
 use std::mem;
@@ -287,6 +287,8 @@ impl Watch for ServiceWatch {
             Event::Retired { peer } => self.end_leg(peer),
         }
     }
+
+    fn retire(&self, _worker: u16, _leg: &Retired) {}
 
     // A service lacks no worker: where a thread is refused, the others end.
     fn no_thread(&self) {

@@ -9,6 +9,8 @@ mod growths;
 #[cfg(test)]
 mod hostile;
 #[cfg(test)]
+mod leaving;
+#[cfg(test)]
 mod legs;
 #[cfg(test)]
 mod looking;

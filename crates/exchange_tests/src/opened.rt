@@ -3,6 +3,7 @@ ghost use Rattle.std.specs.Prelude.{◌≡◌, ◌+◌, ◌^◌, length};
 
 use crate::growths::{call, call_and_end};
 use crate::hostile::{from_nobody, outbox_filled};
+use crate::leaving::left;
 use crate::looking::looked;
 use crate::same::holds;
 use crate::scenes::{Sums, ended};
@@ -34,6 +35,8 @@ pub enum Scene {
     OutboxFilled,
     /// An accepted call is looked at from outside.
     Looked,
+    /// An accepted call ends, and its legs are told.
+    Left,
     /// Two threads tick both peers.
     TwoTickers,
 }
@@ -49,6 +52,7 @@ fn play<R: Abort + Sync + Threads + Wait, J: Naming>(
         (Scene::QueueFilled, [_, pass]) => queue_filled(rt, exchange, pass),
         (Scene::Call, [pass]) => call(rt, exchange, pass),
         (Scene::Looked, [pass]) => looked(rt, exchange, pass),
+        (Scene::Left, [pass]) => left(rt, exchange, pass),
         (Scene::CallAndEnd, [pass]) => call_and_end(rt, exchange, pass),
         (Scene::FromNobody, [pass]) => from_nobody(rt, exchange, pass),
         (Scene::OutboxFilled, [pass]) => outbox_filled(rt, exchange, pass),

@@ -1,5 +1,5 @@
 -- What a pass has noted.
-use Rattle.std.specs.Prelude.{◌≡◌, ℕ, List, [], ◌∷◌, ◌++◌, ◌+◌, Result, Ok, Err}
+use Rattle.std.specs.Prelude.{◌≡◌, ℕ, List, [], ◌∷◌, ◌++◌, ◌+◌, Result, Ok, Err, Option, None, Some}
 use Rattle.peer_accounts.specs.Accounts.{Credit}
 use Rattle.peer_lock.specs.Peer.{PeerView}
 use Rattle.call_signals.specs.declared.orders.Order.{Order}
@@ -40,6 +40,11 @@ note made pass = record pass { made = pass.made ++ made ∷ [] }
 abbrev pub without_lease : {A E L : Type 0} → Result A (L × E) → Result A E
 without_lease (Ok made) = Ok made
 without_lease (Err back) = Err back.1
+
+-- a leg that was given up, if one was, without its lease
+abbrev pub given_up : {L A : Type 0} → Option (L × A) → Option A
+given_up None = None
+given_up (Some given) = Some given.1
 
 -- the octets of an order's media
 abbrev pub media_of : Order → List ℕ

@@ -6,7 +6,9 @@ use call_auth::Challenge;
 use call_book::{BridgeError, Lease, LegName, ReserveError, Stale};
 use iax_frames::FullHead;
 use leg_machine::{Format, OrderKind};
-use peer_lock::{Onwards, OpenError, OrderError, PeerError, Status, Step, StepsSpent, TickReport};
+use peer_lock::{
+    EndedLeg, Onwards, OpenError, OrderError, PeerError, Status, Step, StepsSpent, TickReport,
+};
 use trails::{Seen, Trail};
 
 /// Octets that were looked at.
@@ -38,8 +40,8 @@ pub enum Made {
     Tick(u16, u64, Result<TickReport, StepsSpent>),
     /// A leg of a peer is looked at: its local number, and how it stands.
     Look(u16, u16, Option<Status>),
-    /// A leg of a peer is taken out, if it can be: its name, and whether it was.
-    Retire(u16, LegName, bool),
+    /// A leg of a peer is taken out, if it can be: its name, and what it tells and its record, if it was.
+    Retire(u16, LegName, Option<Seen<EndedLeg>>),
     /// The book gives a name of a peer.
     Reserve(u16, Result<LegName, ReserveError>),
     /// The book makes two names partners.

@@ -1,5 +1,5 @@
 //! The steps of a peer, each noted under its pass.
-ghost use Rattle.std.specs.Prelude.{◌≡◌, ◌+◌, ◌≤◌, ◌↔◌, ◌⊎◌, length, option_copied, option_map, is_some, true, false, All, Err, None, Some, IfErr, IfOk, IfNone, IfSome, IsErr, IsNone, IsTrue, OnErr, OnOk, OnSome};
+ghost use Rattle.std.specs.Prelude.{◌≡◌, ◌+◌, ◌≤◌, ◌↔◌, ◌⊎◌, length, option_copied, option_map, true, false, All, Err, None, Some, IfErr, IfOk, IfNone, IfSome, IsErr, IsNone, IsTrue, OnErr, OnOk, OnSome};
 ghost use Rattle.std.specs.Option.{ForSome};
 ghost use Rattle.call_signals.specs.Orders.{kind_of};
 ghost use Rattle.call_signals.specs.declared.outcomes.Judged.TheVariants.{Unnumbered};
@@ -14,12 +14,12 @@ ghost use Rattle.peer_lock.specs.Makes.{IsDue, IsUnchanged, Makes};
 ghost use Rattle.peer_lock.specs.Openings.{IsOpenRefusal, IsOpening, open_in_refused, open_out_refused, opens_in, opens_out};
 ghost use Rattle.peer_lock.specs.Orders.{IsOrderRefusal, order_octets, order_refused_by, ordered_step};
 ghost use Rattle.peer_lock.specs.Peer.{leg_alone};
-ghost use Rattle.peer_lock.specs.Statuses.{IsHistory, is_done, status_of};
+ghost use Rattle.peer_lock.specs.Statuses.{IsHistory, facts_of, is_done, status_of};
 ghost use Rattle.peer_lock.specs.Ticks.{Ticks};
 ghost use Rattle.peer_lock.specs.declared.errors.PeerError.{PeerError as PeerErrorValue};
 ghost use Rattle.peer_lock.specs.Unworked.{IsUnworked, IsWorked};
 ghost use Rattle.seq_window.specs.History.{IsLegal};
-ghost use Rattle.noted_steps.specs.Notes.{Notes, media_of, note, without_lease};
+ghost use Rattle.noted_steps.specs.Notes.{Notes, given_up, media_of, note, without_lease};
 ghost use Rattle.noted_steps.specs.declared.made.Made.TheVariants as mades;
 
 use crate::made::{Made, Octets, push, told};
@@ -30,10 +30,9 @@ use call_book::{Lease, LegName};
 use iax_frames::Full;
 use leg_machine::{Format, Order};
 use peer_lock::{
-    Naming, Onwards, OpenError, OrderError, PeerError, ReadDatagram, Status, Step, StepsSpent,
-    TickReport,
+    EndedLeg, Naming, Onwards, OpenError, OrderError, PeerError, ReadDatagram, Status, Step,
+    StepsSpent, TickReport,
 };
-use seq_window::Record;
 use trails::Seen;
 
 // The octets of an order's media; of another order none.
@@ -52,6 +51,16 @@ fn text_in(text: Option<&[u8]>) -> Option<Octets>
 {
     match text {
         Some(text) => Some(Octets::of(text)),
+        None => None,
+    }
+}
+
+// A leg that was given up, without its lease, as it is noted.
+fn seen_of(answer: &Option<(Lease, EndedLeg)>) -> Option<Seen<EndedLeg>>
+    ensures { result ≡ given_up answer.now }
+{
+    match answer {
+        Some((_, leg)) => Some(Seen::of(leg)),
         None => None,
     }
 }
@@ -279,19 +288,21 @@ impl<J: Naming> NotedPeer<J> {
     ///
     /// `None` exactly where no such leg has that name.
     #[tactic(auto, using(crate::proofs::Counted::steps_in_longer))]
-    pub fn retire(&mut self, pass: &mut Pass<J>, name: LegName) -> Option<(Lease, Record)>
-        ensures noted { pass.new ≡ note (mades.Retire self.old.number name (is_some result)) pass.old }
+    pub fn retire(&mut self, pass: &mut Pass<J>, name: LegName) -> Option<(Lease, EndedLeg)>
+        ensures noted { pass.new ≡ note (mades.Retire self.old.number name (given_up result)) pass.old }
         ensures number { self.new.number ≡ self.old.number }
         ensures none { IsNone result ↔ (is_done (leg_named self.old.state.legs name) ≡ false) }
         ensures lease { IfSome result (λ retired. retired.0 ≡ name) }
         ensures record { IfSome result (λ retired. (named : NamedLegValue) → leg_named self.old.state.legs name ≡ Some named
-            → (retired.1.entries ≡ named.leg.window.history) × IsLegal named.leg.window.width named.leg.window.limit named.leg.window.history) }
-        ensures legal { IfSome result (λ retired. IsHistory retired.1.entries) }
+            → (retired.1.history.entries ≡ named.leg.window.history) × IsLegal named.leg.window.width named.leg.window.limit named.leg.window.history) }
+        ensures facts { IfSome result (λ retired. (named : NamedLegValue) → leg_named self.old.state.legs name ≡ Some named
+            → retired.1.facts ≡ facts_of named) }
+        ensures legal { IfSome result (λ retired. IsHistory retired.1.history.entries) }
         ensures gone { OnSome result (self.new.state ≡ record self.old.state { legs = with_place self.old.state.legs name.number None }) }
         ensures same { IfNone result (self.new.state ≡ self.old.state) }
     {
         let answer = self.state.retire(name);
-        let made = Made::Retire(self.number, name, answer.is_some());
+        let made = Made::Retire(self.number, name, seen_of(&answer));
         push(&mut pass.made, made);
         answer
     }

@@ -4,10 +4,11 @@ use Rattle.iax_frames.specs.FullFrame.{spelling}
 use Rattle.std.proofs.Common.{◌≡◌, ◌≤◌, ℕ, zero, suc, ◌+◌, ◌<◌, Bool, true, false, List, [], ◌∷◌, ◌++◌, Option, Some, None, slice_get, slice_set, length, take, drop, cond, ◌==◌, ap, sym, subst, refl, ◌∙◌, arith}
 use Rattle.std.proofs.Math.Nat.{add_assoc}
 use Rattle.std.proofs.lemmas.List.{append_assoc, append-nil, length-append, take_all, drop_all, take-append-drop}
-use Rattle.leg_machine.specs.Legs.{LegState, entered, is_short_of_entries}
+use Rattle.leg_machine.specs.Legs.{LegState, entered, failed, is_short_of_entries}
 use Rattle.leg_machine.specs.Stages.{is_ended}
 use Rattle.leg_machine.specs.Ticks.{Tick, quiet, sends_if, must_hang_up, hang_up_step, must_ping, pinged, ping_step, last_step, due_frames, tick_step, is_idle}
 use Rattle.leg_machine.specs.Tries.{tries}
+use Rattle.call_signals.specs.declared.failure.Failure.TheVariants as failures
 use Rattle.call_signals.specs.declared.causes.Cause.TheVariants.{NormalClearing}
 use Rattle.call_signals.specs.declared.replies.Reply.{Reply}
 use Rattle.call_signals.specs.declared.replies.Reply.TheVariants as replies
@@ -48,7 +49,7 @@ few_pinged grown leg now =
 
 few_last : (grown spent : Bool) (leg : LegState) (now : ℕ) → (last_step grown spent leg now).skipped ≤ 1
 few_last grown spent leg now =
-    either (λ (t : Tick). t.skipped ≤ 1) spent (quiet (entered leg stages.Ended)) (ping_step grown leg now) (few_quiet (entered leg stages.Ended)) (few_pinged grown leg now)
+    either (λ (t : Tick). t.skipped ≤ 1) spent (quiet (failed leg failures.RetriesSpent)) (ping_step grown leg now) (few_quiet (failed leg failures.RetriesSpent)) (few_pinged grown leg now)
 
 both_few : (a b : ℕ) → a ≤ 1 → b ≤ 1 → a + b ≤ 2
 both_few a b one other = omega arith
@@ -61,9 +62,9 @@ few_due grown leg now =
 
 few_ticked : (grown : Bool) (leg : LegState) (now : ℕ) → (tick_step grown leg now).skipped ≤ 2
 few_ticked grown leg now =
-    either (λ (t : Tick). t.skipped ≤ 2) (is_ended leg.stage) (quiet leg) (cond (is_short_of_entries leg) (quiet (entered leg stages.Ended)) (due_frames grown leg now))
+    either (λ (t : Tick). t.skipped ≤ 2) (is_ended leg.stage) (quiet leg) (cond (is_short_of_entries leg) (quiet (failed leg failures.RecordFull)) (due_frames grown leg now))
     (omega arith)
-    (either (λ (t : Tick). t.skipped ≤ 2) (is_short_of_entries leg) (quiet (entered leg stages.Ended)) (due_frames grown leg now) (omega arith) (few_due grown leg now))
+    (either (λ (t : Tick). t.skipped ≤ 2) (is_short_of_entries leg) (quiet (failed leg failures.RecordFull)) (due_frames grown leg now) (omega arith) (few_due grown leg now))
 
 few_placed : (skipped : ℕ) (place : Option NamedLeg) (now : ℕ) → (place_tick skipped place now).skipped ≤ 2
 few_placed skipped None now = omega arith

@@ -6,6 +6,7 @@ use Rattle.seq_window.specs.History.{IsLegal}
 use Rattle.seq_window.specs.Window.{held_count, entry_count}
 use Rattle.peer_legs.specs.Legs.{NamedLeg}
 pub use Rattle.peer_legs.specs.Rests.{is_quiet, is_resting}
+use Rattle.peer_lock.specs.declared.steps.LegFacts.{LegFacts}
 use Rattle.peer_lock.specs.declared.steps.Status.{Status}
 
 abbrev pub status_of : NamedLeg → Status
@@ -15,6 +16,15 @@ status_of named = record {
   owes = named.leg.owes;
   held = held_count named.leg.window;
   entries = entry_count named.leg.window;
+}
+
+abbrev pub facts_of : NamedLeg → LegFacts
+facts_of named = record {
+  opened = named.leg.opened;
+  format = named.leg.format;
+  remote = named.leg.remote;
+  failure = named.leg.failure;
+  resent = named.leg.resent;
 }
 
 -- the leg has ended, and the layer above is done with it

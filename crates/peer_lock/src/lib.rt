@@ -21,4 +21,4 @@ pub use errors::{OpenError, OrderError, PeerError, StepsSpent};
 pub use peer_accounts::{Naming, Offer, Onwards, Pass, Service, Sums};
 pub use read_datagram::ReadDatagram;
 pub use state::PeerState;
-pub use steps::{Status, Step, TickReport};
+pub use steps::{EndedLeg, LegFacts, Status, Step, TickReport};

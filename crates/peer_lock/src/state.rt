@@ -7,11 +7,11 @@ ghost use Rattle.peer_accounts.specs.Accounts.{no_accounts, carried};
 ghost use Rattle.peer_legs.specs.Legs.{NamedLeg as NamedLegValue, AreLegs, AreLegsOf, leg_at, leg_named, with_place};
 ghost use Rattle.seq_window.specs.History.{IsLegal};
 ghost use Rattle.peer_lock.specs.SoundPeer.{IsSoundPeer};
-ghost use Rattle.peer_lock.specs.Statuses.{IsHistory, status_of, is_done};
+ghost use Rattle.peer_lock.specs.Statuses.{IsHistory, facts_of, status_of, is_done};
 ghost use Rattle.trunk_packer.specs.Queue.{media_octets};
 
 use crate::closed::ClosedPeer;
-use crate::steps::Status;
+use crate::steps::{EndedLeg, LegFacts, Status};
 use call_book::{Lease, LegName};
 use iax_frames::Out;
 use leg_machine::{PeerRules, Replies};
@@ -19,7 +19,6 @@ use media_ledger::Share;
 use outbox::Outbox;
 use peer_accounts::{Account, Naming};
 use peer_legs::PeerLegs;
-use seq_window::Record;
 use std::alloc::{AllocError, Global};
 use std::marker::Model;
 use trunk_packer::Packer;
@@ -146,16 +145,19 @@ impl<J: Naming> PeerState<J> {
         self.legs.get(number).map(|named| Status::of(named))
     }
 
-    /// Gives up the leg of a name that has ended and owes nothing: its lease and its record. That is no step.
+    /// Gives up the leg of a name that has ended and owes nothing: its lease, its record and what it tells beside that. That is no
+    /// step.
     ///
     /// `None` exactly where no such leg has that name.
-    pub fn retire(&mut self, name: LegName) -> Option<(Lease, Record)>
+    pub fn retire(&mut self, name: LegName) -> Option<(Lease, EndedLeg)>
         ensures none { IsNone result ↔ (is_done (leg_named self.old.legs name) ≡ false) }
         ensures lease { IfSome result (λ retired. retired.0 ≡ name) }
         ensures record { IfSome result (λ retired. (named : NamedLegValue) → leg_named self.old.legs name ≡ Some named
-            → (retired.1.entries ≡ named.leg.window.history) × IsLegal named.leg.window.width named.leg.window.limit named.leg.window.history) }
-        ensures ruled { IfSome result (λ retired. IsLegal self.old.rules.window self.old.rules.record_limit retired.1.entries) }
-        ensures legal { IfSome result (λ retired. IsHistory retired.1.entries) }
+            → (retired.1.history.entries ≡ named.leg.window.history) × IsLegal named.leg.window.width named.leg.window.limit named.leg.window.history) }
+        ensures facts { IfSome result (λ retired. (named : NamedLegValue) → leg_named self.old.legs name ≡ Some named
+            → retired.1.facts ≡ facts_of named) }
+        ensures ruled { IfSome result (λ retired. IsLegal self.old.rules.window self.old.rules.record_limit retired.1.history.entries) }
+        ensures legal { IfSome result (λ retired. IsHistory retired.1.history.entries) }
         ensures gone { OnSome result (self.new ≡ record self.old { legs = with_place self.old.legs name.number None }) }
         ensures same { IfNone result (self.new ≡ self.old) }
     {
@@ -163,8 +165,10 @@ impl<J: Naming> PeerState<J> {
         if !named.leg().stage().is_ended() || named.leg().owes() {
             return None;
         }
+        let facts = LegFacts::of(named);
         let (lease, leg) = self.legs.take(name.number).into_parts();
-        Some((lease, leg.into_record()))
+        let history = leg.into_record();
+        Some((lease, EndedLeg { facts, history }))
     }
 
     /// Gives the shares up.

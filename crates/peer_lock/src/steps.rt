@@ -1,10 +1,12 @@
 //! What the calls of a peer answer.
 ghost use Rattle.std.specs.Prelude.{◌≡◌};
-ghost use Rattle.peer_lock.specs.Statuses.{status_of};
+ghost use Rattle.peer_lock.specs.Statuses.{facts_of, status_of};
 
 use call_book::LegName;
-use leg_machine::{Judged, Stage};
+use iax_frames::CallNumber;
+use leg_machine::{Failure, Format, Judged, Stage};
 use peer_legs::NamedLeg;
+use seq_window::Record;
 
 /// How a step went, beside what it handed up.
 #[derive(Clone, Copy, Debug, PartialEq, Eq)]
@@ -42,6 +44,45 @@ impl Status {
             entries: leg.window().record().len(),
         }
     }
+}
+
+/// What a leg tells beside its record.
+#[derive(Clone, Copy, Debug, PartialEq, Eq)]
+pub struct LegFacts {
+    /// The moment at which it was opened, in milliseconds.
+    pub opened: u64,
+    /// The format of the call.
+    pub format: Format,
+    /// The other side's call number, once it is known.
+    pub remote: Option<CallNumber>,
+    /// Why it ended, where no HANGUP or REJECT did that.
+    pub failure: Option<Failure>,
+    /// How many full frames went out again, modulo 2^64 ("Message Transport": retransmission).
+    pub resent: u64,
+}
+
+impl LegFacts {
+    // What the leg tells.
+    pub(crate) fn of(named: &NamedLeg) -> LegFacts
+        ensures { result ≡ facts_of named.now }
+    {
+        let leg = named.leg();
+        LegFacts {
+            opened: leg.opened(),
+            format: leg.format(),
+            remote: leg.remote(),
+            failure: leg.failure(),
+            resent: leg.resent(),
+        }
+    }
+}
+
+/// A leg that was given up.
+#[derive(Drop)]
+pub struct EndedLeg {
+    pub facts: LegFacts,
+    /// Its record, whole.
+    pub history: Record,
 }
 
 /// What a tick did.

@@ -1,4 +1,5 @@
 pub mod CountLaws
 pub mod EventLaws
+pub mod HandingLaws
 pub mod ServedLaws
 pub mod TickLaws

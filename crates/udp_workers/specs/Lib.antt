@@ -1,6 +1,7 @@
 pub mod Counts
 pub mod Draining
 pub mod Events
+pub mod Handed
 pub mod MioWire
 pub mod PeerCounts
 pub mod Receipts

@@ -5,6 +5,7 @@ ghost use Rattle.peer_plan.specs.declared.endpoint.Endpoint.{Endpoint};
 ghost use Rattle.udp_workers.specs.Counts.{RiseAlike};
 ghost use Rattle.udp_workers.specs.Draining.{IsTurnedAway};
 ghost use Rattle.udp_workers.specs.Events.{HasRoom};
+ghost use Rattle.udp_workers.specs.Handed.{GivesAll};
 ghost use Rattle.udp_workers.specs.Receipts.{TellsReceipt};
 ghost use Rattle.udp_workers.specs.Ticked.{IsLater};
 
@@ -47,6 +48,7 @@ fn hand_on<V: Watch, G: Gate, J: Naming, R: Wait>(
     // Where it isn't refused, it makes a step.
     ensures steps { pass.old.credit.steps + 1 + tally.old.report.refused ≤ pass.new.credit.steps + tally.new.report.refused }
     ensures later { IsLater pass.old pass.new }
+    ensures handed { GivesAll (V.given tally.old.watch.now) pass.old pass.new }
     ensures heard { IsHeard exchange.now from (record (moment exchange.now now) { octets = octets.now; challenge = Some challenge.now }) pass.old pass.new }
 {
     let answer = exchange.datagram(rt, pass, from, octets, now, challenge);
@@ -81,6 +83,7 @@ fn hear<V: Watch, G: Gate, J: Naming, R: Wait>(
     // Where it isn't refused, it makes a step.
     ensures steps { pass.old.credit.steps + 1 + tally.old.report.refused ≤ pass.new.credit.steps + tally.new.report.refused }
     ensures later { IsLater pass.old pass.new }
+    ensures handed { GivesAll (V.given tally.old.watch.now) pass.old pass.new }
     // One that is turned away is refused, and makes none; any other is heard by the exchange.
     ensures away { IsTurnedAway stage octets.now → (pass.new ≡ pass.old) × (tally.new.report.refused ≡ tally.old.report.refused + 1) }
     ensures heard { (IsTurnedAway stage octets.now → ⊥) → IsHeard exchange.now from (record (moment exchange.now now) { octets = octets.now; challenge = Some challenge.now }) pass.old pass.new }
@@ -128,6 +131,7 @@ fn receive_one<W: Wire, V: Watch, G: Gate, J: Naming, R: Wait>(
     ensures watch { tally.new.watch ≡ tally.old.watch }
     ensures steps { pass.old.credit.steps + tally.new.report.received + tally.old.report.refused ≤ pass.new.credit.steps + tally.new.report.refused + tally.old.report.received }
     ensures later { IsLater pass.old pass.new }
+    ensures handed { GivesAll (V.given tally.old.watch.now) pass.old pass.new }
 {
     match wire.receive(octets) {
         Ok(Some((len, from))) => {
@@ -176,6 +180,7 @@ pub(crate) fn receive_all<W: Wire, V: Watch, G: Gate, J: Naming, R: Wait>(
     ensures watch { tally.new.watch ≡ tally.old.watch }
     ensures steps { pass.old.credit.steps + tally.new.report.received + tally.old.report.refused ≤ pass.new.credit.steps + tally.new.report.refused + tally.old.report.received }
     ensures later { IsLater pass.old pass.new }
+    ensures handed { GivesAll (V.given tally.old.watch.now) pass.old pass.new }
 {
     let mut octets = [0u8; OCTETS];
     for _ in 0..DATAGRAMS {

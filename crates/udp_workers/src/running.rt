@@ -2,6 +2,7 @@
 ghost use Rattle.std.specs.Prelude.{◌≡◌, ◌+◌, ◌*◌, ◌≤◌, length};
 ghost use Rattle.udp_workers.specs.Counts.{RisesBy};
 ghost use Rattle.udp_workers.specs.Events.{MakesTurns, Tells};
+ghost use Rattle.udp_workers.specs.Handed.{GivesAll};
 ghost use Rattle.udp_workers.specs.Served.{AreEndpoints, peers_of};
 ghost use Rattle.udp_workers.specs.Ticked.{IsLater};
 
@@ -96,13 +97,15 @@ impl Worker {
         // So many turns as it made; each of them received 64 datagrams at most, and gave the wire 256 for each peer at most.
         ensures turns { MakesTurns (V.answered watch.now ServiceStage.Ended) self.old.turns self.new.turns result }
         ensures told { ∥ Tells (V.told watch.now) result ∥₁ }
+        // Each leg that was taken out under the pass was given to the watch, with what its peer's state gave up.
+        ensures handed { GivesAll (V.given watch.now) pass.old pass.new }
         ensures refused { result.refused ≤ result.received }
         ensures steps { pass.old.credit.steps + result.received ≤ pass.new.credit.steps + result.refused }
         ensures later { IsLater pass.old pass.new }
         ensures place { self.new.place ≡ self.old.place }
         ensures peers { self.new.peers ≡ self.old.peers }
     {
-        let mut tally = Tally::new(watch);
+        let mut tally = Tally::new(watch, self.place);
         for turn in 0..TURNS {
             pause(wire, turn);
             let stage = watch.stage();

@@ -95,6 +95,7 @@ impl<W: Wire + Drop, M: Moments + Drop, C: Challenges + Drop, J: Naming, P: Post
     P,
 > {
     ghost use Rattle.udp_workers.specs.Events.{MakesTurns, Tells};
+    ghost use Rattle.udp_workers.specs.Handed.{GivesAll};
     ghost use Rattle.udp_workers.specs.declared.watch.ServiceStage.TheVariants as ServiceStage;
 
     // A run from here: its counts begin with what is counted so far, and all its turns are made.
@@ -130,6 +131,7 @@ impl<W: Wire + Drop, M: Moments + Drop, C: Challenges + Drop, J: Naming, P: Post
         ensures steps { self.new.start.steps ≡ self.old.pass.credit.steps }
         ensures turns { MakesTurns (V.answered watch.now ServiceStage.Ended) self.old.worker.turns self.new.worker.turns self.new.report }
         ensures told { ∥ Tells (V.told watch.now) self.new.report ∥₁ }
+        ensures handed { GivesAll (V.given watch.now) self.old.pass self.new.pass }
     {
         self.start = start_of(&self.wire, &self.pass);
         self.report = self.worker.run_until(

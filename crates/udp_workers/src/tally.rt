@@ -1,5 +1,6 @@
 //! What was told to a watch, and counted.
-ghost use Rattle.std.specs.Prelude.{◌≡◌};
+ghost use Rattle.std.specs.Prelude.{◌≡◌, All};
+ghost use Rattle.exchange_core.specs.Leaving.{departure_of};
 ghost use Rattle.udp_workers.specs.Events.{Tells};
 
 use crate::report::TurnReport;
@@ -10,6 +11,8 @@ use exchange_core::Retired;
 #[derive(Drop)]
 pub(crate) struct Tally<'w, V: Watch> {
     pub(crate) watch: &'w V,
+    // The place of the worker whose turns they happen in.
+    pub(crate) worker: u16,
     pub(crate) report: TurnReport,
     ghost told: { ∥ Tells (V.told watch.now) report ∥₁ },
 }
@@ -18,12 +21,13 @@ impl<'w, V: Watch> Tally<'w, V> {
     ghost use Rattle.udp_workers.specs.Events.{HasRoom, OnlyRetires, counted, nothing};
 
     // Nothing was told yet.
-    pub(crate) fn new(watch: &'w V) -> Self
+    pub(crate) fn new(watch: &'w V, worker: u16) -> Self
         ensures watch { result.watch.now ≡ watch.now }
         ensures none { result.report ≡ nothing }
     {
         Tally {
             watch,
+            worker,
             report: TurnReport::default(),
         }
     }
@@ -39,9 +43,10 @@ impl<'w, V: Watch> Tally<'w, V> {
         self.report = self.report.counted(event);
     }
 
-    // Tells the watch of each leg that was taken out.
+    // Tells the watch of each leg that was taken out, and gives it the leg.
     pub(crate) fn tell_retired(&mut self, legs: &[Retired])
         requires room { HasRoom 1 self.old.report }
+        ensures given { All (λ leg. V.given self.old.watch.now (departure_of leg)) legs.now }
         ensures only { OnlyRetires self.old.report self.new.report }
         ensures watch { self.new.watch ≡ self.old.watch }
     {
@@ -49,6 +54,7 @@ impl<'w, V: Watch> Tally<'w, V> {
             self.tell(Event::Retired {
                 peer: leg.name.peer,
             });
+            self.watch.retire(self.worker, leg);
         }
     }
 }

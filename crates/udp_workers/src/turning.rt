@@ -4,6 +4,7 @@ ghost use Rattle.peer_plan.specs.declared.endpoint.Endpoint.{Endpoint};
 ghost use Rattle.noted_steps.specs.Notes.{Noted};
 ghost use Rattle.udp_workers.specs.Counts.{RiseAlike, RisesBy, RisesByAtMost};
 ghost use Rattle.udp_workers.specs.Events.{HasRoom, OnlyRetires};
+ghost use Rattle.udp_workers.specs.Handed.{GivesAll};
 ghost use Rattle.udp_workers.specs.Served.{AreEndpoints, peers_of};
 ghost use Rattle.udp_workers.specs.Ticked.{IsLater, TicksAll};
 
@@ -54,7 +55,7 @@ impl Worker {
         ensures few { length self.new.peers ≤ 32 }
         ensures turns { RisesBy self.old.turns self.new.turns 1 }
     {
-        let mut tally = Tally::new(&Unwatched);
+        let mut tally = Tally::new(&Unwatched, self.place);
         let serving = ServiceStage::Serving;
         self.turn_at(
             rt, wire, exchange, pass, serving, now, challenge, &mut tally,
@@ -89,6 +90,7 @@ impl Worker {
         ensures few_faults { tally.new.report.faults + tally.old.report.lost ≤ tally.old.report.faults + tally.new.report.lost + 1 }
         ensures watch { tally.new.watch ≡ tally.old.watch }
         ensures steps { pass.old.credit.steps + tally.new.report.received + tally.old.report.refused ≤ pass.new.credit.steps + tally.new.report.refused + tally.old.report.received }
+        ensures handed { GivesAll (V.given tally.old.watch.now) pass.old pass.new }
         ensures ticked { (mid : Noted) × IsLater pass.old mid × TicksAll exchange.now now self.old.peers mid pass.new }
         ensures place { self.new.place ≡ self.old.place }
         ensures peers { self.new.peers ≡ self.old.peers }
@@ -118,6 +120,7 @@ fn tick_all<V: Watch, G: Gate, J: Naming, R: Wait>(
     requires room { HasRoom 1 tally.old.report }
     ensures steps { pass.old.credit.steps ≤ pass.new.credit.steps }
     ensures ticked { TicksAll exchange.now now peers.now pass.old pass.new }
+    ensures handed { GivesAll (V.given tally.old.watch.now) pass.old pass.new }
     ensures only { OnlyRetires tally.old.report tally.new.report }
     ensures watch { tally.new.watch ≡ tally.old.watch }
 {

@@ -1,7 +1,7 @@
 //! What workers ask while they run, and what they tell.
 ghost use Rattle.std.specs.Prelude.{◌≡◌};
 
-use exchange_core::Refusal;
+use exchange_core::{Refusal, Retired};
 use peer_plan::Endpoint;
 
 /// How far a service has come.
@@ -40,6 +40,7 @@ pub enum Event {
 /// threads at once, and on the way of each datagram: they shouldn't wait.
 pub trait Watch {
     ghost use Rattle.std.specs.Prelude.{⊤};
+    ghost use Rattle.exchange_core.specs.Leaving.{Departure, departure_of};
     ghost use Rattle.udp_workers.specs.declared.watch.Event.{Event};
     ghost use Rattle.udp_workers.specs.declared.watch.ServiceStage.{ServiceStage};
 
@@ -48,6 +49,9 @@ pub trait Watch {
 
     /// It was told this.
     ghost told: { Self → Event → Type 0 } = { λ _ _. ⊤ };
+
+    /// It was given this leg, which was taken out.
+    ghost given: { Self → Departure → Type 0 } = { λ _ _. ⊤ };
 
     /// It was told that a thread was refused.
     ghost lacks_thread: { Self → Type 0 } = { λ _. ⊤ };
@@ -59,6 +63,10 @@ pub trait Watch {
     /// This happened.
     fn tell(&self, event: Event)
         ensures { told self.now event };
+
+    /// This leg was taken out by the worker at this place of the plan. It was told so as an event right before.
+    fn retire(&self, worker: u16, leg: &Retired)
+        ensures { given self.now (departure_of leg.now) };
 
     /// A worker's thread was refused. The others go on until they are answered `Ended`.
     fn no_thread(&self)
@@ -79,6 +87,8 @@ impl Watch for Unwatched {
     }
 
     fn tell(&self, _event: Event) {}
+
+    fn retire(&self, _worker: u16, _leg: &Retired) {}
 
     fn no_thread(&self) {}
 }

@@ -1,4 +1,5 @@
 //! A watch that counts what it is asked and told.
+use exchange_core::Retired;
 use std::sync::atomic::{AtomicU64, Ordering};
 use udp_workers::{Event, ServiceStage, TurnReport, Watch};
 
@@ -11,6 +12,10 @@ pub struct PeerEvents {
     pub sent: AtomicU64,
     pub lost: AtomicU64,
     pub retired: AtomicU64,
+    // The legs that it was given.
+    pub given: AtomicU64,
+    // Those of them that were opened before they were taken out, and had a partner until then.
+    pub parted: AtomicU64,
 }
 
 impl PeerEvents {
@@ -22,6 +27,8 @@ impl PeerEvents {
             sent: AtomicU64::new(0),
             lost: AtomicU64::new(0),
             retired: AtomicU64::new(0),
+            given: AtomicU64::new(0),
+            parted: AtomicU64::new(0),
         }
     }
 }
@@ -75,6 +82,11 @@ impl CountingWatch {
         if place == 0 { &self.west } else { &self.east }
     }
 
+    /// How many legs it was given by the worker at place 0.
+    pub fn given(&self) -> u64 {
+        both(&self.west.given, &self.east.given)
+    }
+
     /// What it was told, as a report.
     pub fn report(&self) -> TurnReport {
         let (west, east) = (&self.west, &self.east);
@@ -117,6 +129,16 @@ impl Watch for CountingWatch {
             Event::Lost { peer } => count(&self.peer(peer).lost),
             Event::Fault => count(&self.faults),
             Event::Retired { peer } => count(&self.peer(peer).retired),
+        }
+    }
+
+    fn retire(&self, worker: u16, leg: &Retired) {
+        let peer = self.peer(leg.name.peer);
+        if worker == 0 {
+            count(&peer.given);
+        }
+        if leg.facts.opened < leg.ended && leg.partner.is_some() {
+            count(&peer.parted);
         }
     }
 

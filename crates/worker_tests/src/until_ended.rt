@@ -181,6 +181,7 @@ fn ended_well<R: Abort>(rt: &R, watch: &CountingWatch, ran: &Ran, turns: u64) {
     same(rt, &ran.turns, &turns);
     same(rt, &read(&watch.asked), &turns.wrapping_add(1));
     same(rt, &watch.report(), &ran.report);
+    same(rt, &watch.given(), &ran.report.retired);
     holds(rt, "balances", ran.balances);
 }
 
@@ -203,6 +204,17 @@ fn a_call_ends_while_the_service_drains(rt: HostRuntime) {
     ended_well(&rt, &watch, &ran, 8);
     same(&rt, &read(&watch.west.turned_away), &1);
     same(&rt, &read(&watch.heard), &100);
+    // The west hung up, so its leg was taken out while it still had a partner.
+    same(
+        &rt,
+        &(read(&watch.west.given), read(&watch.west.parted)),
+        &(1, 1),
+    );
+    same(
+        &rt,
+        &(read(&watch.east.given), read(&watch.east.parted)),
+        &(1, 0),
+    );
 }
 
 #[test]

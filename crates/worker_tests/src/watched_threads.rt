@@ -5,7 +5,7 @@ use crate::both_at_once::{TestSeat, seats_of, turns_of};
 use crate::counting_watch::{CountingWatch, read};
 use crate::plans::TWO_WORKERS;
 use crate::same::{holds, same};
-use exchange_core::{Exchange, NoGate, Pass};
+use exchange_core::{Exchange, NoGate, Pass, Retired};
 use media_ledger::Blank;
 use peer_lock::{Naming, Service};
 use peer_plan::Plan;
@@ -38,6 +38,8 @@ impl Watch for StoppedWatch {
     }
 
     fn tell(&self, _event: Event) {}
+
+    fn retire(&self, _worker: u16, _leg: &Retired) {}
 
     fn no_thread(&self) {
         self.stopped.store(true, Ordering::SeqCst);

@@ -1,6 +1,7 @@
 use Rattle.std.proofs.Common.{◌≡◌, ◌+◌, ◌≤◌}
 use Rattle.peer_plan.specs.declared.endpoint.Endpoint.{Endpoint}
 use Rattle.udp_workers.specs.Counts.{RiseAlike}
+use Rattle.udp_workers.specs.Handed.{GivesAll}
 use Rattle.udp_workers.specs.Ticked.{IsLater}
 use Rattle.udp_workers.proofs.receiving.receive_all.Given as goal
 
@@ -19,4 +20,5 @@ invariant-loop g l = record {
   peers : g.W.Wire.peers l.wire ≡ g.W.Wire.peers l.fn.wire;
   steps : l.fn.pass.credit.steps + l.tally.report.received + l.fn.tally.report.refused ≤ l.pass.credit.steps + l.tally.report.refused + l.fn.tally.report.received;
   later : IsLater l.fn.pass l.pass;
+  handed : GivesAll (g.V.Watch.given l.fn.tally.watch.now) l.fn.pass l.pass;
 }

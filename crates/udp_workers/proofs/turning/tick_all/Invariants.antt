@@ -1,5 +1,6 @@
 use Rattle.std.proofs.Common.{◌≡◌, ◌≤◌, take}
 use Rattle.udp_workers.specs.Events.{OnlyRetires}
+use Rattle.udp_workers.specs.Handed.{GivesAll}
 use Rattle.udp_workers.specs.Ticked.{TicksAll}
 use Rattle.udp_workers.proofs.turning.tick_all.Given as goal
 
@@ -9,4 +10,5 @@ invariant-loop-peer g l = record {
   ticked : TicksAll l.exchange l.now (take l.peer-index l.peers) l.fn.pass l.pass;
   only : OnlyRetires l.fn.tally.report l.tally.report;
   watch : l.tally.watch ≡ l.fn.tally.watch;
+  handed : GivesAll (g.V.Watch.given l.fn.tally.watch.now) l.fn.pass l.pass;
 }

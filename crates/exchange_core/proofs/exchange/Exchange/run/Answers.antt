@@ -5,11 +5,14 @@ use Rattle.call_steps.specs.Work.{next_of}
 use Rattle.call_steps.specs.WorkState.{WorkState}
 use Rattle.exchange_core.specs.Denials.{noted}
 use Rattle.exchange_core.specs.FirstSteps.{InPlan, IsOpened, KeepsPeer}
+use Rattle.exchange_core.specs.Leaving.{LeftSince, leaving_of}
 use Rattle.exchange_core.specs.Newcomers.{SpellsOpening}
 use Rattle.exchange_core.proofs.Carrying.{covers_need, covers_rest, leaves_lease}
 use Rattle.exchange_core.proofs.FirstSteps.{under_way, next_in_plan, stays_in_plan, opened_here, opens_after, stands_on}
 use Rattle.exchange_core.specs.Traces.{call_of}
+use Rattle.exchange_core.proofs.Leaving.{left_since}
 use Rattle.exchange_core.proofs.Tracing.{traces_longer}
+use Rattle.exchange_core.specs.declared.leavers.Leavers.{Leavers}
 use Rattle.exchange_core.proofs.exchange.Exchange.run.Goals as goal
 
 pub make-reply-requires-clause-media : goal.make-reply-requires-clause-media
@@ -62,4 +65,7 @@ loop-preserved g c =
       rw c.tell.ensures.work
           (traces_longer (call_of c.args.self.now c.args.given.now) c.args.work.now c.loop.work c.in-Some-next.need c.make-reply.result c.args.pass.now c.loop.pass
           c.make-reply.new.pass c.loop.invariant.8 need c.make-reply.ensures.noted),
+      subst (λ (legs : Leavers). LeftSince c.args.given.now.now c.args.pass.now c.make-reply.new.pass (leaving_of legs)) (sym c.tell.ensures.leavers)
+          (left_since c.args.given.now.now c.args.pass.now c.loop.pass c.make-reply.new.pass (leaving_of c.loop.hands.leavers)
+          (leaving_of c.make-reply.new.hands.leavers) c.loop.invariant.9 c.make-reply.ensures.left),
     )

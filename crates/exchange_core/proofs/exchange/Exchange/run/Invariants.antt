@@ -2,6 +2,7 @@ use Rattle.std.proofs.Common.{◌≡◌, length}
 use Rattle.call_steps.specs.Leases.{lease_in}
 use Rattle.call_steps.specs.MediaLeft.{media_left}
 use Rattle.exchange_core.specs.Covered.{IsCovered}
+use Rattle.exchange_core.specs.Leaving.{LeftSince, leaving_of}
 use Rattle.exchange_core.specs.Newcomers.{SpellsOpening}
 use Rattle.exchange_core.specs.Traces.{Traces, call_of}
 use Rattle.exchange_core.proofs.FirstSteps.{IsUnderWay, MayStand, OpensLeg, PlaceInPlan}
@@ -16,3 +17,4 @@ invariant-loop g l =
     × (OpensLeg l.work.work.place → SpellsOpening l.given.datagram)
     × MayStand l.initial.work.work.place l.initial.pass.credit l.pass.credit l.work.work.place l.hands.denial l.hands.named
     × Traces (call_of l.self l.given) l.initial.work l.work l.initial.pass l.pass
+    × LeftSince l.given.now l.initial.pass l.pass (leaving_of l.hands.leavers)

@@ -11,6 +11,9 @@ returns-clause-lease g c = c.retire-answer.ensures.lease
 pub returns-clause-record : goal.returns-clause-record
 returns-clause-record g c = rw (sym c.self.view_is) c.retire-answer.ensures.record
 
+pub returns-clause-facts : goal.returns-clause-facts
+returns-clause-facts g c = rw (sym c.self.view_is) c.retire-answer.ensures.facts
+
 pub returns-clause-legal : goal.returns-clause-legal
 returns-clause-legal g c = c.retire-answer.ensures.legal
 
@@ -21,4 +24,4 @@ pub returns-clause-same : goal.returns-clause-same
 returns-clause-same g c = rw (sym c.self.view_is) c.retire-answer.ensures.same
 
 pub returns-clause-noted : goal.returns-clause-noted
-returns-clause-noted g c = rw (sym c.self.view_is, sym c.pass.view_is, sym c.is_some.ensures) (ap (noted_with c.pass.inside.credits c.pass.inside.begun) c.push.ensures)
+returns-clause-noted g c = rw (sym c.self.view_is, sym c.pass.view_is, sym c.seen_of.ensures) (ap (noted_with c.pass.inside.credits c.pass.inside.begun) c.push.ensures)

@@ -1,4 +1,6 @@
 use Rattle.std.proofs.Common.{◌≤◌, ℕ, Bor, List, ap, length, arith, subst, ◌∙◌}
+use Rattle.udp_workers.specs.Handed.{GivesAll}
+use Rattle.udp_workers.proofs.HandingLaws.{gives_on}
 use Rattle.udp_workers.proofs.TickLaws.{turn_later}
 use Rattle.udp_workers.proofs.worker.Worker.run_until.Goals as goal
 
@@ -18,6 +20,9 @@ loop-turn-preserved g c =
       wire = made.ensures.wire ∙ c.pause.ensures.peers ∙ l.invariant.wire;
       steps = omega arith;
       later = turn_later c.args.exchange.now c.now-now.result l.self.peers c.args.pass.now l.pass made.new.pass l.invariant.later made.ensures.ticked;
+      handed =
+          gives_on (g.V.Watch.given c.args.watch.now) c.args.pass.now l.pass made.new.pass l.invariant.handed
+          (subst (λ (watch : g.row.V.Denot). GivesAll (g.V.Watch.given watch) l.pass made.new.pass) l.invariant.watch made.ensures.handed);
       place = made.ensures.place ∙ l.invariant.place;
       peers = made.ensures.peers ∙ l.invariant.peers;
       turns = omega arith;

@@ -1,5 +1,6 @@
 use Rattle.std.proofs.Common.{◌≡◌, ◌+◌, ◌*◌, ◌≤◌}
 use Rattle.udp_workers.specs.Counts.{RisesBy}
+use Rattle.udp_workers.specs.Handed.{GivesAll}
 use Rattle.udp_workers.specs.Ticked.{IsLater}
 use Rattle.udp_workers.proofs.worker.Worker.run_until.Given as goal
 
@@ -15,6 +16,7 @@ invariant-loop-turn g l = record {
   wire : g.W.Wire.peers l.wire ≡ g.W.Wire.peers l.fn.wire;
   steps : l.fn.pass.credit.steps + l.tally.report.received ≤ l.pass.credit.steps + l.tally.report.refused;
   later : IsLater l.fn.pass l.pass;
+  handed : GivesAll (g.V.Watch.given l.watch) l.fn.pass l.pass;
   place : l.self.place ≡ l.fn.self.place;
   peers : l.self.peers ≡ l.fn.self.peers;
   turns : RisesBy l.fn.self.turns l.self.turns l.turn;

@@ -1,10 +1,12 @@
-use Rattle.std.proofs.Common.{◌≢◌, ℕ, ◌<◌, List, ◌∙◌, subst, sym, ap, length}
+use Rattle.std.proofs.Common.{Bor, ◌≢◌, ℕ, ◌<◌, List, ◌∙◌, subst, sym, ap, length}
 use Rattle.std.specs.Prelude.{All, AllPairs}
 use Rattle.peer_plan.specs.Plan.{IsPlan}
 use Rattle.peer_plan.specs.declared.endpoint.Endpoint.{Endpoint}
 use Rattle.udp_workers.specs.Counts.{RisesByAtMost}
+use Rattle.udp_workers.specs.Handed.{GivesAll}
 use Rattle.udp_workers.specs.Served.{WorkerView, AreEndpoints}
 use Rattle.udp_workers.specs.Ticked.{TicksAll}
+use Rattle.udp_workers.proofs.HandingLaws.{gives_on}
 use Rattle.udp_workers.proofs.ServedLaws.{peers_below, endpoints_apart}
 use Rattle.udp_workers.proofs.worker.Worker.turn_at.Goals as goal
 
@@ -41,3 +43,10 @@ returns-clause-ticked g c =
     let own = c.as_slice-peers.ensures.value ∙ ap (λ (worker : WorkerView). worker.peers) c.self.view_is in
     let unsent = subst (TicksAll plan c.args.now c.as_slice-peers.result.now arrived) (sym c.empty_all.ensures.pass) c.tick_all.ensures.ticked in
     (arrived, c.receive_all.ensures.later, subst (λ peers. TicksAll plan c.args.now peers arrived c.empty_all.new.pass) own unsent)
+
+pub returns-clause-handed : goal.returns-clause-handed
+returns-clause-handed g c =
+    let given = g.V.Watch.given c.args.tally.now.watch.now in
+    let arrived = c.receive_all.new.pass in
+    let ticked = subst (λ (w : Bor g.row.V.Denot). GivesAll (g.V.Watch.given w.now) arrived c.tick_all.new.pass) c.receive_all.ensures.watch c.tick_all.ensures.handed in
+    gives_on given c.args.pass.now arrived c.empty_all.new.pass c.receive_all.ensures.handed (subst (GivesAll given arrived) (sym c.empty_all.ensures.pass) ticked)
