@@ -1,0 +1,9 @@
+pub mod Backlog
+pub mod Columns
+pub mod CourseFacts
+pub mod Courses
+pub mod JoinedCalls
+pub mod Numbering
+pub mod Reader
+pub mod Rows
+pub mod SideFrames

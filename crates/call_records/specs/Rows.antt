@@ -1,0 +1,67 @@
+-- The text of a row: its columns, which stand as a record of CSV (RFC 4180).
+use Rattle.std.specs.Prelude.{ℕ, List, [], ◌∷◌, Option, None, Some, codes, decimal, option_map}
+use Rattle.std.specs.Str.Lossy.{utf8_lossy}
+use Rattle.call_signals.specs.declared.failure.Failure.{Failure}
+use Rattle.call_signals.specs.declared.failure.Failure.TheVariants.{RetriesSpent, RecordFull, Inval}
+use Rattle.call_signals.specs.declared.formats.Format.{Format}
+use Rattle.call_signals.specs.declared.formats.Format.TheVariants.{Gsm, Ulaw, Alaw}
+use Rattle.call_records.specs.declared.side.Side.{Side}
+use Rattle.call_records.specs.declared.side.Side.TheVariants.{Peer, Exchange}
+use Rattle.call_records.specs.declared.leg_moment.LegMoment.{LegMoment}
+use Rattle.call_records.specs.declared.call_end.Ending.{Ending}
+use Rattle.call_records.specs.declared.call_end.Ending.TheVariants.{HungUpHere, HungUpByPeer, RejectedHere, RejectedByPeer}
+use Rattle.call_records.specs.declared.call_end.CallEnd.{CallEnd}
+
+-- ---- what stands in a column
+
+abbrev pub side_text : Side → List ℕ
+side_text Peer = codes "peer"
+side_text Exchange = codes "exchange"
+
+abbrev pub format_text : Format → List ℕ
+format_text Gsm = codes "gsm"
+format_text Ulaw = codes "ulaw"
+format_text Alaw = codes "alaw"
+
+abbrev pub how_text : Ending → List ℕ
+how_text HungUpHere = codes "hung_up_here"
+how_text HungUpByPeer = codes "hung_up_by_peer"
+how_text RejectedHere = codes "rejected_here"
+how_text RejectedByPeer = codes "rejected_by_peer"
+
+abbrev pub failure_text : Failure → List ℕ
+failure_text RetriesSpent = codes "retries_spent"
+failure_text RecordFull = codes "record_full"
+failure_text Inval = codes "inval"
+
+-- a text, and nothing where there is none
+abbrev pub or_nothing : Option (List ℕ) → List ℕ
+or_nothing None = []
+or_nothing (Some text) = text
+
+-- a number in decimal digits, and nothing where there is none
+abbrev pub number_text : Option ℕ → List ℕ
+number_text n = or_nothing (option_map decimal n)
+
+-- a telephone number: what is no text of it shows as the replacement character
+abbrev pub telephone_text : Option (List ℕ) → List ℕ
+telephone_text number = or_nothing (option_map utf8_lossy number)
+
+-- two columns: milliseconds, and whose clock tells them
+abbrev pub moment_columns : Option LegMoment → List (List ℕ)
+moment_columns None = [] ∷ [] ∷ []
+moment_columns (Some moment) = decimal moment.ms ∷ side_text moment.clock ∷ []
+
+-- why the leg ended: by the frame that ended the call, else by what ended the leg
+abbrev pub ending_text : Option CallEnd → Option Failure → List ℕ
+ending_text (Some end) failure = how_text end.how
+ending_text None (Some failure) = failure_text failure
+ending_text None None = codes "unknown"
+
+abbrev pub end_moment : Option CallEnd → Option LegMoment
+end_moment None = None
+end_moment (Some end) = Some end.at
+
+abbrev pub end_cause : Option CallEnd → Option ℕ
+end_cause None = None
+end_cause (Some end) = end.cause

@@ -1,0 +1,88 @@
+//! Rows that wait to be written.
+ghost use Rattle.std.specs.Prelude.{◌≡◌, ◌<◌, ◌↔◌, ◌==◌, [], length, slice_get, option_copied, IfOk, IsTrue};
+ghost use Rattle.call_records.specs.Backlog.{with_row, without_front};
+
+use circular_buffer::HeapCircularBuffer;
+use std::alloc::{AllocError, Global};
+use std::marker::Model;
+
+/// Rows that wait to be written, in order, in bounded memory. Where there is no room a row is lost, and counted.
+///
+/// Only `new` takes memory. Contracts see the rows, the oldest first, how many there may be, and how many were lost.
+#[derive(Drop)]
+pub struct Backlog<T: Drop> {
+    ring: HeapCircularBuffer<T>,
+    lost: u64,
+}
+
+impl<T: Drop> Model for Backlog<T> {
+    ghost use Rattle.call_records.specs.Backlog.{BacklogState, backlog_code};
+
+    ghost Value = { BacklogState T };
+
+    ghost coded = { backlog_code T.code };
+
+    ghost view = { λ b. record { waiting = b.ring.items; capacity = b.ring.capacity; lost = b.lost } };
+}
+
+impl<T: Drop> Backlog<T> {
+    /// No rows, with room for so many.
+    pub fn new(alloc: Global, capacity: usize) -> Result<Backlog<T>, AllocError>
+        ensures { IfOk result (λ backlog. backlog ≡ record { waiting = []; capacity = capacity; lost = 0 }) }
+    {
+        Ok(Backlog {
+            ring: HeapCircularBuffer::with_capacity(alloc, capacity)?,
+            lost: 0,
+        })
+    }
+
+    /// How many rows wait.
+    pub fn len(&self) -> usize
+        ensures { result ≡ length self.now.waiting }
+    {
+        self.ring.len()
+    }
+
+    /// Whether no row waits.
+    pub fn is_empty(&self) -> bool
+        ensures { result ≡ (length self.now.waiting == 0) }
+    {
+        self.ring.is_empty()
+    }
+
+    /// How many rows were lost, modulo 2^64.
+    pub fn lost(&self) -> u64
+        ensures { result ≡ self.now.lost }
+    {
+        self.lost
+    }
+
+    /// Adds a row as the last, or loses and counts it where there is no room. Says which.
+    pub fn push(&mut self, row: T) -> bool
+        ensures kept { IsTrue result ↔ (length self.old.waiting < self.old.capacity) }
+        ensures after { self.new ≡ with_row self.old row }
+    {
+        match self.ring.try_push_back(row) {
+            Ok(()) => true,
+            Err(_row) => {
+                self.lost = self.lost.wrapping_add(1);
+                false
+            }
+        }
+    }
+
+    /// The oldest row.
+    pub fn front(&self) -> Option<&T>
+        ensures { option_copied result ≡ slice_get self.now.waiting 0 }
+    {
+        self.ring.front()
+    }
+
+    /// Takes the oldest row off, if there is one.
+    pub fn take(&mut self) -> Option<T>
+        ensures row { result ≡ slice_get self.old.waiting 0 }
+        ensures after { self.new ≡ without_front self.old }
+    {
+        self.ring.pop_front()
+    }
+}

@@ -1,0 +1,97 @@
+//! What the record of a leg says of its call.
+ghost use Rattle.std.specs.Prelude.{◌≡◌, ◌≤◌, IsSome, count_by, length};
+ghost use Rattle.std.specs.Option.{ForSome, option_copied};
+ghost use Rattle.seq_window.specs.History.{sent_count, acked_count, taken_count};
+ghost use Rattle.call_signals.specs.NewElements.{new_elements};
+ghost use Rattle.call_records.specs.SideFrames.{frames_of};
+ghost use Rattle.call_records.specs.Courses as course;
+ghost use Rattle.call_records.specs.declared.side.Side.TheVariants.{Peer, Exchange};
+
+use crate::call_end::CallEnd;
+use crate::courses;
+use crate::leg_moment::LegMoment;
+use crate::side::Side;
+use call_signals::ElementText;
+use seq_window::Record;
+
+/// What the record of a leg says of its call.
+#[derive(Debug, Drop)]
+pub struct CallRecord {
+    /// The side that opened the call; none where the record doesn't begin with a NEW.
+    pub opened_by: Option<Side>,
+    /// The number that is called, as the NEW has it, at most 255 octets.
+    pub called: Option<ElementText>,
+    /// The number that calls, as the NEW has it, at most 255 octets.
+    pub calling: Option<ElementText>,
+    /// The moment of the called side's ACCEPT, where it came before the end.
+    pub accepted: Option<LegMoment>,
+    /// The moment of the called side's ANSWER, where it came after its ACCEPT and before the end.
+    pub answered: Option<LegMoment>,
+    /// How the call ended, and when; none where no frame ended it.
+    pub end: Option<CallEnd>,
+    /// Frames that were sent, each counted once, and those of them that were acknowledged.
+    pub sent: usize,
+    pub acknowledged: usize,
+    /// Frames of the peer that were taken.
+    pub taken: usize,
+    /// DTMF frames of the peer that were taken.
+    pub digits_taken: usize,
+    /// DTMF frames that were sent.
+    pub digits_sent: usize,
+}
+
+fn text_of(text: Option<&[u8]>) -> Option<ElementText>
+    requires { ForSome text (λ octets. length octets.now ≤ 255) }
+    ensures { result ≡ option_copied text.entry }
+{
+    match text {
+        Some(text) => Some(ElementText::new(text)),
+        None => None,
+    }
+}
+
+impl CallRecord {
+    /// What the record says, by the frames that both sides sent each other and by nothing else.
+    pub fn of(history: &Record) -> CallRecord
+        ensures opened_by { result.opened_by ≡ course.opener_of (frames_of history.now.entries) }
+        ensures called { result.called ≡ (new_elements (course.new_data (frames_of history.now.entries))).called }
+        ensures calling { result.calling ≡ (new_elements (course.new_data (frames_of history.now.entries))).calling }
+        ensures accepted { result.accepted
+            ≡ course.accepted_of (course.opener_of (frames_of history.now.entries)) (frames_of history.now.entries) }
+        ensures answered { result.answered
+            ≡ course.answered_of (course.opener_of (frames_of history.now.entries)) (frames_of history.now.entries) }
+        ensures end { result.end
+            ≡ course.end_of (course.opener_of (frames_of history.now.entries)) (frames_of history.now.entries) }
+        ensures sent { result.sent ≡ sent_count history.now.entries }
+        ensures acknowledged { result.acknowledged ≡ acked_count history.now.entries }
+        ensures taken { result.taken ≡ taken_count history.now.entries }
+        ensures digits_taken { result.digits_taken ≡ count_by (course.is_digit_by Peer) (frames_of history.now.entries) }
+        ensures digits_sent { result.digits_sent ≡ count_by (course.is_digit_by Exchange) (frames_of history.now.entries) }
+    {
+        let opened_by = courses::opener(history);
+        let elements = courses::elements_of_new(history);
+        CallRecord {
+            opened_by,
+            called: text_of(elements.called),
+            calling: text_of(elements.calling),
+            accepted: courses::accepted(history, opened_by),
+            answered: courses::answered(history, opened_by),
+            end: courses::end(history, opened_by),
+            sent: history.sent_count(),
+            acknowledged: history.acked_count(),
+            taken: history.taken_count(),
+            digits_taken: courses::digits(history, Side::Peer),
+            digits_sent: courses::digits(history, Side::Exchange),
+        }
+    }
+
+    /// The milliseconds from the answer to the end, where one clock tells both: so the called side hung up.
+    pub fn talk_ms(&self) -> Option<u32>
+        ensures { result ≡ course.talk_ms self.now.answered self.now.end }
+    {
+        match (self.answered, self.end) {
+            (Some(answered), Some(end)) => answered.ms_to(end.at),
+            _ => None,
+        }
+    }
+}

@@ -1,0 +1,217 @@
+//! The row of a leg that has ended, and its text.
+ghost use Rattle.std.specs.Prelude.{◌≡◌, ◌++◌, OnOk, OnErr, IfOk};
+ghost use Rattle.csv.specs.Records.{fields_of};
+ghost use Rattle.csv.specs.Writing.{default_writer, row_text};
+ghost use Rattle.call_records.specs.Columns as columns;
+
+use crate::call_record::CallRecord;
+use crate::columns::{
+    ending_name, failure_name, format_name, push_moment, push_number, push_record, push_telephone,
+};
+use call_book::LegName;
+use call_signals::{Failure, Format};
+use csv::StringRecord;
+use std::alloc::{AllocError, Global};
+
+/// What is kept of a leg that has ended. It has no memory of its own, and is at most 1,024 octets large.
+#[derive(Debug, Drop)]
+pub struct CallRow {
+    /// The serial of the call, which its other leg has too.
+    pub call: u64,
+    pub name: LegName,
+    /// The leg that it was bridged with until it was taken out.
+    pub partner: Option<LegName>,
+    /// What its record says.
+    pub leg: CallRecord,
+    pub format: Format,
+    /// Why it ended, where no HANGUP or REJECT ended it.
+    pub failure: Option<Failure>,
+    /// How many full frames went out again, modulo 2^64.
+    pub resent: u64,
+    /// The moment at which it was opened, in milliseconds since the exchange was.
+    pub opened: u64,
+    /// The moment at which it was taken out, in milliseconds since the exchange was opened.
+    pub ended: u64,
+}
+
+const _: () = prove!(std::mem::size_of::<CallRow>() <= 1024);
+
+/// The texts of a row that need a plan or a calendar.
+#[derive(Clone, Copy, Debug)]
+pub struct RowTexts<'a> {
+    /// The name of the leg's peer.
+    pub peer: &'a str,
+    /// When the leg was opened.
+    pub opened: &'a str,
+    /// When it was taken out.
+    pub ended: &'a str,
+}
+
+// The names of the columns.
+const NAMES: [&str; 30] = [
+    "call",
+    "peer",
+    "number",
+    "serial",
+    "partner_number",
+    "partner_serial",
+    "opened_by",
+    "calling",
+    "called",
+    "format",
+    "opened",
+    "opened_ms",
+    "ended",
+    "ended_ms",
+    "accepted_ms",
+    "accepted_clock",
+    "answered_ms",
+    "answered_clock",
+    "end_ms",
+    "end_clock",
+    "talk_ms",
+    "ending",
+    "cause",
+    "failure",
+    "sent",
+    "acknowledged",
+    "taken",
+    "resent",
+    "digits_taken",
+    "digits_sent",
+];
+
+impl CallRow {
+    // Adds which call and which leg.
+    fn push_names(
+        &self,
+        alloc: Global,
+        fields: &mut StringRecord,
+        texts: &RowTexts<'_>,
+    ) -> Result<(), AllocError>
+        ensures { OnOk result (fields_of fields.new ≡ fields_of fields.old ++ columns.name_columns self.now texts.now) }
+    {
+        push_number(alloc, fields, Some(self.call))?;
+        fields.push_field(texts.peer)?;
+        push_number(alloc, fields, Some(u64::from(self.name.number)))?;
+        push_number(alloc, fields, Some(self.name.serial))?;
+        push_number(
+            alloc,
+            fields,
+            self.partner.map(|name| u64::from(name.number)),
+        )?;
+        push_number(alloc, fields, self.partner.map(|name| name.serial))
+    }
+
+    // Adds who called whom.
+    fn push_parties(&self, alloc: Global, fields: &mut StringRecord) -> Result<(), AllocError>
+        ensures { OnOk result (fields_of fields.new ≡ fields_of fields.old ++ columns.party_columns self.now) }
+    {
+        match self.leg.opened_by {
+            Some(side) => fields.push_field(side.name())?,
+            None => fields.push_field("")?,
+        }
+        push_telephone(alloc, fields, self.leg.calling.as_ref())?;
+        push_telephone(alloc, fields, self.leg.called.as_ref())?;
+        fields.push_field(format_name(self.format))
+    }
+
+    // Adds when the leg was there.
+    fn push_times(
+        &self,
+        alloc: Global,
+        fields: &mut StringRecord,
+        texts: &RowTexts<'_>,
+    ) -> Result<(), AllocError>
+        ensures { OnOk result (fields_of fields.new ≡ fields_of fields.old ++ columns.time_columns self.now texts.now) }
+    {
+        fields.push_field(texts.opened)?;
+        push_number(alloc, fields, Some(self.opened))?;
+        fields.push_field(texts.ended)?;
+        push_number(alloc, fields, Some(self.ended))
+    }
+
+    // Adds when its call was accepted, was answered and ended.
+    fn push_moments(&self, alloc: Global, fields: &mut StringRecord) -> Result<(), AllocError>
+        ensures { OnOk result (fields_of fields.new ≡ fields_of fields.old ++ columns.moments_columns self.now) }
+    {
+        push_moment(alloc, fields, self.leg.accepted)?;
+        push_moment(alloc, fields, self.leg.answered)?;
+        push_moment(alloc, fields, self.leg.end.map(|end| end.at))?;
+        push_number(alloc, fields, self.leg.talk_ms().map(u64::from))
+    }
+
+    // Adds why it ended.
+    fn push_ending(&self, alloc: Global, fields: &mut StringRecord) -> Result<(), AllocError>
+        ensures { OnOk result (fields_of fields.new ≡ fields_of fields.old ++ columns.ending_columns self.now) }
+    {
+        let cause = match self.leg.end {
+            Some(end) => end.cause.map(u64::from),
+            None => None,
+        };
+        fields.push_field(ending_name(self.leg.end, self.failure))?;
+        push_number(alloc, fields, cause)?;
+        fields.push_field(failure_name(self.failure))
+    }
+
+    // Adds what went over it.
+    fn push_counts(&self, alloc: Global, fields: &mut StringRecord) -> Result<(), AllocError>
+        ensures { OnOk result (fields_of fields.new ≡ fields_of fields.old ++ columns.count_columns self.now) }
+    {
+        push_number(alloc, fields, Some(self.leg.sent as u64))?;
+        push_number(alloc, fields, Some(self.leg.acknowledged as u64))?;
+        push_number(alloc, fields, Some(self.leg.taken as u64))?;
+        push_number(alloc, fields, Some(self.resent))?;
+        push_number(alloc, fields, Some(self.leg.digits_taken as u64))?;
+        push_number(alloc, fields, Some(self.leg.digits_sent as u64))
+    }
+
+    // Adds all columns.
+    fn push_columns(
+        &self,
+        alloc: Global,
+        fields: &mut StringRecord,
+        texts: &RowTexts<'_>,
+    ) -> Result<(), AllocError>
+        ensures { OnOk result (fields_of fields.new ≡ fields_of fields.old ++ columns.row_columns self.now texts.now) }
+    {
+        self.push_names(alloc, fields, texts)?;
+        self.push_parties(alloc, fields)?;
+        self.push_times(alloc, fields, texts)?;
+        self.push_moments(alloc, fields)?;
+        self.push_ending(alloc, fields)?;
+        self.push_counts(alloc, fields)
+    }
+
+    // All columns.
+    fn columns(&self, alloc: Global, texts: &RowTexts<'_>) -> Result<StringRecord, AllocError>
+        ensures { IfOk result (λ fields. fields_of fields ≡ columns.row_columns self.now texts.now) }
+    {
+        let mut fields = StringRecord::new(alloc);
+        self.push_columns(alloc, &mut fields, texts)?;
+        Ok(fields)
+    }
+}
+
+/// Adds the line with the names of the columns, or changes nothing.
+pub fn push_header(alloc: Global, out: &mut Vec<u8>) -> Result<(), AllocError>
+    ensures ok { OnOk result (out.new.items ≡ out.old.items ++ row_text default_writer columns.column_names) }
+    ensures err { OnErr result (out.new.items ≡ out.old.items) }
+{
+    let fields = StringRecord::from_fields(alloc, &NAMES)?;
+    push_record(alloc, out, &fields)
+}
+
+/// Adds the text of a row as a record of CSV (RFC 4180, with a line feed at its end), or changes nothing.
+pub fn push_row(
+    alloc: Global,
+    out: &mut Vec<u8>,
+    row: &CallRow,
+    texts: &RowTexts<'_>,
+) -> Result<(), AllocError>
+    ensures ok { OnOk result (out.new.items ≡ out.old.items ++ row_text default_writer (columns.row_columns row.now texts.now)) }
+    ensures err { OnErr result (out.new.items ≡ out.old.items) }
+{
+    let fields = row.columns(alloc, texts)?;
+    push_record(alloc, out, &fields)
+}

@@ -1,0 +1,127 @@
+//! The columns of a row, one after another, and a row's text.
+ghost use Rattle.std.specs.Prelude.{◌≡◌, [], ◌∷◌, ◌++◌, OnOk, OnErr, IfOk, option_copied, option_map};
+ghost use Rattle.csv.specs.Records.{fields_of};
+ghost use Rattle.csv.specs.Writing.{default_writer, row_text};
+ghost use Rattle.call_records.specs.Rows as rows;
+
+use crate::call_end::CallEnd;
+use crate::leg_moment::LegMoment;
+use call_signals::{ElementText, Failure, Format};
+use csv::{StringRecord, WriterBuilder};
+use std::alloc::{AllocError, Global};
+
+// Adds a number in decimal digits, or nothing.
+pub(crate) fn push_number(
+    alloc: Global,
+    fields: &mut StringRecord,
+    number: Option<u64>,
+) -> Result<(), AllocError>
+    ensures { OnOk result (fields_of fields.new ≡ fields_of fields.old ++ rows.number_text number ∷ []) }
+{
+    match number {
+        Some(number) => {
+            let digits = format!(in alloc; "{number}")?;
+            fields.push_field(digits.as_str())
+        }
+        None => fields.push_field(""),
+    }
+}
+
+// Adds a telephone number, or nothing.
+pub(crate) fn push_telephone(
+    alloc: Global,
+    fields: &mut StringRecord,
+    number: Option<&ElementText>,
+) -> Result<(), AllocError>
+    ensures { OnOk result (fields_of fields.new ≡ fields_of fields.old ++ rows.telephone_text (option_copied number.entry) ∷ []) }
+{
+    match number {
+        Some(number) => {
+            let text = String::from_utf8_lossy(alloc, number.as_slice())?;
+            fields.push_field(text.as_str())
+        }
+        None => fields.push_field(""),
+    }
+}
+
+// Adds the two columns of a moment, or nothing in both.
+pub(crate) fn push_moment(
+    alloc: Global,
+    fields: &mut StringRecord,
+    moment: Option<LegMoment>,
+) -> Result<(), AllocError>
+    ensures { OnOk result (fields_of fields.new ≡ fields_of fields.old ++ rows.moment_columns moment) }
+{
+    match moment {
+        Some(moment) => {
+            push_number(alloc, fields, Some(u64::from(moment.ms)))?;
+            fields.push_field(moment.clock.name())
+        }
+        None => {
+            fields.push_field("")?;
+            fields.push_field("")
+        }
+    }
+}
+
+// The name of a format.
+pub(crate) fn format_name(format: Format) -> &'static str
+    ensures { result.now ≡ rows.format_text format }
+{
+    match format {
+        Format::Gsm => "gsm",
+        Format::Ulaw => "ulaw",
+        Format::Alaw => "alaw",
+    }
+}
+
+// The name of a failure, or nothing.
+pub(crate) fn failure_name(failure: Option<Failure>) -> &'static str
+    ensures { result.now ≡ rows.or_nothing (option_map rows.failure_text failure) }
+{
+    match failure {
+        Some(Failure::RetriesSpent) => "retries_spent",
+        Some(Failure::RecordFull) => "record_full",
+        Some(Failure::Inval) => "inval",
+        None => "",
+    }
+}
+
+// Why a leg ended.
+pub(crate) fn ending_name(end: Option<CallEnd>, failure: Option<Failure>) -> &'static str
+    ensures { result.now ≡ rows.ending_text end failure }
+{
+    match (end, failure) {
+        (Some(end), _) => end.how.name(),
+        (None, Some(failure)) => failure_name(Some(failure)),
+        (None, None) => "unknown",
+    }
+}
+
+// The text of one record.
+fn record_text(alloc: Global, fields: &StringRecord) -> Result<Vec<u8>, AllocError>
+    ensures { IfOk result (λ text. text.items ≡ row_text default_writer (fields_of fields.now)) }
+{
+    let mut writer = WriterBuilder::new().from_writer(Vec::new(alloc));
+    match writer.write_byte_record(fields.as_byte_record()) {
+        Ok(()) => {}
+        Err(_) => return Err(AllocError),
+    }
+    match writer.into_inner() {
+        Ok(text) => Ok(text),
+        Err(_) => Err(AllocError),
+    }
+}
+
+// Adds the text of one record, or changes nothing.
+pub(crate) fn push_record(
+    alloc: Global,
+    out: &mut Vec<u8>,
+    fields: &StringRecord,
+) -> Result<(), AllocError>
+    ensures ok { OnOk result (out.new.items ≡ out.old.items ++ row_text default_writer (fields_of fields.now)) }
+    ensures err { OnErr result (out.new.items ≡ out.old.items) }
+{
+    let text = record_text(alloc, fields)?;
+    out.extend_from_slice(text.as_slice())
+}

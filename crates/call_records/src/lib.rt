@@ -1,0 +1,24 @@
+//! The record of a call leg that has ended: who called whom, when it was accepted and answered, how it ended and what went over
+//! it, all read from the leg's list of frames (RFC 5456, "Call Setup", "Call Tear Down"); the serials that join the two legs of
+//! a call; the rows that wait to be written, and their text.
+#![tactic(auto)]
+
+mod backlog;
+mod call_end;
+mod call_numbering;
+mod call_record;
+mod call_row;
+mod columns;
+mod courses;
+pub mod laws;
+mod leg_moment;
+mod side;
+mod side_frames;
+
+pub use backlog::Backlog;
+pub use call_end::{CallEnd, Ending};
+pub use call_numbering::CallNumbering;
+pub use call_record::CallRecord;
+pub use call_row::{CallRow, RowTexts, push_header, push_row};
+pub use leg_moment::LegMoment;
+pub use side::Side;
