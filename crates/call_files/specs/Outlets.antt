@@ -1,0 +1,19 @@
+-- Rows that one thread hands over to another.
+use Rattle.std.specs.Prelude.{List, ◌++◌, refl}
+use Rattle.std.specs.Coded.{Coded, code_by, coded×, coded_list}
+
+pub record Handed (T : Type 0) : Type 0 where
+  -- what went into the ring, the oldest first
+  pub gone : List T
+  -- what found no room there, and is kept
+  pub kept : List T
+
+module _ {T : Type 0} where
+  abbrev pub handed_code : Coded T → Coded (Handed T)
+  handed_code c =
+      code_by (List T × List T) (coded× (coded_list c) (coded_list c)) (λ h. (h.gone, h.kept))
+      (λ p. record { gone = p.0; kept = p.1 }) (λ _. refl)
+
+  -- all that was handed over and isn't lost, in its order
+  abbrev pub all_of : Handed T → List T
+  all_of h = h.gone ++ h.kept

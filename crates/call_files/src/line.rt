@@ -1,0 +1,69 @@
+//! A line on its way to a file.
+ghost use Rattle.std.specs.Prelude.{◌≡◌, ◌+◌, ◌≤◌, ◌↔◌, IsTrue, length};
+ghost use Rattle.call_files.specs.Lines.{rest_of};
+
+use std::marker::Model;
+
+/// Octets that go to a file, and how many of them were written.
+#[derive(Debug, Drop)]
+pub struct Line {
+    octets: Vec<u8>,
+    written: usize,
+}
+
+impl Model for Line {
+    ghost use Rattle.std.specs.Prelude.{◌≤◌, length};
+    ghost use Rattle.call_files.specs.Lines.{LineView};
+
+    ghost Value = { LineView };
+
+    ghost view = { λ line. record { octets = line.octets.items; written = line.written } };
+
+    ghost invariant = { λ line. line.written ≤ length line.octets.items };
+}
+
+impl Line {
+    /// These octets, none of which was written.
+    pub fn new(octets: Vec<u8>) -> Line
+        ensures octets { result.octets ≡ octets.items }
+        ensures written { result.written ≡ 0 }
+    {
+        Line { octets, written: 0 }
+    }
+
+    /// What wasn't written yet.
+    pub fn rest(&self) -> &[u8]
+        ensures { result.now ≡ rest_of self.now }
+    {
+        &self.octets[self.written..]
+    }
+
+    /// Whether all of it was written.
+    pub fn is_whole(&self) -> bool
+        ensures { IsTrue result ↔ (self.now.written ≡ length self.now.octets) }
+    {
+        self.written == self.octets.len()
+    }
+
+    /// So many more octets were written.
+    pub fn wrote(&mut self, count: usize)
+        requires { self.old.written + count ≤ length self.old.octets }
+        ensures { self.new ≡ record self.old { written = self.old.written + count } }
+    {
+        self.written += count;
+    }
+
+    /// It is to be written from its first octet on.
+    pub fn begin_again(&mut self)
+        ensures { self.new ≡ record self.old { written = 0 } }
+    {
+        self.written = 0;
+    }
+
+    /// It isn't to be written, or not on.
+    pub fn leave_out(&mut self)
+        ensures { self.new ≡ record self.old { written = length self.old.octets } }
+    {
+        self.written = self.octets.len();
+    }
+}

@@ -1,0 +1,95 @@
+//! Where a thread hands rows over to another one without waiting for it.
+ghost use Rattle.std.specs.Prelude.{◌≡◌, [], ◌∷◌, ◌++◌, if◌then◌else◌, length};
+ghost use Rattle.call_files.specs.Outlets.{all_of};
+ghost use Rattle.rtrb.specs.Ring.{sent};
+
+use call_records::Backlog;
+use rtrb::{Producer, PushError};
+use std::marker::Model;
+use std::mem;
+
+/// A ring to another thread, and the rows that found no room in it, in their order. The next of these goes into the ring before any
+/// row that comes later. Contracts see what went into the ring, and what is kept.
+#[derive(Drop)]
+pub struct Outlet<T: Drop> {
+    ring: Producer<T>,
+    kept: Backlog<T>,
+}
+
+impl<T: Drop> Model for Outlet<T> {
+    ghost use Rattle.call_files.specs.Outlets.{Handed, handed_code};
+    ghost use Rattle.rtrb.specs.Ring.{sent};
+
+    ghost Value = { Handed T };
+
+    ghost coded = { handed_code T.code };
+
+    ghost view = { λ outlet. record { gone = sent outlet.ring; kept = outlet.kept.waiting } };
+}
+
+impl<T: Drop> Outlet<T> {
+    /// A ring, and room for rows that are kept.
+    pub fn new(ring: Producer<T>, kept: Backlog<T>) -> Outlet<T>
+        ensures { result ≡ record { gone = sent ring; kept = kept.waiting } }
+    {
+        Outlet { ring, kept }
+    }
+
+    // The oldest row that is kept goes on. False: none does, since none is kept or the ring has no room.
+    #[tactic(auto, using(crate::proofs::RowLaws::front_goes_on, crate::proofs::RowLaws::nobody_goes_on))]
+    fn pass_one(&mut self) -> bool
+        ensures { all_of self.new ≡ all_of self.old }
+    {
+        if self.ring.is_full() {
+            return false;
+        }
+        match self.kept.take() {
+            Some(row) => {
+                self.ring.push_reserved(row);
+                true
+            }
+            None => false,
+        }
+    }
+
+    // The rows that are kept go on, as far as the ring has room.
+    fn pass_on(&mut self)
+        ensures { all_of self.new ≡ all_of self.old }
+    {
+        for _ in 0..self.kept.len() {
+            if !self.pass_one() {
+                return;
+            }
+        }
+    }
+
+    /// Hands a row over, or keeps it. False: there was no room for it either, and it is lost.
+    pub fn hand_over(&mut self, row: T) -> bool
+        ensures { all_of self.new ≡ (if result then all_of self.old ++ row ∷ [] else all_of self.old) }
+    {
+        self.pass_on();
+        if !self.kept.is_empty() {
+            return self.kept.push(row);
+        }
+        match self.ring.push(row) {
+            Ok(()) => true,
+            Err(PushError::Full(row)) => self.kept.push(row),
+        }
+    }
+
+    /// How many rows are kept.
+    pub fn kept(&self) -> usize
+        ensures { result ≡ length self.now.kept }
+    {
+        self.kept.len()
+    }
+
+    /// The rows that are kept, all of which come later than those in the ring. What is given takes their place, and has none.
+    pub fn take_kept(&mut self, spare: Backlog<T>) -> Backlog<T>
+        requires { spare.waiting ≡ [] }
+        ensures rows { result.waiting ≡ self.old.kept }
+        ensures after { self.new ≡ record self.old { kept = [] } }
+    {
+        mem::replace(&mut self.kept, spare)
+    }
+}

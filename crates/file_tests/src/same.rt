@@ -1,0 +1,18 @@
+//! What a test finds, held against what it expects.
+use std::fmt::Debug;
+use std::process::Abort;
+
+/// What is found is what is expected.
+pub fn same<T: PartialEq + Debug>(rt: &impl Abort, found: &T, expected: &T) {
+    assert_eq!(rt; *found, *expected);
+}
+
+/// This text is found.
+pub fn same_text(rt: &impl Abort, found: &str, expected: &str) {
+    assert_eq!(rt; found, expected);
+}
+
+/// These octets are found.
+pub fn same_octets(rt: &impl Abort, found: &[u8], expected: &[u8]) {
+    assert_eq!(rt; found, expected);
+}
