@@ -1,0 +1,3 @@
+pub mod MediaRuns
+pub mod Wrapping
+pub mod Xml

@@ -1,0 +1,169 @@
+//! Runs of media, folded.
+ghost use Rattle.std.specs.Prelude.{◌≡◌, ◌+◌, ◌<◌, ◌^◌, Bool, IfSome, IsTrue, OnOk, OnErr, [], length, ℕ};
+ghost use Rattle.call_ladder.specs.MediaRuns.{frames_of, octets_of, one_more, octets_more, Takes, Extends};
+ghost use Rattle.call_ladder.specs.declared.media_runs.RunKey.{RunKey};
+
+use std::alloc::{AllocError, Global};
+use std::marker::Model;
+
+/// Which way a datagram goes.
+#[derive(Clone, Copy, Debug, PartialEq, Eq)]
+pub enum Direction {
+    /// From the peer to the exchange.
+    In,
+    /// From the exchange to the peer.
+    Out,
+}
+
+/// How media is carried ("Mini Frames", "Meta Frames").
+#[derive(Clone, Copy, Debug, PartialEq, Eq)]
+pub enum MediaKind {
+    Mini,
+    /// An entry of a trunk frame.
+    Trunk,
+    Video,
+}
+
+/// What the frames of a run have in common.
+#[derive(Clone, Copy, Debug, PartialEq, Eq)]
+pub struct RunKey {
+    /// The place of the peer.
+    pub peer: u16,
+    pub direction: Direction,
+    pub kind: MediaKind,
+    /// The call number that the frames have: the sender's.
+    pub number: u16,
+}
+
+/// One frame with media.
+#[derive(Clone, Copy, Debug, PartialEq, Eq)]
+pub struct MediaPiece {
+    pub key: RunKey,
+    /// In milliseconds.
+    pub moment: u64,
+    pub octets: u64,
+}
+
+/// Frames of one key.
+#[derive(Clone, Copy, Debug, PartialEq, Eq)]
+pub struct MediaRun {
+    pub key: RunKey,
+    /// The moments of the first and of the last frame.
+    pub first: u64,
+    pub last: u64,
+    pub frames: u64,
+    /// Of media, in all frames.
+    pub octets: u64,
+}
+
+impl MediaRun {
+    // A run of one frame.
+    fn of(piece: MediaPiece) -> MediaRun
+        ensures key { result.key ≡ piece.key }
+        ensures frames { result.frames ≡ 1 }
+        ensures octets { result.octets ≡ piece.octets }
+    {
+        MediaRun {
+            key: piece.key,
+            first: piece.moment,
+            last: piece.moment,
+            frames: 1,
+            octets: piece.octets,
+        }
+    }
+
+    // Whether the piece is one more of it, and is counted.
+    fn takes(&self, piece: MediaPiece) -> bool
+        ensures { IsTrue result → Takes self.now piece }
+    {
+        self.key == piece.key && self.frames < u64::MAX && self.octets <= u64::MAX - piece.octets
+    }
+
+    // The run with one frame more.
+    fn with(self, piece: MediaPiece) -> MediaRun
+        requires { Takes self piece }
+        ensures key { result.key ≡ self.key }
+        ensures frames { result.frames ≡ self.frames + 1 }
+        ensures octets { result.octets ≡ self.octets + piece.octets }
+    {
+        MediaRun {
+            key: self.key,
+            first: self.first,
+            last: piece.moment,
+            frames: self.frames + 1,
+            octets: self.octets + piece.octets,
+        }
+    }
+}
+
+/// Runs of media, in the order in which they began. Contracts see their list.
+#[derive(Debug, Drop)]
+pub struct MediaRuns {
+    runs: Vec<MediaRun>,
+}
+
+impl Model for MediaRuns {
+    ghost use Rattle.std.specs.Prelude.{List};
+    ghost use Rattle.call_ladder.specs.declared.media_runs.MediaRun.{MediaRun};
+
+    ghost Value = { List MediaRun };
+
+    ghost view = { λ folded. folded.runs.items };
+}
+
+// The place of the first run that takes the piece, and the run with it.
+fn extended(runs: &[MediaRun], piece: MediaPiece) -> Option<(usize, MediaRun)>
+    ensures within { IfSome result (λ found. found.0 < length runs.now) }
+    ensures more { IfSome result (λ found. Extends runs.now piece found.0 found.1) }
+{
+    for (place, run) in runs.iter().enumerate() {
+        if run.takes(piece) {
+            return Some((place, run.with(piece)));
+        }
+    }
+    None
+}
+
+impl MediaRuns {
+    /// No run.
+    pub fn new(alloc: Global) -> MediaRuns
+        ensures { result ≡ [] }
+    {
+        MediaRuns {
+            runs: Vec::new(alloc),
+        }
+    }
+
+    /// Folds a frame into the run of its key, or begins one. Where memory fails, all stay as they were.
+    #[tactic(auto, using(crate::proofs::FoldLemmas::frames_in_place, crate::proofs::FoldLemmas::octets_in_place))]
+    pub fn fold(&mut self, piece: MediaPiece) -> Result<(), AllocError>
+        // Whichever keys are chosen, their frames and octets are those from before, and this one's where its key is chosen.
+        ensures frames { OnOk result ((chosen : RunKey → Bool) →
+            frames_of chosen self.new ≡ frames_of chosen self.old + one_more chosen piece.key) }
+        ensures octets { OnOk result ((chosen : RunKey → Bool) →
+            octets_of chosen self.new ≡ octets_of chosen self.old + octets_more chosen piece) }
+        ensures err { OnErr result (self.new ≡ self.old) }
+    {
+        match extended(&self.runs, piece) {
+            Some((place, more)) => {
+                self.runs[place] = more;
+                Ok(())
+            }
+            None => Ok(self.runs.push(MediaRun::of(piece))?),
+        }
+    }
+
+    /// The runs.
+    pub fn as_slice(&self) -> &[MediaRun]
+        ensures { result.now ≡ self.now }
+    {
+        &self.runs
+    }
+
+    /// Leaves no run.
+    pub fn clear(&mut self)
+        ensures { self.new ≡ [] }
+    {
+        self.runs.clear();
+    }
+}

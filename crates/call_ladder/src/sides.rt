@@ -1,0 +1,83 @@
+//! Where the lifelines stand: the exchange between its peers.
+use crate::rows::Row;
+use std::alloc::{AllocError, Global};
+
+/// A peer: its name, and its call numbers at the exchange.
+#[derive(Debug, Drop)]
+pub(crate) struct Peer {
+    pub name: String,
+    pub first: u16,
+    pub count: u16,
+}
+
+impl Peer {
+    /// Whether a number is one of its own.
+    pub(crate) fn has(&self, number: u16) -> bool {
+        number >= self.first && u32::from(number) < u32::from(self.first) + u32::from(self.count)
+    }
+}
+
+/// On which side of the exchange a peer stands.
+#[derive(Clone, Copy, Debug, PartialEq, Eq)]
+pub(crate) enum Side {
+    Left,
+    Right,
+}
+
+/// The peers that are shown, in the order of the plan: the first half left of the exchange, the others right of it.
+#[derive(Debug, Drop)]
+pub(crate) struct Sides {
+    shown: Vec<u16>,
+}
+
+// Whether a shown row is of this peer.
+fn is_seen(rows: &[Row], peer: u16, leg: Option<u16>) -> bool {
+    rows.iter()
+        .any(|row| row.peer == Some(peer) && row.is_shown(leg))
+}
+
+impl Sides {
+    /// The sides of the peers that shown rows speak of.
+    pub(crate) fn of(
+        alloc: Global,
+        rows: &[Row],
+        peer_count: usize,
+        leg: Option<u16>,
+    ) -> Result<Sides, AllocError> {
+        let mut shown = Vec::new(alloc);
+        for place in 0..peer_count {
+            if let Ok(peer) = u16::try_from(place) {
+                if is_seen(rows, peer, leg) {
+                    shown.push(peer)?;
+                }
+            }
+        }
+        Ok(Sides { shown })
+    }
+
+    /// The peers that are shown, from left to right.
+    pub(crate) fn peers(&self) -> &[u16] {
+        &self.shown
+    }
+
+    /// How many of them stand left of the exchange: one more than right of it, where their number is odd.
+    pub(crate) fn left_count(&self) -> usize {
+        self.shown.len() - self.shown.len() / 2
+    }
+
+    /// The place of a peer among them.
+    pub(crate) fn place(&self, peer: Option<u16>) -> Option<usize> {
+        let peer = peer?;
+        self.shown.iter().position(|other| *other == peer)
+    }
+
+    /// On which side a peer stands.
+    pub(crate) fn side(&self, peer: Option<u16>) -> Option<Side> {
+        let place = self.place(peer)?;
+        if place < self.left_count() {
+            Some(Side::Left)
+        } else {
+            Some(Side::Right)
+        }
+    }
+}

@@ -1,0 +1,162 @@
+//! The octets of a packet.
+ghost use Rattle.std.specs.Prelude.{◌≡◌, ◌+◌, ◌≤◌, ◌<◌, ◌^◌, ◌++◌, length, IfOk, OnOk};
+ghost use Rattle.packet_capture.specs.Capture.{record_header, ipv4_front, ipv4_header_with, ipv4_header, pseudo_header};
+ghost use Rattle.packet_capture.specs.Capture.{udp_with, udp_summed, sent_checksum, udp_checksum, udp_datagram, packet_octets};
+
+use crate::internet_checksum::checksum;
+use crate::packets::Packet;
+use std::alloc::{AllocError, Global};
+
+// The head of a packet of so many octets.
+fn push_record_header(octets: &mut Vec<u8>, moment: u64, count: u32) -> Result<(), AllocError>
+    ensures { OnOk result (octets.new.items ≡ octets.old.items ++ record_header moment count) }
+{
+    let seconds = (moment / 1000 % 4294967296) as u32;
+    let micros = (moment % 1000 * 1000) as u32;
+    octets.extend_from_slice(&seconds.to_be_bytes())?;
+    octets.extend_from_slice(&micros.to_be_bytes())?;
+    octets.extend_from_slice(&count.to_be_bytes())?;
+    octets.extend_from_slice(&count.to_be_bytes())
+}
+
+// The IPv4 header of a datagram of so many octets, up to the checksum.
+fn push_ipv4_front(octets: &mut Vec<u8>, count: u16) -> Result<(), AllocError>
+    requires { 20 + count < 2 ^ 16 }
+    ensures { OnOk result (octets.new.items ≡ octets.old.items ++ ipv4_front count) }
+{
+    octets.extend_from_slice(&[0x45, 0])?;
+    octets.extend_from_slice(&(20 + count).to_be_bytes())?;
+    octets.extend_from_slice(&[0, 0, 0x40, 0, 64, 17])
+}
+
+// The IPv4 header of a datagram of so many octets, with this checksum.
+fn push_ipv4_with(
+    octets: &mut Vec<u8>,
+    sum: u16,
+    source: u32,
+    destination: u32,
+    count: u16,
+) -> Result<(), AllocError>
+    requires { 20 + count < 2 ^ 16 }
+    ensures { OnOk result (octets.new.items ≡ octets.old.items ++ ipv4_header_with sum source destination count) }
+{
+    push_ipv4_front(octets, count)?;
+    octets.extend_from_slice(&sum.to_be_bytes())?;
+    octets.extend_from_slice(&source.to_be_bytes())?;
+    octets.extend_from_slice(&destination.to_be_bytes())
+}
+
+// The checksum of that header.
+fn ipv4_checksum(
+    alloc: Global,
+    source: u32,
+    destination: u32,
+    count: u16,
+) -> Result<u16, AllocError>
+    requires { 20 + count < 2 ^ 16 }
+    ensures { IfOk result (λ sum. ipv4_header_with sum source destination count ≡ ipv4_header source destination count) }
+{
+    let mut header = Vec::new(alloc);
+    push_ipv4_with(&mut header, 0, source, destination, count)?;
+    Ok(checksum(header.as_slice()))
+}
+
+// The UDP header, with this checksum, and the data.
+fn push_udp_with(octets: &mut Vec<u8>, sum: u16, packet: &Packet<'_>) -> Result<(), AllocError>
+    requires { length packet.now.payload.now ≤ 65507 }
+    ensures { OnOk result (octets.new.items ≡ octets.old.items
+        ++ udp_with sum packet.now.from.port packet.now.to.port packet.now.payload.now) }
+{
+    let count = 8 + packet.payload.len() as u16;
+    octets.extend_from_slice(&packet.from.port.to_be_bytes())?;
+    octets.extend_from_slice(&packet.to.port.to_be_bytes())?;
+    octets.extend_from_slice(&count.to_be_bytes())?;
+    octets.extend_from_slice(&sum.to_be_bytes())?;
+    octets.extend_from_slice(packet.payload)
+}
+
+// What is summed before the UDP header of a datagram of so many octets.
+fn push_pseudo_header(
+    octets: &mut Vec<u8>,
+    source: u32,
+    destination: u32,
+    count: u16,
+) -> Result<(), AllocError>
+    ensures { OnOk result (octets.new.items ≡ octets.old.items ++ pseudo_header source destination count) }
+{
+    octets.extend_from_slice(&source.to_be_bytes())?;
+    octets.extend_from_slice(&destination.to_be_bytes())?;
+    octets.extend_from_slice(&[0, 17])?;
+    octets.extend_from_slice(&count.to_be_bytes())
+}
+
+// All that is summed for a packet.
+fn summed(alloc: Global, packet: &Packet<'_>) -> Result<Vec<u8>, AllocError>
+    requires { length packet.now.payload.now ≤ 65507 }
+    ensures { IfOk result (λ octets. octets.items ≡ udp_summed 0 packet.now) }
+{
+    let mut octets = Vec::new(alloc);
+    let count = 8 + packet.payload.len() as u16;
+    push_pseudo_header(&mut octets, packet.from.address, packet.to.address, count)?;
+    push_udp_with(&mut octets, 0, packet)?;
+    Ok(octets)
+}
+
+// A checksum as it is sent.
+fn sent(sum: u16) -> u16
+    ensures { result ≡ sent_checksum sum }
+{
+    if sum == 0 { 65535 } else { sum }
+}
+
+// The checksum of a packet's UDP header and data.
+fn udp_checksum(alloc: Global, packet: &Packet<'_>) -> Result<u16, AllocError>
+    requires { length packet.now.payload.now ≤ 65507 }
+    ensures { IfOk result (λ sum. sum ≡ udp_checksum packet.now) }
+{
+    let octets = summed(alloc, packet)?;
+    Ok(sent(checksum(octets.as_slice())))
+}
+
+// The IPv4 header of a packet.
+fn push_ipv4(
+    octets: &mut Vec<u8>,
+    alloc: Global,
+    source: u32,
+    destination: u32,
+    count: u16,
+) -> Result<(), AllocError>
+    requires { 20 + count < 2 ^ 16 }
+    ensures { OnOk result (octets.new.items ≡ octets.old.items ++ ipv4_header source destination count) }
+{
+    let sum = ipv4_checksum(alloc, source, destination, count)?;
+    push_ipv4_with(octets, sum, source, destination, count)
+}
+
+// The UDP header of a packet, and its data.
+fn push_udp(octets: &mut Vec<u8>, alloc: Global, packet: &Packet<'_>) -> Result<(), AllocError>
+    requires { length packet.now.payload.now ≤ 65507 }
+    ensures { OnOk result (octets.new.items ≡ octets.old.items ++ udp_datagram packet.now) }
+{
+    let sum = udp_checksum(alloc, packet)?;
+    push_udp_with(octets, sum, packet)
+}
+
+/// The octets of a packet in the file.
+pub(crate) fn packet_octets(alloc: Global, packet: &Packet<'_>) -> Result<Vec<u8>, AllocError>
+    requires { length packet.now.payload.now ≤ 65507 }
+    ensures { IfOk result (λ octets. octets.items ≡ packet_octets packet.now) }
+{
+    let mut octets = Vec::new(alloc);
+    let count = packet.payload.len() as u16;
+    push_record_header(&mut octets, packet.moment, 28 + u32::from(count))?;
+    push_ipv4(
+        &mut octets,
+        alloc,
+        packet.from.address,
+        packet.to.address,
+        8 + count,
+    )?;
+    push_udp(&mut octets, alloc, packet)?;
+    Ok(octets)
+}
