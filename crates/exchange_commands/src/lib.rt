@@ -3,23 +3,28 @@
 
 mod accounts;
 mod arguments;
+mod call_rows;
 mod checking;
 mod clock;
 mod digits;
 mod names;
 mod player;
+mod printing;
 mod replaying;
 mod serving;
+mod viewer;
 
 pub use accounts::settle;
 pub use arguments::turn_count;
+pub use call_rows::call_row;
 pub use checking::check;
 pub use clock::SinceOpening;
 pub use digits::Digits;
 pub use names::{call_error_name, order_error_name, refusal_name, stage_name};
 pub use player::peer_named;
-pub use replaying::replay;
+pub use replaying::{ReplayError, replay, replay_with, tell_outcome};
 pub use serving::{
     PlainSockets, ServiceError, ServiceSeat, Sockets, reports_of, seats_of, serve,
     service_error_name, write_reports,
 };
+pub use viewer::{MediaAccounts, PeerOfPlan, Stop, Viewer};

@@ -1,40 +1,16 @@
-//! The lines of a script are played on an exchange, and what came of each is written.
+//! The lines of a script are played on an exchange, and a viewer is told what came of each.
 ghost use Rattle.std.specs.Prelude.{◌≡◌, ◌<◌, length, IfSome};
 
-use crate::names::{call_error_name, order_error_name, refusal_name, stage_name};
+use crate::names::{call_error_name, order_error_name, refusal_name};
+use crate::viewer::{PeerOfPlan, Stop, Viewer};
 use call_auth::Challenge;
 use exchange_core::{Answer, Exchange, NoGate, Pass, Retired};
 use leg_machine::Stage;
 use peer_lock::{Naming, Status};
 use peer_plan::Plan;
 use script_lines::Line;
-use std::alloc::{AllocError, Global};
-use std::io;
-use std::io::Write;
+use std::alloc::Global;
 use std::sync::Wait;
-
-/// Why a replay ends before its script does.
-#[derive(Drop)]
-pub enum Stop {
-    /// The line isn't of a known form, or names an unknown peer.
-    Script,
-    /// A request for memory was refused.
-    Memory,
-    /// The writer can't write.
-    Writer,
-}
-
-impl From<io::Error> for Stop {
-    fn from(_error: io::Error) -> Stop {
-        Stop::Writer
-    }
-}
-
-impl From<AllocError> for Stop {
-    fn from(_error: AllocError) -> Stop {
-        Stop::Memory
-    }
-}
 
 /// What is known between two lines.
 #[derive(Drop)]
@@ -57,25 +33,6 @@ pub fn peer_named(plan: &Plan, name: &[u8]) -> Option<u16>
         }
     }
     None
-}
-
-fn write_datagram<W: Write>(peer: &str, octets: &[u8], writer: &mut W) -> io::Result<()> {
-    write!(writer, "tx {peer} ")?;
-    for octet in octets {
-        write!(writer, "{octet:02x}")?;
-    }
-    writer.write_all(b"\n")
-}
-
-fn write_retired<W: Write>(retired: &Retired, writer: &mut W) -> io::Result<()> {
-    writeln!(
-        writer,
-        "retired {} {} {} {}",
-        retired.name.number,
-        retired.history.sent_count(),
-        retired.history.acked_count(),
-        retired.history.taken_count()
-    )
 }
 
 // How the leg of a number stands, at whatever peer.
@@ -107,18 +64,18 @@ fn octets_of(alloc: Global, digits: &[u8]) -> Result<Vec<u8>, Stop> {
 }
 
 // All datagrams go out, the peers in the order of the plan.
-fn write_outboxes<J: Naming, R: Wait, W: Write>(
+fn empty_outboxes<J: Naming, R: Wait, V: Viewer>(
     rt: &R,
     exchange: &Exchange<NoGate, J>,
     pass: &mut Pass<J>,
-    writer: &mut W,
-) -> io::Result<()> {
-    for peer in 0..exchange.plan().peer_count() {
+    moment: u64,
+    viewer: &mut V,
+) -> Result<(), Stop> {
+    for place in 0..exchange.plan().peer_count() {
+        let peer = PeerOfPlan::at(exchange.plan(), place);
         for _ in 0..u64::MAX {
-            match exchange.take_out(rt, pass, peer) {
-                Some(out) => {
-                    write_datagram(exchange.plan().name(peer), out.octets(), writer)?;
-                }
+            match exchange.take_out(rt, pass, place) {
+                Some(out) => viewer.sent(moment, peer, out.octets())?,
                 None => break,
             }
         }
@@ -142,15 +99,15 @@ impl Player {
         })
     }
 
-    /// What a line asks for is done, and what came of it is written.
-    pub fn line<J: Naming, R: Wait, W: Write>(
+    /// What a line asks for is done, and the viewer is told what came of it.
+    pub fn line<J: Naming, R: Wait, V: Viewer>(
         &mut self,
         rt: &R,
         alloc: Global,
         exchange: &Exchange<NoGate, J>,
         pass: &mut Pass<J>,
         line: &Line<'_>,
-        writer: &mut W,
+        viewer: &mut V,
     ) -> Result<(), Stop> {
         match line {
             Line::Nothing => Ok(()),
@@ -158,27 +115,28 @@ impl Player {
             Line::At(moment) => self.at(*moment),
             Line::Challenge(text) => self.challenge(text),
             _ => {
-                self.event(rt, alloc, exchange, pass, line, writer)?;
-                self.finish(rt, exchange, pass, writer)
+                viewer.asked(self.now, line)?;
+                self.event(rt, alloc, exchange, pass, line, viewer)?;
+                self.finish(rt, exchange, pass, viewer)
             }
         }
     }
 
     // What happens at the exchange by a line.
-    fn event<J: Naming, R: Wait, W: Write>(
+    fn event<J: Naming, R: Wait, V: Viewer>(
         &mut self,
         rt: &R,
         alloc: Global,
         exchange: &Exchange<NoGate, J>,
         pass: &mut Pass<J>,
         line: &Line<'_>,
-        writer: &mut W,
+        viewer: &mut V,
     ) -> Result<(), Stop> {
         match line {
-            Line::Rx(peer, digits) => self.rx(rt, alloc, exchange, pass, peer, digits, writer),
-            Line::Call(peer, number) => self.call(rt, exchange, pass, peer, number, writer),
-            Line::HangUp(number) => self.hang_up(rt, exchange, pass, *number, writer),
-            Line::Tick => self.tick(rt, exchange, pass, writer),
+            Line::Rx(peer, digits) => self.rx(rt, alloc, exchange, pass, peer, digits, viewer),
+            Line::Call(peer, number) => self.call(rt, exchange, pass, peer, number, viewer),
+            Line::HangUp(number) => self.hang_up(rt, exchange, pass, *number, viewer),
+            Line::Tick => self.tick(rt, exchange, pass, viewer),
             _ => Ok(()),
         }
     }
@@ -204,7 +162,7 @@ impl Player {
     }
 
     // A datagram comes.
-    fn rx<J: Naming, R: Wait, W: Write>(
+    fn rx<J: Naming, R: Wait, V: Viewer>(
         &mut self,
         rt: &R,
         alloc: Global,
@@ -212,7 +170,7 @@ impl Player {
         pass: &mut Pass<J>,
         peer: &[u8],
         digits: &[u8],
-        writer: &mut W,
+        viewer: &mut V,
     ) -> Result<(), Stop> {
         let Some(peer) = peer_named(exchange.plan(), peer) else {
             return Err(Stop::Script);
@@ -227,74 +185,76 @@ impl Player {
             self.now,
             &self.challenge,
         );
-        self.answered(answer, writer)
+        let peer = PeerOfPlan::at(exchange.plan(), peer);
+        viewer.received(self.now, peer, octets.as_slice(), answer.refused)?;
+        self.keep(answer)
     }
 
     // A call goes out.
-    fn call<J: Naming, R: Wait, W: Write>(
+    fn call<J: Naming, R: Wait, V: Viewer>(
         &mut self,
         rt: &R,
         exchange: &Exchange<NoGate, J>,
         pass: &mut Pass<J>,
         peer: &[u8],
         number: &[u8],
-        writer: &mut W,
+        viewer: &mut V,
     ) -> Result<(), Stop> {
         let Some(peer) = peer_named(exchange.plan(), peer) else {
             return Err(Stop::Script);
         };
         if let Err(error) = exchange.call(rt, pass, peer, number, self.now) {
-            writeln!(writer, "refused {}", call_error_name(error))?;
+            viewer.refused(self.now, call_error_name(error))?;
         }
         Ok(())
     }
 
     // The leg of a number hangs up.
-    fn hang_up<J: Naming, R: Wait, W: Write>(
+    fn hang_up<J: Naming, R: Wait, V: Viewer>(
         &mut self,
         rt: &R,
         exchange: &Exchange<NoGate, J>,
         pass: &mut Pass<J>,
         number: u64,
-        writer: &mut W,
+        viewer: &mut V,
     ) -> Result<(), Stop> {
         let Some(Status { name, .. }) = status_of(rt, exchange, pass, number) else {
-            writeln!(writer, "refused NoLeg")?;
-            return Ok(());
+            return viewer.refused(self.now, "NoLeg");
         };
         if name.peer >= exchange.plan().peer_count() {
-            writeln!(writer, "refused NoLeg")?;
-            return Ok(());
+            return viewer.refused(self.now, "NoLeg");
         }
         match exchange.hang_up(rt, pass, name, self.now) {
-            Ok(answer) => self.answered(answer, writer),
-            Err(error) => {
-                writeln!(writer, "refused {}", order_error_name(error))?;
-                Ok(())
-            }
+            Ok(answer) => self.answered(answer, viewer),
+            Err(error) => viewer.refused(self.now, order_error_name(error)),
         }
     }
 
     // Time goes on at all peers, in the order of the plan.
-    fn tick<J: Naming, R: Wait, W: Write>(
+    fn tick<J: Naming, R: Wait, V: Viewer>(
         &mut self,
         rt: &R,
         exchange: &Exchange<NoGate, J>,
         pass: &mut Pass<J>,
-        writer: &mut W,
+        viewer: &mut V,
     ) -> Result<(), Stop> {
         for peer in 0..exchange.plan().peer_count() {
             let answer = exchange.tick(rt, pass, peer, self.now);
-            self.answered(answer, writer)?;
+            self.answered(answer, viewer)?;
         }
         Ok(())
     }
 
-    // A refusal is written, and the legs that were taken out are kept for the end of the line.
-    fn answered<W: Write>(&mut self, answer: Answer, writer: &mut W) -> Result<(), Stop> {
+    // A refusal is told, and the legs that were taken out are kept for the end of the line.
+    fn answered<V: Viewer>(&mut self, answer: Answer, viewer: &mut V) -> Result<(), Stop> {
         if let Some(refusal) = answer.refused {
-            writeln!(writer, "refused {}", refusal_name(refusal))?;
+            viewer.refused(self.now, refusal_name(refusal))?;
         }
+        self.keep(answer)
+    }
+
+    // The legs that were taken out are kept for the end of the line.
+    fn keep(&mut self, answer: Answer) -> Result<(), Stop> {
         for retired in answer.retired {
             if self.retired.push(retired).is_err() {
                 return Err(Stop::Memory);
@@ -304,31 +264,31 @@ impl Player {
     }
 
     // What the line left: the datagrams that go out, the legs that were taken out, the stages that changed.
-    fn finish<J: Naming, R: Wait, W: Write>(
+    fn finish<J: Naming, R: Wait, V: Viewer>(
         &mut self,
         rt: &R,
         exchange: &Exchange<NoGate, J>,
         pass: &mut Pass<J>,
-        writer: &mut W,
+        viewer: &mut V,
     ) -> Result<(), Stop> {
-        write_outboxes(rt, exchange, pass, writer)?;
-        self.write_histories(writer)?;
+        empty_outboxes(rt, exchange, pass, self.now, viewer)?;
+        self.tell_retired(viewer)?;
         self.retired.clear();
         for place in 0..self.stages.len() {
-            self.write_stage(rt, exchange, pass, place, writer)?;
+            self.tell_stage(rt, exchange, pass, place, viewer)?;
         }
         Ok(())
     }
 
     // The legs that were taken out, by ascending number.
-    fn write_histories<W: Write>(&self, writer: &mut W) -> io::Result<()> {
+    fn tell_retired<V: Viewer>(&self, viewer: &mut V) -> Result<(), Stop> {
         if self.retired.is_empty() {
             return Ok(());
         }
         for place in 0..self.stages.len() {
             for retired in &self.retired {
                 if usize::from(retired.name.number) == place.saturating_add(1) {
-                    write_retired(retired, writer)?;
+                    viewer.retired(self.now, retired)?;
                 }
             }
         }
@@ -336,22 +296,24 @@ impl Player {
     }
 
     // The stage of a number, where it changed.
-    fn write_stage<J: Naming, R: Wait, W: Write>(
+    fn tell_stage<J: Naming, R: Wait, V: Viewer>(
         &mut self,
         rt: &R,
         exchange: &Exchange<NoGate, J>,
         pass: &mut Pass<J>,
         place: usize,
-        writer: &mut W,
+        viewer: &mut V,
     ) -> Result<(), Stop> {
-        let number = place.saturating_add(1);
-        let stage = status_of(rt, exchange, pass, number as u64).map(|status| status.stage);
+        let Ok(number) = u16::try_from(place.saturating_add(1)) else {
+            return Ok(());
+        };
+        let stage = status_of(rt, exchange, pass, u64::from(number)).map(|status| status.stage);
         let Some(before) = self.stages.get_mut(place) else {
             return Ok(());
         };
         if *before != stage {
             *before = stage;
-            writeln!(writer, "leg {} {}", number, stage_name(stage))?;
+            viewer.staged(self.now, number, stage)?;
         }
         Ok(())
     }

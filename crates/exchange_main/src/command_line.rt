@@ -34,6 +34,44 @@ fn replay_command<'a>(alloc: Global) -> Result<Command<'a>, AllocError> {
         .arg(word(alloc, "script", "The file of the script"))
 }
 
+// The two files that are replayed.
+fn replayed<'a>(alloc: Global, command: Command<'a>) -> Result<Command<'a>, AllocError> {
+    command
+        .arg(plan(alloc))?
+        .arg(word(alloc, "script", "The file of the script"))
+}
+
+fn ladder_command<'a>(alloc: Global) -> Result<Command<'a>, AllocError> {
+    let leg = Arg::new(alloc, "leg")
+        .long("leg")
+        .value_name("NUMBER")
+        .help("Only what concerns the leg of this local call number")
+        .value_parser(clap::value_parser!(u32).range(1..=32767))
+        .action(ArgAction::Set);
+    let text = Arg::new(alloc, "text")
+        .long("text")
+        .help("Plain text of at most 100 columns, not SVG")
+        .action(ArgAction::SetTrue);
+    let command = Command::new(alloc, "ladder").about(
+        "Replays a script, and prints a picture of its calls, in SVG: a ladder",
+    );
+    replayed(alloc, command)?.arg(leg)?.arg(text)
+}
+
+fn records_command<'a>(alloc: Global) -> Result<Command<'a>, AllocError> {
+    let command = Command::new(alloc, "records").about(
+        "Replays a script, and prints the record of each call leg that ended, as CSV",
+    );
+    replayed(alloc, command)
+}
+
+fn pcap_command<'a>(alloc: Global) -> Result<Command<'a>, AllocError> {
+    let command = Command::new(alloc, "pcap").about(
+        "Replays a script, and writes its datagrams as a capture file, for Wireshark",
+    );
+    replayed(alloc, command)
+}
+
 fn serve_command<'a>(alloc: Global) -> Result<Command<'a>, AllocError> {
     Command::new(alloc, "serve")
         .about("Carries calls for so many turns of each worker, then prints the accounts")
@@ -108,6 +146,9 @@ pub(crate) fn command_line<'a>(alloc: Global) -> Result<Command<'a>, AllocError>
         .subcommand(check_command(alloc)?)?
         .subcommand(explain_command(alloc)?)?
         .subcommand(replay_command(alloc)?)?
+        .subcommand(ladder_command(alloc)?)?
+        .subcommand(pcap_command(alloc)?)?
+        .subcommand(records_command(alloc)?)?
         .subcommand(serve_command(alloc)?)?
         .subcommand(run_command(alloc)?)?
         .subcommand(ctl_command(alloc)?)

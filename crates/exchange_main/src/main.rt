@@ -1,5 +1,6 @@
 //! The program of the exchange: `exchange_main check PLAN`, `exchange_main explain PLAN`, `exchange_main replay PLAN SCRIPT`,
-//! `exchange_main serve PLAN TURNS` and `exchange_main run PLAN`.
+//! `exchange_main ladder PLAN SCRIPT`, `exchange_main pcap PLAN SCRIPT`, `exchange_main serve PLAN TURNS` and
+//! `exchange_main run PLAN`.
 #![tactic(auto)]
 
 mod command_line;
@@ -12,6 +13,7 @@ use exchange_commands::{check, replay, serve, turn_count};
 use exchange_service::{Settings, run as run_service};
 use log::LevelFilter;
 use plan_report::explain;
+use replay_views::{LadderForm, write_capture, write_ladder, write_records};
 use std::alloc::Global;
 use std::fs::File;
 use std::net::{Net, SocketAddr};
@@ -25,6 +27,7 @@ use std::{env, fs, io};
 
 const USAGE: &str =
     "usage: exchange_main check <plan> | replay <plan> <script> | serve <plan> <turns>\n       exchange_main explain <plan>\n       \
+exchange_main ladder <plan> <script> [--leg <number>] [--text]\n       exchange_main pcap <plan> <script>\n       exchange_main records <plan> <script>\n       \
 exchange_main run <plan> [--control <socket>] [--metrics <address:port>] [--log <level>] [--drain <seconds>] \
 [--stop-at-end-of-input]\n       \
 exchange_main ctl <socket> peers | calls | accounts | call <peer> <number> | hangup <number> | stop";
@@ -94,6 +97,59 @@ fn replay_file<R: Files + Print + Alloc + Wait>(
 ) -> u8 {
     match octets_of(rt, script) {
         Some(script) => replay(rt, alloc, plan, &script, &mut io::writer(rt)),
+        None => 1,
+    }
+}
+
+// The octets of the plan and of the script of a command. Where one can't be read, says so.
+fn replayed<R: Files + Print + Alloc>(
+    rt: &R,
+    options: &ArgMatches<'_>,
+) -> Option<(Vec<u8, R::A>, Vec<u8, R::A>)> {
+    let plan = octets_of(rt, options.get_str("plan")?)?;
+    let script = octets_of(rt, options.get_str("script")?)?;
+    Some((plan, script))
+}
+
+fn ladder_files<R: Files + Print + Alloc + Wait>(
+    rt: &R,
+    alloc: Global,
+    options: &ArgMatches<'_>,
+) -> u8 {
+    let Some((plan, script)) = replayed(rt, options) else {
+        return 1;
+    };
+    let form = if options.get_flag("text") {
+        LadderForm::Text
+    } else {
+        LadderForm::Svg
+    };
+    let leg = match options.get_one::<u32>("leg") {
+        Some(number) => u16::try_from(number).ok(),
+        None => None,
+    };
+    let writer = &mut io::writer(rt);
+    write_ladder(rt, alloc, &plan, &script, leg, form, writer)
+}
+
+fn pcap_files<R: Files + Print + Eprint + Alloc + Wait>(
+    rt: &R,
+    alloc: Global,
+    options: &ArgMatches<'_>,
+) -> u8 {
+    match replayed(rt, options) {
+        Some((plan, script)) => write_capture(rt, alloc, &plan, &script, &mut io::writer(rt)),
+        None => 1,
+    }
+}
+
+fn record_files<R: Files + Print + Alloc + Wait>(
+    rt: &R,
+    alloc: Global,
+    options: &ArgMatches<'_>,
+) -> u8 {
+    match replayed(rt, options) {
+        Some((plan, script)) => write_records(rt, alloc, &plan, &script, &mut io::writer(rt)),
         None => 1,
     }
 }
@@ -249,6 +305,9 @@ fn run_by_options<
     match command.try_get_matches_from(words) {
         Ok(matches) => match matches.subcommand() {
             Some(("run", options)) => run_file(rt, alloc, options),
+            Some(("ladder", options)) => ladder_files(rt, alloc, options),
+            Some(("pcap", options)) => pcap_files(rt, alloc, options),
+            Some(("records", options)) => record_files(rt, alloc, options),
             _ => refuse_usage(rt),
         },
         Err(error) => refuse_words(rt, &error),

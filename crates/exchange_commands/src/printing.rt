@@ -1,0 +1,68 @@
+//! What a replay prints.
+use crate::accounts::write_accounts;
+use crate::names::{refusal_name, stage_name};
+use crate::viewer::{MediaAccounts, PeerOfPlan, Stop, Viewer};
+use exchange_core::{Refusal, Retired};
+use leg_machine::Stage;
+use std::io;
+use std::io::Write;
+
+/// Prints a replay, a line for each thing.
+#[derive(Drop)]
+pub(crate) struct Printer<'a, W> {
+    pub writer: &'a mut W,
+}
+
+fn write_datagram<W: Write>(peer: &str, octets: &[u8], writer: &mut W) -> io::Result<()> {
+    write!(writer, "tx {peer} ")?;
+    for octet in octets {
+        write!(writer, "{octet:02x}")?;
+    }
+    writer.write_all(b"\n")
+}
+
+fn write_retired<W: Write>(retired: &Retired, writer: &mut W) -> io::Result<()> {
+    writeln!(
+        writer,
+        "retired {} {} {} {}",
+        retired.name.number,
+        retired.history.sent_count(),
+        retired.history.acked_count(),
+        retired.history.taken_count()
+    )
+}
+
+impl<W: Write> Viewer for Printer<'_, W> {
+    fn received(
+        &mut self,
+        _moment: u64,
+        _peer: PeerOfPlan<'_>,
+        _octets: &[u8],
+        refusal: Option<Refusal>,
+    ) -> Result<(), Stop> {
+        match refusal {
+            Some(refusal) => Ok(writeln!(self.writer, "refused {}", refusal_name(refusal))?),
+            None => Ok(()),
+        }
+    }
+
+    fn refused(&mut self, _moment: u64, name: &'static str) -> Result<(), Stop> {
+        Ok(writeln!(self.writer, "refused {name}")?)
+    }
+
+    fn sent(&mut self, _moment: u64, peer: PeerOfPlan<'_>, octets: &[u8]) -> Result<(), Stop> {
+        Ok(write_datagram(peer.name, octets, self.writer)?)
+    }
+
+    fn retired(&mut self, _moment: u64, leg: &Retired) -> Result<(), Stop> {
+        Ok(write_retired(leg, self.writer)?)
+    }
+
+    fn staged(&mut self, _moment: u64, number: u16, stage: Option<Stage>) -> Result<(), Stop> {
+        Ok(writeln!(self.writer, "leg {} {}", number, stage_name(stage))?)
+    }
+
+    fn settled(&mut self, accounts: &MediaAccounts) -> Result<(), Stop> {
+        Ok(write_accounts(accounts, self.writer)?)
+    }
+}

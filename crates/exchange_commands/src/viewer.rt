@@ -1,0 +1,128 @@
+//! Who looks on while a script is replayed, and what he is told.
+ghost use Rattle.std.specs.Prelude.{◌≡◌, ◌<◌, length, Some, option_and_then, option_map, slice_get};
+
+use exchange_core::{Refusal, Retired};
+use leg_machine::Stage;
+use peer_plan::{Endpoint, Plan};
+use script_lines::Line;
+use std::alloc::AllocError;
+use std::io;
+
+/// Why a replay ends before its script does.
+#[derive(Clone, Copy, Debug, PartialEq, Eq)]
+pub enum Stop {
+    /// The line isn't of a known form, or names an unknown peer.
+    Script,
+    /// A request for memory was refused.
+    Memory,
+    /// The writer can't write.
+    Writer,
+}
+
+impl From<io::Error> for Stop {
+    fn from(_error: io::Error) -> Stop {
+        Stop::Writer
+    }
+}
+
+impl From<AllocError> for Stop {
+    fn from(_error: AllocError) -> Stop {
+        Stop::Memory
+    }
+}
+
+/// A peer of the plan, and the endpoints between which its datagrams go.
+#[derive(Clone, Copy, Debug)]
+pub struct PeerOfPlan<'a> {
+    /// Its place in the plan, from 0 on.
+    pub place: u16,
+    pub name: &'a str,
+    /// Its own endpoint.
+    pub endpoint: Endpoint,
+    /// That of the exchange's worker which serves it.
+    pub worker: Endpoint,
+}
+
+impl<'a> PeerOfPlan<'a> {
+    /// The peer at a place of the plan.
+    pub fn at(plan: &'a Plan, place: u16) -> PeerOfPlan<'a>
+        requires { place < length plan.now.peers }
+        ensures place { result.place ≡ place }
+        ensures name { option_map (λ peer. peer.name) (slice_get plan.now.peers place) ≡ Some result.name.now }
+        ensures endpoint { option_map (λ peer. peer.endpoint) (slice_get plan.now.peers place) ≡ Some result.endpoint }
+        ensures worker { option_and_then (λ peer. slice_get plan.now.workers peer.worker) (slice_get plan.now.peers place)
+            ≡ Some result.worker }
+    {
+        let worker = plan.worker(place);
+        PeerOfPlan {
+            place,
+            name: plan.name(place),
+            endpoint: plan.endpoint(place),
+            worker: plan.workers()[usize::from(worker)],
+        }
+    }
+}
+
+/// The octets of media over all peers, as the accounts have them when they are closed.
+#[derive(Clone, Copy, Debug, PartialEq, Eq)]
+pub struct MediaAccounts {
+    pub accepted: u64,
+    pub packed: u64,
+    pub queued: u64,
+    pub dropped: u64,
+    /// Of the dropped ones, those that the other side wanted none of.
+    pub quelched: u64,
+}
+
+/// Who looks on while a script is replayed.
+///
+/// First `opened`. Then each line is told as it is begun (`asked`), with what it makes: datagrams that come and refusals, then
+/// all datagrams that go out, the peers in the order of the plan, then the legs that were taken out and the stages that changed,
+/// by ascending number. Moments are in milliseconds. What a viewer answers by `Err` ends the replay.
+pub trait Viewer {
+    /// The exchange of this plan was opened.
+    fn opened(&mut self, _plan: &Plan) -> Result<(), Stop> {
+        Ok(())
+    }
+
+    /// The script asks for something: a datagram that comes, a call, a hangup, a tick.
+    fn asked(&mut self, _moment: u64, _line: &Line<'_>) -> Result<(), Stop> {
+        Ok(())
+    }
+
+    /// A datagram came from a peer, and was refused or not.
+    fn received(
+        &mut self,
+        _moment: u64,
+        _peer: PeerOfPlan<'_>,
+        _octets: &[u8],
+        _refusal: Option<Refusal>,
+    ) -> Result<(), Stop> {
+        Ok(())
+    }
+
+    /// Something else that was asked for was refused, by this name.
+    fn refused(&mut self, _moment: u64, _name: &'static str) -> Result<(), Stop> {
+        Ok(())
+    }
+
+    /// A datagram goes out to a peer.
+    fn sent(&mut self, _moment: u64, _peer: PeerOfPlan<'_>, _octets: &[u8]) -> Result<(), Stop> {
+        Ok(())
+    }
+
+    /// A leg was taken out.
+    fn retired(&mut self, _moment: u64, _leg: &Retired) -> Result<(), Stop> {
+        Ok(())
+    }
+
+    /// The leg of a local number has come to another stage. `None`: the number is free.
+    fn staged(&mut self, _moment: u64, _number: u16, _stage: Option<Stage>) -> Result<(), Stop> {
+        Ok(())
+    }
+
+    /// The accounts were closed.
+    fn settled(&mut self, _accounts: &MediaAccounts) -> Result<(), Stop> {
+        Ok(())
+    }
+}

@@ -1,0 +1,114 @@
+//! A replay as a capture.
+ghost use Rattle.std.specs.Prelude.{◌≡◌};
+ghost use Rattle.std.specs.Int.{w32, from_be_bytes};
+
+use crate::outcomes::write_view;
+use exchange_commands::{PeerOfPlan, ReplayError, Stop, Viewer, replay_with, tell_outcome};
+use exchange_core::Refusal;
+use packet_capture::{Capture, CaptureError, Packet, UdpEndpoint};
+use peer_plan::Endpoint;
+use std::alloc::Global;
+use std::io::Write;
+use std::sync::Wait;
+
+// Puts the datagrams of a replay into a capture.
+#[derive(Drop)]
+struct CaptureViewer {
+    alloc: Global,
+    capture: Capture,
+    // How many datagrams UDP can't carry.
+    left_out: u64,
+}
+
+// An endpoint as it stands in packets.
+fn udp_endpoint(endpoint: Endpoint) -> UdpEndpoint
+    ensures address { result.address ≡ from_be_bytes w32 endpoint.address }
+    ensures port { result.port ≡ endpoint.port }
+{
+    UdpEndpoint {
+        address: u32::from_be_bytes(endpoint.address),
+        port: endpoint.port,
+    }
+}
+
+impl CaptureViewer {
+    // A datagram, from one endpoint to another.
+    fn push(
+        &mut self,
+        moment: u64,
+        from: Endpoint,
+        to: Endpoint,
+        payload: &[u8],
+    ) -> Result<(), Stop> {
+        let packet = Packet {
+            moment,
+            from: udp_endpoint(from),
+            to: udp_endpoint(to),
+            payload,
+        };
+        match self.capture.push(self.alloc, &packet) {
+            Ok(()) => Ok(()),
+            Err(CaptureError::TooLong) => {
+                self.left_out = self.left_out.saturating_add(1);
+                Ok(())
+            }
+            Err(CaptureError::Memory) => Err(Stop::Memory),
+        }
+    }
+}
+
+impl Viewer for CaptureViewer {
+    fn received(
+        &mut self,
+        moment: u64,
+        peer: PeerOfPlan<'_>,
+        octets: &[u8],
+        _refusal: Option<Refusal>,
+    ) -> Result<(), Stop> {
+        self.push(moment, peer.endpoint, peer.worker, octets)
+    }
+
+    fn sent(&mut self, moment: u64, peer: PeerOfPlan<'_>, octets: &[u8]) -> Result<(), Stop> {
+        self.push(moment, peer.worker, peer.endpoint, octets)
+    }
+}
+
+// The capture of a replay.
+fn captured<R: Wait>(
+    rt: &R,
+    alloc: Global,
+    plan: &[u8],
+    script: &[u8],
+) -> Result<CaptureViewer, ReplayError> {
+    let mut viewer = CaptureViewer {
+        alloc,
+        capture: Capture::new(alloc)?,
+        left_out: 0,
+    };
+    replay_with(rt, alloc, plan, script, &mut viewer)?;
+    Ok(viewer)
+}
+
+/// Replays a script on an exchange of its plan, and writes a capture of all datagrams, in both directions, in the order in which
+/// the exchange took and gave them. Answers the status.
+///
+/// Moments of the script are counted from the beginning of 1970 on. A datagram of more than 65,507 octets, which a script can
+/// have but UDP can't carry, is left out, and how many were is said on standard error. A plan or a script that is refused is
+/// told as `replay` tells it, and nothing else is written.
+pub fn write_capture<R: Wait + Eprint, W: Write>(
+    rt: &R,
+    alloc: Global,
+    plan: &[u8],
+    script: &[u8],
+    writer: &mut W,
+) -> u8 {
+    let viewer = match captured(rt, alloc, plan, script) {
+        Ok(viewer) => viewer,
+        Err(error) => return tell_outcome(Err(error), writer),
+    };
+    let left_out = viewer.left_out;
+    if left_out > 0 {
+        let _ = eprintln!(rt; "{left_out} datagrams of more than 65,507 octets are left out");
+    }
+    write_view(viewer.capture.octets(), writer)
+}

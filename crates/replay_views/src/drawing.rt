@@ -1,0 +1,153 @@
+//! A replay as a ladder.
+ghost use Rattle.std.specs.Prelude.{◌≡◌, ◌<◌, length};
+
+use crate::outcomes::{kept, write_view};
+use call_ladder::{DatagramEvent, Direction, Ladder};
+use exchange_commands::{
+    PeerOfPlan, ReplayError, Stop, Viewer, refusal_name, replay_with, stage_name, tell_outcome,
+};
+use exchange_core::Refusal;
+use leg_machine::Stage;
+use peer_plan::Plan;
+use script_lines::Line;
+use std::alloc::Global;
+use std::io;
+use std::io::Write;
+use std::sync::Wait;
+
+/// How a ladder is written.
+#[derive(Clone, Copy, Debug, PartialEq, Eq)]
+pub enum LadderForm {
+    /// A picture, in SVG.
+    Svg,
+    /// Plain text, of at most 100 columns.
+    Text,
+}
+
+// Tells a ladder what the replay tells.
+#[derive(Drop)]
+struct LadderViewer {
+    alloc: Global,
+    ladder: Ladder,
+}
+
+impl LadderViewer {
+    // The peers of a plan.
+    fn peers(&mut self, plan: &Plan) -> io::Result<()> {
+        for place in 0..plan.peer_count() {
+            let range = plan.range(place);
+            self.ladder
+                .peer(plan.name(place), range.first, range.count)?;
+        }
+        Ok(())
+    }
+
+    // An order that the script gives.
+    fn order(&mut self, moment: u64, line: &Line<'_>) -> io::Result<()> {
+        let mut text = Vec::new(self.alloc);
+        match line {
+            Line::Call(peer, number) => {
+                text.write_all(b"call ")?;
+                text.write_all(peer)?;
+                text.write_all(b" ")?;
+                text.write_all(number)?;
+                self.ladder.order(moment, &text, None)
+            }
+            Line::HangUp(number) => {
+                write!(text, "hangup {number}")?;
+                self.ladder
+                    .order(moment, &text, u16::try_from(*number).ok())
+            }
+            _ => Ok(()),
+        }
+    }
+}
+
+impl Viewer for LadderViewer {
+    fn opened(&mut self, plan: &Plan) -> Result<(), Stop> {
+        kept(self.peers(plan))
+    }
+
+    fn asked(&mut self, moment: u64, line: &Line<'_>) -> Result<(), Stop> {
+        kept(self.order(moment, line))
+    }
+
+    fn received(
+        &mut self,
+        moment: u64,
+        peer: PeerOfPlan<'_>,
+        octets: &[u8],
+        refusal: Option<Refusal>,
+    ) -> Result<(), Stop> {
+        kept(
+            self.ladder.datagram(&DatagramEvent {
+                moment,
+                peer: peer.place,
+                direction: Direction::In,
+                octets,
+                refusal: refusal.map(|refusal| refusal_name(refusal)),
+            }),
+        )
+    }
+
+    fn refused(&mut self, moment: u64, name: &'static str) -> Result<(), Stop> {
+        kept(self.ladder.refused(moment, name))
+    }
+
+    fn sent(&mut self, moment: u64, peer: PeerOfPlan<'_>, octets: &[u8]) -> Result<(), Stop> {
+        kept(
+            self.ladder.datagram(&DatagramEvent {
+                moment,
+                peer: peer.place,
+                direction: Direction::Out,
+                octets,
+                refusal: None,
+            }),
+        )
+    }
+
+    fn staged(&mut self, moment: u64, number: u16, stage: Option<Stage>) -> Result<(), Stop> {
+        let is_free = stage.is_none();
+        kept(
+            self.ladder
+                .stage(moment, number, stage_name(stage), is_free),
+        )
+    }
+}
+
+// The ladder of a replay.
+fn draw<R: Wait>(rt: &R, alloc: Global, plan: &[u8], script: &[u8]) -> Result<Ladder, ReplayError> {
+    let mut viewer = LadderViewer {
+        alloc,
+        ladder: Ladder::new(alloc),
+    };
+    replay_with(rt, alloc, plan, script, &mut viewer)?;
+    Ok(viewer.ladder)
+}
+
+/// Replays a script on an exchange of its plan, and writes its ladder: of all, or of the leg of one local number. Answers the
+/// status.
+///
+/// A plan or a script that is refused is told as `replay` tells it, and nothing else is written.
+pub fn write_ladder<R: Wait, W: Write>(
+    rt: &R,
+    alloc: Global,
+    plan: &[u8],
+    script: &[u8],
+    leg: Option<u16>,
+    form: LadderForm,
+    writer: &mut W,
+) -> u8 {
+    let ladder = match draw(rt, alloc, plan, script) {
+        Ok(ladder) => ladder,
+        Err(error) => return tell_outcome(Err(error), writer),
+    };
+    let drawn = match form {
+        LadderForm::Svg => ladder.into_svg(leg),
+        LadderForm::Text => ladder.into_text(leg),
+    };
+    match drawn {
+        Ok(octets) => write_view(&octets, writer),
+        Err(_) => tell_outcome(Err(ReplayError::Memory), writer),
+    }
+}

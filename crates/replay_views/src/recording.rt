@@ -1,0 +1,95 @@
+//! A replay as the records of its call legs.
+use crate::outcomes::write_view;
+use call_records::{CallNumbering, RowTexts, push_header, push_row};
+use exchange_commands::{ReplayError, Stop, Viewer, call_row, replay_with, tell_outcome};
+use exchange_core::Retired;
+use peer_plan::Plan;
+use std::alloc::{AllocError, Global};
+use std::io::Write;
+use std::sync::Wait;
+
+// Keeps a row for each leg that is taken out.
+#[derive(Drop)]
+struct RecordViewer {
+    alloc: Global,
+    // The names of the peers, in the order of the plan.
+    peers: Vec<String>,
+    calls: CallNumbering,
+    rows: Vec<u8>,
+}
+
+impl RecordViewer {
+    // No row.
+    fn new(alloc: Global) -> Result<RecordViewer, AllocError> {
+        Ok(RecordViewer {
+            alloc,
+            peers: Vec::new(alloc),
+            calls: CallNumbering::new(alloc, 0, 0)?,
+            rows: Vec::new(alloc),
+        })
+    }
+
+    // The row of a leg. Its moments are those of the script.
+    fn push(&mut self, leg: &Retired) -> Result<(), AllocError> {
+        let call = self.calls.number_of(leg.name, leg.partner);
+        let opened = format!(in self.alloc; "{}", leg.facts.opened)?;
+        let ended = format!(in self.alloc; "{}", leg.ended)?;
+        let peer = match self.peers.get(usize::from(leg.name.peer)) {
+            Some(name) => name.as_str(),
+            None => "",
+        };
+        let texts = RowTexts {
+            peer,
+            opened: opened.as_str(),
+            ended: ended.as_str(),
+        };
+        push_row(self.alloc, &mut self.rows, &call_row(leg, call), &texts)
+    }
+}
+
+impl Viewer for RecordViewer {
+    fn opened(&mut self, plan: &Plan) -> Result<(), Stop> {
+        self.calls = CallNumbering::new(self.alloc, plan.number_count(), 0)?;
+        for peer in 0..plan.peer_count() {
+            let name = String::from_str(self.alloc, plan.name(peer))?;
+            if self.peers.push(name).is_err() {
+                return Err(Stop::Memory);
+            }
+        }
+        Ok(push_header(self.alloc, &mut self.rows)?)
+    }
+
+    fn retired(&mut self, _moment: u64, leg: &Retired) -> Result<(), Stop> {
+        Ok(self.push(leg)?)
+    }
+}
+
+// The rows of a replay.
+fn recorded<R: Wait>(
+    rt: &R,
+    alloc: Global,
+    plan: &[u8],
+    script: &[u8],
+) -> Result<RecordViewer, ReplayError> {
+    let mut viewer = RecordViewer::new(alloc)?;
+    replay_with(rt, alloc, plan, script, &mut viewer)?;
+    Ok(viewer)
+}
+
+/// Replays a script on an exchange of its plan, and writes the record of each leg that was taken out, a row of CSV each, behind a line
+/// with the names of the columns. Answers the status.
+///
+/// The moments `opened` and `ended` are the script's, in milliseconds. A plan or a script that is refused is told as `replay` tells it,
+/// and nothing else is written.
+pub fn write_records<R: Wait, W: Write>(
+    rt: &R,
+    alloc: Global,
+    plan: &[u8],
+    script: &[u8],
+    writer: &mut W,
+) -> u8 {
+    match recorded(rt, alloc, plan, script) {
+        Ok(viewer) => write_view(viewer.rows.as_slice(), writer),
+        Err(error) => tell_outcome(Err(error), writer),
+    }
+}
