@@ -1,12 +1,13 @@
 // Loads an exchange, or a plain relay, with calls that carry mini frames of 160 octets both ways, and says how many frames it
 // carried per second of its processor time.
 //
-// load exchange|relay CALLS SECONDS COMMAND [ARGUMENT..]
+// load exchange|relay CALLS[/ENDS] SECONDS COMMAND [ARGUMENT..]
 //
 // It starts the command, which has to bind 127.0.0.1 port 4569; it is itself the peers at ports 5001 (west) and 5002 (east). To
 // an exchange it first sets up the calls, from west to the number 300. It then keeps a fixed number of frames on their way,
 // evenly over the calls, takes the processor time of the command over the given seconds, and ends the command. Of the set-up it
 // says what processor time each call took, of all that was carried how many frames there were, and how much memory was used.
+// Where ENDS is given, so many calls are hung up a second, one after another, and each is set up anew.
 #define _GNU_SOURCE
 #include <arpa/inet.h>
 #include <netinet/in.h>
@@ -22,7 +23,7 @@
 
 enum { MOST_CALLS = 512, MEDIA = 160, BATCH = 32, ON_THE_WAY = 96, FULL = 12 };
 enum { DTMF = 1, VOICE = 2, CONTROL = 4, IAX = 6 };
-enum { NEW = 1, PING = 2, PONG = 3, ACK = 4, ACCEPT = 7, INVAL = 10, VNAK = 18, ANSWER = 4, ULAW = 4 };
+enum { NEW = 1, PING = 2, PONG = 3, ACK = 4, HANGUP = 5, ACCEPT = 7, INVAL = 10, VNAK = 18, ANSWER = 4, ULAW = 4 };
 
 // One end of a call: our number is its place plus 1.
 struct leg {
@@ -35,13 +36,15 @@ struct peer {
     int wire;
     struct leg legs[MOST_CALLS];
     unsigned opened;
+    // The leg that the exchange hung up last; -1 if it hung up none.
+    int freed;
     unsigned long carried;
     long on_the_way;
 };
 
 static struct peer west, east;
 static struct timespec begin;
-static int calls;
+static int calls, ends;
 
 static unsigned now_ms(void) {
     struct timespec now;
@@ -102,8 +105,8 @@ static void take_full(struct peer *peer, const unsigned char *frame) {
         if (type != IAX || subclass != NEW) return;
         for (unsigned i = 0; i < peer->opened; i++)
             if (peer->legs[i].theirs == theirs) return;
-        if (peer->opened == (unsigned)calls) return;
-        int place = (int)peer->opened++;
+        if (peer->opened == (unsigned)calls && peer->freed < 0) return;
+        int place = peer->freed >= 0 ? peer->freed : (int)peer->opened++;
         peer->legs[place].theirs = theirs;
         peer->legs[place].taken = 1;
         send_full(peer, place, ts + 1, 1, IAX, ACCEPT, FORMAT_OF_CALL, sizeof FORMAT_OF_CALL);
@@ -125,6 +128,10 @@ static void take_full(struct peer *peer, const unsigned char *frame) {
         }
     }
     send_full(peer, place, ts, 0, IAX, ACK, 0, 0);
+    if (type == IAX && subclass == HANGUP) {
+        memset(leg, 0, sizeof *leg);
+        peer->freed = place;
+    }
 }
 
 // Takes what is there.
@@ -187,6 +194,7 @@ static void send_batch(struct peer *from, struct peer *to, int *next) {
     unsigned ts = now_ms();
     memset(all, 0, sizeof all);
     for (int i = 0; i < BATCH; i++) {
+        for (int tries = 0; tries < calls && !from->legs[*next].open; tries++) *next = (*next + 1) % calls;
         put16(frames[i], (unsigned)(*next + 1)), put16(frames[i] + 2, ts);
         parts[i] = (struct iovec){frames[i], sizeof frames[i]};
         all[i].msg_hdr.msg_iov = &parts[i], all[i].msg_hdr.msg_iovlen = 1;
@@ -196,15 +204,47 @@ static void send_batch(struct peer *from, struct peer *to, int *next) {
     if (gone > 0) to->on_the_way += gone;
 }
 
+// Hangs up one call after another, so many a second, and sets each up anew.
+static void turn_over(double elapsed) {
+    static const unsigned char media[MEDIA];
+    static enum { STILL, HANGING, CALLING } stage;
+    static int place;
+    static unsigned long turned;
+    struct leg *leg = &west.legs[place];
+    if (stage == STILL && (double)turned < elapsed * ends) {
+        place = (int)(turned++ % (unsigned long)calls);
+        leg = &west.legs[place];
+        leg->open = 0, east.freed = -1;
+        send_full(&west, place, now_ms(), 1, IAX, HANGUP, 0, 0);
+        stage = HANGING;
+    } else if (stage == HANGING && east.freed >= 0) {
+        memset(leg, 0, sizeof *leg);
+        send_full(&west, place, 0, 1, IAX, NEW, NEW_FOR_300, sizeof NEW_FOR_300);
+        stage = CALLING;
+    } else if (stage == CALLING && leg->open && east.legs[east.freed].open) {
+        send_full(&west, place, now_ms(), 1, VOICE, ULAW, media, MEDIA);
+        send_full(&east, east.freed, now_ms(), 1, VOICE, ULAW, media, MEDIA);
+        west.on_the_way++, east.on_the_way++;
+        stage = STILL;
+    }
+    if ((double)turned + ends < elapsed * ends) {
+        fprintf(stderr, "load: calls can't be set up as fast as they end\n");
+        exit(1);
+    }
+}
+
 // Keeps frames on their way both ways for so many seconds.
 static void carry(double seconds) {
+    static double began;
     int next_west = 0, next_east = 0;
+    if (began == 0) began = seconds_of(CLOCK_MONOTONIC);
     double end = seconds_of(CLOCK_MONOTONIC) + seconds, quiet = 0;
     while (seconds_of(CLOCK_MONOTONIC) < end) {
         unsigned long before = west.carried + east.carried;
         if (east.on_the_way < ON_THE_WAY) send_batch(&west, &east, &next_west);
         if (west.on_the_way < ON_THE_WAY) send_batch(&east, &west, &next_east);
         wait_for_any(1);
+        if (ends) turn_over(seconds_of(CLOCK_MONOTONIC) - began);
         // What is lost doesn't come: after a while nothing is on its way any more.
         if (west.carried + east.carried != before) quiet = 0;
         else if (quiet == 0) quiet = seconds_of(CLOCK_MONOTONIC);
@@ -225,9 +265,11 @@ static long peak_of(pid_t command) {
 
 int main(int count, char **words) {
     if (count < 5 || (calls = atoi(words[2])) < 1 || calls > MOST_CALLS) {
-        fprintf(stderr, "usage: load exchange|relay CALLS SECONDS COMMAND [ARGUMENT..]\n");
+        fprintf(stderr, "usage: load exchange|relay CALLS[/ENDS] SECONDS COMMAND [ARGUMENT..]\n");
         return 2;
     }
+    ends = strchr(words[2], '/') ? atoi(strchr(words[2], '/') + 1) : 0;
+    east.freed = west.freed = -1;
     double seconds = atof(words[3]);
     clock_gettime(CLOCK_MONOTONIC, &begin);
     west.wire = bound(5001), east.wire = bound(5002);

@@ -64,6 +64,20 @@ impl<F: RowFile + Drop, T: Drop> RowLog<F, T> {
         self.waiting.push(row)
     }
 
+    /// How many rows wait, beside the one that is on its way.
+    pub fn waiting(&self) -> usize
+        ensures { result ≡ length self.now.backlog.waiting }
+    {
+        self.waiting.len()
+    }
+
+    /// Whether a row is on its way.
+    pub fn has_row(&self) -> bool
+        ensures { result ≡ is_some self.now.row }
+    {
+        self.appender.has_row()
+    }
+
     /// How many rows were lost, modulo 2^64.
     pub fn lost(&self) -> u64
         ensures { result ≡ self.now.backlog.lost }

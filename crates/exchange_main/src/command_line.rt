@@ -108,6 +108,11 @@ fn run_command<'a>(alloc: Global) -> Result<Command<'a>, AllocError> {
         .default_value("10")
         .value_parser(clap::value_parser!(u32).range(0..=3600))
         .action(ArgAction::Set);
+    let calls = Arg::new(alloc, "calls")
+        .long("calls")
+        .value_name("FILE")
+        .help("The file to which the record of each ended call leg is appended, as CSV")
+        .action(ArgAction::Set);
     let input = Arg::new(alloc, "stop-at-end-of-input")
         .long("stop-at-end-of-input")
         .help("Stop, as by an order, where standard input is a pipe that ends")
@@ -119,6 +124,7 @@ fn run_command<'a>(alloc: Global) -> Result<Command<'a>, AllocError> {
         .arg(metrics)?
         .arg(log)?
         .arg(drain)?
+        .arg(calls)?
         .arg(input)
 }
 

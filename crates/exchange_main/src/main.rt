@@ -6,6 +6,7 @@
 mod command_line;
 
 use crate::command_line::{VERSION, command_line};
+use call_writer::Disk;
 use clap::ArgMatches;
 use clap::error::ErrorKind;
 use control_client::{give_order, order_of};
@@ -29,7 +30,7 @@ const USAGE: &str =
     "usage: exchange_main check <plan> | replay <plan> <script> | serve <plan> <turns>\n       exchange_main explain <plan>\n       \
 exchange_main ladder <plan> <script> [--leg <number>] [--text]\n       exchange_main pcap <plan> <script>\n       exchange_main records <plan> <script>\n       \
 exchange_main run <plan> [--control <socket>] [--metrics <address:port>] [--log <level>] [--drain <seconds>] \
-[--stop-at-end-of-input]\n       \
+[--calls <file>] [--stop-at-end-of-input]\n       \
 exchange_main ctl <socket> peers | calls | accounts | call <peer> <number> | hangup <number> | stop";
 
 // Whether a call of the system failed for want of memory.
@@ -183,7 +184,8 @@ fn run<
         + Threads
         + Wait
         + Sync,
->(rt: &R, alloc: Global, words: &[String]) -> u8 {
+    D: Disk + Sync,
+>(rt: &R, disk: &D, alloc: Global, words: &[String]) -> u8 {
     match words {
         [_, command, plan] if command.as_str() == "check" => check_file(rt, alloc, plan.as_str()),
         [_, command, plan] if command.as_str() == "explain" => {
@@ -201,7 +203,7 @@ fn run<
         [_, command, socket, order @ ..] if command.as_str() == "ctl" => {
             order_service(rt, alloc, socket.as_str(), order)
         }
-        _ => run_by_options(rt, alloc, words),
+        _ => run_by_options(rt, disk, alloc, words),
     }
 }
 
@@ -249,7 +251,8 @@ fn run_file<
         + Threads
         + Wait
         + Sync,
->(rt: &R, alloc: Global, options: &ArgMatches<'_>) -> u8 {
+    D: Disk + Sync,
+>(rt: &R, disk: &D, alloc: Global, options: &ArgMatches<'_>) -> u8 {
     let (Some(path), Ok(metrics)) = (options.get_str("plan"), metrics_address(options)) else {
         return refuse_usage(rt);
     };
@@ -262,9 +265,10 @@ fn run_file<
         stops_with_input: options.get_flag("stop-at-end-of-input"),
         level: log_level(options),
         drain_ms: u64::from(seconds) * 1000,
+        calls: options.get_str("calls"),
     };
     match octets_of(rt, path) {
-        Some(plan) => run_service(rt, alloc, &plan, &settings, &mut io::writer(rt)),
+        Some(plan) => run_service(rt, disk, alloc, &plan, &settings, &mut io::writer(rt)),
         None => 1,
     }
 }
@@ -298,13 +302,14 @@ fn run_by_options<
         + Threads
         + Wait
         + Sync,
->(rt: &R, alloc: Global, words: &[String]) -> u8 {
+    D: Disk + Sync,
+>(rt: &R, disk: &D, alloc: Global, words: &[String]) -> u8 {
     let Ok(command) = command_line(alloc) else {
         return refuse_memory(rt);
     };
     match command.try_get_matches_from(words) {
         Ok(matches) => match matches.subcommand() {
-            Some(("run", options)) => run_file(rt, alloc, options),
+            Some(("run", options)) => run_file(rt, disk, alloc, options),
             Some(("ladder", options)) => ladder_files(rt, alloc, options),
             Some(("pcap", options)) => pcap_files(rt, alloc, options),
             Some(("records", options)) => record_files(rt, alloc, options),
@@ -331,7 +336,7 @@ fn main(rt: HostRuntime) -> ExitCode {
         Err(error) => return ExitCode::from(refuse_arguments(&rt, &error)),
     };
     let status = match words_of(rt.alloc(), arguments) {
-        Some(words) => run(&rt, rt.alloc(), words.as_slice()),
+        Some(words) => run(&rt, &rt, rt.alloc(), words.as_slice()),
         None => {
             let _ = println!(rt; "refused Memory");
             1

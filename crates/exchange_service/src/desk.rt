@@ -26,12 +26,14 @@ pub(crate) struct Desk<'x, J: Naming> {
     pub(crate) exchange: &'x Exchange<NoGate, J>,
     pub(crate) pass: Pass<J>,
     pub(crate) watch: &'x ServiceWatch,
+    /// The name of the file of call records, if they are wanted.
+    pub(crate) calls: Option<&'x str>,
 }
 
 impl<'x, J: Naming> Desk<'x, J> {
     /// Hangs up all legs that are still up. Gives how many legs there are.
     pub(crate) fn hang_up_all<R: Wait>(&mut self, rt: &R, now: u64) -> u32 {
-        hang_up_all(rt, self.exchange, &mut self.pass, now)
+        hang_up_all(rt, self.exchange, &mut self.pass, self.watch, now)
     }
 
     /// Whether the service was told to stop, and its workers still run.
@@ -171,7 +173,7 @@ impl<'x, J: Naming> Desk<'x, J> {
         let Some((_, name)) = find_leg(rt, self.exchange, &mut self.pass, number) else {
             return Answer::error(alloc, Status::NotFound, "NoLeg");
         };
-        match hang_up(rt, self.exchange, &mut self.pass, name, now) {
+        match hang_up(rt, self.exchange, &mut self.pass, self.watch, name, now) {
             Ok(()) => named(alloc, Status::Ok, name),
             Err(why) => Answer::error(alloc, Status::Conflict, why),
         }

@@ -1,12 +1,14 @@
 //! The legs of an exchange, found and hung up by their local numbers.
 ghost use Rattle.std.specs.Prelude.{◌<◌, IfSome, length};
 
+use crate::service_watch::ServiceWatch;
 use call_book::LegName;
 use exchange_commands::order_error_name;
-use exchange_core::{Exchange, NoGate, Pass};
+use exchange_core::{Exchange, NoGate, Pass, Retired};
 use leg_machine::Stage;
 use peer_lock::Naming;
 use std::sync::Wait;
+use udp_workers::{Event, Watch};
 
 // Whether a leg of this stage has still to be hung up.
 fn is_open(stage: Stage) -> bool {
@@ -16,11 +18,23 @@ fn is_open(stage: Stage) -> bool {
     }
 }
 
+// The legs that an order took out, by whoever stands behind the workers.
+fn tell_retired(watch: &ServiceWatch, workers: usize, legs: &[Retired]) {
+    let place = u16::try_from(workers).unwrap_or(u16::MAX);
+    for leg in legs {
+        watch.tell(Event::Retired {
+            peer: leg.name.peer,
+        });
+        watch.retire(place, leg);
+    }
+}
+
 /// Hangs up a leg. `Err` is the name of what refuses it.
 pub(crate) fn hang_up<J: Naming, R: Wait>(
     rt: &R,
     exchange: &Exchange<NoGate, J>,
     pass: &mut Pass<J>,
+    watch: &ServiceWatch,
     name: LegName,
     now: u64,
 ) -> Result<(), &'static str> {
@@ -28,7 +42,10 @@ pub(crate) fn hang_up<J: Naming, R: Wait>(
         return Err("NoLeg");
     }
     match exchange.hang_up(rt, pass, name, now) {
-        Ok(_) => Ok(()),
+        Ok(answer) => {
+            tell_retired(watch, exchange.plan().workers().len(), &answer.retired);
+            Ok(())
+        }
         Err(error) => Err(order_error_name(error)),
     }
 }
@@ -38,6 +55,7 @@ fn hang_up_peer<J: Naming, R: Wait>(
     rt: &R,
     exchange: &Exchange<NoGate, J>,
     pass: &mut Pass<J>,
+    watch: &ServiceWatch,
     peer: u16,
     now: u64,
 ) -> u32
@@ -49,7 +67,7 @@ fn hang_up_peer<J: Naming, R: Wait>(
         if let Some(leg) = exchange.status(rt, pass, peer, range.first + place) {
             legs = legs.saturating_add(1);
             if is_open(leg.stage) {
-                let _ = hang_up(rt, exchange, pass, leg.name, now);
+                let _ = hang_up(rt, exchange, pass, watch, leg.name, now);
             }
         }
     }
@@ -61,11 +79,12 @@ pub(crate) fn hang_up_all<J: Naming, R: Wait>(
     rt: &R,
     exchange: &Exchange<NoGate, J>,
     pass: &mut Pass<J>,
+    watch: &ServiceWatch,
     now: u64,
 ) -> u32 {
     let mut legs: u32 = 0;
     for peer in 0..exchange.plan().peer_count() {
-        legs = legs.saturating_add(hang_up_peer(rt, exchange, pass, peer, now));
+        legs = legs.saturating_add(hang_up_peer(rt, exchange, pass, watch, peer, now));
     }
     legs
 }

@@ -2,6 +2,7 @@
 //! log.
 #![tactic(auto)]
 
+mod calls_told;
 mod client;
 mod control;
 mod desk;

@@ -1,6 +1,7 @@
 //! A service: the workers of a plan serve until they are told to stop.
 ghost use Rattle.std.specs.Prelude.{◌≡◌, ◌+◌, ◌<◌, ◌≤◌, ◌^◌, IfOk, length, vec_len};
 
+use crate::calls_told::tell_end;
 use crate::control::Control;
 use crate::desk::Desk;
 use crate::doors::Doors;
@@ -9,10 +10,12 @@ use crate::receive_buffer::ReceiveBuffer;
 use crate::service_watch::ServiceWatch;
 use crate::socket_file;
 use crate::telling::tell_start;
+use call_writer::{Calendar, CallOutlets, CallRows, Disk, write_calls};
 use exchange_commands::{
     ServiceError, ServiceSeat, reports_of, seats_of, service_error_name, settle, write_reports,
 };
 use exchange_core::{Exchange, NoGate, Pass};
+use jiff::Timestamp;
 use log::LevelFilter;
 use media_ledger::Blank;
 use mio::net::{TcpListener, UnixListener};
@@ -27,7 +30,7 @@ use std::random::RandomSource;
 use std::sync::Wait;
 use std::sync::ledger::Ledger;
 use std::thread::Threads;
-use std::time::{Clock, Instant};
+use std::time::{Clock, Instant, SystemTime};
 use std::{fs, io, thread};
 use udp_workers::{Post, TurnReport, WatchedExchange, start_until};
 
@@ -48,6 +51,16 @@ pub struct Settings<'a> {
     pub level: LevelFilter,
     /// How long a drain lasts at most, in milliseconds.
     pub drain_ms: u64,
+    /// The file to which the records of ended legs are appended.
+    pub calls: Option<&'a str>,
+}
+
+// What a thread needs that writes the rows of ended legs.
+#[derive(Drop)]
+struct Records<'s> {
+    path: &'s str,
+    calendar: Calendar,
+    rows: CallRows,
 }
 
 // The workers serve beside the control socket until they are told to end. False if a thread was refused: then they end at once.
@@ -68,6 +81,71 @@ fn serve_seats<
         control.run(rt, desk, opened);
         started
     })
+}
+
+// The workers serve so, beside a thread that appends the rows of ended legs to this file. False if a thread was refused.
+fn serve_recorded<
+    J: Naming,
+    P: Post + Send + Sync,
+    R: Clock + Eprint + Net + RandomSource + Threads + Wait + Sync,
+    D: Disk + Sync,
+>(
+    rt: &R,
+    disk: &D,
+    service: &WatchedExchange<'_, ServiceWatch, NoGate, J, P>,
+    seats: &[ServiceSeat<'_, R, J, P>],
+    desk: &mut Desk<'_, J>,
+    control: &mut Control<'_>,
+    opened: Instant,
+    records: Records<'_>,
+    outlets: &CallOutlets,
+) -> bool {
+    let Records {
+        path,
+        calendar,
+        rows,
+    } = records;
+    let plan = service.exchange.plan();
+    thread::scope(thread::scope_env(), rt, move |scope| {
+        let is_written = scope
+            .spawn(move || write_calls(rt, disk, path, plan, calendar, opened, outlets, rows))
+            .is_ok();
+        let is_served = is_written && serve_seats(rt, service, seats, desk, control, opened);
+        outlets.end();
+        is_served
+    })
+}
+
+// This moment by the calendar; the beginning of 1970 where the clock can't be read.
+fn calendar<R: Clock>(rt: &R) -> Calendar {
+    let opened_us = match SystemTime::now(rt) {
+        Ok(now) => match Timestamp::try_from(now) {
+            Ok(now) => now.as_microsecond(),
+            Err(_) => 0,
+        },
+        Err(_) => 0,
+    };
+    Calendar { opened_us }
+}
+
+// Where the rows of ended legs go, and what has to be written of them; nothing where they aren't wanted.
+fn records_of<'s, R: Clock>(
+    rt: &R,
+    alloc: Global,
+    plan: &Plan,
+    settings: &Settings<'s>,
+) -> Result<Option<(CallOutlets, Records<'s>)>, ServiceError> {
+    let Some(path) = settings.calls else {
+        return Ok(None);
+    };
+    let calendar = calendar(rt);
+    let (outlets, rows) = CallRows::new(alloc, plan, calendar)?;
+    let records = Records {
+        path,
+        calendar,
+        rows,
+    };
+    Ok(Some((outlets, records)))
 }
 
 // The seats of the workers. The log tells the start, and what room their sockets have.
@@ -99,8 +177,10 @@ fn serve_beside<
     J: Naming,
     P: Post + Send + Sync,
     R: Clock + Eprint + Net + RandomSource + Threads + Wait + Sync,
+    D: Disk + Sync,
 >(
     rt: &R,
+    disk: &D,
     alloc: Global,
     exchange: &Exchange<NoGate, J>,
     passes: &mut Vec<Pass<J>>,
@@ -110,22 +190,39 @@ fn serve_beside<
     requires plan { exchange.now ≡ P.plan }
     requires enough { length exchange.now.workers + 1 ≤ vec_len passes.old }
 {
-    let watch = ServiceWatch::new(alloc, exchange.plan().peer_count())?;
-    let pass = passes.remove(0);
     let settings = control.settings;
+    let (outlets, records) = match records_of(rt, alloc, exchange.plan(), settings)? {
+        Some((outlets, records)) => (Some(outlets), Some(records)),
+        None => (None, None),
+    };
+    let watch = ServiceWatch::new(alloc, exchange.plan().peer_count(), outlets)?;
+    let pass = passes.remove(0);
     let seats = told_seats::<J, P, R>(rt, alloc, exchange.plan(), passes, settings, opened)?;
     let mut desk = Desk {
         exchange,
         pass,
         watch: &watch,
+        calls: settings.calls,
     };
     let service = WatchedExchange {
         exchange,
         watch: &watch,
         post: PhantomData,
     };
-    if !serve_seats(rt, &service, &seats, &mut desk, control, opened) {
+    let is_served = match (records, watch.calls()) {
+        (Some(records), Some(outlets)) => {
+            serve_recorded(
+                rt, disk, &service, &seats, &mut desk, control, opened, records, outlets,
+            )
+        }
+        _ => serve_seats(rt, &service, &seats, &mut desk, control, opened),
+    };
+    if !is_served {
         return Err(ServiceError::NoThread);
+    }
+    if let (Some(path), Some(outlets)) = (settings.calls, watch.calls()) {
+        let level = settings.level;
+        tell_end(&Journal { rt, level }, path, outlets.state());
     }
     let Desk { pass, .. } = desk;
     if passes.push(pass).is_err() {
@@ -139,9 +236,11 @@ fn work<
     J: Naming,
     P: Post + Send + Sync,
     R: Clock + Eprint + Net + RandomSource + Threads + Wait + Sync,
+    D: Disk + Sync,
     W: Write,
 >(
     rt: &R,
+    disk: &D,
     alloc: Global,
     plan: Plan,
     control: &mut Control<'_>,
@@ -161,7 +260,15 @@ fn work<
     let _passes = plan.passes();
     let (exchange, passes) = Exchange::<NoGate, J>::open(alloc, plan, NoGate, octets, steps)?;
     let mut passes = passes;
-    let reports = serve_beside::<J, P, R>(rt, alloc, &exchange, &mut passes, control, opened)?;
+    let reports = serve_beside::<J, P, R, D>(
+        rt,
+        disk,
+        alloc,
+        &exchange,
+        &mut passes,
+        control,
+        opened,
+    )?;
     write_reports(&reports, writer)?;
     settle(exchange, passes, writer)
 }
@@ -172,9 +279,11 @@ fn work_named<
     S: Ledger + Send + Sync,
     P: Post + Send + Sync,
     R: Clock + Eprint + Net + RandomSource + Threads + Wait + Sync,
+    D: Disk + Sync,
     W: Write,
 >(
     rt: &R,
+    disk: &D,
     alloc: Global,
     plan: Plan,
     control: &mut Control<'_>,
@@ -187,7 +296,7 @@ fn work_named<
     requires octets { (octets.name ≡ O.name) × (octets.parts ≡ O.parts) × (octets.parts ≡ length plan.peers + plan.passes) }
     requires steps { (steps.name ≡ S.name) × (steps.parts ≡ S.parts) × (steps.parts ≡ length plan.peers + plan.passes) }
 {
-    work::<Service<O, S>, P, R, W>(rt, alloc, plan, control, writer, octets, steps)
+    work::<Service<O, S>, P, R, D, W>(rt, disk, alloc, plan, control, writer, octets, steps)
 }
 
 // The plan with a pass beside those of its workers.
@@ -240,8 +349,13 @@ fn bind_metrics<R: Net>(
 }
 
 // The service of a plan that is right.
-fn serve_plan<R: Clock + Eprint + Net + RandomSource + Threads + Wait + Sync, W: Write>(
+fn serve_plan<
+    R: Clock + Eprint + Net + RandomSource + Threads + Wait + Sync,
+    D: Disk + Sync,
+    W: Write,
+>(
     rt: &R,
+    disk: &D,
     alloc: Global,
     plan: Plan,
     control: &mut Control<'_>,
@@ -249,8 +363,9 @@ fn serve_plan<R: Clock + Eprint + Net + RandomSource + Threads + Wait + Sync, W:
 ) -> Result<(), ServiceError> {
     let plan = with_spare_pass(plan);
     let parts = u64::from(plan.peer_count()) + u64::from(plan.passes());
-    work_named::<Brand, Brand, Brand, R, W>(
+    work_named::<Brand, Brand, Brand, R, D, W>(
         rt,
+        disk,
         alloc,
         plan,
         control,
@@ -268,9 +383,11 @@ fn refuse<W: Write>(writer: &mut W, name: &str) -> u8 {
 // The service with a control socket that is bound, or with none.
 fn serve_behind<
     R: Clock + Eprint + Files<File = File> + Net + RandomSource + Threads + Wait + Sync,
+    D: Disk + Sync,
     W: Write,
 >(
     rt: &R,
+    disk: &D,
     alloc: Global,
     plan: Plan,
     control: Option<UnixListener>,
@@ -282,7 +399,12 @@ fn serve_behind<
         Err(name) => return refuse(writer, name),
     };
     match Control::new(rt, alloc, settings, Doors { control, metrics }) {
-        Ok(mut control) => { status_of(serve_plan(rt, alloc, plan, &mut control, writer), writer) }
+        Ok(mut control) => {
+            status_of(
+                serve_plan(rt, disk, alloc, plan, &mut control, writer),
+                writer,
+            )
+        }
         Err(error) => refuse(writer, listener_error_name(&error, "Control")),
     }
 }
@@ -306,10 +428,14 @@ fn status_of<W: Write>(served: Result<(), ServiceError>, writer: &mut W) -> u8 {
 /// bound, since somebody answers there, what lies there is no socket, or the system doesn't let it; `refused Metrics`: the address
 /// of the metrics isn't bound; the others as `serve` has them. A stop hangs up each leg, and the workers end once none is left, or
 /// after `drain_ms` milliseconds, or at a second stop. The file of the control socket is gone afterwards.
+///
+/// Where `calls` names a file, a thread appends the record of each ended leg to it (`docs/RECORDS.md`), as this disk has it. Whatever
+/// becomes of the file, calls go on.
 pub fn run<
     R: Clock + Eprint + Files<File = File> + Net + RandomSource + Threads + Wait + Sync,
+    D: Disk + Sync,
     W: Write,
->(rt: &R, alloc: Global, plan: &[u8], settings: &Settings<'_>, writer: &mut W) -> u8 {
+>(rt: &R, disk: &D, alloc: Global, plan: &[u8], settings: &Settings<'_>, writer: &mut W) -> u8 {
     let plan = match Plan::read(alloc, plan) {
         Ok(plan) => plan,
         Err(fault) => {
@@ -321,7 +447,7 @@ pub fn run<
         Ok(control) => control,
         Err(name) => return refuse(writer, name),
     };
-    let status = serve_behind(rt, alloc, plan, control, settings, writer);
+    let status = serve_behind(rt, disk, alloc, plan, control, settings, writer);
     if let Some(path) = settings.control {
         let _ = fs::remove_file(rt, path);
     }

@@ -217,6 +217,43 @@ fn push_totals(
     )
 }
 
+// What is counted of the file of call records.
+fn push_calls(
+    alloc: Global,
+    metrics: &mut Metrics,
+    watch: &ServiceWatch,
+) -> Result<(), AllocError> {
+    let Some(calls) = watch.calls() else {
+        return Ok(());
+    };
+    let state = calls.state();
+    push_total(
+        alloc,
+        metrics,
+        "iax_call_records_written_total",
+        "Records of ended call legs that were written to the file.",
+        state.written,
+    )?;
+    push_total(
+        alloc,
+        metrics,
+        "iax_call_records_lost_total",
+        "Records of ended call legs that were lost, since too many waited.",
+        state.lost,
+    )?;
+    let labels = Labels::None;
+    let family = Family {
+        name: "iax_call_records_waiting",
+        help: "Records of ended call legs that wait for the file.",
+        kind: Kind::Gauge,
+        samples: &[Sample {
+            labels,
+            value: state.waiting,
+        }],
+    };
+    metrics.push(alloc, &family)
+}
+
 // The answer to `GET /metrics`.
 fn metrics_answer<J: Naming, R: Wait>(
     rt: &R,
@@ -233,6 +270,7 @@ fn metrics_answer<J: Naming, R: Wait>(
     }
     push_refusals(alloc, &mut metrics, exchange.plan(), desk.watch)?;
     push_totals(alloc, &mut metrics, desk.watch)?;
+    push_calls(alloc, &mut metrics, desk.watch)?;
     push_drops(table, alloc, &mut metrics, exchange.plan())?;
     metrics.into_answer(alloc)
 }

@@ -1,6 +1,8 @@
 //! What the workers of a service ask, and what they tell of each peer.
 ghost use Rattle.std.specs.Prelude.{◌≡◌};
 
+use call_writer::CallOutlets;
+use exchange_commands::call_row;
 use exchange_core::{Refusal, Retired};
 use peer_plan::Endpoint;
 use std::alloc::{AllocError, Global};
@@ -80,6 +82,8 @@ pub(crate) struct ServiceWatch {
     faults: AtomicU64,
     // The strangers that the log hasn't taken yet.
     seen: Mutex<Vec<Endpoint>>,
+    // Where the rows of ended legs go, if they are wanted.
+    calls: Option<CallOutlets>,
 }
 
 // No datagram was refused for any reason.
@@ -137,8 +141,13 @@ fn count_one(count: &AtomicU64) {
 }
 
 impl ServiceWatch {
-    /// A service that serves, with so many peers of which nothing was heard.
-    pub(crate) fn new(alloc: Global, peers: u16) -> Result<ServiceWatch, AllocError> {
+    /// A service that serves, with so many peers of which nothing was heard. The rows of ended legs go to these outlets, if there are
+    /// some.
+    pub(crate) fn new(
+        alloc: Global,
+        peers: u16,
+        calls: Option<CallOutlets>,
+    ) -> Result<ServiceWatch, AllocError> {
         let mut marks = Vec::new(alloc);
         for _ in 0..peers {
             if marks.push(PeerMarks::new(alloc)?).is_err() {
@@ -151,6 +160,7 @@ impl ServiceWatch {
             strangers: AtomicU64::new(0),
             faults: AtomicU64::new(0),
             seen: Mutex::new(Vec::with_capacity(alloc, STRANGERS)?),
+            calls,
         })
     }
 
@@ -171,6 +181,11 @@ impl ServiceWatch {
             },
             None => 0,
         }
+    }
+
+    /// Where the rows of ended legs go, if they are wanted.
+    pub(crate) fn calls(&self) -> Option<&CallOutlets> {
+        self.calls.as_ref()
     }
 
     /// How many datagrams came from strangers.
@@ -288,7 +303,11 @@ impl Watch for ServiceWatch {
         }
     }
 
-    fn retire(&self, _worker: u16, _leg: &Retired) {}
+    fn retire(&self, worker: u16, leg: &Retired) {
+        if let Some(calls) = &self.calls {
+            calls.hand_over(worker, call_row(leg, 0));
+        }
+    }
 
     // A service lacks no worker: where a thread is refused, the others end.
     fn no_thread(&self) {

@@ -1,6 +1,7 @@
 //! What the log tells of a service, and when.
 ghost use Rattle.std.specs.Prelude.{◌<◌, length};
 
+use crate::calls_told::CallsTold;
 use crate::desk::Desk;
 use crate::legs::count_legs;
 use crate::service_watch::{REFUSALS, STRANGERS, ServiceWatch};
@@ -45,6 +46,7 @@ pub(crate) struct Told {
     // The drops of each worker's socket.
     drops: Vec<u64>,
     faults: u64,
+    calls: CallsTold,
     strangers: Strangers,
     // A list for the strangers that come.
     spare: Vec<Endpoint>,
@@ -187,6 +189,7 @@ impl Told {
             peers,
             drops,
             faults: 0,
+            calls: CallsTold::new(),
             strangers: Strangers::new(alloc)?,
             spare: Vec::with_capacity(alloc, STRANGERS)?,
             legs: Rounds {
@@ -320,6 +323,9 @@ impl Told {
         self.tell_refusals(log, plan, watch, seconds);
         self.strangers.tell(log, watch.strangers(), seconds);
         self.tell_faults(log, watch.faults(), seconds);
+        if let Some(calls) = watch.calls() {
+            self.calls.tell_lost(log, calls.state(), seconds);
+        }
         if self.tell_drops(table, log, alloc, plan, seconds).is_err() {
             debug!(log; "no memory for the table of sockets");
         }
@@ -339,6 +345,9 @@ impl Told {
         self.tell_stage(log, desk.watch.stage());
         self.tell_peers(rt, log, desk, now);
         self.see_strangers(rt, alloc, desk.watch);
+        if let (Some(path), Some(calls)) = (desk.calls, desk.watch.calls()) {
+            self.calls.look(log, path, calls.state());
+        }
         if self.legs.due(now).is_some() {
             self.tell_legs(rt, log, desk);
         }

@@ -1,0 +1,122 @@
+//! A file of the file system, by its name.
+ghost use Rattle.std.specs.Prelude.{◌≤◌, length, IfOk};
+
+use crate::disk::Disk;
+use call_files::{Beginning, Fault, RowFile, Whereabouts};
+use std::fs::{File, Metadata};
+use std::io;
+use std::io::{ErrorKind, Write};
+use std::os::unix::fs::{FileExt, MetadataExt};
+
+// How often a write that a signal cut off is made again.
+const TRIES: u32 = 16;
+
+/// The file that a name leads to, or led to when it was opened.
+#[derive(Drop)]
+pub(crate) struct DiskFile<'a, D: Disk> {
+    disk: &'a D,
+    path: &'a str,
+    file: Option<File>,
+}
+
+fn fault_of(error: &io::Error) -> Fault {
+    Fault {
+        code: error.raw_os_error(),
+    }
+}
+
+// What stands in a file. What is no regular file, as a pipe, has nothing in it.
+fn beginning_of(file: &File) -> io::Result<Beginning> {
+    let metadata = file.metadata()?;
+    if !metadata.is_file() || metadata.len() == 0 {
+        return Ok(Beginning::Empty);
+    }
+    let mut last = [0; 1];
+    file.read_exact_at(&mut last, metadata.len() - 1)?;
+    Ok(match last {
+        [b'\n'] => Beginning::Lines,
+        _ => Beginning::CutLine,
+    })
+}
+
+// Whether two names, or files, are of one file.
+fn is_same(one: &Metadata, other: &Metadata) -> bool {
+    one.dev() == other.dev() && one.ino() == other.ino()
+}
+
+// Writes what the system takes of these octets.
+fn write(file: &mut File, octets: &[u8]) -> io::Result<usize>
+    ensures { IfOk result (λ count. count ≤ length octets.now) }
+{
+    for _ in 0..TRIES {
+        match file.write(octets) {
+            Err(error) if error.kind() == ErrorKind::Interrupted => {}
+            done => return done,
+        }
+    }
+    Err(io::Error::from(ErrorKind::Interrupted))
+}
+
+impl<'a, D: Disk> DiskFile<'a, D> {
+    /// A file that isn't open.
+    pub(crate) fn new(disk: &'a D, path: &'a str) -> DiskFile<'a, D> {
+        DiskFile {
+            disk,
+            path,
+            file: None,
+        }
+    }
+
+    // Opens the file that the name leads to.
+    fn open_named(&mut self) -> io::Result<Beginning> {
+        self.file = None;
+        let file = self.disk.open(self.path)?;
+        let beginning = beginning_of(&file)?;
+        self.file = Some(file);
+        Ok(beginning)
+    }
+
+    // Where the name leads, beside the file that is open.
+    fn compare(&self, file: &File) -> io::Result<Whereabouts> {
+        let named = self.disk.metadata(self.path)?;
+        if !is_same(&named, &file.metadata()?) {
+            return Ok(Whereabouts::Elsewhere);
+        }
+        Ok(if named.is_file() && named.len() == 0 {
+            Whereabouts::Emptied
+        } else {
+            Whereabouts::Same
+        })
+    }
+}
+
+impl<'a, D: Disk> RowFile for DiskFile<'a, D> {
+    fn open(&mut self) -> Result<Beginning, Fault> {
+        self.open_named().map_err(|error| fault_of(&error))
+    }
+
+    fn look(&mut self) -> Whereabouts {
+        match &self.file {
+            Some(file) => self.compare(file).unwrap_or(Whereabouts::Elsewhere),
+            None => Whereabouts::Elsewhere,
+        }
+    }
+
+    fn append(&mut self, octets: &[u8]) -> Result<usize, Fault> {
+        match &mut self.file {
+            Some(file) => write(file, octets).map_err(|error| fault_of(&error)),
+            None => Err(Fault { code: None }),
+        }
+    }
+
+    // What can't be synced, as a pipe, has nothing to be had on a disk.
+    fn sync(&mut self) -> Result<(), Fault> {
+        match &self.file {
+            Some(file) => match file.sync_data() {
+                Err(error) if error.kind() != ErrorKind::InvalidInput => Err(fault_of(&error)),
+                _ => Ok(()),
+            },
+            None => Ok(()),
+        }
+    }
+}

@@ -1,0 +1,55 @@
+//! The text of a row: the peers of a plan by their names, moments by the calendar.
+use call_files::Spelling;
+use call_records::{CallRow, RowTexts, push_row};
+use jiff::Timestamp;
+use peer_plan::Plan;
+use std::alloc::{AllocError, Global};
+
+/// The date of the moment 0, at which the exchange was opened: microseconds since the beginning of 1970, in UTC.
+#[derive(Clone, Copy, Debug, PartialEq, Eq)]
+pub struct Calendar {
+    pub opened_us: i64,
+}
+
+impl Calendar {
+    // A moment of the exchange, in milliseconds, as a date and time (RFC 3339, in UTC, with milliseconds); nothing beyond the year 9999.
+    fn text(self, alloc: Global, moment: u64) -> Result<String, AllocError> {
+        let ms = i64::try_from(moment).unwrap_or(i64::MAX);
+        match Timestamp::from_millisecond((self.opened_us / 1000).saturating_add(ms)) {
+            Ok(moment) => format!(in alloc; "{moment:.3}"),
+            Err(_) => Ok(String::new(alloc)),
+        }
+    }
+}
+
+/// The texts of the rows of a service.
+#[derive(Drop)]
+pub(crate) struct RowSpelling<'a> {
+    pub(crate) alloc: Global,
+    pub(crate) plan: &'a Plan,
+    pub(crate) calendar: Calendar,
+}
+
+impl<'a> RowSpelling<'a> {
+    // The name of a peer, by its place in the plan; nothing for a place where there is none.
+    fn peer(&self, place: u16) -> &str {
+        if place < self.plan.peer_count() {
+            self.plan.name(place)
+        } else {
+            ""
+        }
+    }
+}
+
+impl<'a> Spelling<CallRow> for RowSpelling<'a> {
+    fn spell(&self, row: &CallRow, octets: &mut Vec<u8>) -> Result<(), AllocError> {
+        let opened = self.calendar.text(self.alloc, row.opened)?;
+        let ended = self.calendar.text(self.alloc, row.ended)?;
+        let texts = RowTexts {
+            peer: self.peer(row.name.peer),
+            opened: opened.as_str(),
+            ended: ended.as_str(),
+        };
+        push_row(self.alloc, octets, row, &texts)
+    }
+}

@@ -1,0 +1,197 @@
+//! The thread that writes.
+use crate::disk::Disk;
+use crate::disk_file::DiskFile;
+use crate::outlets::{CallOutlets, FileState, Seam};
+use crate::spelling::{Calendar, RowSpelling};
+use call_files::{Appender, RowLog};
+use call_records::{Backlog, CallNumbering, CallRow, push_header};
+use peer_plan::Plan;
+use std::alloc::{AllocError, Global};
+use std::sync::Wait;
+use std::thread;
+use std::time::{Clock, Duration, Instant};
+
+// How many rows wait at most for the file, beside those of the outlets.
+const WAITING: usize = 65_536;
+
+// How long a round lasts, in milliseconds.
+const ROUND_MS: u64 = 100;
+
+/// The other ends of the outlets, the serials of calls, and room for the rows that wait. Whoever writes has it.
+#[derive(Drop)]
+pub struct CallRows {
+    alloc: Global,
+    seams: Vec<Seam>,
+    calls: CallNumbering,
+    waiting: Backlog<CallRow>,
+    line_end: Vec<u8>,
+    header: Vec<u8>,
+}
+
+// What is written of rows that have come.
+#[derive(Drop)]
+struct Writer<'a, D: Disk> {
+    seams: Vec<Seam>,
+    calls: CallNumbering,
+    log: RowLog<DiskFile<'a, D>, CallRow>,
+    written: u64,
+}
+
+impl CallRows {
+    /// The outlets of a plan's workers and of one thread more, and what the writer needs. The serials of calls begin with the date, so
+    /// that those of a later run are greater.
+    pub fn new(
+        alloc: Global,
+        plan: &Plan,
+        calendar: Calendar,
+    ) -> Result<(CallOutlets, CallRows), AllocError> {
+        let (outlets, seams) = CallOutlets::new(alloc, plan.workers().len() + 1)?;
+        let first = calendar.opened_us.cast_unsigned();
+        let mut line_end = Vec::new(alloc);
+        line_end.push(b'\n')?;
+        let mut header = Vec::new(alloc);
+        push_header(alloc, &mut header)?;
+        let rows = CallRows {
+            alloc,
+            seams,
+            calls: CallNumbering::new(alloc, plan.number_count(), first)?,
+            waiting: Backlog::new(alloc, WAITING)?,
+            line_end,
+            header,
+        };
+        Ok((outlets, rows))
+    }
+}
+
+// A row that came has the serial of its call, and waits for the file.
+fn note<D: Disk>(
+    calls: &mut CallNumbering,
+    log: &mut RowLog<DiskFile<'_, D>, CallRow>,
+    row: CallRow,
+) {
+    let mut row = row;
+    row.call = calls.number_of(row.name, row.partner);
+    let _ = log.push(row);
+}
+
+// So many rows of a ring, the oldest first.
+fn take_sent<D: Disk>(
+    seam: &mut Seam,
+    count: usize,
+    calls: &mut CallNumbering,
+    log: &mut RowLog<DiskFile<'_, D>, CallRow>,
+) {
+    for _ in 0..count {
+        if let Ok(row) = seam.ring.pop() {
+            note(calls, log, row);
+        }
+    }
+}
+
+// The rows of an outlet, the oldest first: where it keeps some, those of its ring that came before these.
+fn take_from<R: Wait, D: Disk>(
+    rt: &R,
+    alloc: Global,
+    outlets: &CallOutlets,
+    seam: &mut Seam,
+    calls: &mut CallNumbering,
+    log: &mut RowLog<DiskFile<'_, D>, CallRow>,
+) {
+    match outlets.take_kept(rt, alloc, seam) {
+        Some((before, mut kept)) => {
+            take_sent(seam, before, calls, log);
+            for _ in 0..kept.len() {
+                if let Some(row) = kept.take() {
+                    note(calls, log, row);
+                }
+            }
+        }
+        None => {
+            let count = seam.ring.slots();
+            take_sent(seam, count, calls, log);
+        }
+    }
+}
+
+impl<'a, D: Disk> Writer<'a, D> {
+    // All rows that have come.
+    fn take_all<R: Wait>(&mut self, rt: &R, alloc: Global, outlets: &CallOutlets) {
+        for seam in self.seams.iter_mut() {
+            take_from(rt, alloc, outlets, seam, &mut self.calls, &mut self.log);
+        }
+    }
+
+    // Writes what waits; at the end all of it is on the disk, as far as the system lets it. Tells how the file is.
+    fn write(&mut self, outlets: &CallOutlets, spelling: &RowSpelling<'_>, now: u64, is_end: bool) {
+        let count = if is_end {
+            self.log.end(spelling, now)
+        } else {
+            self.log.write(spelling, now)
+        };
+        self.written = self.written.wrapping_add(count);
+        outlets.tell(FileState {
+            written: self.written,
+            waiting: (self.log.waiting() as u64).saturating_add(u64::from(self.log.has_row())),
+            lost: self.log.lost(),
+            trouble: self.log.trouble(),
+        });
+    }
+}
+
+// Milliseconds since the exchange was opened; the last ones where the clock can't be read.
+fn moment<R: Clock>(rt: &R, opened: Instant, last: u64) -> u64 {
+    match opened.elapsed(rt) {
+        Ok(elapsed) => u64::try_from(elapsed.as_millis()).unwrap_or(last),
+        Err(_) => last,
+    }
+}
+
+/// Appends to the file of this name what is handed over, until the outlets are over: in rounds of a tenth of a second. Rows that were
+/// written are on the disk after a second at most, and at the end.
+///
+/// A file that can't be opened or written to is tried again, and rows wait, 65,536 of them at most. One whose name leads to another
+/// file is opened anew there. At the end there is one more try.
+pub fn write_calls<R: Clock + Wait, D: Disk>(
+    rt: &R,
+    disk: &D,
+    path: &str,
+    plan: &Plan,
+    calendar: Calendar,
+    opened: Instant,
+    outlets: &CallOutlets,
+    rows: CallRows,
+) {
+    let CallRows {
+        alloc,
+        seams,
+        calls,
+        waiting,
+        line_end,
+        header,
+    } = rows;
+    let spelling = RowSpelling {
+        alloc,
+        plan,
+        calendar,
+    };
+    let appender = Appender::new(DiskFile::new(disk, path), line_end, header);
+    let mut writer = Writer {
+        seams,
+        calls,
+        log: RowLog::new(alloc, appender, waiting),
+        written: 0,
+    };
+    let mut now = moment(rt, opened, 0);
+    let _ = writer.log.open(now);
+    for _ in rt.forever() {
+        // (asked first, so that nothing is missed that a thread handed over before its end)
+        let are_over = outlets.are_over();
+        now = moment(rt, opened, now);
+        writer.take_all(rt, alloc, outlets);
+        writer.write(outlets, &spelling, now, are_over);
+        if are_over {
+            break;
+        }
+        thread::sleep(rt, Duration::from_millis(ROUND_MS));
+    }
+}
