@@ -1,5 +1,10 @@
 //! The row of a leg that was taken out.
-ghost use Rattle.std.specs.Prelude.{◌≡◌};
+ghost use Rattle.std.specs.Prelude.{◌≡◌, count_by};
+ghost use Rattle.call_records.specs.Courses as course;
+ghost use Rattle.call_records.specs.SideFrames.{frames_of};
+ghost use Rattle.call_records.specs.declared.side.Side.TheVariants.{Peer, Exchange};
+ghost use Rattle.call_signals.specs.NewElements.{new_elements};
+ghost use Rattle.seq_window.specs.History.{sent_count, acked_count, taken_count};
 
 use call_records::{CallRecord, CallRow};
 use exchange_core::Retired;
@@ -10,6 +15,16 @@ pub fn call_row(leg: &Retired, call: u64) -> CallRow
     ensures name { result.name ≡ leg.now.name }
     ensures partner { result.partner ≡ leg.now.partner }
     ensures facts { (result.format ≡ leg.now.facts.format) × (result.failure ≡ leg.now.facts.failure) × (result.resent ≡ leg.now.facts.resent) }
+    ensures parties { (result.leg.opened_by ≡ course.opener_of (frames_of leg.now.history.entries))
+        × (result.leg.called ≡ (new_elements (course.new_data (frames_of leg.now.history.entries))).called)
+        × (result.leg.calling ≡ (new_elements (course.new_data (frames_of leg.now.history.entries))).calling) }
+    ensures course { (result.leg.accepted ≡ course.accepted_of (course.opener_of (frames_of leg.now.history.entries)) (frames_of leg.now.history.entries))
+        × (result.leg.answered ≡ course.answered_of (course.opener_of (frames_of leg.now.history.entries)) (frames_of leg.now.history.entries))
+        × (result.leg.end ≡ course.end_of (course.opener_of (frames_of leg.now.history.entries)) (frames_of leg.now.history.entries)) }
+    ensures frames { (result.leg.sent ≡ sent_count leg.now.history.entries) × (result.leg.acknowledged ≡ acked_count leg.now.history.entries)
+        × (result.leg.taken ≡ taken_count leg.now.history.entries) }
+    ensures digits { (result.leg.digits_taken ≡ count_by (course.is_digit_by Peer) (frames_of leg.now.history.entries))
+        × (result.leg.digits_sent ≡ count_by (course.is_digit_by Exchange) (frames_of leg.now.history.entries)) }
     ensures moments { (result.opened ≡ leg.now.facts.opened) × (result.ended ≡ leg.now.ended) }
 {
     CallRow {

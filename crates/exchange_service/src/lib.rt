@@ -11,6 +11,7 @@ mod drain;
 mod journal;
 mod legs;
 mod receive_buffer;
+mod recording;
 mod running;
 mod scraping;
 mod service_watch;

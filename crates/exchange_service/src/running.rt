@@ -1,21 +1,20 @@
 //! A service: the workers of a plan serve until they are told to stop.
 ghost use Rattle.std.specs.Prelude.{◌≡◌, ◌+◌, ◌<◌, ◌≤◌, ◌^◌, IfOk, length, vec_len};
 
-use crate::calls_told::tell_end;
 use crate::control::Control;
 use crate::desk::Desk;
 use crate::doors::Doors;
 use crate::journal::Journal;
 use crate::receive_buffer::ReceiveBuffer;
+use crate::recording::{Records, serve_recorded, watch_of};
 use crate::service_watch::ServiceWatch;
 use crate::socket_file;
 use crate::telling::tell_start;
-use call_writer::{Calendar, CallOutlets, CallRows, Disk, write_calls};
+use call_writer::Disk;
 use exchange_commands::{
     ServiceError, ServiceSeat, reports_of, seats_of, service_error_name, settle, write_reports,
 };
 use exchange_core::{Exchange, NoGate, Pass};
-use jiff::Timestamp;
 use log::LevelFilter;
 use media_ledger::Blank;
 use mio::net::{TcpListener, UnixListener};
@@ -30,7 +29,7 @@ use std::random::RandomSource;
 use std::sync::Wait;
 use std::sync::ledger::Ledger;
 use std::thread::Threads;
-use std::time::{Clock, Instant, SystemTime};
+use std::time::{Clock, Instant};
 use std::{fs, io, thread};
 use udp_workers::{Post, TurnReport, WatchedExchange, start_until};
 
@@ -55,16 +54,8 @@ pub struct Settings<'a> {
     pub calls: Option<&'a str>,
 }
 
-// What a thread needs that writes the rows of ended legs.
-#[derive(Drop)]
-struct Records<'s> {
-    path: &'s str,
-    calendar: Calendar,
-    rows: CallRows,
-}
-
-// The workers serve beside the control socket until they are told to end. False if a thread was refused: then they end at once.
-fn serve_seats<
+/// The workers serve beside the control socket until they are told to end. False if a thread was refused: then they end at once.
+pub(crate) fn serve_seats<
     J: Naming,
     P: Post + Send + Sync,
     R: Clock + Eprint + Net + RandomSource + Threads + Wait + Sync,
@@ -81,71 +72,6 @@ fn serve_seats<
         control.run(rt, desk, opened);
         started
     })
-}
-
-// The workers serve so, beside a thread that appends the rows of ended legs to this file. False if a thread was refused.
-fn serve_recorded<
-    J: Naming,
-    P: Post + Send + Sync,
-    R: Clock + Eprint + Net + RandomSource + Threads + Wait + Sync,
-    D: Disk + Sync,
->(
-    rt: &R,
-    disk: &D,
-    service: &WatchedExchange<'_, ServiceWatch, NoGate, J, P>,
-    seats: &[ServiceSeat<'_, R, J, P>],
-    desk: &mut Desk<'_, J>,
-    control: &mut Control<'_>,
-    opened: Instant,
-    records: Records<'_>,
-    outlets: &CallOutlets,
-) -> bool {
-    let Records {
-        path,
-        calendar,
-        rows,
-    } = records;
-    let plan = service.exchange.plan();
-    thread::scope(thread::scope_env(), rt, move |scope| {
-        let is_written = scope
-            .spawn(move || write_calls(rt, disk, path, plan, calendar, opened, outlets, rows))
-            .is_ok();
-        let is_served = is_written && serve_seats(rt, service, seats, desk, control, opened);
-        outlets.end();
-        is_served
-    })
-}
-
-// This moment by the calendar; the beginning of 1970 where the clock can't be read.
-fn calendar<R: Clock>(rt: &R) -> Calendar {
-    let opened_us = match SystemTime::now(rt) {
-        Ok(now) => match Timestamp::try_from(now) {
-            Ok(now) => now.as_microsecond(),
-            Err(_) => 0,
-        },
-        Err(_) => 0,
-    };
-    Calendar { opened_us }
-}
-
-// Where the rows of ended legs go, and what has to be written of them; nothing where they aren't wanted.
-fn records_of<'s, R: Clock>(
-    rt: &R,
-    alloc: Global,
-    plan: &Plan,
-    settings: &Settings<'s>,
-) -> Result<Option<(CallOutlets, Records<'s>)>, ServiceError> {
-    let Some(path) = settings.calls else {
-        return Ok(None);
-    };
-    let calendar = calendar(rt);
-    let (outlets, rows) = CallRows::new(alloc, plan, calendar)?;
-    let records = Records {
-        path,
-        calendar,
-        rows,
-    };
-    Ok(Some((outlets, records)))
 }
 
 // The seats of the workers. The log tells the start, and what room their sockets have.
@@ -172,7 +98,53 @@ fn told_seats<'r, J: Naming, P: Post, R: Clock + Eprint + Net + RandomSource>(
     )
 }
 
-// Makes the seats and has them serve so; their passes and that of the socket go back to the others.
+// Has the seats serve so; their passes and that of the socket go back to the others.
+fn serve_watched<
+    J: Naming,
+    P: Post + Send + Sync,
+    R: Clock + Eprint + Net + RandomSource + Threads + Wait + Sync,
+    D: Disk + Sync,
+>(
+    rt: &R,
+    disk: &D,
+    alloc: Global,
+    exchange: &Exchange<NoGate, J>,
+    watch: &ServiceWatch,
+    records: Option<Records<'_>>,
+    passes: &mut Vec<Pass<J>>,
+    control: &mut Control<'_>,
+    opened: Instant,
+) -> Result<Vec<TurnReport>, ServiceError>
+    requires plan { exchange.now ≡ P.plan }
+    requires enough { length exchange.now.workers + 1 ≤ vec_len passes.old }
+{
+    let settings = control.settings;
+    let pass = passes.remove(0);
+    let seats = told_seats::<J, P, R>(rt, alloc, exchange.plan(), passes, settings, opened)?;
+    let mut desk = Desk {
+        exchange,
+        pass,
+        watch,
+        calls: settings.calls,
+    };
+    let service = WatchedExchange {
+        exchange,
+        watch,
+        post: PhantomData,
+    };
+    if !serve_recorded(
+        rt, disk, &service, &seats, &mut desk, control, opened, records,
+    ) {
+        return Err(ServiceError::NoThread);
+    }
+    let Desk { pass, .. } = desk;
+    if passes.push(pass).is_err() {
+        return Err(ServiceError::Memory);
+    }
+    reports_of(alloc, seats, passes)
+}
+
+// The same, with a watch that is made for it.
 fn serve_beside<
     J: Naming,
     P: Post + Send + Sync,
@@ -190,45 +162,10 @@ fn serve_beside<
     requires plan { exchange.now ≡ P.plan }
     requires enough { length exchange.now.workers + 1 ≤ vec_len passes.old }
 {
-    let settings = control.settings;
-    let (outlets, records) = match records_of(rt, alloc, exchange.plan(), settings)? {
-        Some((outlets, records)) => (Some(outlets), Some(records)),
-        None => (None, None),
-    };
-    let watch = ServiceWatch::new(alloc, exchange.plan().peer_count(), outlets)?;
-    let pass = passes.remove(0);
-    let seats = told_seats::<J, P, R>(rt, alloc, exchange.plan(), passes, settings, opened)?;
-    let mut desk = Desk {
-        exchange,
-        pass,
-        watch: &watch,
-        calls: settings.calls,
-    };
-    let service = WatchedExchange {
-        exchange,
-        watch: &watch,
-        post: PhantomData,
-    };
-    let is_served = match (records, watch.calls()) {
-        (Some(records), Some(outlets)) => {
-            serve_recorded(
-                rt, disk, &service, &seats, &mut desk, control, opened, records, outlets,
-            )
-        }
-        _ => serve_seats(rt, &service, &seats, &mut desk, control, opened),
-    };
-    if !is_served {
-        return Err(ServiceError::NoThread);
-    }
-    if let (Some(path), Some(outlets)) = (settings.calls, watch.calls()) {
-        let level = settings.level;
-        tell_end(&Journal { rt, level }, path, outlets.state());
-    }
-    let Desk { pass, .. } = desk;
-    if passes.push(pass).is_err() {
-        return Err(ServiceError::Memory);
-    }
-    reports_of(alloc, seats, passes)
+    let (watch, records) = watch_of(rt, alloc, exchange.plan(), control.settings)?;
+    serve_watched::<J, P, R, D>(
+        rt, disk, alloc, exchange, &watch, records, passes, control, opened,
+    )
 }
 
 // The same, on an exchange that is opened for it; then the reports of the workers and its accounts are written.
