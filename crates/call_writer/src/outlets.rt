@@ -12,7 +12,8 @@ const RING: usize = 256;
 
 const KEPT: usize = 4096;
 
-// The same of the second outlet, which a thread takes while the writer looks into the first.
+// The same of the second outlet, which a thread takes while the writer looks into the first. The writer never looks into it while
+// threads run, so a thread always finds one that is free.
 const SECOND_RING: usize = 64;
 
 /// How the file of the records is.
@@ -33,6 +34,13 @@ pub struct FileState {
 pub(crate) struct Seam {
     pub(crate) outlet: usize,
     pub(crate) ring: Consumer<CallRow>,
+}
+
+impl Seam {
+    // Whether the outlet is the second one of its thread.
+    fn is_second(&self) -> bool {
+        self.outlet % 2 == 1
+    }
 }
 
 /// Two outlets for each thread that takes legs out, and what the writer tells of its file. All threads share it.
@@ -117,7 +125,7 @@ impl CallOutlets {
         Ok((shared, seams))
     }
 
-    // An outlet of a thread that nobody is in. The thread itself is in none, and the writer is in one at a time.
+    // An outlet of a thread that nobody is in. The thread itself is in none, and the writer at most in the first.
     fn free_outlet(&self, thread: u16) -> Option<MutexGuard<'_, Outlet<CallRow>>> {
         let first = usize::from(thread) * 2;
         for place in [first, first + 1] {
@@ -172,13 +180,18 @@ impl CallOutlets {
             .store(number_of(state.trouble), Ordering::Relaxed);
     }
 
-    /// The rows that an outlet keeps, if it keeps any, and how many of those in its ring came before them.
+    /// The rows that an outlet keeps, if it keeps any, and how many of those in its ring came before them. Into a second outlet it is
+    /// looked only once the outlets are over.
     pub(crate) fn take_kept<R: Wait>(
         &self,
         rt: &R,
         alloc: Global,
         seam: &mut Seam,
+        are_over: bool,
     ) -> Option<(usize, Backlog<CallRow>)> {
+        if seam.is_second() && !are_over {
+            return None;
+        }
         let outlet = self.outlets.get(seam.outlet)?;
         if outlet.lock(rt).kept() == 0 {
             return None;

@@ -93,11 +93,12 @@ fn take_from<R: Wait, D: Disk>(
     rt: &R,
     alloc: Global,
     outlets: &CallOutlets,
+    are_over: bool,
     seam: &mut Seam,
     calls: &mut CallNumbering,
     log: &mut RowLog<DiskFile<'_, D>, CallRow>,
 ) {
-    match outlets.take_kept(rt, alloc, seam) {
+    match outlets.take_kept(rt, alloc, seam, are_over) {
         Some((before, mut kept)) => {
             take_sent(seam, before, calls, log);
             for _ in 0..kept.len() {
@@ -115,9 +116,10 @@ fn take_from<R: Wait, D: Disk>(
 
 impl<'a, D: Disk> Writer<'a, D> {
     // All rows that have come.
-    fn take_all<R: Wait>(&mut self, rt: &R, alloc: Global, outlets: &CallOutlets) {
+    fn take_all<R: Wait>(&mut self, rt: &R, alloc: Global, outlets: &CallOutlets, are_over: bool) {
         for seam in self.seams.iter_mut() {
-            take_from(rt, alloc, outlets, seam, &mut self.calls, &mut self.log);
+            let (calls, log) = (&mut self.calls, &mut self.log);
+            take_from(rt, alloc, outlets, are_over, seam, calls, log);
         }
     }
 
@@ -187,7 +189,7 @@ pub fn write_calls<R: Clock + Wait, D: Disk>(
         // (asked first, so that nothing is missed that a thread handed over before its end)
         let are_over = outlets.are_over();
         now = moment(rt, opened, now);
-        writer.take_all(rt, alloc, outlets);
+        writer.take_all(rt, alloc, outlets, are_over);
         writer.write(outlets, &spelling, now, are_over);
         if are_over {
             break;
