@@ -1,6 +1,6 @@
 //! A disk in memory, with one name that leads to one of its files or to none.
 use call_files::{Beginning, Fault, RowFile, Whereabouts};
-use std::alloc::Global;
+use std::alloc::{AllocError, Global};
 use std::sync::Mutex;
 
 /// How a disk fails.
@@ -124,7 +124,7 @@ fn beginning_of(file: &[u8]) -> Beginning {
 
 impl Disk {
     /// A disk with a file of these octets under the name, or without one.
-    pub fn new(alloc: Global, file: Option<Vec<u8>>) -> Disk {
+    fn new(alloc: Global, file: Option<Vec<u8>>) -> Disk {
         let mut state = State {
             alloc,
             files: Vec::new(alloc),
@@ -142,6 +142,16 @@ impl Disk {
         Disk {
             state: Mutex::new(state),
         }
+    }
+
+    /// A disk with a file of this text under the name, or without one.
+    pub fn holding(alloc: Global, text: Option<&str>) -> Result<Disk, AllocError> {
+        let Some(text) = text else {
+            return Ok(Disk::new(alloc, None));
+        };
+        let mut file = Vec::new(alloc);
+        file.extend_from_slice(text.as_bytes())?;
+        Ok(Disk::new(alloc, Some(file)))
     }
 
     /// Has it fail so from now on.

@@ -13,4 +13,6 @@ mod other_files;
 #[cfg(test)]
 mod outlets;
 #[cfg(test)]
+mod played;
+#[cfg(test)]
 mod same;
