@@ -7,6 +7,7 @@ mod call_rows;
 mod checking;
 mod clock;
 mod digits;
+mod free_order;
 mod names;
 mod player;
 mod printing;
@@ -25,6 +26,6 @@ pub use player::peer_named;
 pub use replaying::{ReplayError, replay, replay_with, tell_outcome};
 pub use serving::{
     PlainSockets, ServiceError, ServiceSeat, Sockets, reports_of, seats_of, serve,
-    service_error_name, write_reports,
+    service_error_name, wire_and_digits_of, write_reports,
 };
 pub use viewer::{MediaAccounts, PeerOfPlan, Stop, Viewer};

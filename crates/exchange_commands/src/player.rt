@@ -1,15 +1,18 @@
 //! The lines of a script are played on an exchange, and a viewer is told what came of each.
 ghost use Rattle.std.specs.Prelude.{◌≡◌, ◌<◌, length, IfSome};
 
+use crate::free_order::order_free;
 use crate::names::{call_error_name, order_error_name, refusal_name};
 use crate::viewer::{PeerOfPlan, Stop, Viewer};
 use call_auth::Challenge;
 use exchange_core::{Answer, Exchange, NoGate, Pass, Retired};
 use leg_machine::Stage;
 use peer_lock::{Naming, Status};
-use peer_plan::Plan;
+use peer_plan::{Endpoint, Plan};
 use script_lines::Line;
 use std::alloc::Global;
+use std::net::SocketAddrV4;
+use std::str;
 use std::sync::Wait;
 
 /// What is known between two lines.
@@ -17,9 +20,11 @@ use std::sync::Wait;
 pub struct Player {
     now: u64,
     challenge: Challenge,
+    // Whether what goes out waits for a line that sends it.
+    holds: bool,
     // By number, from 1 on, after the line before.
     stages: Vec<Option<Stage>>,
-    // The legs that were taken out in this line.
+    // The legs that were taken out since datagrams went out.
     retired: Vec<Retired>,
 }
 
@@ -63,6 +68,41 @@ fn octets_of(alloc: Global, digits: &[u8]) -> Result<Vec<u8>, Stop> {
     }
 }
 
+// The endpoint that a text names, as `192.0.2.1:4569`.
+fn endpoint_of(text: &[u8]) -> Result<Endpoint, Stop> {
+    let Ok(text) = str::from_utf8(text) else {
+        return Err(Stop::Script);
+    };
+    match text.parse::<SocketAddrV4>() {
+        Ok(address) => Ok(Endpoint {
+            address: address.ip().octets(),
+            port: address.port(),
+        }),
+        Err(_) => Err(Stop::Script),
+    }
+}
+
+// All datagrams to a peer go out.
+fn empty_outbox<J: Naming, R: Wait, V: Viewer>(
+    rt: &R,
+    exchange: &Exchange<NoGate, J>,
+    pass: &mut Pass<J>,
+    place: u16,
+    moment: u64,
+    viewer: &mut V,
+) -> Result<(), Stop>
+    requires { place < length exchange.now.peers }
+{
+    let peer = PeerOfPlan::at(exchange.plan(), place);
+    for _ in 0..u64::MAX {
+        match exchange.take_out(rt, pass, place) {
+            Some(out) => viewer.sent(moment, peer, out.octets())?,
+            None => break,
+        }
+    }
+    Ok(())
+}
+
 // All datagrams go out, the peers in the order of the plan.
 fn empty_outboxes<J: Naming, R: Wait, V: Viewer>(
     rt: &R,
@@ -72,13 +112,7 @@ fn empty_outboxes<J: Naming, R: Wait, V: Viewer>(
     viewer: &mut V,
 ) -> Result<(), Stop> {
     for place in 0..exchange.plan().peer_count() {
-        let peer = PeerOfPlan::at(exchange.plan(), place);
-        for _ in 0..u64::MAX {
-            match exchange.take_out(rt, pass, place) {
-                Some(out) => viewer.sent(moment, peer, out.octets())?,
-                None => break,
-            }
-        }
+        empty_outbox(rt, exchange, pass, place, moment, viewer)?;
     }
     Ok(())
 }
@@ -94,6 +128,7 @@ impl Player {
         Some(Player {
             now: 0,
             challenge,
+            holds: false,
             stages,
             retired: Vec::new(alloc),
         })
@@ -110,16 +145,40 @@ impl Player {
         viewer: &mut V,
     ) -> Result<(), Stop> {
         match line {
-            Line::Nothing => Ok(()),
-            Line::Settle => Ok(()),
+            Line::Nothing | Line::Settle => Ok(()),
             Line::At(moment) => self.at(*moment),
+            Line::Back(moment) => self.back(*moment),
             Line::Challenge(text) => self.challenge(text),
-            _ => {
-                viewer.asked(self.now, line)?;
-                self.event(rt, alloc, exchange, pass, line, viewer)?;
-                self.finish(rt, exchange, pass, viewer)
+            Line::Hold => {
+                self.holds = true;
+                Ok(())
             }
+            Line::Free(peer, numbers) => {
+                let (now, challenge) = (self.now, &self.challenge);
+                order_free(rt, alloc, exchange, pass, peer, numbers, now, challenge)
+            }
+            Line::Send => self.finish(rt, exchange, pass, viewer),
+            Line::SendTo(peer) => self.send_to(rt, exchange, pass, peer, viewer),
+            _ => self.asked(rt, alloc, exchange, pass, line, viewer),
         }
+    }
+
+    // Something happens at the exchange by a line, and what it makes goes out, or waits.
+    fn asked<J: Naming, R: Wait, V: Viewer>(
+        &mut self,
+        rt: &R,
+        alloc: Global,
+        exchange: &Exchange<NoGate, J>,
+        pass: &mut Pass<J>,
+        line: &Line<'_>,
+        viewer: &mut V,
+    ) -> Result<(), Stop> {
+        viewer.asked(self.now, line)?;
+        self.event(rt, alloc, exchange, pass, line, viewer)?;
+        if self.holds {
+            return Ok(());
+        }
+        self.finish(rt, exchange, pass, viewer)
     }
 
     // What happens at the exchange by a line.
@@ -134,9 +193,13 @@ impl Player {
     ) -> Result<(), Stop> {
         match line {
             Line::Rx(peer, digits) => self.rx(rt, alloc, exchange, pass, peer, digits, viewer),
+            Line::Stranger(from, digits) => {
+                self.stranger(rt, alloc, exchange, pass, from, digits, viewer)
+            }
             Line::Call(peer, number) => self.call(rt, exchange, pass, peer, number, viewer),
             Line::HangUp(number) => self.hang_up(rt, exchange, pass, *number, viewer),
             Line::Tick => self.tick(rt, exchange, pass, viewer),
+            Line::TickOf(peer) => self.tick_of(rt, exchange, pass, peer, viewer),
             _ => Ok(()),
         }
     }
@@ -144,6 +207,15 @@ impl Player {
     // The moment goes on.
     fn at(&mut self, moment: u64) -> Result<(), Stop> {
         if moment < self.now {
+            return Err(Stop::Script);
+        }
+        self.now = moment;
+        Ok(())
+    }
+
+    // The moment goes back.
+    fn back(&mut self, moment: u64) -> Result<(), Stop> {
+        if moment > self.now {
             return Err(Stop::Script);
         }
         self.now = moment;
@@ -188,6 +260,27 @@ impl Player {
         let peer = PeerOfPlan::at(exchange.plan(), peer);
         viewer.received(self.now, peer, octets.as_slice(), answer.refused)?;
         self.keep(answer)
+    }
+
+    // A datagram comes from an endpoint that no peer has.
+    fn stranger<J: Naming, R: Wait, V: Viewer>(
+        &mut self,
+        rt: &R,
+        alloc: Global,
+        exchange: &Exchange<NoGate, J>,
+        pass: &mut Pass<J>,
+        from: &[u8],
+        digits: &[u8],
+        viewer: &mut V,
+    ) -> Result<(), Stop> {
+        let from = endpoint_of(from)?;
+        if exchange.plan().peer_of(from).is_some() {
+            return Err(Stop::Script);
+        }
+        let octets = octets_of(alloc, digits)?;
+        let (now, challenge) = (self.now, &self.challenge);
+        let answer = exchange.datagram(rt, pass, from, octets.as_slice(), now, challenge);
+        self.answered(answer, viewer)
     }
 
     // A call goes out.
@@ -245,7 +338,23 @@ impl Player {
         Ok(())
     }
 
-    // A refusal is told, and the legs that were taken out are kept for the end of the line.
+    // Time goes on at one peer.
+    fn tick_of<J: Naming, R: Wait, V: Viewer>(
+        &mut self,
+        rt: &R,
+        exchange: &Exchange<NoGate, J>,
+        pass: &mut Pass<J>,
+        peer: &[u8],
+        viewer: &mut V,
+    ) -> Result<(), Stop> {
+        let Some(peer) = peer_named(exchange.plan(), peer) else {
+            return Err(Stop::Script);
+        };
+        let answer = exchange.tick(rt, pass, peer, self.now);
+        self.answered(answer, viewer)
+    }
+
+    // A refusal is told, and the legs that were taken out are kept until datagrams go out.
     fn answered<V: Viewer>(&mut self, answer: Answer, viewer: &mut V) -> Result<(), Stop> {
         if let Some(refusal) = answer.refused {
             viewer.refused(self.now, refusal_name(refusal))?;
@@ -253,7 +362,7 @@ impl Player {
         self.keep(answer)
     }
 
-    // The legs that were taken out are kept for the end of the line.
+    // The legs that were taken out are kept until datagrams go out.
     fn keep(&mut self, answer: Answer) -> Result<(), Stop> {
         for retired in answer.retired {
             if self.retired.push(retired).is_err() {
@@ -263,7 +372,7 @@ impl Player {
         Ok(())
     }
 
-    // What the line left: the datagrams that go out, the legs that were taken out, the stages that changed.
+    // What a line left, or all lines since datagrams went out: the datagrams that go out now, and what changed.
     fn finish<J: Naming, R: Wait, V: Viewer>(
         &mut self,
         rt: &R,
@@ -272,6 +381,33 @@ impl Player {
         viewer: &mut V,
     ) -> Result<(), Stop> {
         empty_outboxes(rt, exchange, pass, self.now, viewer)?;
+        self.tell_changes(rt, exchange, pass, viewer)
+    }
+
+    // The same, where the datagrams to one peer go out.
+    fn send_to<J: Naming, R: Wait, V: Viewer>(
+        &mut self,
+        rt: &R,
+        exchange: &Exchange<NoGate, J>,
+        pass: &mut Pass<J>,
+        peer: &[u8],
+        viewer: &mut V,
+    ) -> Result<(), Stop> {
+        let Some(peer) = peer_named(exchange.plan(), peer) else {
+            return Err(Stop::Script);
+        };
+        empty_outbox(rt, exchange, pass, peer, self.now, viewer)?;
+        self.tell_changes(rt, exchange, pass, viewer)
+    }
+
+    // The legs that were taken out, and the stages that changed.
+    fn tell_changes<J: Naming, R: Wait, V: Viewer>(
+        &mut self,
+        rt: &R,
+        exchange: &Exchange<NoGate, J>,
+        pass: &mut Pass<J>,
+        viewer: &mut V,
+    ) -> Result<(), Stop> {
         self.tell_retired(viewer)?;
         self.retired.clear();
         for place in 0..self.stages.len() {

@@ -22,7 +22,10 @@ use std::sync::Wait;
 use std::sync::ledger::Ledger;
 use std::thread::Threads;
 use std::time::{Clock, Instant};
-use udp_workers::{BindError, MioWire, NoThread, Place, Post, Seat, TurnReport, Worker, run_all};
+use udp_workers::{
+    BindError, Challenges, MioWire, Moments, NoThread, Place, Post, Seat, TurnReport, Wire, Worker,
+    run_all,
+};
 
 /// Why a service ends before its turns are made, or before its accounts are written.
 #[derive(Clone, Copy, Debug, PartialEq, Eq)]
@@ -39,6 +42,8 @@ pub enum ServiceError {
     Entropy,
     /// The writer can't write.
     Writer,
+    /// The folder of the trace can't be made, or no file in it.
+    Trace,
 }
 
 impl From<BindError> for ServiceError {
@@ -76,6 +81,7 @@ pub fn service_error_name(error: ServiceError) -> Option<&'static str> {
         ServiceError::NoThread => Some("NoThread"),
         ServiceError::Clock => Some("Clock"),
         ServiceError::Entropy => Some("Entropy"),
+        ServiceError::Trace => Some("Trace"),
         ServiceError::Writer => None,
     }
 }
@@ -119,8 +125,10 @@ fn wire_of<N: Net, S: Sockets>(
     Ok(wire)
 }
 
-// The socket of a worker of the plan, and the digits for its challenges.
-fn wire_and_digits_of<R: Net + RandomSource, S: Sockets>(
+/// The socket of a worker of the plan, and the digits for its challenges.
+///
+/// `Bind`, `Entropy`, `Memory`: the socket isn't bound, the system gives no random octets, a request for memory was refused.
+pub fn wire_and_digits_of<R: Net + RandomSource, S: Sockets>(
     rt: &R,
     alloc: Global,
     plan: &Plan,
@@ -190,17 +198,17 @@ pub fn seats_of<'r, J: Naming, P: Post, R: Clock + Net + RandomSource, S: Socket
 }
 
 // What a worker did, and its pass.
-fn report_of<'r, J: Naming, P: Post, R: Clock>(
-    seat: ServiceSeat<'r, R, J, P>,
+fn report_of<W: Wire + Drop, M: Moments + Drop, C: Challenges + Drop, J: Naming, P: Post>(
+    seat: Seat<W, M, C, J, P>,
 ) -> (TurnReport, Pass<J>) {
     let Place { report, pass, .. } = seat.into_place();
     (report, pass)
 }
 
 /// The reports of the seats, in order. Their passes go back to the others.
-pub fn reports_of<'r, J: Naming, P: Post, R: Clock>(
+pub fn reports_of<W: Wire + Drop, M: Moments + Drop, C: Challenges + Drop, J: Naming, P: Post>(
     alloc: Global,
-    seats: Vec<ServiceSeat<'r, R, J, P>>,
+    seats: Vec<Seat<W, M, C, J, P>>,
     passes: &mut Vec<Pass<J>>,
 ) -> Result<Vec<TurnReport>, ServiceError> {
     let mut reports = Vec::new(alloc);

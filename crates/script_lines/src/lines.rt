@@ -7,18 +7,32 @@ ghost use Rattle.script_lines.specs.declared.lines.Line.TheVariants.{Nothing};
 pub enum Line<'a> {
     /// An empty line or a comment.
     Nothing,
-    /// `at <ms>`: the moment, in milliseconds.
+    /// `at <ms>`: the moment, in milliseconds. It goes on.
     At(u64),
+    /// `back <ms>`: the moment goes back, to that of a caller whose clock was read earlier.
+    Back(u64),
     /// `challenge <text>`: the challenge for callers from now on.
     Challenge(&'a [u8]),
     /// `rx <peer> <hex>`: a datagram comes from a peer.
     Rx(&'a [u8], &'a [u8]),
+    /// `stranger <address:port> <hex>`: a datagram comes from an endpoint that no peer has.
+    Stranger(&'a [u8], &'a [u8]),
     /// `call <peer> <number>`: a call goes out to a peer.
     Call(&'a [u8], &'a [u8]),
     /// `hangup <number>`: the leg of a local number hangs up.
     HangUp(u64),
     /// `tick`: time goes on at all peers.
     Tick,
+    /// `tick <peer>`: time goes on at one peer.
+    TickOf(&'a [u8]),
+    /// `hold`: from here on what goes out waits in the outboxes, until `send`.
+    Hold,
+    /// `send`: what waits in all outboxes goes out.
+    Send,
+    /// `send <peer>`: what waits in the outbox of a peer goes out.
+    SendTo(&'a [u8]),
+    /// `free <peer> <numbers>`: the order in which the numbers of a peer that has no leg are given out, as `5-7,1,2-4`.
+    Free(&'a [u8], &'a [u8]),
     /// `settle`: the accounts are closed. No line follows it.
     Settle,
 }
@@ -50,6 +64,8 @@ fn words(line: &[u8]) -> [Option<&[u8]>; 4] {
 fn said_by_one(word: &[u8]) -> Option<Line<'_>> {
     match word {
         b"tick" => Some(Line::Tick),
+        b"hold" => Some(Line::Hold),
+        b"send" => Some(Line::Send),
         b"settle" => Some(Line::Settle),
         _ => None,
     }
@@ -59,8 +75,11 @@ fn said_by_one(word: &[u8]) -> Option<Line<'_>> {
 fn said_by_two<'a>(command: &[u8], word: &'a [u8]) -> Option<Line<'a>> {
     match command {
         b"at" => Some(Line::At(decimal(word)?)),
+        b"back" => Some(Line::Back(decimal(word)?)),
         b"challenge" => Some(Line::Challenge(word)),
         b"hangup" => Some(Line::HangUp(decimal(word)?)),
+        b"tick" => Some(Line::TickOf(word)),
+        b"send" => Some(Line::SendTo(word)),
         _ => None,
     }
 }
@@ -70,6 +89,8 @@ fn said_by_three<'a>(command: &[u8], peer: &'a [u8], word: &'a [u8]) -> Option<L
     match command {
         _ if word.is_empty() => None,
         b"rx" => Some(Line::Rx(peer, word)),
+        b"stranger" => Some(Line::Stranger(peer, word)),
+        b"free" => Some(Line::Free(peer, word)),
         b"call" => Some(Line::Call(peer, word)),
         _ => None,
     }

@@ -1,0 +1,139 @@
+//! In which order the free numbers of a peer are given out.
+ghost use Rattle.std.specs.Prelude.{◌<◌, length};
+
+use crate::player::peer_named;
+use crate::viewer::Stop;
+use call_auth::Challenge;
+use exchange_core::{CallError, Exchange, NoGate, Pass};
+use peer_lock::Naming;
+use peer_plan::NumberRange;
+use script_lines::decimal;
+use std::alloc::Global;
+use std::sync::Wait;
+
+// The number that these digits spell.
+fn number_of(digits: &[u8]) -> Result<u16, Stop> {
+    match decimal(digits) {
+        Some(number) => u16::try_from(number).map_err(|_| Stop::Script),
+        None => Err(Stop::Script),
+    }
+}
+
+// The numbers that a text lists, each alone or from one to another, as `5-7,1`. More than a peer can have are refused.
+fn numbers_in(alloc: Global, text: &[u8]) -> Result<Vec<u16>, Stop> {
+    let mut numbers = Vec::new(alloc);
+    for part in text.split(|octet| *octet == b',') {
+        let mut ends = part.splitn(2, |octet| *octet == b'-');
+        let first = number_of(ends.next().unwrap_or(b""))?;
+        let last = match ends.next() {
+            Some(digits) => number_of(digits)?,
+            None => first,
+        };
+        for number in first..=last {
+            if numbers.len() == 512 {
+                return Err(Stop::Script);
+            }
+            if numbers.push(number).is_err() {
+                return Err(Stop::Memory);
+            }
+        }
+    }
+    Ok(numbers)
+}
+
+// Whether a list has each number of a range once, and no other.
+fn is_order_of(numbers: &[u16], range: NumberRange) -> bool {
+    if numbers.len() != usize::from(range.count) {
+        return false;
+    }
+    for place in 0..range.count {
+        let number = range.first.saturating_add(place);
+        if !numbers.contains(&number) {
+            return false;
+        }
+    }
+    true
+}
+
+// Whether one of these numbers has a leg.
+fn has_leg<J: Naming, R: Wait>(
+    rt: &R,
+    exchange: &Exchange<NoGate, J>,
+    pass: &mut Pass<J>,
+    peer: u16,
+    numbers: &[u16],
+) -> bool
+    requires { peer < length exchange.now.peers }
+{
+    for number in numbers {
+        if exchange.status(rt, pass, peer, *number).is_some() {
+            return true;
+        }
+    }
+    false
+}
+
+// A full frame from call number 1 that says that there is no call of this number there: "INVAL" (RFC 5456, section 6.9.3).
+fn inval(number: u16) -> [u8; 12] {
+    let [high, low] = number.to_be_bytes();
+    [0x80, 1, high, low, 0, 0, 0, 0, 0, 0, 6, 0x0a]
+}
+
+// A call takes each free number of the peer; then each is given back, in this order.
+fn take_and_free<J: Naming, R: Wait>(
+    rt: &R,
+    exchange: &Exchange<NoGate, J>,
+    pass: &mut Pass<J>,
+    peer: u16,
+    numbers: &[u16],
+    now: u64,
+    challenge: &Challenge,
+) -> Result<(), Stop>
+    requires { peer < length exchange.now.peers }
+{
+    for _ in numbers {
+        match exchange.call(rt, pass, peer, b"0", now) {
+            Ok(_) => {}
+            Err(CallError::Memory) => return Err(Stop::Memory),
+            Err(_) => return Err(Stop::Script),
+        }
+    }
+    let from = exchange.plan().endpoint(peer);
+    for number in numbers {
+        let octets = inval(*number);
+        let _freed = exchange.datagram(rt, pass, from, &octets, now, challenge);
+    }
+    Ok(())
+}
+
+/// Has the numbers of a peer be given out in the order of this text from now on, unseen by anybody: calls take all of them, and end in
+/// that order. What waits in the peer's outbox is dropped.
+///
+/// `Script`: no peer has that name, one of its numbers has a leg, or the text doesn't list each of its numbers once.
+pub(crate) fn order_free<J: Naming, R: Wait>(
+    rt: &R,
+    alloc: Global,
+    exchange: &Exchange<NoGate, J>,
+    pass: &mut Pass<J>,
+    peer: &[u8],
+    text: &[u8],
+    now: u64,
+    challenge: &Challenge,
+) -> Result<(), Stop> {
+    let Some(peer) = peer_named(exchange.plan(), peer) else {
+        return Err(Stop::Script);
+    };
+    let numbers = numbers_in(alloc, text)?;
+    if !is_order_of(&numbers, exchange.plan().range(peer))
+        || has_leg(rt, exchange, pass, peer, &numbers)
+    {
+        return Err(Stop::Script);
+    }
+    take_and_free(rt, exchange, pass, peer, &numbers, now, challenge)?;
+    for _ in 0..u64::MAX {
+        if exchange.take_out(rt, pass, peer).is_none() {
+            break;
+        }
+    }
+    Ok(())
+}
