@@ -83,49 +83,98 @@ fn serve_command<'a>(alloc: Global) -> Result<Command<'a>, AllocError> {
         ))
 }
 
-fn run_command<'a>(alloc: Global) -> Result<Command<'a>, AllocError> {
-    let control = Arg::new(alloc, "control")
+fn control_option<'a>(alloc: Global) -> Arg<'a> {
+    Arg::new(alloc, "control")
         .long("control")
         .value_name("SOCKET")
         .help("The path of a Unix socket that takes orders")
-        .action(ArgAction::Set);
-    let metrics = Arg::new(alloc, "metrics")
+        .action(ArgAction::Set)
+}
+
+fn metrics_option<'a>(alloc: Global) -> Arg<'a> {
+    Arg::new(alloc, "metrics")
         .long("metrics")
         .value_name("ADDRESS:PORT")
         .help("The TCP address at which GET /metrics is answered, for Prometheus")
-        .action(ArgAction::Set);
-    let log = Arg::new(alloc, "log")
+        .action(ArgAction::Set)
+}
+
+fn log_option<'a>(alloc: Global) -> Arg<'a> {
+    Arg::new(alloc, "log")
         .long("log")
         .value_name("LEVEL")
         .help("What is written to standard error")
         .default_value("warn")
         .value_parser(["off", "error", "warn", "info", "debug"].as_slice())
-        .action(ArgAction::Set);
-    let drain = Arg::new(alloc, "drain")
+        .action(ArgAction::Set)
+}
+
+fn drain_option<'a>(alloc: Global) -> Arg<'a> {
+    Arg::new(alloc, "drain")
         .long("drain")
         .value_name("SECONDS")
         .help("How long a stop waits at most for the calls to end")
         .default_value("10")
         .value_parser(clap::value_parser!(u32).range(0..=3600))
-        .action(ArgAction::Set);
-    let calls = Arg::new(alloc, "calls")
+        .action(ArgAction::Set)
+}
+
+fn calls_option<'a>(alloc: Global) -> Arg<'a> {
+    Arg::new(alloc, "calls")
         .long("calls")
         .value_name("FILE")
         .help("The file to which the record of each ended call leg is appended, as CSV")
-        .action(ArgAction::Set);
-    let input = Arg::new(alloc, "stop-at-end-of-input")
+        .action(ArgAction::Set)
+}
+
+fn stop_option<'a>(alloc: Global) -> Arg<'a> {
+    Arg::new(alloc, "stop-at-end-of-input")
         .long("stop-at-end-of-input")
         .help("Stop, as by an order, where standard input is a pipe that ends")
-        .action(ArgAction::SetTrue);
+        .action(ArgAction::SetTrue)
+}
+
+fn trace_option<'a>(alloc: Global) -> Arg<'a> {
+    Arg::new(alloc, "trace")
+        .long("trace")
+        .value_name("FOLDER")
+        .help("The folder to which all that the exchange is given is written, for replay")
+        .action(ArgAction::Set)
+}
+
+fn trace_limit_option<'a>(alloc: Global) -> Arg<'a> {
+    Arg::new(alloc, "trace-limit")
+        .long("trace-limit")
+        .value_name("MEBIBYTES")
+        .help("How much of it is kept for each worker")
+        .default_value("64")
+        .value_parser(clap::value_parser!(u32).range(1..=1048576))
+        .action(ArgAction::Set)
+}
+
+fn trace_digits_option<'a>(alloc: Global) -> Arg<'a> {
+    Arg::new(alloc, "trace-digits")
+        .long("trace-digits")
+        .value_name("YES/NO")
+        .help("Whether digits are written as they are, or each as 0")
+        .default_value("yes")
+        .value_parser(["yes", "no"].as_slice())
+        .action(ArgAction::Set)
+}
+
+fn run_command<'a>(alloc: Global) -> Result<Command<'a>, AllocError> {
     Command::new(alloc, "run")
         .about("Carries calls until it is told to stop, then prints the accounts")
         .arg(plan(alloc))?
-        .arg(control)?
-        .arg(metrics)?
-        .arg(log)?
-        .arg(drain)?
-        .arg(calls)?
-        .arg(input)
+        .arg(control_option(alloc))?
+        .arg(metrics_option(alloc))?
+        .arg(log_option(alloc))?
+        .arg(drain_option(alloc))?
+        .arg(calls_option(alloc))?
+        .arg(trace_option(alloc))?
+        .arg(trace_limit_option(alloc))?
+        .arg(trace_digits_option(alloc))?
+        .arg(stop_option(alloc))
 }
 
 fn ctl_command<'a>(alloc: Global) -> Result<Command<'a>, AllocError> {

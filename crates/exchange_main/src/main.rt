@@ -11,7 +11,7 @@ use clap::ArgMatches;
 use clap::error::ErrorKind;
 use control_client::{give_order, order_of};
 use exchange_commands::{check, replay, serve, turn_count};
-use exchange_service::{Settings, run as run_service};
+use exchange_service::{Settings, TraceOptions, run as run_service};
 use log::LevelFilter;
 use plan_report::explain;
 use replay_views::{LadderForm, write_capture, write_ladder, write_records};
@@ -25,12 +25,13 @@ use std::sync::Wait;
 use std::thread::Threads;
 use std::time::Clock;
 use std::{env, fs, io};
+use trace_writer::Folder;
 
 const USAGE: &str =
     "usage: exchange_main check <plan> | replay <plan> <script> | serve <plan> <turns>\n       exchange_main explain <plan>\n       \
 exchange_main ladder <plan> <script> [--leg <number>] [--text]\n       exchange_main pcap <plan> <script>\n       exchange_main records <plan> <script>\n       \
 exchange_main run <plan> [--control <socket>] [--metrics <address:port>] [--log <level>] [--drain <seconds>] \
-[--calls <file>] [--stop-at-end-of-input]\n       \
+[--calls <file>] [--trace <folder>] [--trace-limit <mebibytes>] [--trace-digits yes|no] [--stop-at-end-of-input]\n       \
 exchange_main ctl <socket> peers | calls | accounts | call <peer> <number> | hangup <number> | stop";
 
 // Whether a call of the system failed for want of memory.
@@ -184,7 +185,7 @@ fn run<
         + Threads
         + Wait
         + Sync,
-    D: Disk + Sync,
+    D: Disk + Folder + Sync,
 >(rt: &R, disk: &D, alloc: Global, words: &[String]) -> u8 {
     match words {
         [_, command, plan] if command.as_str() == "check" => check_file(rt, alloc, plan.as_str()),
@@ -239,6 +240,16 @@ fn log_level(options: &ArgMatches<'_>) -> LevelFilter {
     }
 }
 
+// The trace that is wanted, if one is.
+fn trace_options<'a>(options: &'a ArgMatches<'_>) -> Option<TraceOptions<'a>> {
+    let mebibytes = options.get_one::<u32>("trace-limit").unwrap_or(64);
+    Some(TraceOptions {
+        path: options.get_str("trace")?,
+        limit: u64::from(mebibytes) * 1048576,
+        shows_digits: options.get_str("trace-digits") != Some("no"),
+    })
+}
+
 // The service of a plan, with the options that were given.
 fn run_file<
     R: Files<File = File>
@@ -251,7 +262,7 @@ fn run_file<
         + Threads
         + Wait
         + Sync,
-    D: Disk + Sync,
+    D: Disk + Folder + Sync,
 >(rt: &R, disk: &D, alloc: Global, options: &ArgMatches<'_>) -> u8 {
     let (Some(path), Ok(metrics)) = (options.get_str("plan"), metrics_address(options)) else {
         return refuse_usage(rt);
@@ -266,6 +277,7 @@ fn run_file<
         level: log_level(options),
         drain_ms: u64::from(seconds) * 1000,
         calls: options.get_str("calls"),
+        trace: trace_options(options),
     };
     match octets_of(rt, path) {
         Some(plan) => run_service(rt, disk, alloc, &plan, &settings, &mut io::writer(rt)),
@@ -302,7 +314,7 @@ fn run_by_options<
         + Threads
         + Wait
         + Sync,
-    D: Disk + Sync,
+    D: Disk + Folder + Sync,
 >(rt: &R, disk: &D, alloc: Global, words: &[String]) -> u8 {
     let Ok(command) = command_line(alloc) else {
         return refuse_memory(rt);

@@ -13,7 +13,8 @@ pub(crate) struct CallsTold {
     pub(crate) lost: u64,
 }
 
-fn error_of(fault: Fault) -> io::Error {
+/// The error of the system that a fault is.
+pub(crate) fn error_of(fault: Fault) -> io::Error {
     match fault.code {
         Some(code) => io::Error::from_raw_os_error(code),
         None => io::Error::from(ErrorKind::WriteZero),

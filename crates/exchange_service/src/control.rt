@@ -219,6 +219,7 @@ impl<'s> Control<'s> {
                 told.look(rt, log, alloc, desk, &mut self.table, now);
             }
             drain.go_on(rt, desk, now);
+            desk.look_for_rest(rt, alloc, now);
             if desk.has_ended() && !self.is_answering() {
                 break;
             }

@@ -1,7 +1,7 @@
 //! What clients ask of the exchange, and its answers.
 ghost use Rattle.std.specs.Prelude.{◌≡◌, ◌<◌, IfOk, length, string_bytes};
 
-use crate::legs::{count_legs, find_leg, hang_up, hang_up_all};
+use crate::legs::{count_legs, find_leg, hang_up, hang_up_all, is_at_rest};
 use crate::service_watch::ServiceWatch;
 use crate::showing::{push_calls, shown_accounts, shown_call};
 use call_book::LegName;
@@ -15,6 +15,7 @@ use peer_lock::Naming;
 use peer_plan::{Endpoint, Plan};
 use std::alloc::{AllocError, Global};
 use std::sync::Wait;
+use trace_writer::TraceLane;
 
 // What there is to ask, for whoever asks for `/`.
 const TABLE: &str =
@@ -26,14 +27,29 @@ pub(crate) struct Desk<'x, J: Naming> {
     pub(crate) exchange: &'x Exchange<NoGate, J>,
     pub(crate) pass: Pass<J>,
     pub(crate) watch: &'x ServiceWatch,
+    /// Where its orders are noted, if that is wanted.
+    pub(crate) lane: Option<TraceLane<'x>>,
     /// The name of the file of call records, if they are wanted.
     pub(crate) calls: Option<&'x str>,
+    /// The name of the folder of the trace, if that is wanted.
+    pub(crate) trace: Option<&'x str>,
 }
 
 impl<'x, J: Naming> Desk<'x, J> {
     /// Hangs up all legs that are still up. Gives how many legs there are.
     pub(crate) fn hang_up_all<R: Wait>(&mut self, rt: &R, now: u64) -> u32 {
-        hang_up_all(rt, self.exchange, &mut self.pass, self.watch, now)
+        let (exchange, watch) = (self.exchange, self.watch);
+        hang_up_all(rt, exchange, &mut self.pass, watch, &mut self.lane, now)
+    }
+
+    /// Where the trace would begin a new file: looks whether any leg is up.
+    pub(crate) fn look_for_rest<R: Wait>(&mut self, rt: &R, alloc: Global, now: u64) {
+        if let Some(lane) = &mut self.lane {
+            if lane.begin_look() {
+                let is_at_rest = is_at_rest(rt, self.exchange, &mut self.pass);
+                lane.end_look(rt, alloc, now, self.exchange.plan(), is_at_rest);
+            }
+        }
     }
 
     /// Whether the service was told to stop, and its workers still run.
@@ -173,7 +189,16 @@ impl<'x, J: Naming> Desk<'x, J> {
         let Some((_, name)) = find_leg(rt, self.exchange, &mut self.pass, number) else {
             return Answer::error(alloc, Status::NotFound, "NoLeg");
         };
-        match hang_up(rt, self.exchange, &mut self.pass, self.watch, name, now) {
+        let (exchange, watch) = (self.exchange, self.watch);
+        match hang_up(
+            rt,
+            exchange,
+            &mut self.pass,
+            watch,
+            &mut self.lane,
+            name,
+            now,
+        ) {
             Ok(()) => named(alloc, Status::Ok, name),
             Err(why) => Answer::error(alloc, Status::Conflict, why),
         }
@@ -210,7 +235,14 @@ impl<'x, J: Naming> Desk<'x, J> {
             return Answer::error(alloc, Status::Unprocessable, "NoPeer");
         };
         let number = order.number.as_bytes();
-        match self.exchange.call(rt, &mut self.pass, peer, number, now) {
+        if let Some(lane) = &mut self.lane {
+            lane.begin_call(rt, now, peer, number);
+        }
+        let called = self.exchange.call(rt, &mut self.pass, peer, number, now);
+        if let Some(lane) = &mut self.lane {
+            lane.end_order(rt);
+        }
+        match called {
             Ok(name) => named(alloc, Status::Created, name),
             Err(CallError::BadNumber) => {
                 Answer::error(alloc, Status::Unprocessable, "BadNumber")

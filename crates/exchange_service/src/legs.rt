@@ -8,6 +8,7 @@ use exchange_core::{Exchange, NoGate, Pass, Retired};
 use leg_machine::Stage;
 use peer_lock::Naming;
 use std::sync::Wait;
+use trace_writer::TraceLane;
 use udp_workers::{Event, Watch};
 
 // Whether a leg of this stage has still to be hung up.
@@ -35,13 +36,21 @@ pub(crate) fn hang_up<J: Naming, R: Wait>(
     exchange: &Exchange<NoGate, J>,
     pass: &mut Pass<J>,
     watch: &ServiceWatch,
+    lane: &mut Option<TraceLane<'_>>,
     name: LegName,
     now: u64,
 ) -> Result<(), &'static str> {
     if name.peer >= exchange.plan().peer_count() {
         return Err("NoLeg");
     }
-    match exchange.hang_up(rt, pass, name, now) {
+    if let Some(lane) = lane {
+        lane.begin_hang_up(rt, now, name.number);
+    }
+    let answer = exchange.hang_up(rt, pass, name, now);
+    if let Some(lane) = lane {
+        lane.end_order(rt);
+    }
+    match answer {
         Ok(answer) => {
             tell_retired(watch, exchange.plan().workers().len(), &answer.retired);
             Ok(())
@@ -56,6 +65,7 @@ fn hang_up_peer<J: Naming, R: Wait>(
     exchange: &Exchange<NoGate, J>,
     pass: &mut Pass<J>,
     watch: &ServiceWatch,
+    lane: &mut Option<TraceLane<'_>>,
     peer: u16,
     now: u64,
 ) -> u32
@@ -67,7 +77,7 @@ fn hang_up_peer<J: Naming, R: Wait>(
         if let Some(leg) = exchange.status(rt, pass, peer, range.first + place) {
             legs = legs.saturating_add(1);
             if is_open(leg.stage) {
-                let _ = hang_up(rt, exchange, pass, watch, leg.name, now);
+                let _ = hang_up(rt, exchange, pass, watch, lane, leg.name, now);
             }
         }
     }
@@ -80,11 +90,12 @@ pub(crate) fn hang_up_all<J: Naming, R: Wait>(
     exchange: &Exchange<NoGate, J>,
     pass: &mut Pass<J>,
     watch: &ServiceWatch,
+    lane: &mut Option<TraceLane<'_>>,
     now: u64,
 ) -> u32 {
     let mut legs: u32 = 0;
     for peer in 0..exchange.plan().peer_count() {
-        legs = legs.saturating_add(hang_up_peer(rt, exchange, pass, watch, peer, now));
+        legs = legs.saturating_add(hang_up_peer(rt, exchange, pass, watch, lane, peer, now));
     }
     legs
 }
@@ -107,6 +118,20 @@ pub(crate) fn count_legs<J: Naming, R: Wait>(
         }
     }
     legs
+}
+
+/// Whether no peer has a leg, and no media waits for a trunk frame.
+pub(crate) fn is_at_rest<J: Naming, R: Wait>(
+    rt: &R,
+    exchange: &Exchange<NoGate, J>,
+    pass: &mut Pass<J>,
+) -> bool {
+    for peer in 0..exchange.plan().peer_count() {
+        if count_legs(rt, exchange, pass, peer) > 0 || exchange.sums(rt, pass, peer).queued > 0 {
+            return false;
+        }
+    }
+    true
 }
 
 /// The leg of a local number, at whatever peer, and the place of that peer in the plan.

@@ -20,5 +20,7 @@ mod socket_drops;
 mod socket_file;
 mod strangers;
 mod telling;
+mod trace_told;
+mod tracing;
 
-pub use running::{Settings, run};
+pub use running::{Settings, TraceOptions, run};

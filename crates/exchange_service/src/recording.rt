@@ -1,23 +1,27 @@
-//! The records of ended legs, while a service runs: what is made for them, and the thread that writes them beside the others.
+//! The files that are written while a service runs, the records of ended legs and the trace: what is made for them, and the thread that
+//! writes each beside the others.
 use crate::calls_told::tell_end;
 use crate::control::Control;
 use crate::desk::Desk;
 use crate::journal::Journal;
-use crate::running::{Settings, serve_seats};
+use crate::running::{Settings, TraceOptions, serve_seats};
 use crate::service_watch::ServiceWatch;
-use call_writer::{Calendar, CallRows, Disk, write_calls};
-use exchange_commands::{ServiceError, ServiceSeat};
+use crate::tracing::TracedSeat;
+use call_writer::{Calendar, CallOutlets, CallRows, Disk, write_calls};
+use exchange_commands::ServiceError;
 use exchange_core::NoGate;
 use jiff::Timestamp;
 use peer_lock::Naming;
 use peer_plan::Plan;
-use std::alloc::Global;
+use std::alloc::{AllocError, Global};
+use std::io::ErrorKind;
 use std::net::Net;
 use std::random::RandomSource;
 use std::sync::Wait;
 use std::thread;
 use std::thread::Threads;
 use std::time::{Clock, Instant, SystemTime};
+use trace_writer::{Folder, Trace, TraceFile, TraceFolder, TraceNotes, TraceSettings, write_trace};
 use udp_workers::{Post, WatchedExchange};
 
 /// What a thread needs that writes the rows of ended legs to a file.
@@ -26,6 +30,23 @@ pub(crate) struct Records<'s> {
     path: &'s str,
     calendar: Calendar,
     rows: CallRows,
+}
+
+/// What a thread needs that writes a trace.
+#[derive(Drop)]
+pub(crate) struct Tracing<'s> {
+    folder: TraceFolder<'s>,
+    shows_digits: bool,
+    about: String,
+    notes: TraceNotes,
+    file: TraceFile,
+}
+
+/// What is written beside the workers.
+#[derive(Drop)]
+pub(crate) struct Written<'s> {
+    pub(crate) records: Option<Records<'s>>,
+    pub(crate) tracing: Option<Tracing<'s>>,
 }
 
 // This moment by the calendar; the beginning of 1970 where the clock can't be read.
@@ -40,25 +61,164 @@ fn calendar<R: Clock>(rt: &R) -> Calendar {
     Calendar { opened_us }
 }
 
-/// The watch of a service of this plan, and what has to be written of its legs that end, where that is wanted.
-pub(crate) fn watch_of<'s, R: Clock>(
-    rt: &R,
+// Where the rows of ended legs go, and who writes them, where that is wanted.
+fn records_of<'s>(
     alloc: Global,
     plan: &Plan,
-    settings: &Settings<'s>,
-) -> Result<(ServiceWatch, Option<Records<'s>>), ServiceError> {
-    let Some(path) = settings.calls else {
-        return Ok((ServiceWatch::new(alloc, plan.peer_count(), None)?, None));
+    path: Option<&'s str>,
+    calendar: Calendar,
+) -> Result<(Option<CallOutlets>, Option<Records<'s>>), ServiceError> {
+    let Some(path) = path else {
+        return Ok((None, None));
     };
-    let calendar = calendar(rt);
     let (outlets, rows) = CallRows::new(alloc, plan, calendar)?;
     let records = Records {
         path,
         calendar,
         rows,
     };
-    let watch = ServiceWatch::new(alloc, plan.peer_count(), Some(outlets))?;
-    Ok((watch, Some(records)))
+    Ok((Some(outlets), Some(records)))
+}
+
+// The date of the moment 0, as the head of a trace tells it.
+fn date_of(alloc: Global, calendar: Calendar) -> Result<String, AllocError> {
+    match Timestamp::from_millisecond(calendar.opened_us / 1000) {
+        Ok(date) => format!(in alloc; "{date:.3}"),
+        Err(_) => Ok(String::new(alloc)),
+    }
+}
+
+// The first file of a trace.
+fn first_file<D: Folder>(
+    disk: &D,
+    alloc: Global,
+    folder: &TraceFolder<'_>,
+) -> Result<TraceFile, ServiceError> {
+    match folder.open(disk, alloc) {
+        Ok(file) => Ok(file),
+        Err(error) if error.kind() == ErrorKind::OutOfMemory => Err(ServiceError::Memory),
+        Err(_) => Err(ServiceError::Trace),
+    }
+}
+
+// Where it is noted what the exchange is given, and who writes that.
+fn tracing_of<'s, D: Folder>(
+    disk: &D,
+    alloc: Global,
+    plan: &Plan,
+    settings: &Settings<'s>,
+    options: TraceOptions<'s>,
+    calendar: Calendar,
+) -> Result<(Trace, Tracing<'s>), ServiceError> {
+    let TraceOptions {
+        path,
+        limit,
+        shows_digits,
+    } = options;
+    let limit = limit.saturating_mul(plan.workers().len() as u64);
+    let folder = TraceFolder { path, limit };
+    let file = first_file(disk, alloc, &folder)?;
+    let threads = plan.workers().len() + 1;
+    let trace = Trace::new(alloc, threads, plan.number_count())?;
+    let date = date_of(alloc, calendar)?;
+    let (version, plan_path) = (settings.version, settings.plan_path);
+    let about = format!(in alloc; "exchange_main {version}, plan {plan_path}, moment 0 is {date}")?;
+    let notes = TraceNotes::new(alloc, threads)?;
+    let tracing = Tracing {
+        folder,
+        shows_digits,
+        about,
+        notes,
+        file,
+    };
+    Ok((trace, tracing))
+}
+
+/// The watch of a service of this plan, and what has to be written beside it, where that is wanted.
+pub(crate) fn watch_of<'s, R: Clock, D: Folder>(
+    rt: &R,
+    disk: &D,
+    alloc: Global,
+    plan: &Plan,
+    settings: &Settings<'s>,
+) -> Result<(ServiceWatch, Written<'s>), ServiceError> {
+    let calendar = calendar(rt);
+    let (outlets, records) = records_of(alloc, plan, settings.calls, calendar)?;
+    let Some(options) = settings.trace else {
+        let tracing = None;
+        let watch = ServiceWatch::new(alloc, plan, outlets, None)?;
+        return Ok((watch, Written { records, tracing }));
+    };
+    let (trace, tracing) = tracing_of(disk, alloc, plan, settings, options, calendar)?;
+    let tracing = Some(tracing);
+    let watch = ServiceWatch::new(alloc, plan, outlets, Some(trace))?;
+    Ok((watch, Written { records, tracing }))
+}
+
+// The workers serve, beside a thread that writes the trace. False if a thread was refused.
+fn serve_beside_tracer<
+    J: Naming,
+    P: Post + Send + Sync,
+    R: Clock + Eprint + Net + RandomSource + Threads + Wait + Sync,
+    D: Folder + Sync,
+>(
+    rt: &R,
+    disk: &D,
+    service: &WatchedExchange<'_, ServiceWatch, NoGate, J, P>,
+    seats: &[TracedSeat<'_, R, J, P>],
+    desk: &mut Desk<'_, J>,
+    control: &mut Control<'_>,
+    opened: Instant,
+    tracing: Tracing<'_>,
+) -> bool {
+    let Some(trace) = service.watch.trace() else {
+        return false;
+    };
+    let Tracing {
+        folder,
+        shows_digits,
+        about,
+        notes,
+        file,
+    } = tracing;
+    let settings = TraceSettings {
+        folder,
+        shows_digits,
+        about: about.as_str(),
+    };
+    let plan = service.exchange.plan();
+    thread::scope(thread::scope_env(), rt, move |scope| {
+        let is_written = scope
+            .spawn(move || write_trace(rt, disk, trace, plan, settings, notes, file))
+            .is_ok();
+        let is_served = is_written && serve_seats(rt, service, seats, desk, control, opened);
+        trace.end();
+        is_served
+    })
+}
+
+// The workers serve, beside such a thread where a trace is wanted. False if a thread was refused.
+fn serve_traced<
+    J: Naming,
+    P: Post + Send + Sync,
+    R: Clock + Eprint + Net + RandomSource + Threads + Wait + Sync,
+    D: Folder + Sync,
+>(
+    rt: &R,
+    disk: &D,
+    service: &WatchedExchange<'_, ServiceWatch, NoGate, J, P>,
+    seats: &[TracedSeat<'_, R, J, P>],
+    desk: &mut Desk<'_, J>,
+    control: &mut Control<'_>,
+    opened: Instant,
+    tracing: Option<Tracing<'_>>,
+) -> bool {
+    match tracing {
+        Some(tracing) => serve_beside_tracer(
+            rt, disk, service, seats, desk, control, opened, tracing,
+        ),
+        None => serve_seats(rt, service, seats, desk, control, opened),
+    }
 }
 
 // The workers serve, beside a thread that appends the rows of ended legs to their file. False if a thread was refused. The log tells
@@ -67,16 +227,17 @@ fn serve_beside_writer<
     J: Naming,
     P: Post + Send + Sync,
     R: Clock + Eprint + Net + RandomSource + Threads + Wait + Sync,
-    D: Disk + Sync,
+    D: Disk + Folder + Sync,
 >(
     rt: &R,
     disk: &D,
     service: &WatchedExchange<'_, ServiceWatch, NoGate, J, P>,
-    seats: &[ServiceSeat<'_, R, J, P>],
+    seats: &[TracedSeat<'_, R, J, P>],
     desk: &mut Desk<'_, J>,
     control: &mut Control<'_>,
     opened: Instant,
     records: Records<'_>,
+    tracing: Option<Tracing<'_>>,
 ) -> bool {
     let Some(outlets) = service.watch.calls() else {
         return false;
@@ -92,7 +253,8 @@ fn serve_beside_writer<
         let is_written = scope
             .spawn(move || write_calls(rt, disk, path, plan, calendar, opened, outlets, rows))
             .is_ok();
-        let is_served = is_written && serve_seats(rt, service, seats, desk, control, opened);
+        let is_served = is_written
+            && serve_traced(rt, disk, service, seats, desk, control, opened, tracing);
         outlets.end();
         is_served
     });
@@ -100,26 +262,27 @@ fn serve_beside_writer<
     is_served
 }
 
-/// The workers serve, beside such a thread where records are wanted. False if a thread was refused.
-pub(crate) fn serve_recorded<
+/// The workers serve, beside the threads that write what is wanted. False if a thread was refused.
+pub(crate) fn serve_written<
     J: Naming,
     P: Post + Send + Sync,
     R: Clock + Eprint + Net + RandomSource + Threads + Wait + Sync,
-    D: Disk + Sync,
+    D: Disk + Folder + Sync,
 >(
     rt: &R,
     disk: &D,
     service: &WatchedExchange<'_, ServiceWatch, NoGate, J, P>,
-    seats: &[ServiceSeat<'_, R, J, P>],
+    seats: &[TracedSeat<'_, R, J, P>],
     desk: &mut Desk<'_, J>,
     control: &mut Control<'_>,
     opened: Instant,
-    records: Option<Records<'_>>,
+    written: Written<'_>,
 ) -> bool {
+    let Written { records, tracing } = written;
     match records {
         Some(records) => serve_beside_writer(
-            rt, disk, service, seats, desk, control, opened, records,
+            rt, disk, service, seats, desk, control, opened, records, tracing,
         ),
-        None => serve_seats(rt, service, seats, desk, control, opened),
+        None => serve_traced(rt, disk, service, seats, desk, control, opened, tracing),
     }
 }

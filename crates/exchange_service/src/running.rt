@@ -6,14 +6,13 @@ use crate::desk::Desk;
 use crate::doors::Doors;
 use crate::journal::Journal;
 use crate::receive_buffer::ReceiveBuffer;
-use crate::recording::{Records, serve_recorded, watch_of};
+use crate::recording::{Written, serve_written, watch_of};
 use crate::service_watch::ServiceWatch;
 use crate::socket_file;
 use crate::telling::tell_start;
+use crate::tracing::{TracedSeat, lane_of, traced_seats_of};
 use call_writer::Disk;
-use exchange_commands::{
-    ServiceError, ServiceSeat, reports_of, seats_of, service_error_name, settle, write_reports,
-};
+use exchange_commands::{ServiceError, reports_of, service_error_name, settle, write_reports};
 use exchange_core::{Exchange, NoGate, Pass};
 use log::LevelFilter;
 use media_ledger::Blank;
@@ -31,6 +30,7 @@ use std::sync::ledger::Ledger;
 use std::thread::Threads;
 use std::time::{Clock, Instant};
 use std::{fs, io, thread};
+use trace_writer::{Folder, Trace, TraceLane};
 use udp_workers::{Post, TurnReport, WatchedExchange, start_until};
 
 /// How a service is run.
@@ -52,6 +52,19 @@ pub struct Settings<'a> {
     pub drain_ms: u64,
     /// The file to which the records of ended legs are appended.
     pub calls: Option<&'a str>,
+    /// The trace that is written of what the exchange is given.
+    pub trace: Option<TraceOptions<'a>>,
+}
+
+/// What trace is written.
+#[derive(Clone, Copy)]
+pub struct TraceOptions<'a> {
+    /// The folder for its files.
+    pub path: &'a str,
+    /// How many octets these have together for each worker at most, but for a turn.
+    pub limit: u64,
+    /// Whether digits are written as they are; else each is a 0.
+    pub shows_digits: bool,
 }
 
 /// The workers serve beside the control socket until they are told to end. False if a thread was refused: then they end at once.
@@ -62,7 +75,7 @@ pub(crate) fn serve_seats<
 >(
     rt: &R,
     service: &WatchedExchange<'_, ServiceWatch, NoGate, J, P>,
-    seats: &[ServiceSeat<'_, R, J, P>],
+    seats: &[TracedSeat<'_, R, J, P>],
     desk: &mut Desk<'_, J>,
     control: &mut Control<'_>,
     opened: Instant,
@@ -75,14 +88,15 @@ pub(crate) fn serve_seats<
 }
 
 // The seats of the workers. The log tells the start, and what room their sockets have.
-fn told_seats<'r, J: Naming, P: Post, R: Clock + Eprint + Net + RandomSource>(
+fn told_seats<'r, J: Naming, P: Post, R: Clock + Eprint + Net + RandomSource + Wait>(
     rt: &'r R,
     alloc: Global,
-    plan: &Plan,
+    plan: &'r Plan,
     passes: &mut Vec<Pass<J>>,
     settings: &Settings<'_>,
     opened: Instant,
-) -> Result<Vec<ServiceSeat<'r, R, J, P>>, ServiceError>
+    trace: Option<&'r Trace>,
+) -> Result<Vec<TracedSeat<'r, R, J, P>>, ServiceError>
     requires plan { plan.now ≡ P.plan }
     requires enough { length plan.now.workers ≤ vec_len passes.old }
     ensures { IfOk result (λ seats. vec_len seats ≤ 8) }
@@ -93,24 +107,81 @@ fn told_seats<'r, J: Naming, P: Post, R: Clock + Eprint + Net + RandomSource>(
     };
     tell_start(&log, plan, settings.version, settings.plan_path);
     let sockets = ReceiveBuffer { log: &log };
-    seats_of::<J, P, R, ReceiveBuffer<'_, Journal<'_, R>>>(
-        rt, alloc, plan, passes, opened, &sockets,
+    traced_seats_of::<J, P, R, ReceiveBuffer<'_, Journal<'_, R>>>(
+        rt, alloc, plan, passes, opened, &sockets, trace,
     )
 }
 
-// Has the seats serve so; their passes and that of the socket go back to the others.
+// Has the seats serve so, beside a control socket with a pass of its own, which is given back. None if a thread was refused.
+fn serve_seated<
+    J: Naming,
+    P: Post + Send + Sync,
+    R: Clock + Eprint + Net + RandomSource + Threads + Wait + Sync,
+    D: Disk + Folder + Sync,
+>(
+    rt: &R,
+    disk: &D,
+    exchange: &Exchange<NoGate, J>,
+    watch: &ServiceWatch,
+    written: Written<'_>,
+    seats: &[TracedSeat<'_, R, J, P>],
+    pass: Pass<J>,
+    lane: Option<TraceLane<'_>>,
+    control: &mut Control<'_>,
+    opened: Instant,
+) -> Option<Pass<J>>
+    requires plan { exchange.now ≡ P.plan }
+{
+    let settings = control.settings;
+    let mut desk = Desk {
+        exchange,
+        pass,
+        watch,
+        lane,
+        calls: settings.calls,
+        trace: settings.trace.map(|options| options.path),
+    };
+    let service = WatchedExchange {
+        exchange,
+        watch,
+        post: PhantomData,
+    };
+    let is_served = serve_written(
+        rt, disk, &service, seats, &mut desk, control, opened, written,
+    );
+    let Desk { pass, .. } = desk;
+    is_served.then_some(pass)
+}
+
+// The seats' passes go back to the others, and so does that of the socket, which there is where they served.
+fn give_back<J: Naming, P: Post, R: Clock + Wait>(
+    alloc: Global,
+    seats: Vec<TracedSeat<'_, R, J, P>>,
+    pass: Option<Pass<J>>,
+    passes: &mut Vec<Pass<J>>,
+) -> Result<Vec<TurnReport>, ServiceError> {
+    let Some(pass) = pass else {
+        return Err(ServiceError::NoThread);
+    };
+    if passes.push(pass).is_err() {
+        return Err(ServiceError::Memory);
+    }
+    reports_of(alloc, seats, passes)
+}
+
+// Has the workers of the plan serve so; their passes and that of the socket go back to the others.
 fn serve_watched<
     J: Naming,
     P: Post + Send + Sync,
     R: Clock + Eprint + Net + RandomSource + Threads + Wait + Sync,
-    D: Disk + Sync,
+    D: Disk + Folder + Sync,
 >(
     rt: &R,
     disk: &D,
     alloc: Global,
     exchange: &Exchange<NoGate, J>,
     watch: &ServiceWatch,
-    records: Option<Records<'_>>,
+    written: Written<'_>,
     passes: &mut Vec<Pass<J>>,
     control: &mut Control<'_>,
     opened: Instant,
@@ -118,30 +189,15 @@ fn serve_watched<
     requires plan { exchange.now ≡ P.plan }
     requires enough { length exchange.now.workers + 1 ≤ vec_len passes.old }
 {
-    let settings = control.settings;
+    let (plan, trace) = (exchange.plan(), watch.trace());
+    let lane = lane_of(alloc, trace, plan.workers().len())?;
     let pass = passes.remove(0);
-    let seats = told_seats::<J, P, R>(rt, alloc, exchange.plan(), passes, settings, opened)?;
-    let mut desk = Desk {
-        exchange,
-        pass,
-        watch,
-        calls: settings.calls,
-    };
-    let service = WatchedExchange {
-        exchange,
-        watch,
-        post: PhantomData,
-    };
-    if !serve_recorded(
-        rt, disk, &service, &seats, &mut desk, control, opened, records,
-    ) {
-        return Err(ServiceError::NoThread);
-    }
-    let Desk { pass, .. } = desk;
-    if passes.push(pass).is_err() {
-        return Err(ServiceError::Memory);
-    }
-    reports_of(alloc, seats, passes)
+    let settings = control.settings;
+    let seats = told_seats::<J, P, R>(rt, alloc, plan, passes, settings, opened, trace)?;
+    let pass = serve_seated::<J, P, R, D>(
+        rt, disk, exchange, watch, written, &seats, pass, lane, control, opened,
+    );
+    give_back(alloc, seats, pass, passes)
 }
 
 // The same, with a watch that is made for it.
@@ -149,7 +205,7 @@ fn serve_beside<
     J: Naming,
     P: Post + Send + Sync,
     R: Clock + Eprint + Net + RandomSource + Threads + Wait + Sync,
-    D: Disk + Sync,
+    D: Disk + Folder + Sync,
 >(
     rt: &R,
     disk: &D,
@@ -162,9 +218,9 @@ fn serve_beside<
     requires plan { exchange.now ≡ P.plan }
     requires enough { length exchange.now.workers + 1 ≤ vec_len passes.old }
 {
-    let (watch, records) = watch_of(rt, alloc, exchange.plan(), control.settings)?;
+    let (watch, written) = watch_of(rt, disk, alloc, exchange.plan(), control.settings)?;
     serve_watched::<J, P, R, D>(
-        rt, disk, alloc, exchange, &watch, records, passes, control, opened,
+        rt, disk, alloc, exchange, &watch, written, passes, control, opened,
     )
 }
 
@@ -173,7 +229,7 @@ fn work<
     J: Naming,
     P: Post + Send + Sync,
     R: Clock + Eprint + Net + RandomSource + Threads + Wait + Sync,
-    D: Disk + Sync,
+    D: Disk + Folder + Sync,
     W: Write,
 >(
     rt: &R,
@@ -216,7 +272,7 @@ fn work_named<
     S: Ledger + Send + Sync,
     P: Post + Send + Sync,
     R: Clock + Eprint + Net + RandomSource + Threads + Wait + Sync,
-    D: Disk + Sync,
+    D: Disk + Folder + Sync,
     W: Write,
 >(
     rt: &R,
@@ -288,7 +344,7 @@ fn bind_metrics<R: Net>(
 // The service of a plan that is right.
 fn serve_plan<
     R: Clock + Eprint + Net + RandomSource + Threads + Wait + Sync,
-    D: Disk + Sync,
+    D: Disk + Folder + Sync,
     W: Write,
 >(
     rt: &R,
@@ -320,7 +376,7 @@ fn refuse<W: Write>(writer: &mut W, name: &str) -> u8 {
 // The service with a control socket that is bound, or with none.
 fn serve_behind<
     R: Clock + Eprint + Files<File = File> + Net + RandomSource + Threads + Wait + Sync,
-    D: Disk + Sync,
+    D: Disk + Folder + Sync,
     W: Write,
 >(
     rt: &R,
@@ -366,11 +422,14 @@ fn status_of<W: Write>(served: Result<(), ServiceError>, writer: &mut W) -> u8 {
 /// of the metrics isn't bound; the others as `serve` has them. A stop hangs up each leg, and the workers end once none is left, or
 /// after `drain_ms` milliseconds, or at a second stop. The file of the control socket is gone afterwards.
 ///
+/// Where `trace` names a folder, a thread writes there what the exchange is given, as a script that `replay` reads (`docs/INCIDENTS.md`);
+/// `refused Trace`: the folder can't be made, or no file in it.
+///
 /// Where `calls` names a file, a thread appends the record of each ended leg to it (`docs/RECORDS.md`), as this disk has it. Whatever
 /// becomes of the file, calls go on.
 pub fn run<
     R: Clock + Eprint + Files<File = File> + Net + RandomSource + Threads + Wait + Sync,
-    D: Disk + Sync,
+    D: Disk + Folder + Sync,
     W: Write,
 >(rt: &R, disk: &D, alloc: Global, plan: &[u8], settings: &Settings<'_>, writer: &mut W) -> u8 {
     let plan = match Plan::read(alloc, plan) {

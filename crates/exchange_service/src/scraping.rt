@@ -241,15 +241,61 @@ fn push_calls(
         "Records of ended call legs that were lost, since too many waited.",
         state.lost,
     )?;
+    push_gauge(
+        alloc,
+        metrics,
+        "iax_call_records_waiting",
+        "Records of ended call legs that wait for the file.",
+        state.waiting,
+    )
+}
+
+// What is counted of the trace.
+fn push_trace(
+    alloc: Global,
+    metrics: &mut Metrics,
+    watch: &ServiceWatch,
+) -> Result<(), AllocError> {
+    let Some(trace) = watch.trace() else {
+        return Ok(());
+    };
+    let state = trace.state();
+    push_total(
+        alloc,
+        metrics,
+        "iax_trace_octets_written_total",
+        "Octets that were written to the files of the trace.",
+        state.written,
+    )?;
+    push_total(
+        alloc,
+        metrics,
+        "iax_trace_calls_lost_total",
+        "Datagrams, ticks and orders that the trace lacks.",
+        state.lost,
+    )?;
+    push_gauge(
+        alloc,
+        metrics,
+        "iax_trace_up",
+        "Whether the trace is written: 0 once it can't be written to.",
+        u64::from(state.fault.is_none()),
+    )
+}
+
+fn push_gauge(
+    alloc: Global,
+    metrics: &mut Metrics,
+    name: &str,
+    help: &str,
+    value: u64,
+) -> Result<(), AllocError> {
     let labels = Labels::None;
     let family = Family {
-        name: "iax_call_records_waiting",
-        help: "Records of ended call legs that wait for the file.",
+        name,
+        help,
         kind: Kind::Gauge,
-        samples: &[Sample {
-            labels,
-            value: state.waiting,
-        }],
+        samples: &[Sample { labels, value }],
     };
     metrics.push(alloc, &family)
 }
@@ -271,6 +317,7 @@ fn metrics_answer<J: Naming, R: Wait>(
     push_refusals(alloc, &mut metrics, exchange.plan(), desk.watch)?;
     push_totals(alloc, &mut metrics, desk.watch)?;
     push_calls(alloc, &mut metrics, desk.watch)?;
+    push_trace(alloc, &mut metrics, desk.watch)?;
     push_drops(table, alloc, &mut metrics, exchange.plan())?;
     metrics.into_answer(alloc)
 }

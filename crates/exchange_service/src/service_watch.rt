@@ -4,11 +4,12 @@ ghost use Rattle.std.specs.Prelude.{◌≡◌};
 use call_writer::CallOutlets;
 use exchange_commands::call_row;
 use exchange_core::{Refusal, Retired};
-use peer_plan::Endpoint;
+use peer_plan::{Endpoint, Plan};
 use std::alloc::{AllocError, Global};
 use std::mem;
 use std::sync::atomic::{AtomicU64, Ordering};
 use std::sync::{Mutex, Wait};
+use trace_writer::Trace;
 use udp_workers::{Event, ServiceStage, Watch};
 
 const SERVING: u64 = 0;
@@ -48,6 +49,8 @@ struct RefusalCount {
 /// What is counted of a peer since the service began, modulo 2^64.
 #[derive(Drop)]
 struct PeerMarks {
+    // The worker that serves it.
+    worker: u16,
     // One more than the moment at which it was last heard, in milliseconds; 0 if it never was.
     heard: AtomicU64,
     received: AtomicU64,
@@ -84,6 +87,8 @@ pub(crate) struct ServiceWatch {
     seen: Mutex<Vec<Endpoint>>,
     // Where the rows of ended legs go, if they are wanted.
     calls: Option<CallOutlets>,
+    // Where it is noted what the exchange is given, if that is wanted.
+    trace: Option<Trace>,
 }
 
 // No datagram was refused for any reason.
@@ -100,8 +105,9 @@ fn refusal_counts(alloc: Global) -> Result<Vec<RefusalCount>, AllocError> {
 
 impl PeerMarks {
     // Nothing was heard of it, and nothing was sent to it.
-    fn new(alloc: Global) -> Result<PeerMarks, AllocError> {
+    fn new(alloc: Global, worker: u16) -> Result<PeerMarks, AllocError> {
         Ok(PeerMarks {
+            worker,
             heard: AtomicU64::new(0),
             received: AtomicU64::new(0),
             refused: AtomicU64::new(0),
@@ -141,16 +147,20 @@ fn count_one(count: &AtomicU64) {
 }
 
 impl ServiceWatch {
-    /// A service that serves, with so many peers of which nothing was heard. The rows of ended legs go to these outlets, if there are
-    /// some.
+    /// A service that serves, with the peers of a plan, of which nothing was heard. The rows of ended legs go to these outlets, if there
+    /// are some, and what the exchange is given is noted in the trace, if there is one.
     pub(crate) fn new(
         alloc: Global,
-        peers: u16,
+        plan: &Plan,
         calls: Option<CallOutlets>,
+        trace: Option<Trace>,
     ) -> Result<ServiceWatch, AllocError> {
         let mut marks = Vec::new(alloc);
-        for _ in 0..peers {
-            if marks.push(PeerMarks::new(alloc)?).is_err() {
+        for peer in 0..plan.peer_count() {
+            if marks
+                .push(PeerMarks::new(alloc, plan.worker(peer))?)
+                .is_err()
+            {
                 return Err(AllocError);
             }
         }
@@ -161,6 +171,7 @@ impl ServiceWatch {
             faults: AtomicU64::new(0),
             seen: Mutex::new(Vec::with_capacity(alloc, STRANGERS)?),
             calls,
+            trace,
         })
     }
 
@@ -186,6 +197,11 @@ impl ServiceWatch {
     /// Where the rows of ended legs go, if they are wanted.
     pub(crate) fn calls(&self) -> Option<&CallOutlets> {
         self.calls.as_ref()
+    }
+
+    /// Where it is noted what the exchange is given, if that is wanted.
+    pub(crate) fn trace(&self) -> Option<&Trace> {
+        self.trace.as_ref()
     }
 
     /// How many datagrams came from strangers.
@@ -251,6 +267,9 @@ impl ServiceWatch {
         if let Some(marks) = self.peers.get(usize::from(peer)) {
             count_one(&marks.refused);
             count_one(&marks.turned_away);
+            if let Some(trace) = &self.trace {
+                trace.turn_away(marks.worker);
+            }
         }
     }
 
@@ -306,6 +325,9 @@ impl Watch for ServiceWatch {
     fn retire(&self, worker: u16, leg: &Retired) {
         if let Some(calls) = &self.calls {
             calls.hand_over(worker, call_row(leg, 0));
+        }
+        if let Some(trace) = &self.trace {
+            trace.retire(worker, leg.name.number);
         }
     }
 

@@ -7,6 +7,7 @@ use crate::legs::count_legs;
 use crate::service_watch::{REFUSALS, STRANGERS, ServiceWatch};
 use crate::socket_drops::{SocketTable, drop_counts};
 use crate::strangers::Strangers;
+use crate::trace_told::TraceTold;
 use exchange_commands::refusal_name;
 use exchange_core::{Exchange, NoGate, Pass};
 use log::{Level, Log, debug, info, log_enabled, warn};
@@ -47,6 +48,7 @@ pub(crate) struct Told {
     drops: Vec<u64>,
     faults: u64,
     calls: CallsTold,
+    trace: TraceTold,
     strangers: Strangers,
     // A list for the strangers that come.
     spare: Vec<Endpoint>,
@@ -190,6 +192,7 @@ impl Told {
             drops,
             faults: 0,
             calls: CallsTold::new(),
+            trace: TraceTold::new(),
             strangers: Strangers::new(alloc)?,
             spare: Vec::with_capacity(alloc, STRANGERS)?,
             legs: Rounds {
@@ -326,6 +329,9 @@ impl Told {
         if let Some(calls) = watch.calls() {
             self.calls.tell_lost(log, calls.state(), seconds);
         }
+        if let Some(trace) = watch.trace() {
+            self.trace.tell_lost(log, trace.state(), seconds);
+        }
         if self.tell_drops(table, log, alloc, plan, seconds).is_err() {
             debug!(log; "no memory for the table of sockets");
         }
@@ -347,6 +353,9 @@ impl Told {
         self.see_strangers(rt, alloc, desk.watch);
         if let (Some(path), Some(calls)) = (desk.calls, desk.watch.calls()) {
             self.calls.look(log, path, calls.state());
+        }
+        if let (Some(path), Some(trace)) = (desk.trace, desk.watch.trace()) {
+            self.trace.look(log, path, trace.state());
         }
         if self.legs.due(now).is_some() {
             self.tell_legs(rt, log, desk);

@@ -1,0 +1,57 @@
+//! The calls of an exchange, by all threads, as they begin and end.
+use std::sync::atomic::{AtomicU64, Ordering};
+
+// A call that is open counts 1, one that has begun this.
+const BEGUN: u64 = 0x1_0000;
+
+/// How many calls have begun, and how many of them are open. Both are one number, so that a call draws its own at one moment.
+#[derive(Drop)]
+pub(crate) struct Calls {
+    counts: AtomicU64,
+}
+
+/// A call that is open.
+#[derive(Clone, Copy, Debug, PartialEq, Eq)]
+pub(crate) struct OpenCall {
+    /// How many calls had begun before it.
+    pub(crate) number: u64,
+    /// Whether another one was open when it began.
+    pub(crate) is_beside: bool,
+}
+
+impl Calls {
+    pub(crate) fn new() -> Calls {
+        Calls {
+            counts: AtomicU64::new(0),
+        }
+    }
+
+    /// A call begins.
+    pub(crate) fn begin(&self) -> OpenCall {
+        let before = self.counts.fetch_add(BEGUN + 1, Ordering::SeqCst);
+        OpenCall {
+            number: before / BEGUN,
+            is_beside: before % BEGUN > 0,
+        }
+    }
+
+    /// It ends. True if another call was open, or began, while it was.
+    pub(crate) fn end(&self, call: OpenCall) -> bool {
+        let before = self.counts.fetch_sub(1, Ordering::SeqCst);
+        call.is_beside || before / BEGUN != call.number.wrapping_add(1)
+    }
+
+    /// How many calls have begun, where all of them have ended.
+    pub(crate) fn begun_if_none_is_open(&self) -> Option<u64> {
+        let counts = self.counts.load(Ordering::SeqCst);
+        if counts % BEGUN > 0 {
+            return None;
+        }
+        Some(counts / BEGUN)
+    }
+
+    /// How many calls have begun.
+    pub(crate) fn begun(&self) -> u64 {
+        self.counts.load(Ordering::SeqCst) / BEGUN
+    }
+}

@@ -1,0 +1,156 @@
+//! The files of a folder: a trace is written to one after another, and the oldest is overwritten.
+use crate::folder::Folder;
+use call_files::Fault;
+use std::alloc::{AllocError, Global};
+use std::fs::File;
+use std::io;
+use std::io::Write;
+use std::os::unix::fs::FileExt;
+
+// How many files there are.
+const FILES: u64 = 8;
+
+// How many octets of the last lines are kept, so that they can make room for the line that ends a trace.
+const KEPT: usize = 1024;
+
+/// A folder for a trace.
+#[derive(Clone, Copy, Debug)]
+pub struct TraceFolder<'a> {
+    pub path: &'a str,
+    /// How many octets all files have together at most, but for a turn.
+    pub limit: u64,
+}
+
+/// A file of the folder, open, and its place among the others.
+#[derive(Drop)]
+pub struct TraceFile {
+    alloc: Global,
+    place: u64,
+    file: File,
+    // Whole lines.
+    length: u64,
+    // The end of these.
+    tail: Vec<u8>,
+}
+
+fn fault_of(error: &io::Error) -> Fault {
+    Fault {
+        code: error.raw_os_error(),
+    }
+}
+
+impl TraceFolder<'_> {
+    // The path of the file at a place.
+    fn path_of(&self, alloc: Global, place: u64) -> Result<String, AllocError> {
+        format!(in alloc; "{}/trace-{place}.script", self.path)
+    }
+
+    // The place of the file that was changed longest ago, or of one that isn't there.
+    fn oldest<D: Folder>(&self, disk: &D, alloc: Global) -> Result<u64, AllocError> {
+        let (mut oldest, mut since) = (0, i64::MAX);
+        for place in 0..FILES {
+            match disk.changed(self.path_of(alloc, place)?.as_str()) {
+                None => return Ok(place),
+                Some(changed) if changed < since => (oldest, since) = (place, changed),
+                Some(_) => {}
+            }
+        }
+        Ok(oldest)
+    }
+
+    // Begins the file at a place anew.
+    fn begin<D: Folder>(&self, disk: &D, alloc: Global, place: u64) -> io::Result<TraceFile> {
+        let path = self.path_of(alloc, place)?;
+        Ok(TraceFile {
+            alloc,
+            place,
+            file: disk.begin(path.as_str())?,
+            length: 0,
+            tail: Vec::new(alloc),
+        })
+    }
+
+    /// Makes the folder, where there is none, and begins the file that was changed longest ago. Of those that are left a new one is
+    /// made first.
+    pub fn open<D: Folder>(&self, disk: &D, alloc: Global) -> io::Result<TraceFile> {
+        disk.make(self.path)?;
+        let place = self.oldest(disk, alloc)?;
+        self.begin(disk, alloc, place)
+    }
+
+    /// Begins the file after this one.
+    pub(crate) fn next<D: Folder>(
+        &self,
+        disk: &D,
+        alloc: Global,
+        file: &TraceFile,
+    ) -> Result<TraceFile, Fault> {
+        let place = file.place.wrapping_add(1) % FILES;
+        self.begin(disk, alloc, place)
+            .map_err(|error| fault_of(&error))
+    }
+
+    /// How many octets a file has at most, but for a turn.
+    pub(crate) fn part(&self) -> u64 {
+        self.limit / FILES
+    }
+}
+
+impl TraceFile {
+    /// How many octets it has.
+    pub(crate) fn length(&self) -> u64 {
+        self.length
+    }
+
+    // The last of what was written.
+    fn keep_tail(&mut self, text: &[u8]) {
+        let from = text.len().saturating_sub(KEPT);
+        self.tail.clear();
+        let _ = self.tail.extend_from_slice(text.get(from..).unwrap_or(b""));
+    }
+
+    /// Writes whole lines behind those that there are. Where it fails, so many of these are cut off that there is room for one line,
+    /// which says why the trace ends.
+    pub(crate) fn write(&mut self, text: &[u8]) -> Result<(), Fault> {
+        match self.file.write_all_at(text, self.length) {
+            Ok(()) => {
+                self.length = self.length.saturating_add(text.len() as u64);
+                self.keep_tail(text);
+                Ok(())
+            }
+            Err(error) => {
+                self.end(&error);
+                Err(fault_of(&error))
+            }
+        }
+    }
+
+    // Where the lines end that are left when these octets at the end of the file have gone.
+    fn cut(&self) -> u64 {
+        let half = self.tail.get(..self.tail.len() / 2).unwrap_or(b"");
+        let left = match half.iter().rposition(|octet| *octet == b'\n') {
+            Some(place) => place.saturating_add(1),
+            None => 0,
+        };
+        let cut = self.tail.len().saturating_sub(left) as u64;
+        self.length.saturating_sub(cut)
+    }
+
+    // The last line says why the trace ends.
+    fn end(&mut self, error: &io::Error) {
+        let mut line = Vec::new(self.alloc);
+        if writeln!(line, "# The trace ends here: {error}.").is_err() {
+            return;
+        }
+        if self.file.write_all_at(&line, self.length).is_ok() {
+            let _ = self
+                .file
+                .set_len(self.length.saturating_add(line.len() as u64));
+            return;
+        }
+        let left = self.cut();
+        if self.file.write_all_at(&line, left).is_ok() {
+            let _ = self.file.set_len(left.saturating_add(line.len() as u64));
+        }
+    }
+}

@@ -1,0 +1,293 @@
+//! The thread that writes.
+use crate::folder::Folder;
+use crate::marks::{Batch, Input, Mark};
+use crate::parts::{TraceFile, TraceFolder};
+use crate::spelling::{Head, Manner, Script};
+use crate::trace::Trace;
+use call_files::Fault;
+use peer_plan::Plan;
+use std::alloc::{AllocError, Global};
+use std::sync::Wait;
+use std::time::{Clock, Duration};
+use std::{mem, thread};
+
+// How long a round lasts, in milliseconds.
+const ROUND_MS: u64 = 20;
+
+// Lines are written once there are so many octets of them, and at the end of a round.
+const PIECE: usize = 65_536;
+
+// There is no memory for the head of a file.
+const NO_MEMORY: Fault = Fault { code: Some(12) };
+
+// What a thread noted, and how much of it is written.
+#[derive(Drop)]
+struct Taken {
+    batch: Batch,
+    marks: usize,
+    octets: usize,
+}
+
+impl Taken {
+    // The next mark, if there is one.
+    fn next(&self) -> Option<Mark> {
+        self.batch.marks.get(self.marks).copied()
+    }
+
+    // The octets of that mark.
+    fn octets(&self, mark: &Mark) -> &[u8] {
+        let end = self.octets.saturating_add(mark.octets);
+        self.batch.octets.get(self.octets..end).unwrap_or(b"")
+    }
+
+    // It is written.
+    fn pass(&mut self, mark: &Mark) {
+        self.marks = self.marks.saturating_add(1);
+        self.octets = self.octets.saturating_add(mark.octets);
+    }
+
+    // What the thread has noted since, where all before is written.
+    fn refill<R: Wait>(&mut self, rt: &R, trace: &Trace, thread: usize, spare: &mut Option<Batch>) {
+        if self.marks < self.batch.marks.len() {
+            return;
+        }
+        let Some(mut empty) = spare.take() else {
+            return;
+        };
+        empty.clear();
+        let new = trace.take(rt, thread, empty);
+        *spare = Some(mem::replace(&mut self.batch, new));
+        self.marks = 0;
+        self.octets = 0;
+    }
+}
+
+/// What the writer needs: room for what the threads note.
+#[derive(Drop)]
+pub struct TraceNotes {
+    alloc: Global,
+    taken: Vec<Taken>,
+    spare: Option<Batch>,
+}
+
+/// How a trace is written.
+#[derive(Clone, Copy)]
+pub struct TraceSettings<'a> {
+    pub folder: TraceFolder<'a>,
+    /// Whether digits are written as they are; else each is a 0.
+    pub shows_digits: bool,
+    /// What the head of each file says of the service.
+    pub about: &'a str,
+}
+
+impl TraceNotes {
+    /// Room for what so many threads note.
+    pub fn new(alloc: Global, threads: usize) -> Result<TraceNotes, AllocError> {
+        let mut taken = Vec::new(alloc);
+        for _ in 0..threads {
+            let one = Taken {
+                batch: Batch::new(alloc)?,
+                marks: 0,
+                octets: 0,
+            };
+            if taken.push(one).is_err() {
+                return Err(AllocError);
+            }
+        }
+        Ok(TraceNotes {
+            alloc,
+            taken,
+            spare: Some(Batch::new(alloc)?),
+        })
+    }
+}
+
+// A trace as it is written.
+#[derive(Drop)]
+struct Writer<'a, D: Folder> {
+    disk: &'a D,
+    alloc: Global,
+    trace: &'a Trace,
+    settings: TraceSettings<'a>,
+    script: Script<'a>,
+    file: TraceFile,
+    part: u64,
+    // The number of the next call.
+    next: u64,
+}
+
+impl<'a, D: Folder> Writer<'a, D> {
+    // The head of the next part.
+    fn next_head(&mut self, is_at_rest: bool) -> Head<'a> {
+        self.part = self.part.wrapping_add(1);
+        let why_not_exact = if !self.settings.shows_digits {
+            Some("digits are written as 0")
+        } else if !is_at_rest {
+            Some("calls are up where this begins")
+        } else {
+            None
+        };
+        Head {
+            why_not_exact,
+            about: self.settings.about,
+            part: self.part,
+        }
+    }
+
+    // The first lines of a part that begins where no call is up, with the order of free numbers there.
+    fn begin_part(&mut self, orders: &[u8]) -> Result<(), Fault> {
+        let head = self.next_head(true);
+        self.script.begin(&head, orders).map_err(|_| NO_MEMORY)
+    }
+
+    // The first lines of another part.
+    fn go_on(&mut self) -> Result<(), Fault> {
+        let head = self.next_head(false);
+        self.script.go_on(&head).map_err(|_| NO_MEMORY)
+    }
+
+    // The lines that there are go to the file.
+    fn write(&mut self) -> Result<(), Fault> {
+        let before = self.file.length();
+        self.file.write(self.script.text.as_slice())?;
+        self.trace
+            .count_written(self.file.length().saturating_sub(before));
+        self.script.text.clear();
+        Ok(())
+    }
+
+    // The next file is begun.
+    fn turn_over(&mut self) -> Result<(), Fault> {
+        self.write()?;
+        self.file = self
+            .settings
+            .folder
+            .next(self.disk, self.alloc, &self.file)?;
+        Ok(())
+    }
+
+    // How many octets the file has once the lines are written.
+    fn length(&self) -> u64 {
+        self.file
+            .length()
+            .saturating_add(self.script.text.len() as u64)
+    }
+
+    // The lines of a call. It may begin a file: where no call is up, a file that is half as long as it may be has a next one.
+    fn tell(&mut self, thread: usize, mark: &Mark, octets: &[u8]) -> Result<(), Fault> {
+        let part = self.settings.folder.part();
+        if mark.input == Input::Rest && self.length() >= part / 2 {
+            self.turn_over()?;
+            self.begin_part(octets)?;
+        } else if self.length() >= part {
+            self.turn_over()?;
+            self.go_on()?;
+        }
+        if !self.script.push(thread, mark, octets) {
+            self.trace.count_lost();
+        }
+        if self.script.text.len() >= PIECE {
+            self.write()?;
+        }
+        Ok(())
+    }
+}
+
+// The thread whose next mark has this number.
+fn thread_of(taken: &[Taken], number: u64) -> Option<usize> {
+    taken
+        .iter()
+        .position(|one| one.next().map(|mark| mark.number) == Some(number))
+}
+
+// The lines of calls, in the order in which they began, as far as that is known. True if there were some.
+fn tell_all<D: Folder>(taken: &mut [Taken], writer: &mut Writer<'_, D>) -> Result<bool, Fault> {
+    let mut has_told = false;
+    for _ in 0..u64::MAX {
+        let Some(thread) = thread_of(taken, writer.next) else {
+            break;
+        };
+        let Some(one) = taken.get_mut(thread) else {
+            break;
+        };
+        let Some(mark) = one.next() else {
+            break;
+        };
+        writer.tell(thread, &mark, one.octets(&mark))?;
+        one.pass(&mark);
+        writer.next = writer.next.wrapping_add(1);
+        has_told = true;
+    }
+    Ok(has_told)
+}
+
+// All that the threads have noted up to now.
+fn write_noted<R: Wait, D: Folder>(
+    rt: &R,
+    notes: &mut TraceNotes,
+    writer: &mut Writer<'_, D>,
+    are_over: bool,
+) -> Result<(), Fault> {
+    for _ in 0..u64::MAX {
+        let TraceNotes { taken, spare, .. } = notes;
+        for (thread, one) in taken.iter_mut().enumerate() {
+            one.refill(rt, writer.trace, thread, spare);
+        }
+        if !tell_all(taken, writer)? {
+            break;
+        }
+    }
+    if are_over {
+        let _ = writer.script.end();
+    }
+    writer.write()?;
+    let is_half = writer.length() >= writer.settings.folder.part() / 2;
+    writer.trace.ask_for_rest(is_half);
+    Ok(())
+}
+
+/// Writes what the threads of a service note, until they are over, to the files of a folder; in rounds of a fiftieth of a second. What
+/// calls of the exchange were given stands there in the order in which they began.
+///
+/// Where a file can't be written to the trace ends, with a line that says so; the service goes on.
+pub fn write_trace<R: Clock + Wait, D: Folder>(
+    rt: &R,
+    disk: &D,
+    trace: &Trace,
+    plan: &Plan,
+    settings: TraceSettings<'_>,
+    notes: TraceNotes,
+    file: TraceFile,
+) {
+    let mut notes = notes;
+    let alloc = notes.alloc;
+    let manner = Manner {
+        shows_digits: settings.shows_digits,
+    };
+    let mut writer = Writer {
+        disk,
+        alloc,
+        trace,
+        settings,
+        script: Script::new(alloc, plan, manner),
+        file,
+        part: 0,
+        next: 0,
+    };
+    if let Err(fault) = writer.begin_part(b"") {
+        trace.give_up(fault);
+        return;
+    }
+    for _ in rt.forever() {
+        // (asked first, so that nothing is missed that a thread noted before its end)
+        let are_over = trace.are_over();
+        if let Err(fault) = write_noted(rt, &mut notes, &mut writer, are_over) {
+            trace.give_up(fault);
+            break;
+        }
+        if are_over {
+            break;
+        }
+        thread::sleep(rt, Duration::from_millis(ROUND_MS));
+    }
+}
