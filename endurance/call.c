@@ -1,0 +1,357 @@
+// What happens on the calls of `calls`, and what is checked there: each digit once and in order, no media of another call, each call hung
+// up once at its far end. See call.h.
+#include "call.h"
+
+#include <stdio.h>
+#include <stdlib.h>
+#include <string.h>
+
+struct wanted wanted;
+struct seen seen;
+unsigned active;
+int is_closing;
+static struct call calls[SLOTS];
+static unsigned long last_id;
+
+// How long a call is watched after its end, for a second HANGUP, in seconds.
+static const double WATCH = 0.4;
+static const unsigned char FORMAT_OF_CALL[] = {9, 4, 0, 0, 0, ULAW};
+
+// A number that a call's identity, its side and a place in it determine, and that others can't be taken for.
+static unsigned mixed(unsigned long id, int side, unsigned long place) {
+    unsigned long long word = id * 2 + (unsigned)side + wanted.seed * 0x9e3779b97f4a7c15ull + (place << 40);
+    word = (word ^ word >> 30) * 0xbf58476d1ce4e5b9ull;
+    word = (word ^ word >> 27) * 0x94d049bb133111ebull;
+    return (unsigned)(word >> 32);
+}
+
+static int digit_of(unsigned long id, int side, unsigned place) { return "0123456789ABCD*#"[mixed(id, side, place) & 15]; }
+
+static void write_media(unsigned char media[MEDIA], const struct call *call, int side, unsigned place) {
+    for (unsigned at = 0; at < MEDIA; at += 4) {
+        unsigned word = at == 0 ? (unsigned)call->id : at == 4 ? place : mixed(call->id, side, place + at);
+        memcpy(media + at, &word, 4);
+    }
+}
+
+static void to_stage(struct call *call, enum stage stage) {
+    call->stage = stage;
+    call->changed = now();
+}
+
+// The exchange ended the call, or it makes no progress: what is left is hung up, and the call is watched no more.
+static void fail(struct call *call, unsigned long *counted) {
+    if (call->stage == FAILED || call->stage == OVER) return;
+    ++*counted;
+    for (int side = 0; side < 2; side++)
+        if (call->ends[side] && !call->ends[side]->is_dead)
+            send_numbered(call->ends[side], timestamp_of(call->ends[side]), IAX, HANGUP, NULL, 0);
+    to_stage(call, FAILED);
+}
+
+static struct call *slot_of(unsigned long id) { return &calls[id % SLOTS]; }
+
+void place_call(struct peer *from, struct peer *to) {
+    struct call *call = slot_of(last_id);
+    if (call->stage != NONE) {
+        // That place is taken by a call that lasts: the next one is tried.
+        last_id = (last_id + 1) % LARGEST_CALL;
+        return;
+    }
+    struct leg *leg = open_leg(from, call, 0);
+    if (!leg) return;
+    memset(call, 0, sizeof *call);
+    call->id = last_id, last_id = (last_id + 1) % LARGEST_CALL;
+    call->to = to, call->ends[0] = leg;
+    call->begun = now();
+    unsigned choice = mixed(call->id, 0, 1 << 20);
+    call->hanger = (int)(choice & 1), call->early = wanted.early && (choice >> 1) % wanted.early == 0;
+    char called[32];
+    int length = snprintf(called, sizeof called, "%s%07lu", to->prefix, call->id);
+    unsigned char data[64] = {11, 2, 0, 2, CALLED_NUMBER, (unsigned char)length};
+    memcpy(data + 6, called, (unsigned)length);
+    memcpy(data + 6 + length, FORMAT_OF_CALL, sizeof FORMAT_OF_CALL);
+    send_numbered(leg, 0, IAX, NEW, data, 6u + (unsigned)length + sizeof FORMAT_OF_CALL);
+    to_stage(call, PLACED);
+    seen.placed++, active++;
+}
+
+static void send_digits(struct call *call, int side, double moment) {
+    if (is_closing || moment < call->digit_due[side]) return;
+    while (call->digits_sent[side] < wanted.digits && call->digits_sent[side] - call->digits_taken[1 - side] < wanted.on_the_way) {
+        int digit = digit_of(call->id, side, call->digits_sent[side]);
+        if (!send_numbered(call->ends[side], timestamp_of(call->ends[side]), DTMF, digit, NULL, 0)) return;
+        call->digits_sent[side]++, seen.digits_sent++;
+        call->digit_due[side] = moment + wanted.digit_ms / 1000.0;
+        if (wanted.digit_ms) return;
+    }
+}
+
+static void send_media(struct call *call, int side) {
+    struct leg *leg = call->ends[side];
+    unsigned char mini[4 + MEDIA];
+    unsigned timestamp = timestamp_of(leg);
+    write_media(mini + 4, call, side, call->media_sent[side]);
+    if (leg->voice_high != (long)(timestamp >> 16)) {
+        if (!send_numbered(leg, timestamp, VOICE, ULAW, mini + 4, MEDIA)) return;
+        leg->voice_high = (long)(timestamp >> 16);
+    } else {
+        put16(mini, leg->number), put16(mini + 2, timestamp);
+        send_octets(leg->peer, mini, sizeof mini);
+    }
+    call->media_sent[side]++, seen.media_sent++;
+}
+
+static int all_digits_taken(const struct call *call) {
+    for (int side = 0; side < 2; side++)
+        if ((!is_closing && call->digits_sent[side] < wanted.digits) || call->digits_taken[1 - side] < call->digits_sent[side]) return 0;
+    return 1;
+}
+
+static void hang_up(struct call *call) {
+    struct leg *leg = call->ends[call->hanger];
+    if (!send_numbered(leg, timestamp_of(leg), IAX, HANGUP, NULL, 0)) return;
+    ++*(call->hanger ? &seen.hung_up_by_called : &seen.hung_up_by_caller);
+    to_stage(call, HANGING);
+}
+
+static void step_talk(struct call *call, double moment) {
+    int is_held = is_closing || moment - call->changed >= wanted.hold_ms / 1000.0;
+    if (wanted.media_ms && moment >= call->media_due) {
+        call->media_due = moment + wanted.media_ms / 1000.0;
+        send_media(call, 0), send_media(call, 1);
+    }
+    send_digits(call, 0, moment), send_digits(call, 1, moment);
+    if (call->early && !is_closing && 2 * call->digits_sent[0] >= wanted.digits) {
+        seen.early++;
+        hang_up(call);
+    } else if ((!call->early || is_closing) && is_held && all_digits_taken(call)) to_stage(call, QUIET);
+}
+
+static void resend_what_is_due(struct call *call, double moment) {
+    for (int side = 0; side < 2; side++) {
+        struct leg *leg = call->ends[side];
+        if (leg && held_frames(leg) && moment - leg->last_sent >= wanted.retry_ms / 1000.0) resend(leg);
+    }
+}
+
+// Who hears nothing for a while asks whether the other side is still there.
+static void ping_where_quiet(struct call *call, double moment) {
+    for (int side = 0; side < 2; side++) {
+        struct leg *leg = call->ends[side];
+        int is_quiet = leg && leg->theirs && !held_frames(leg) && moment - leg->last_sent >= wanted.ping_ms / 1000.0;
+        int is_over = call->hangups[side] || (call->stage >= HANGING && side == call->hanger);
+        if (is_quiet && !is_over) send_numbered(leg, timestamp_of(leg), IAX, PING, NULL, 0);
+    }
+}
+
+// The call is told, and its legs' numbers are free.
+static void close_call(struct call *call) {
+    for (int side = 0; side < 2; side++)
+        if (call->ends[side]) call->ends[side]->call = NULL, call->ends[side]->freed = now();
+    if (call->stage == OVER) {
+        seen.ended++;
+        if (!call->early)
+            seen.lacking_digits += call->digits_sent[0] + call->digits_sent[1] - call->digits_taken[0] - call->digits_taken[1];
+        if (call->hangups[call->hanger]) seen.hangups_back++;
+        if (call->hangups[1 - call->hanger] > 1) seen.hangups_twice++;
+        if (!call->hangups[1 - call->hanger]) seen.hangups_missing++;
+    }
+    call->stage = NONE;
+}
+
+// Media that is on its way is waited for, so that what lacks was lost.
+static double quiet_seconds(void) { return wanted.media_ms ? 0.3 : 0; }
+
+void step_call(struct call *call, double moment) {
+    if (call->stage == UP) step_talk(call, moment);
+    if (call->stage == QUIET && moment - call->changed >= quiet_seconds()) hang_up(call);
+    if (call->stage == HANGING && call->hangups[1 - call->hanger] && !held_frames(call->ends[call->hanger])) {
+        active--;
+        to_stage(call, OVER);
+    }
+}
+
+static void step_time(struct call *call, double moment) {
+    step_call(call, moment);
+    if (call->stage == OVER && moment - call->changed >= WATCH) close_call(call);
+    if (call->stage == FAILED && moment - call->changed >= 2 * WATCH) {
+        active--;
+        close_call(call);
+    }
+    if (call->stage == NONE) return;
+    resend_what_is_due(call, moment);
+    if (wanted.ping_ms && call->stage <= HANGING) ping_where_quiet(call, moment);
+    if (call->stage < OVER && moment - call->changed > wanted.patience + wanted.hold_ms / 1000.0) {
+        seen.last_stuck_stage = call->stage;
+        fail(call, &seen.stuck);
+    }
+}
+
+void step_calls(double moment) {
+    for (unsigned place = 0; place < SLOTS; place++)
+        if (calls[place].stage != NONE) step_time(&calls[place], moment);
+}
+
+static void answer_call(struct leg *leg, unsigned timestamp) {
+    send_numbered(leg, timestamp + 1, IAX, ACCEPT, FORMAT_OF_CALL, sizeof FORMAT_OF_CALL);
+    send_numbered(leg, timestamp + 2, CONTROL, ANSWER, NULL, 0);
+}
+
+static void digest_of(const struct leg *leg, const unsigned char *challenge, unsigned size, char digits[33]) {
+    unsigned char text[119];
+    unsigned length = (unsigned)strlen(leg->peer->secret);
+    memcpy(text, challenge, size);
+    memcpy(text + size, leg->peer->secret, length);
+    md5_digits(text, size + length, digits);
+}
+
+static void challenge_of(const struct leg *leg, char challenge[9]) { snprintf(challenge, 9, "%08x", mixed(leg->call->id, 1, 1 << 21)); }
+
+static void send_challenge(struct leg *leg, unsigned timestamp) {
+    unsigned char data[32] = {AUTHMETHODS, 2, 0, 2, CHALLENGE, 8};
+    char challenge[9];
+    challenge_of(leg, challenge);
+    memcpy(data + 6, challenge, 8);
+    send_numbered(leg, timestamp + 1, IAX, AUTHREQ, data, 14);
+}
+
+static void send_digest(struct leg *leg, const unsigned char *data, unsigned length) {
+    unsigned char answer[34] = {MD5_RESULT, 32};
+    unsigned size = 0;
+    const unsigned char *challenge = element(data, length, CHALLENGE, &size);
+    char digits[33];
+    if (!challenge || size > 32 || !leg->peer->secret) return;
+    digest_of(leg, challenge, size, digits);
+    memcpy(answer + 2, digits, 32);
+    send_numbered(leg, timestamp_of(leg), IAX, AUTHREP, answer, sizeof answer);
+    seen.challenged++;
+}
+
+static void check_digest(struct leg *leg, unsigned timestamp, const unsigned char *data, unsigned length) {
+    unsigned size = 0;
+    const unsigned char *result = element(data, length, MD5_RESULT, &size);
+    char challenge[9], digits[33];
+    challenge_of(leg, challenge);
+    digest_of(leg, (const unsigned char *)challenge, 8, digits);
+    if (!result || size != 32 || memcmp(result, digits, 32) != 0) {
+        seen.bad_answers++;
+        return;
+    }
+    seen.challenged++;
+    answer_call(leg, timestamp);
+}
+
+static void take_digit(struct leg *leg, int digit) {
+    struct call *call = leg->call;
+    if (digit != digit_of(call->id, 1 - leg->side, call->digits_taken[leg->side])) seen.wrong_digits++;
+    if (call->digits_taken[leg->side] >= call->digits_sent[1 - leg->side]) seen.wrong_digits++;
+    call->digits_taken[leg->side]++, seen.digits_taken++;
+}
+
+static void take_media(struct leg *leg, const unsigned char *media, unsigned length) {
+    struct call *call = leg->call;
+    unsigned char wanted_media[MEDIA];
+    unsigned place = 0;
+    if (length == MEDIA) memcpy(&place, media + 4, 4);
+    write_media(wanted_media, call, 1 - leg->side, place);
+    if (length != MEDIA || place >= call->media_sent[1 - leg->side] || memcmp(media, wanted_media, MEDIA) != 0) {
+        seen.wrong_media++;
+        return;
+    }
+    call->media_taken[leg->side]++, seen.media_taken++;
+}
+
+static void take_hangup(struct leg *leg) {
+    struct call *call = leg->call;
+    call->hangups[leg->side]++;
+    if (call->stage < HANGING) fail(call, &seen.cut);
+}
+
+static void take_iax(struct leg *leg, int subclass, unsigned timestamp, const unsigned char *data, unsigned length) {
+    switch (subclass) {
+    case NEW: leg->peer->secret ? send_challenge(leg, timestamp) : answer_call(leg, timestamp); break;
+    case AUTHREQ: send_digest(leg, data, length); break;
+    case AUTHREP: check_digest(leg, timestamp, data, length); break;
+    case PING: send_numbered(leg, timestamp, IAX, PONG, NULL, 0); break;
+    case LAGRQ: send_numbered(leg, timestamp, IAX, LAGRP, NULL, 0); break;
+    case REJECT: fail(leg->call, &seen.rejected); break;
+    case HANGUP: take_hangup(leg); break;
+    default: break;
+    }
+}
+
+// A numbered frame that was expected: it has its effect, and is acknowledged.
+static void take_frame(struct leg *leg, const unsigned char *frame, unsigned length) {
+    unsigned timestamp = get16(frame + 4) << 16 | get16(frame + 6);
+    int type = frame[10], subclass = frame[11];
+    leg->taken++;
+    if (type == IAX) take_iax(leg, subclass, timestamp, frame + FULL, length - FULL);
+    if (type == DTMF) take_digit(leg, subclass);
+    if (type == VOICE) take_media(leg, frame + FULL, length - FULL);
+    if (type == CONTROL && subclass == ANSWER && leg->call->stage == PLACED) {
+        if (!seen.answered++) seen.first_answer = now();
+        to_stage(leg->call, UP);
+    }
+    send_answer(leg, timestamp, ACK);
+}
+
+// The leg of a call that is offered: an old one where the NEW is a repeat.
+static struct leg *offered(struct peer *peer, unsigned theirs, const unsigned char *data, unsigned length) {
+    unsigned size = 0, prefix = (unsigned)strlen(peer->prefix);
+    const unsigned char *called = element(data, length, CALLED_NUMBER, &size);
+    char digits[16] = "";
+    if (!called || size <= prefix || size - prefix >= sizeof digits || memcmp(called, peer->prefix, prefix) != 0) {
+        seen.misrouted++;
+        return NULL;
+    }
+    memcpy(digits, called + prefix, size - prefix);
+    struct call *call = slot_of(strtoul(digits, NULL, 10));
+    if (call->stage == NONE || call->id != strtoul(digits, NULL, 10) || call->stage == FAILED) return NULL;
+    if (call->to != peer) seen.misrouted++;
+    else if (!call->ends[1] && (call->ends[1] = open_leg(peer, call, 1))) learn(call->ends[1], theirs);
+    else if (call->ends[1] && call->ends[1]->theirs != theirs) seen.offered_twice++;
+    return call->to == peer && call->ends[1] && call->ends[1]->theirs == theirs ? call->ends[1] : NULL;
+}
+
+// INVAL ends a leg. After a HANGUP whose acknowledgement was lost it is what a repeat is answered by.
+static void take_inval(struct leg *leg) {
+    struct call *call = leg->call;
+    leg->peer->inval++;
+    leg->oldest = leg->sent, leg->is_dead = 1;
+    if (call->stage < HANGING || (leg->side != call->hanger && !call->hangups[leg->side])) fail(call, &seen.inval);
+    step_call(call, now());
+}
+
+static void take_full(struct peer *peer, const unsigned char *frame, unsigned length) {
+    unsigned theirs = get16(frame) & 0x7fff, number = get16(frame + 2) & 0x7fff;
+    int type = frame[10], subclass = frame[11];
+    struct leg *leg = NULL;
+    if (number) leg = number < NUMBERS ? peer->legs[number] : NULL;
+    else if (type == IAX && subclass == NEW) leg = offered(peer, theirs, frame + FULL, length - FULL);
+    if (!leg || !leg->call) return;
+    if (type == IAX && subclass == INVAL) {
+        take_inval(leg);
+        return;
+    }
+    if (leg->theirs && leg->theirs != theirs) return;
+    learn(leg, theirs);
+    acknowledge(leg, frame[9]);
+    if (type == IAX && subclass == VNAK) resend(leg);
+    if (type == IAX && (subclass == ACK || subclass == VNAK || subclass == TXCNT || subclass == TXACC)) return;
+    unsigned char ahead = (unsigned char)(frame[8] - leg->taken);
+    if (ahead == 0) take_frame(leg, frame, length);
+    else send_answer(leg, get16(frame + 4) << 16 | get16(frame + 6), ahead < 128 ? VNAK : ACK);
+    if (leg->call) step_call(leg->call, now());
+}
+
+static void take_entry(struct peer *peer, unsigned theirs, const unsigned char *media, unsigned length) {
+    struct leg *leg = peer->of_theirs[theirs & 0x7fff];
+    if (leg && leg->call && leg->theirs == (theirs & 0x7fff)) take_media(leg, media, length);
+}
+
+void take_datagram(struct peer *peer, const unsigned char *octets, unsigned length) {
+    peer->received++;
+    if (length >= FULL && octets[0] & 0x80) take_full(peer, octets, length);
+    else if (length > 4 && get16(octets)) take_entry(peer, get16(octets), octets + 4, length - 4);
+}

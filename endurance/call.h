@@ -1,0 +1,52 @@
+// The calls that `calls` places, and what it has seen of them.
+#ifndef CALL_H
+#define CALL_H
+
+#include "leg.h"
+
+enum { SLOTS = 8192, MOST_PEERS = 8, MOST_ROUTES = 16, MEDIA = 160, LARGEST_CALL = 10000000 };
+enum stage { NONE, PLACED, UP, QUIET, HANGING, OVER, FAILED };
+
+struct call {
+    unsigned long id;
+    enum stage stage;
+    struct peer *to;
+    struct leg *ends[2];
+    double begun, changed, media_due, digit_due[2];
+    // The side that hangs up, and whether it does so with digits on their way.
+    int hanger, early;
+    // By side: what it sent, and what it took.
+    unsigned digits_sent[2], digits_taken[2], media_sent[2], media_taken[2], hangups[2];
+};
+
+// What is wanted of each call.
+struct wanted {
+    unsigned digits, on_the_way, digit_ms, media_ms, hold_ms, early, retry_ms, ping_ms, patience, at_once, total, least;
+    double rate, seconds;
+    unsigned long seed;
+};
+
+// What was seen, by the names that the report has.
+struct seen {
+    unsigned long placed, answered, ended, early, hung_up_by_caller, hung_up_by_called, challenged;
+    unsigned long digits_sent, digits_taken, wrong_digits, lacking_digits, media_sent, media_taken, wrong_media;
+    unsigned long hangups_twice, hangups_missing, hangups_back, offered_twice, misrouted, rejected, cut, inval, stuck, bad_answers;
+    // When the first call was answered, and how many digits had come by the end of the time, in seconds since the start.
+    double first_answer;
+    unsigned long digits_in_time;
+    double last_stuck_stage;
+};
+
+extern struct wanted wanted;
+extern struct seen seen;
+extern unsigned active;
+// No call is placed any more, and those that are up end once what they have sent has come.
+extern int is_closing;
+
+void place_call(struct peer *from, struct peer *to);
+// What is due on a call: digits, media, the hang-up, what wasn't acknowledged, its end.
+void step_call(struct call *call, double moment);
+void step_calls(double moment);
+void take_datagram(struct peer *peer, const unsigned char *octets, unsigned length);
+
+#endif

@@ -1,0 +1,183 @@
+// Plays peers of one exchange, or of several, over sockets on loopback: places calls between them, talks on them, hangs up, and checks all
+// that comes back (call.c). Says at the end what was seen, as one line of JSON.
+//
+// calls peer=PORT:EXCHANGE_PORT:PREFIX[:SECRET] .. route=FROM:TO .. [total=CALLS] [seconds=S] [NAME=VALUE ..]
+//
+// Peers are counted from 0, and calls go over the routes in turn. With `total` it ends once so many calls are over, with `seconds` no call
+// is placed after that time, but for the `least` number of them; SIGTERM is the end of that time. A call
+// that stays in one stage for `patience` seconds, and `hold_ms`, is stuck.
+#define _GNU_SOURCE
+#include <arpa/inet.h>
+#include <linux/sock_diag.h>
+#include <poll.h>
+#include <signal.h>
+#include <stdio.h>
+#include <stdlib.h>
+#include <string.h>
+#include <sys/socket.h>
+
+#include "call.h"
+
+enum { BATCH = 64, TICK_MS = 5 };
+
+static struct peer peers[MOST_PEERS];
+static int routes[MOST_ROUTES][2], peer_count, route_count;
+static volatile sig_atomic_t is_told_to_end;
+
+static void end_soon(int signal) {
+    (void)signal;
+    is_told_to_end = 1;
+}
+
+static void stop(const char *why) {
+    fprintf(stderr, "calls: %s\n", why);
+    exit(2);
+}
+
+static int wire_of(unsigned port, unsigned exchange) {
+    struct sockaddr_in at = {.sin_family = AF_INET, .sin_port = htons((unsigned short)port)};
+    struct sockaddr_in to = {.sin_family = AF_INET, .sin_port = htons((unsigned short)exchange)};
+    int wire = socket(AF_INET, SOCK_DGRAM, 0), room = 8 << 20;
+    at.sin_addr.s_addr = to.sin_addr.s_addr = htonl(INADDR_LOOPBACK);
+    setsockopt(wire, SOL_SOCKET, SO_RCVBUF, &room, sizeof room);
+    if (bind(wire, (struct sockaddr *)&at, sizeof at) != 0 || connect(wire, (struct sockaddr *)&to, sizeof to) != 0)
+        stop("a port can't be had");
+    return wire;
+}
+
+static void add_peer(char *text) {
+    if (peer_count == MOST_PEERS) stop("too many peers");
+    struct peer *peer = &peers[peer_count];
+    char *port = strtok(text, ":"), *exchange = strtok(NULL, ":");
+    peer->prefix = strtok(NULL, ":"), peer->secret = strtok(NULL, "");
+    if (!peer->prefix) stop("a peer is PORT:EXCHANGE_PORT:PREFIX[:SECRET]");
+    peer->wire = wire_of((unsigned)atoi(port), (unsigned)atoi(exchange));
+    peer->place = peer_count++;
+}
+
+static void add_route(const char *text) {
+    if (route_count == MOST_ROUTES || sscanf(text, "%d:%d", &routes[route_count][0], &routes[route_count][1]) != 2)
+        stop("a route is FROM:TO");
+    if (routes[route_count][0] >= peer_count || routes[route_count][1] >= peer_count) stop("a route to no peer");
+    route_count++;
+}
+
+static void set_number(const char *name, const char *value) {
+    const struct {
+        const char *name;
+        unsigned *at;
+    } all[] = {
+        {"digits", &wanted.digits},     {"on_the_way", &wanted.on_the_way}, {"digit_ms", &wanted.digit_ms}, {"media_ms", &wanted.media_ms},
+        {"hold_ms", &wanted.hold_ms},   {"early", &wanted.early},           {"retry_ms", &wanted.retry_ms}, {"ping_ms", &wanted.ping_ms},
+        {"patience", &wanted.patience}, {"at_once", &wanted.at_once},       {"total", &wanted.total}, {"least", &wanted.least}};
+    for (unsigned place = 0; place < sizeof all / sizeof all[0]; place++)
+        if (strcmp(all[place].name, name) == 0) {
+            *all[place].at = (unsigned)strtoul(value, NULL, 10);
+            return;
+        }
+    if (strcmp(name, "rate") == 0) wanted.rate = atof(value);
+    else if (strcmp(name, "seconds") == 0) wanted.seconds = atof(value);
+    else if (strcmp(name, "seed") == 0) wanted.seed = strtoul(value, NULL, 10);
+    else stop(name);
+}
+
+static void read_words(int count, char **words) {
+    wanted = (struct wanted){.on_the_way = 10, .retry_ms = 200, .patience = 60, .at_once = 32};
+    for (int place = 1; place < count; place++) {
+        char *value = strchr(words[place], '=');
+        if (!value) stop(words[place]);
+        *value++ = 0;
+        if (strcmp(words[place], "peer") == 0) add_peer(value);
+        else if (strcmp(words[place], "route") == 0) add_route(value);
+        else set_number(words[place], value);
+    }
+    if (!route_count) stop("no route");
+}
+
+static void receive(struct peer *peer) {
+    static unsigned char octets[BATCH][MOST_OCTETS];
+    struct iovec parts[BATCH];
+    struct mmsghdr all[BATCH];
+    memset(all, 0, sizeof all);
+    for (int place = 0; place < BATCH; place++) {
+        parts[place] = (struct iovec){octets[place], MOST_OCTETS};
+        all[place].msg_hdr.msg_iov = &parts[place], all[place].msg_hdr.msg_iovlen = 1;
+    }
+    int count = recvmmsg(peer->wire, all, BATCH, MSG_DONTWAIT, NULL);
+    for (int place = 0; place < count; place++) take_datagram(peer, octets[place], all[place].msg_len);
+}
+
+static void wait_for_any(int ms) {
+    struct pollfd all[MOST_PEERS];
+    for (int place = 0; place < peer_count; place++) all[place] = (struct pollfd){peers[place].wire, POLLIN, 0};
+    poll(all, (nfds_t)peer_count, ms);
+    for (int place = 0; place < peer_count; place++)
+        if (all[place].revents) receive(&peers[place]);
+}
+
+static int may_place(double elapsed) {
+    if (is_closing || (wanted.total && seen.placed >= wanted.total)) return 0;
+    return active < wanted.at_once && (!wanted.rate || (double)seen.placed < elapsed * wanted.rate);
+}
+
+static void place_calls(double elapsed) {
+    for (int tries = 0; tries < BATCH && may_place(elapsed); tries++) {
+        const int *route = routes[seen.placed % (unsigned)route_count];
+        place_call(&peers[route[0]], &peers[route[1]]);
+    }
+}
+
+static int is_over(double elapsed) {
+    if (!is_closing && (is_told_to_end || (wanted.seconds && elapsed >= wanted.seconds && seen.placed >= wanted.least))) {
+        is_closing = 1;
+        seen.digits_in_time = seen.digits_taken;
+    }
+    return (is_closing || (wanted.total && seen.placed >= wanted.total)) && !active;
+}
+
+static void run(void) {
+    double begun = now(), ticked = begun;
+    while (!is_over(now() - begun)) {
+        place_calls(now() - begun);
+        wait_for_any(TICK_MS);
+        if (now() - ticked < TICK_MS / 1000.0) continue;
+        ticked = now();
+        step_calls(ticked);
+    }
+    // Calls that are over are watched for a while.
+    for (double end = now() + 0.6; now() < end; step_calls(now())) wait_for_any(TICK_MS);
+}
+
+// What the system dropped at a socket.
+static unsigned drops_of(const struct peer *peer) {
+    unsigned counts[SK_MEMINFO_VARS] = {0};
+    socklen_t size = sizeof counts;
+    getsockopt(peer->wire, SOL_SOCKET, SO_MEMINFO, counts, &size);
+    return counts[SK_MEMINFO_DROPS];
+}
+
+static void report(double begun) {
+    unsigned long received = 0, sent = 0, resent = 0, inval = 0, drops = 0;
+    for (int place = 0; place < peer_count; place++) {
+        received += peers[place].received, sent += peers[place].sent, resent += peers[place].resent;
+        inval += peers[place].inval, drops += drops_of(&peers[place]);
+    }
+    printf("{\"seconds\": %.3f, \"received\": %lu, \"sent\": %lu, \"resent\": %lu, \"invals\": %lu, \"drops\": %lu", now() - begun,
+           received, sent, resent, inval, drops);
+#define TELL(name) printf(", \"%s\": %lu", #name, seen.name)
+    TELL(placed), TELL(answered), TELL(ended), TELL(early), TELL(hung_up_by_caller), TELL(hung_up_by_called), TELL(challenged);
+    TELL(digits_sent), TELL(digits_taken), TELL(wrong_digits), TELL(lacking_digits), TELL(media_sent), TELL(media_taken), TELL(wrong_media);
+    TELL(hangups_twice), TELL(hangups_missing), TELL(hangups_back), TELL(offered_twice), TELL(misrouted), TELL(rejected), TELL(cut);
+    TELL(inval), TELL(stuck), TELL(bad_answers), TELL(digits_in_time);
+    printf(", \"last_stuck_stage\": %.0f, \"first_answer\": %.3f}\n", seen.last_stuck_stage,
+           seen.answered ? seen.first_answer - begun : -1);
+}
+
+int main(int count, char **words) {
+    signal(SIGTERM, end_soon);
+    read_words(count, words);
+    double begun = now();
+    run();
+    report(begun);
+    return 0;
+}

@@ -1,0 +1,247 @@
+"""The program under load: its plan, its start and stop, what its control socket, metrics and accounts say; and the C programs of this folder.
+
+EXCHANGE_MAIN gives another program than the one that `rt ci` or `rt run` has built."""
+import csv
+import ctypes
+import json
+import os
+import re
+import signal
+import socket
+import subprocess
+import time
+
+HERE = os.path.dirname(os.path.realpath(__file__))
+PROGRAM = os.environ.get("EXCHANGE_MAIN", f"{os.path.dirname(HERE)}/crates/exchange_main/out/exchange_main").split()
+# How long what has to happen may take on a busy machine, in seconds.
+PATIENCE = 60
+# How long a frame waits for its acknowledgement in a plan that doesn't say it, in milliseconds; with twenty retries a machine may stand still
+# for some seconds before a call is given up.
+RETRY_MS = 400
+
+
+def ends_with_this():
+    """Has a process that is started end where this one does, however that is (PR_SET_PDEATHSIG)."""
+    ctypes.CDLL(None).prctl(1, signal.SIGKILL)
+
+
+class Failed(Exception):
+    """The scene can't go on."""
+
+
+class Report:
+    """One line for each promise of a scene, with what was seen."""
+
+    def __init__(self, scene):
+        self.scene, self.broken, self.count = scene, 0, 0
+
+    def tell(self, promise, is_kept, *seen, **named):
+        said = [str(it) for it in seen] + [f"{name.replace('_', ' ')} {value}" for name, value in named.items()]
+        print(f"{self.scene:<10} {'ok' if is_kept else 'BROKEN':<6} {promise}: {', '.join(said)}", flush=True)
+        self.count += 1
+        self.broken += not is_kept
+
+    def note(self, text):
+        print(f"{self.scene:<10}        {text}", flush=True)
+
+
+class Tools:
+    """The C programs of this folder, each built once it is wanted, and where scenes keep what they write."""
+
+    FILES = {
+        "calls": (("calls.c", "call.c", "leg.c", "md5.c"), ["-lm"]),
+        "network": (("network.c",), []),
+        "flood": (("flood.c",), []),
+        "faults.so": (("faults.c",), ["-shared", "-fPIC", "-fno-builtin", "-ldl"]),
+    }
+
+    def __init__(self, folder, share=1):
+        self.folder, self.share = folder, share
+
+    def built(self, name):
+        path = f"{self.folder}/{name}"
+        if not os.path.exists(path):
+            files, options = self.FILES[name]
+            subprocess.run(["cc", "-O2", "-o", path, *(f"{HERE}/{it}" for it in files), *options], check=True)
+        return path
+
+    def start(self, name, *words, **named):
+        """One of them, running: `reported` waits for its end."""
+        words = [self.built(name), *words, *(f"{name}={value}" for name, value in named.items() if value is not None)]
+        return subprocess.Popen(words, stdout=subprocess.PIPE, text=True, preexec_fn=ends_with_this)
+
+    def some(self, count):
+        """So much of a load, or a share of it for a program that is slow."""
+        return max(1, round(count * self.share))
+
+    def folder_of(self, name):
+        path = f"{self.folder}/of_{name}"
+        os.makedirs(path, exist_ok=True)
+        return path
+
+
+def reported(process, seconds):
+    """What a C program has printed at its end, which is awaited so long."""
+    try:
+        printed, _ = process.communicate(timeout=seconds)
+    except subprocess.TimeoutExpired as late:
+        process.kill()
+        raise Failed(f"{process.args[0]} doesn't end") from late
+    if process.returncode != 0:
+        raise Failed(f"{process.args[0]} ended with status {process.returncode}")
+    return json.loads(printed)
+
+
+def ended(process, seconds=PATIENCE):
+    """Tells it to end, and what it printed."""
+    process.send_signal(signal.SIGTERM)
+    return reported(process, seconds)
+
+
+def spare_port(kind=socket.SOCK_DGRAM):
+    with socket.socket(socket.AF_INET, kind) as it:
+        it.bind(("127.0.0.1", 0))
+        return it.getsockname()[1]
+
+
+def spare_ports(count):
+    """So many ports, no two the same."""
+    held = [socket.socket(socket.AF_INET, socket.SOCK_DGRAM) for _ in range(count)]
+    for it in held:
+        it.bind(("127.0.0.1", 0))
+    ports = [it.getsockname()[1] for it in held]
+    for it in held:
+        it.close()
+    return ports
+
+
+def within(what, look, seconds=PATIENCE):
+    end = time.monotonic() + seconds
+    while time.monotonic() < end:
+        if found := look():
+            return found
+        time.sleep(0.02)
+    raise Failed(f"{what}: not within {seconds} s")
+
+
+def plan_of(workers, peers, routes, **keys):
+    """A plan: the workers' ports, the peers by name with their keys, the routes by prefix."""
+    values = {"format": 2, "retry_ms": RETRY_MS, "max_retries": 20, "ping_ms": 2000, "record_limit": 65536} | keys
+    text = "".join(f"{name} = {value}\n" for name, value in values.items() if value is not None)
+    for port in workers:
+        text += f'[[worker]]\naddress = "127.0.0.1"\nport = {port}\n'
+    for name, given in peers.items():
+        given = {"name": name, "address": "127.0.0.1", "worker": 0, "formats": ["ulaw"]} | given
+        text += "[[peer]]\n" + "".join(f"{key} = {json.dumps(value)}\n" for key, value in given.items())
+    return text + "".join(f'[[route]]\nprefix = "{prefix}"\npeer = "{name}"\n' for prefix, name in routes.items())
+
+
+class Exchange:
+    """The program, running as a service. What it logs is a file beside its plan."""
+
+    def __init__(self, folder, plan, *options, environment=None):
+        os.makedirs(folder, exist_ok=True)
+        self.plan, self.control, self.log = f"{folder}/plan.toml", f"{folder}/control", f"{folder}/log"
+        self.metrics_port = spare_port(socket.SOCK_STREAM)
+        with open(self.plan, "w", encoding="utf-8") as it:
+            it.write(plan)
+        words = [*PROGRAM, "run", self.plan, "--control", self.control, "--metrics", f"127.0.0.1:{self.metrics_port}", *options]
+        with open(self.log, "ab") as log:
+            environment = os.environ | (environment or {})
+            self.process = subprocess.Popen(words, stdout=subprocess.PIPE, stderr=log, text=True, env=environment, preexec_fn=ends_with_this)
+        within("the service answers", self.answers)
+
+    def answers(self):
+        if self.process.poll() is not None:
+            raise Failed(f"the service has ended with status {self.process.returncode}: {self.process.communicate()[0]!r}")
+        return os.path.exists(self.control) and self.ask("GET", "/") is not None
+
+    def ask(self, method, target, body=None, seconds=20):
+        octets = b"" if body is None else json.dumps(body).encode()
+        with socket.socket(socket.AF_UNIX) as it:
+            it.settimeout(seconds)
+            try:
+                it.connect(self.control)
+                it.sendall(f"{method} {target} HTTP/1.1\r\nHost: x\r\nContent-Length: {len(octets)}\r\n\r\n".encode() + octets)
+                answer = b""
+                while piece := it.recv(65536):
+                    answer += piece
+            except OSError:
+                return None
+        text = answer.partition(b"\r\n\r\n")[2]
+        return json.loads(text) if text else None
+
+    def legs(self):
+        found = self.ask("GET", "/calls")
+        return None if found is None else found["calls"]
+
+    def peers(self):
+        return {it["name"]: it for it in self.ask("GET", "/peers")["peers"]}
+
+    def metrics(self):
+        """Each sample by its name and labels, as the text has them."""
+        with socket.create_connection(("127.0.0.1", self.metrics_port), timeout=20) as it:
+            it.sendall(b"GET /metrics HTTP/1.1\r\nHost: x\r\n\r\n")
+            answer = b""
+            while piece := it.recv(65536):
+                answer += piece
+        lines = answer.partition(b"\r\n\r\n")[2].decode().splitlines()
+        return {it.rpartition(" ")[0]: int(it.rpartition(" ")[2]) for it in lines if not it.startswith("#")}
+
+    def kilobytes(self):
+        """Resident memory."""
+        with open(f"/proc/{self.process.pid}/status", encoding="ascii") as it:
+            return int(re.search(r"VmRSS:\s+(\d+)", it.read())[1])
+
+    def processor_seconds(self):
+        with open(f"/proc/{self.process.pid}/stat", encoding="ascii") as it:
+            fields = it.read().rpartition(")")[2].split()
+        return (int(fields[11]) + int(fields[12])) / os.sysconf("SC_CLK_TCK")
+
+    def is_idle(self):
+        return self.legs() == []
+
+    def until_idle(self):
+        within("no leg is left", self.is_idle)
+
+    def stop(self):
+        """Tells it to stop: what it printed, as its status and its lines."""
+        self.ask("POST", "/stop")
+        return self.printed()
+
+    def printed(self):
+        try:
+            printed, _ = self.process.communicate(timeout=PATIENCE)
+        except subprocess.TimeoutExpired as late:
+            self.kill()
+            raise Failed("the service doesn't end") from late
+        return self.process.returncode, printed.splitlines()
+
+    def kill(self):
+        if self.process.poll() is None:
+            self.process.kill()
+        self.process.wait()
+
+    def logged(self):
+        with open(self.log, encoding="utf-8", errors="replace") as it:
+            return it.read()
+
+
+def accounts_of(lines):
+    """Accepted, packed, queued and dropped octets of media, as the program printed them at its end."""
+    found = [it.split()[1:] for it in lines if it.startswith("octets ")]
+    return [int(it) for it in found[0]] if len(found) == 1 else None
+
+
+def tell_accounts(report, what, status, lines, least=1):
+    """That the program ended well, with accounts that balance over at least so many octets."""
+    octets = accounts_of(lines)
+    is_kept = status == 0 and octets is not None and octets[0] == sum(octets[1:]) and octets[0] >= least
+    report.tell(f"the accounts of {what} balance", is_kept, f"status {status}", "octets accepted, packed, queued, dropped", *(octets or [lines]))
+
+
+def rows_of(path):
+    """The rows of a file of call records, whole ones."""
+    with open(path, encoding="utf-8", newline="") as it:
+        text = it.read()
+    return list(csv.DictReader(text[: text.rfind("\n") + 1].splitlines()))

@@ -1,0 +1,210 @@
+"""Peers that fall silent in each stage of a call: what frees the numbers of their legs, and when, beside what docs/HOSTILE_PEERS.md says."""
+import time
+
+from exchange import Exchange, Failed, plan_of, spare_ports, tell_accounts
+from peer import ACCEPT, ANSWER, AUTHREQ, CONTROL, DTMF, FORMAT, HANGUP, IAX, PONG, Peer
+from peer import PING as PING_FRAME
+
+RETRY, RETRIES, PING = 200, 2, 1000
+# A frame that nobody acknowledges ends its leg after this time, in milliseconds.
+SPENT = RETRY * (RETRIES + 1)
+# What a busy machine may add, and how much earlier than reckoned something may be seen.
+LATE, EARLY = 6000, 150
+
+
+class Place:
+    """An exchange with two peers, or three: `guarded` has a secret. Nobody else speaks here."""
+
+    def __init__(self, folder, ping_ms=PING):
+        ports = spare_ports(4)
+        peers = {
+            "west": {"port": ports[1], "numbers": 4},
+            "east": {"port": ports[2], "numbers": 4},
+            "guarded": {"port": ports[3], "numbers": 4, "user": "guarded", "secret": "a secret"},
+        }
+        plan = plan_of(ports[:1], peers, {"2": "east"}, retry_ms=RETRY, max_retries=RETRIES, ping_ms=ping_ms)
+        self.exchange = Exchange(folder, plan)
+        self.west, self.east, self.guarded = (Peer(it, ports[0]) for it in ports[1:])
+
+    def end(self):
+        for it in (self.west, self.east, self.guarded):
+            it.close()
+        return self.exchange.stop()
+
+    def legs(self):
+        return {it["number"]: (it["peer"], it["stage"]) for it in self.exchange.legs()}
+
+    def linked(self, answers=True):
+        """A call from the west to the east that is accepted, and answered; all frames are acknowledged."""
+        west = self.west.call("200")
+        east, _ = self.east.called()
+        if not east:
+            raise Failed("no call came to the east")
+        east.send(IAX, ACCEPT, FORMAT)
+        accepted = west.expect(IAX, ACCEPT)
+        west.acknowledge(accepted)
+        if answers:
+            east.send(CONTROL, ANSWER)
+            west.acknowledge(west.expect(CONTROL, ANSWER))
+        self.until({"Up"} if answers else {"Linked"})
+        return west, east
+
+    def until(self, stages):
+        end = time.monotonic() + 20
+        while time.monotonic() < end:
+            if {stage for _, stage in self.legs().values()} == stages:
+                return
+            time.sleep(0.02)
+        raise Failed(f"the legs are {self.legs()}, not {stages}")
+
+
+def freed_after(place, most):
+    """Milliseconds until no leg is left, or None if some are after the most."""
+    begun = time.monotonic()
+    while (elapsed := (time.monotonic() - begun) * 1000) < most + LATE:
+        if not place.legs():
+            return elapsed
+        time.sleep(0.02)
+    return None
+
+
+def tell_freed(report, what, place, least, most):
+    """That the numbers are free after so many milliseconds, by what the plan says."""
+    found = freed_after(place, most)
+    is_kept = found is not None and least - EARLY <= found <= most + LATE
+    seen = "never" if found is None else f"after {found:.0f} ms"
+    report.tell(f"silent {what}: its numbers come free", is_kept, seen, f"reckoned {least} to {most} ms")
+
+
+def tell_kept(report, what, place, wanted, milliseconds):
+    """That the legs are still there after so long, as is said; then they are hung up by an order."""
+    time.sleep(milliseconds / 1000)
+    found = sorted(place.legs().values())
+    report.tell(f"silent {what}: it keeps its number, as is said", found == wanted, f"after {milliseconds} ms", found)
+    for number in place.legs():
+        place.exchange.ask("DELETE", f"/calls/{number}")
+    tell_freed(report, f"{what}, hung up by an order", place, 0, 2 * SPENT)
+
+
+def tell_hung_up(report, what, hangup, begun):
+    """That the caller of a silent peer was hung up once frames to that peer were spent."""
+    elapsed = (time.monotonic() - begun) * 1000
+    report.tell(f"silent {what}: the caller is hung up", hangup is not None, f"after {elapsed:.0f} ms", f"reckoned about {SPENT} ms")
+
+
+def after_new(report, place):
+    place.west.call("299")
+    place.until({"Linked", "Waiting"})
+    tell_freed(report, "after NEW (both sides)", place, SPENT, 2 * SPENT + RETRY)
+
+
+def after_new_at_the_called(report, place):
+    west = place.west.call("200")
+    west.acknowledge(west.expect(IAX, ACCEPT))
+    begun = time.monotonic()
+    hangup = west.expect(IAX, HANGUP)
+    tell_hung_up(report, "when called", hangup, begun)
+    west.acknowledge(hangup)
+    tell_freed(report, "when called", place, 0, RETRY)
+
+
+def after_the_first_acknowledgement(report, place):
+    """The called peer acknowledges the NEW and says no more."""
+    west = place.west.call("200")
+    west.acknowledge(west.expect(IAX, ACCEPT))
+    east, new = place.east.called()
+    east.acknowledge(new)
+    tell_freed(report, "after its ACK of NEW, the caller too", place, PING + SPENT, PING + 2 * SPENT + 2 * RETRY)
+
+
+def after_the_first_acknowledgement_alone(report, place):
+    """The same, while the caller goes on and answers each PING: nothing but frames ends it."""
+    west = place.west.call("200")
+    west.acknowledge(west.expect(IAX, ACCEPT))
+    east, new = place.east.called()
+    east.acknowledge(new)
+    end = time.monotonic() + (3 * SPENT + PING) / 1000
+    while time.monotonic() < end:
+        if ping := west.expect(IAX, PING_FRAME, 0.2):
+            west.take(ping)
+            west.send(IAX, PONG)
+    found = sorted(place.legs().values())
+    report.tell("silent after its ACK of NEW, the caller waits: both numbers are kept", found == [("east", "Waiting"), ("west", "Linked")], found)
+    west.send(IAX, HANGUP)
+    tell_freed(report, "after its ACK of NEW, once the caller hangs up", place, SPENT, SPENT + RETRY)
+
+
+def after_authreq(report, place):
+    place.guarded.call("200")
+    place.until({"Challenged"})
+    tell_freed(report, "after AUTHREQ", place, SPENT, SPENT + RETRY)
+
+
+def after_an_acknowledged_authreq(report, place):
+    leg = place.guarded.call("200")
+    leg.acknowledge(leg.expect(IAX, AUTHREQ))
+    tell_kept(report, "after its ACK of AUTHREQ", place, [("guarded", "Challenged")], 3 * SPENT + PING)
+
+
+def after_accept(report, place):
+    place.linked(answers=False)
+    tell_freed(report, "after ACCEPT (both sides)", place, PING // 2 + SPENT, PING + 2 * SPENT + 2 * RETRY)
+
+
+def after_answer(report, place):
+    place.linked()
+    tell_freed(report, "after ANSWER (both sides)", place, PING // 2 + SPENT, PING + 2 * SPENT + 2 * RETRY)
+
+
+def after_hangup(report, place):
+    west, _ = place.linked()
+    west.send(IAX, HANGUP)
+    tell_freed(report, "after HANGUP (both sides)", place, SPENT, SPENT + RETRY)
+
+
+def in_the_middle_of_a_window(report, place):
+    """The west sends digits, and the east acknowledges three of eight; then it is silent, and the west keeps to the rules."""
+    west, east = place.linked()
+    for digit in b"12345678":
+        west.send(DTMF, digit)
+    for digit in b"123":
+        east.acknowledge(east.expect(DTMF, digit))
+    begun = time.monotonic()
+    hangup = west.expect(IAX, HANGUP)
+    tell_hung_up(report, "in the middle of a window", hangup, begun)
+    west.acknowledge(hangup)
+    tell_freed(report, "in the middle of a window", place, 0, RETRY)
+
+
+def without_pings(tools, report):
+    """Without PINGs a call that is up stays so, whoever is silent."""
+    place = Place(tools.folder_of("silence_without_pings"), ping_ms=0)
+    try:
+        place.linked()
+        tell_kept(report, "on a call that is up, without PINGs", place, [("east", "Up"), ("west", "Up")], 3 * SPENT)
+        place.end()
+    finally:
+        place.exchange.kill()
+
+
+def run(tools, report, seconds, seed):
+    place = Place(tools.folder_of("silence"))
+    try:
+        for stage in (
+            after_new, after_new_at_the_called, after_the_first_acknowledgement,
+            after_the_first_acknowledgement_alone, after_authreq, after_an_acknowledged_authreq,
+            after_accept, after_answer, after_hangup, in_the_middle_of_a_window,
+        ):
+            stage(report, place)
+            place.until(set())
+            for it in (place.west, place.east, place.guarded):
+                it.listen(0.05)
+                it.frames.clear()
+        peers = place.exchange.peers()
+        used = (f"{name} {it['legs']} of {it['numbers']}" for name, it in peers.items())
+        report.tell("no number is in use at the end", all(it["legs"] == 0 for it in peers.values()), *used)
+        status, lines = place.end()
+    finally:
+        place.exchange.kill()
+    without_pings(tools, report)
+    tell_accounts(report, "the exchange", status, lines, least=0)
