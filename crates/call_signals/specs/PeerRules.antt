@@ -14,3 +14,4 @@ pub record IsPeerRules (rules : PeerRules) : Type 0 where
   pub ping_ms : rules.ping_ms ≤ 600000
   pub record_limit : IsWithin 64 65536 rules.record_limit
   pub window : IsWithin 1 127 rules.window
+  pub vnak_ms : rules.vnak_ms ≤ 60000

@@ -85,6 +85,9 @@ pub struct PeerRules {
     pub record_limit: u32,
     /// How many frames a leg holds at most: 1 ..= 127.
     pub window: u8,
+    /// How long a leg that asked for a missing frame by VNAK waits before it asks for the same one again: 0 ..= 60,000
+    /// milliseconds, where 0 has each gap answered.
+    pub vnak_ms: u64,
 }
 
 impl PeerRules {
@@ -103,6 +106,7 @@ impl PeerRules {
             ping_ms: self.ping_ms,
             record_limit: self.record_limit,
             window: self.window,
+            vnak_ms: self.vnak_ms,
         }
     }
 }

@@ -15,8 +15,8 @@ use Rattle.leg_machine.specs.Legs.{LegState}
 use Rattle.leg_machine.specs.Media.{IsMediaOf}
 use Rattle.call_signals.specs.Messages.{message_of, is_numbered, is_inval, is_vnak}
 use Rattle.call_signals.specs.Stages.{is_over}
-use Rattle.leg_machine.specs.Steps.{Step, full_step, inval_step, vnak_step, resend_step, nothing_sent, numbered_step, judged_step, taken, answered, no_room, prepared}
-use Rattle.leg_machine.specs.Working.{counts}
+use Rattle.leg_machine.specs.Steps.{Step, full_step, inval_step, vnak_step, resend_step, nothing_sent, asking, not_asking, numbered_step, judged_step, taken, answered, no_room, prepared}
+use Rattle.leg_machine.specs.Working.{counts, wants_vnak}
 use Rattle.call_signals.specs.declared.causes.Cause.TheVariants.{CallRejected}
 use Rattle.call_signals.specs.declared.effects.Answering.TheVariants.{Acknowledged, Answered, Silent}
 use Rattle.call_signals.specs.declared.effects.Effect.{Effect}
@@ -106,7 +106,8 @@ judged-media received.Taken leg frame message now =
     either (HandsUpMedia frame) (is_reply effect.answer && is_full leg.window) (no_room leg)
     (answered effect.answer (taken effect leg frame message) frame now effect.signal) tt (row-at leg.stage leg frame message)
 judged-media received.Repeat leg frame message now = tt
-judged-media received.Gap leg frame message now = tt
+judged-media received.Gap leg frame message now =
+    either (HandsUpMedia frame) (wants_vnak leg now) (asking leg frame now) (not_asking leg) tt tt
 
 numbered-media : (leg : LegState) (frame : FullFrame) (message : Message) (now : ℕ) → HandsUpMedia frame (numbered_step leg frame message now)
 numbered-media leg frame message now =

@@ -2,6 +2,7 @@ pub mod Again
 pub mod Answered
 pub mod Finished
 pub mod FrameMedia
+pub mod Gaps
 pub mod Growth
 pub mod Idle
 pub mod OneTry

@@ -15,8 +15,8 @@ use Rattle.leg_machine.specs.Legs.{LegState, entered}
 use Rattle.call_signals.specs.Messages.{message_of, is_numbered, is_inval, is_vnak}
 use Rattle.leg_machine.specs.Seen.{SeenLeg, SeenEffect, seen, moved, SeenFrame, Plain, ProvesItself, FailsToProve, AcceptsCall, RejectsCall, BreaksOff, Indicates, AnswersCall, Dials, Speaks, HangsUp, AcknowledgesAll, seen_effect, frame_effect, IsSeenFrame}
 use Rattle.call_signals.specs.Stages.{is_over, is_closing}
-use Rattle.leg_machine.specs.Steps.{Step, heard_of, full_step, inval_step, vnak_step, resend_step, nothing_sent, numbered_step, judged_step, taken_step, taken, replied, answered, no_room, prepared}
-use Rattle.leg_machine.specs.Working.{learnt, acknowledged, counts}
+use Rattle.leg_machine.specs.Steps.{Step, heard_of, full_step, inval_step, vnak_step, resend_step, nothing_sent, asking, not_asking, numbered_step, judged_step, taken_step, taken, replied, answered, no_room, prepared}
+use Rattle.leg_machine.specs.Working.{learnt, acknowledged, counts, wants_vnak}
 use Rattle.call_signals.specs.declared.causes.Cause.TheVariants.{CallRejected}
 use Rattle.call_signals.specs.declared.effects.Answering.{Answering}
 use Rattle.call_signals.specs.declared.effects.Answering.TheVariants.{Acknowledged, Answered, Silent}
@@ -171,7 +171,8 @@ judged-seen : (r : Received) (leg : LegState) (frame : FullFrame) (message : Mes
     → let s = judged_step r leg frame message now in IsSeenFrame (seen leg) (seen s.leg) s.signal
 judged-seen received.Taken leg frame message now = taken-seen leg frame message now
 judged-seen received.Repeat leg frame message now = plain leg
-judged-seen received.Gap leg frame message now = plain leg
+judged-seen received.Gap leg frame message now =
+    either (λ (s : Step). IsSeenFrame (seen leg) (seen s.leg) s.signal) (wants_vnak leg now) (asking leg frame now) (not_asking leg) (plain leg) (plain leg)
 
 numbered-seen : (leg : LegState) (frame : FullFrame) (message : Message) (now : ℕ)
     → let s = numbered_step leg frame message now in IsSeenFrame (seen leg) (seen s.leg) s.signal

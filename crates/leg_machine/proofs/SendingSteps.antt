@@ -22,11 +22,11 @@ use Rattle.leg_machine.specs.Openings.{leg_for_call, open_out_step}
 use Rattle.leg_machine.specs.OrderTable.{row_carried}
 use Rattle.leg_machine.specs.Replies.{reply_frame, voice_frame, new_frame, outgoing, next_byte, ack, vnak, sent_again}
 use Rattle.call_signals.specs.Stages.{is_ended}
-use Rattle.leg_machine.specs.Steps.{Step, full_step, inval_step, resend_step, nothing_sent, numbered_step, judged_step, taken_step, taken, replied, answers, answered, no_room, prepared}
+use Rattle.leg_machine.specs.Steps.{Step, full_step, inval_step, resend_step, nothing_sent, asking, not_asking, numbered_step, judged_step, taken_step, taken, replied, answers, answered, no_room, prepared}
 use Rattle.leg_machine.specs.Ticks.{Tick, quiet, sends_if, must_hang_up, must_ping, pinged, last_step, due_frames, tick_step}
 use Rattle.leg_machine.specs.Tie.{IsNumberedFrame, SendsNumbered, IsSendingOf, IsSending, IsSendingOrMini, HasSent, HasSentOrMini}
 use Rattle.leg_machine.specs.Tries.{Tried, tries, one_try, after_try, frames_again}
-use Rattle.leg_machine.specs.Working.{stored, counts}
+use Rattle.leg_machine.specs.Working.{stored, counts, wants_vnak, asked}
 use Rattle.call_signals.specs.declared.causes.Cause.TheVariants.{NormalClearing}
 use Rattle.call_signals.specs.declared.failure.Failure.TheVariants as failures
 use Rattle.call_signals.specs.declared.effects.Answering.{Answering}
@@ -77,8 +77,8 @@ acks leg frame all = record {
   sendings = All-cons (IsSendingOf leg.window.history) (ack leg frame) [] (ack-sending leg frame) (All-nil (IsSendingOf leg.window.history));
 }
 
-vnaks : (leg : LegState) (frame : FullFrame) → SendsNumbered leg → AllSent leg (vnak leg frame ∷ [])
-vnaks leg frame all = record {
+vnaks : (leg : LegState) (frame : FullFrame) (now : ℕ) → SendsNumbered leg → AllSent (asked leg now) (vnak leg frame ∷ [])
+vnaks leg frame now all = record {
   numbered = all;
   sendings = All-cons (IsSendingOf leg.window.history) (vnak leg frame) [] (vnak-sending leg frame) (All-nil (IsSendingOf leg.window.history));
 }
@@ -102,7 +102,8 @@ judged-sent : (r : Received) (leg : LegState) (frame : FullFrame) (message : Mes
     → let s = judged_step r leg frame message now in AllSent s.leg s.replies
 judged-sent received.Taken leg frame message now all = taken-sent (effect_of leg frame message) leg frame message now all
 judged-sent received.Repeat leg frame message now all = acks leg frame all
-judged-sent received.Gap leg frame message now all = vnaks leg frame all
+judged-sent received.Gap leg frame message now all =
+    either (λ (s : Step). AllSent s.leg s.replies) (wants_vnak leg now) (asking leg frame now) (not_asking leg) (vnaks leg frame now all) (stays leg all)
 
 resend-sent : (leg : LegState) (now : ℕ) → SendsNumbered leg → AllSent (resend_step leg now).leg (resend_step leg now).replies
 resend-sent leg now all =

@@ -16,9 +16,9 @@ use Rattle.leg_machine.specs.LegTable.{effect_of}
 use Rattle.leg_machine.specs.Legs.{LegState, entered}
 use Rattle.call_signals.specs.Messages.{message_of, is_numbered, is_inval, is_vnak}
 use Rattle.leg_machine.specs.Replies.{reply_frame}
-use Rattle.leg_machine.specs.Steps.{Step, full_step, inval_step, vnak_step, resend_step, nothing_sent, numbered_step, judged_step, taken_step, taken as taken_leg, replied, answered, no_room, prepared}
+use Rattle.leg_machine.specs.Steps.{Step, full_step, inval_step, vnak_step, resend_step, nothing_sent, asking, not_asking, numbered_step, judged_step, taken_step, taken as taken_leg, replied, answered, no_room, prepared}
 use Rattle.leg_machine.specs.Tie.{TakesTurn, numbered_frame}
-use Rattle.leg_machine.specs.Working.{stored, settled, acknowledged, learnt, counts}
+use Rattle.leg_machine.specs.Working.{stored, settled, acknowledged, learnt, counts, wants_vnak, asked}
 use Rattle.call_signals.specs.declared.effects.Answering.{Answering}
 use Rattle.call_signals.specs.declared.effects.Answering.TheVariants.{Acknowledged, Answered, Silent}
 use Rattle.call_signals.specs.declared.effects.Effect.{Effect}
@@ -31,7 +31,7 @@ either P true x y p q = p
 either P false x y p q = q
 
 -- an acknowledgement takes nothing
-taken-acks : (h : List Entry) (n : ℕ) → taken (h ++ entries_for_count n) ≡ taken h
+pub taken-acks : (h : List Entry) (n : ℕ) → taken (h ++ entries_for_count n) ≡ taken h
 taken-acks [] n = either (λ (entries : List Entry). taken entries ≡ []) _ [] (Acked n ∷ []) refl refl
 taken-acks (Sent f ∷ h) n = taken-acks h n
 taken-acks (Acked count ∷ h) n = taken-acks h n
@@ -112,7 +112,10 @@ judged-turn : (r : Received) (leg : LegState) (frame : FullFrame) (message : Mes
     → TakesTurn leg frame (judged_step r (prepared leg frame) frame message now).leg
 judged-turn received.Taken leg frame message now numbered = taken-turn leg frame (effect_of (prepared leg frame) frame message) message now numbered
 judged-turn received.Repeat leg frame message now numbered = acknowledges leg frame (prepared leg frame) (prepared-history leg frame)
-judged-turn received.Gap leg frame message now numbered = acknowledges leg frame (prepared leg frame) (prepared-history leg frame)
+judged-turn received.Gap leg frame message now numbered =
+    let mid = prepared leg frame in
+    either (λ (s : Step). TakesTurn leg frame s.leg) (wants_vnak mid now) (asking mid frame now) (not_asking mid)
+    (acknowledges leg frame (asked mid now) (prepared-history leg frame)) (acknowledges leg frame mid (prepared-history leg frame))
 
 pub either_by : {A : Type 0} (P : A → Type 0) (b : Bool) (x y : A) → (b ≡ true → P x) → (b ≡ false → P y) → P (cond b x y)
 either_by P true x y p q = p refl

@@ -34,6 +34,8 @@ pub record LegState : Type 0 where
   pub voice_sent : Option ℕ
   -- the moment of the last PING, or of the opening
   pub pinged : ℕ
+  -- the moment of the last VNAK, until a frame is taken: what is missing then is another one
+  pub vnak_sent : Option ℕ
   -- why it ended, where no HANGUP or REJECT did that
   pub failure : Option Failure
   -- so many full frames went out again, modulo 2 ^ 64
@@ -63,6 +65,7 @@ leg_of m = record {
   voice_taken = m.voice_taken;
   voice_sent = m.voice_sent;
   pinged = m.pinged;
+  vnak_sent = m.vnak_sent;
   failure = m.failure;
   resent = m.resent;
   window = m.window.state;

@@ -34,6 +34,7 @@ leg_for_new rules number frame now challenge = record {
   voice_taken = false;
   voice_sent = None;
   pinged = now;
+  vnak_sent = None;
   failure = None;
   resent = 0;
   window = record { history = []; width = rules.window; limit = rules.record_limit; sendings = [] };
@@ -60,6 +61,7 @@ leg_for_call rules number format now = record {
   voice_taken = false;
   voice_sent = None;
   pinged = now;
+  vnak_sent = None;
   failure = None;
   resent = 0;
   window = record { history = []; width = rules.window; limit = rules.record_limit; sendings = [] };

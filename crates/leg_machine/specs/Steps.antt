@@ -10,7 +10,7 @@ use Rattle.leg_machine.specs.LegTable.{effect_of}
 use Rattle.leg_machine.specs.Legs.{LegState, entered, failed, resent_by, with_window}
 use Rattle.call_signals.specs.Messages.{message_of, is_numbered, is_inval, is_vnak}
 use Rattle.leg_machine.specs.Replies.{reply_frame, outgoing, next_byte, ack, vnak, sent_again}
-use Rattle.leg_machine.specs.Working.{learnt, acknowledged, counts, settled, recorded, heard, sent}
+use Rattle.leg_machine.specs.Working.{learnt, acknowledged, counts, settled, recorded, heard, wants_vnak, asked, sent}
 use Rattle.call_signals.specs.declared.effects.Answering.{Answering}
 use Rattle.call_signals.specs.declared.effects.Answering.TheVariants.{Acknowledged, Answered, Silent}
 use Rattle.call_signals.specs.declared.effects.Effect.{Effect}
@@ -84,14 +84,26 @@ taken_step effect leg frame message now =
     then no_room leg
     else answered effect.answer (taken effect leg frame message) frame now effect.signal
 
+-- ---- a gap
+
+-- A frame comes ahead of the one that is expected: a VNAK asks for that one.
+abbrev pub asking : LegState → FullFrame → ℕ → Step
+asking leg frame now = record { leg = asked leg now; replies = vnak leg frame ∷ []; judged = judged.Gap; signal = None }
+
+-- A VNAK asked for it less than `vnak_ms` milliseconds ago: silence.
+abbrev pub not_asking : LegState → Step
+not_asking leg = record { leg = leg; replies = []; judged = judged.Gap; signal = None }
+
+abbrev pub gap_step : LegState → FullFrame → ℕ → Step
+gap_step leg frame now = if wants_vnak leg now then asking leg frame now else not_asking leg
+
 -- ---- the judgement
 
 abbrev pub judged_step : Received → LegState → FullFrame → Message → ℕ → Step
 judged_step received.Taken leg frame message now = taken_step (effect_of leg frame message) leg frame message now
 judged_step received.Repeat leg frame message now =
     record { leg = leg; replies = ack leg frame ∷ []; judged = judged.Repeat; signal = None }
-judged_step received.Gap leg frame message now =
-    record { leg = leg; replies = vnak leg frame ∷ []; judged = judged.Gap; signal = None }
+judged_step received.Gap leg frame message now = gap_step leg frame now
 
 abbrev pub numbered_step : LegState → FullFrame → Message → ℕ → Step
 numbered_step leg frame message now =

@@ -1,5 +1,5 @@
 -- The small changes of which a leg's steps are made.
-use Rattle.std.specs.Prelude.{ℕ, ◌&&◌, ◌||◌, ◌==◌, Bool, true, false, Some, unwrap_or, if◌then◌else◌}
+use Rattle.std.specs.Prelude.{ℕ, ◌-◌, ◌&&◌, ◌||◌, ◌==◌, Bool, true, false, nat_le, Option, None, Some, unwrap_or, if◌then◌else◌}
 use Rattle.iax_frames.specs.FullFrame.{FullFrame}
 use Rattle.iax_frames.specs.declared.stored_frame.Frame.{Frame}
 use Rattle.seq_window.specs.declared.judgements.Acknowledged.{Acknowledged}
@@ -30,12 +30,27 @@ settled leg = if is_closing leg.stage && (held_count leg.window == 0) then enter
 abbrev pub stored : FullFrame → Frame
 stored f = record { ts = f.head.timestamp; kind = f.head.frame_type; subclass = f.head.subclass; payload = f.payload }
 
+-- With the frame the next number is expected, and no VNAK has asked for that.
 abbrev pub recorded : LegState → FullFrame → LegState
-recorded leg frame = with_window leg (after_receiving leg.window frame.head.oseqno (stored frame))
+recorded leg frame =
+    record (with_window leg (after_receiving leg.window frame.head.oseqno (stored frame))) { vnak_sent = None }
 
 -- in whatever stage voice of the format is taken
 abbrev pub heard : LegState → Message → LegState
 heard leg message = record leg { voice_taken = leg.voice_taken || is_voice_in leg.format message }
+
+-- a moment is so many milliseconds ago or more, or there is none
+abbrev pub is_past : ℕ → ℕ → Option ℕ → Bool
+is_past least now None = true
+is_past least now (Some moment) = nat_le least (now - moment)
+
+-- A gap is answered: the last VNAK is at least `vnak_ms` milliseconds old, or asked for another number.
+abbrev pub wants_vnak : LegState → ℕ → Bool
+wants_vnak leg now = is_past leg.rules.vnak_ms now leg.vnak_sent
+
+-- a VNAK goes out
+abbrev pub asked : LegState → ℕ → LegState
+asked leg now = record leg { vnak_sent = Some now }
 
 -- a numbered frame goes out
 abbrev pub sent : LegState → Frame → ℕ → LegState

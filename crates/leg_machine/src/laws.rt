@@ -1,18 +1,22 @@
 //! The laws of a leg.
 
-ghost use Rattle.std.specs.Prelude.{◌≡◌, ◌⊎◌, ◌↔◌, ◌≤◌, ◌<◌, ◌^◌, ℕ, Bool, true, List, Option, None, Some, map};
+ghost use Rattle.std.specs.Prelude.{◌≡◌, ◌≢◌, [], ◌∷◌, ◌⊎◌, ◌↔◌, ◌≤◌, ◌<◌, ◌^◌, ℕ, Bool, true, List, Option, None, Some, map};
 ghost use Rattle.iax_frames.specs.FullFrame.{FullFrame, spelling};
+ghost use Rattle.seq_window.specs.History.{taken_count};
 ghost use Rattle.seq_window.specs.Window.{held_count};
+ghost use Rattle.seq_window.specs.declared.judgements.Received.TheVariants.{Gap};
 ghost use Rattle.leg_machine.specs.Legs.{LegState};
 ghost use Rattle.leg_machine.specs.Media.{IsMediaOf};
 ghost use Rattle.leg_machine.specs.Openings.{open_in_step, open_out_step};
 ghost use Rattle.leg_machine.specs.OrderTable.{order_refused, order_carried};
 ghost use Rattle.leg_machine.specs.Seen.{seen, kind_of, stage_after, fresh_leg, IsSeenFrame, IsSeenOpening, IsSeenOrder, IsSeenTick};
-ghost use Rattle.leg_machine.specs.Steps.{full_step};
+ghost use Rattle.leg_machine.specs.Replies.{vnak};
+ghost use Rattle.leg_machine.specs.Steps.{full_step, judged_step};
 ghost use Rattle.leg_machine.specs.Ticks.{quiet, hang_up_step, tick_step, is_idle};
 ghost use Rattle.leg_machine.specs.Tie.{TakesTurn, SendsAtMostOne, TakesFirstTurn, HasSentAtMostOne, SendsNumbered, HasSent, HasSentOrMini};
 ghost use Rattle.leg_machine.specs.Tries.{tries, NoneDue, IsFinished};
 ghost use Rattle.call_signals.specs.declared.formats.Format.{Format};
+ghost use Rattle.call_signals.specs.declared.messages.Message.{Message};
 ghost use Rattle.call_signals.specs.declared.orders.Order.{Order};
 ghost use Rattle.call_signals.specs.declared.orders.OrderError.TheVariants.{WrongStage};
 ghost use Rattle.call_signals.specs.declared.rules.PeerRules.{PeerRules};
@@ -39,6 +43,16 @@ pub fn idle_legs_stay()
 /// Media that a full frame hands up is that frame's own data.
 pub fn media_is_the_frames()
     ensures { (leg : LegState) (frame : FullFrame) (now : ℕ) → IsMediaOf frame (full_step leg frame now).signal }
+{}
+
+/// Where the plan has no `vnak_ms`, each gap is answered by a VNAK. Where it has, silence waits for the frame that the last VNAK asked
+/// for and for no other: a leg that has come to expect another one has no VNAK that counts.
+pub fn gaps_are_answered()
+    ensures always { (leg : LegState) (frame : FullFrame) (message : Message) (now : ℕ) → leg.rules.vnak_ms ≡ 0 →
+        (judged_step Gap leg frame message now).replies ≡ vnak leg frame ∷ [] }
+    ensures another { (leg : LegState) (frame : FullFrame) (now : ℕ) →
+        taken_count (full_step leg frame now).leg.window.history ≢ taken_count leg.window.history →
+        (full_step leg frame now).leg.vnak_sent ≡ None }
 {}
 
 /// Seen only by its stage, whether it is doomed, whether it owes and what it hands up, each step of a leg is one that callers at

@@ -139,6 +139,7 @@ impl Leg {
             voice_taken: _,
             voice_sent: _,
             pinged: _,
+            vnak_sent: _,
             failure: _,
             resent: _,
             window,

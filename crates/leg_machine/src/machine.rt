@@ -30,6 +30,7 @@ pub struct Machine {
     pub voice_taken: bool,
     pub voice_sent: Option<u32>,
     pub pinged: u64,
+    pub vnak_sent: Option<u64>,
     pub failure: Option<Failure>,
     pub resent: u64,
     pub window: Window,
@@ -116,7 +117,7 @@ impl Machine {
         matches!(self.window.acknowledge(iseqno), Ok(Acknowledged::Acked(_)))
     }
 
-    /// Records the next frame.
+    /// Records the next frame. What is missing after it is another one than before.
     pub fn record(&mut self, frame: &Full)
         requires room { HasRoom 3 self.old }
         requires short { length frame.now.payload ≤ 1388 }
@@ -125,6 +126,7 @@ impl Machine {
         ensures capacity { capacity_of (whole_leg self.old) ≤ capacity_of (whole_leg self.new) }
     {
         let _ = self.window.receive(frame.oseqno(), stored(frame));
+        self.vnak_sent = None;
     }
 
     /// Notes voice of the leg's format.

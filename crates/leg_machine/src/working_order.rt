@@ -5,7 +5,7 @@ ghost use Rattle.seq_window.specs.Window.{held_count, judged_number, judged_ackn
 ghost use Rattle.leg_machine.specs.Effects.{is_reply, marked};
 ghost use Rattle.leg_machine.specs.Legs.{is_short_of_entries};
 ghost use Rattle.leg_machine.specs.Steps as steps;
-ghost use Rattle.leg_machine.specs.Working.{counts};
+ghost use Rattle.leg_machine.specs.Working.{counts, wants_vnak};
 
 use crate::machine::Machine;
 use call_signals::effects::unless_over;
@@ -93,6 +93,29 @@ impl Machine {
         }
     }
 
+    // Whether a gap is answered: the last VNAK is at least `vnak_ms` milliseconds old, or asked for another number.
+    fn wants_vnak(&self, now: u64) -> bool
+        ensures { result ≡ wants_vnak (leg_of self.now) now }
+    {
+        match self.vnak_sent {
+            None => true,
+            Some(sent) => self.rules.vnak_ms <= now.saturating_sub(sent),
+        }
+    }
+
+    // A frame comes ahead of the one that is expected: a VNAK asks for that one, or there is silence.
+    fn answer_gap(&mut self, frame: &Full, now: u64, outs: &mut Replies)
+        requires { length outs.old < 128 }
+        ensures leg { leg_of self.new ≡ (steps.gap_step (leg_of self.old) frame.now now).leg }
+        ensures replies { outs.new ≡ outs.old ++ map spelling (steps.gap_step (leg_of self.old) frame.now now).replies }
+        ensures window { self.new.window ≡ self.old.window }
+    {
+        if self.wants_vnak(now) {
+            self.vnak(frame, outs);
+            self.vnak_sent = Some(now);
+        }
+    }
+
     // What a frame is by its number.
     fn judged(&self, frame: &Full) -> Received
         ensures { result ≡ judged_number self.now.window.state.history frame.now.head.oseqno }
@@ -123,7 +146,7 @@ impl Machine {
                 }
             }
             Received::Gap => {
-                self.vnak(frame, outs);
+                self.answer_gap(frame, now, outs);
                 Heard {
                     judged: Judged::Gap,
                     signal: None,

@@ -14,11 +14,11 @@ use Rattle.leg_machine.specs.Media.{after_media, media_sent}
 use Rattle.leg_machine.specs.Messages.{message_of, is_inval, is_vnak}
 use Rattle.leg_machine.specs.OrderTable.{order_row, row_carried, order_carried}
 use Rattle.leg_machine.specs.Openings.{open_in_step, open_out_step, leg_for_new, leg_for_call, opening_of, opening_effect}
-use Rattle.leg_machine.specs.Steps.{Step, nothing_sent, resend_step, taken, replied, taken_step, judged_step, numbered_step, vnak_step, prepared, inval_step, message_step, full_step}
+use Rattle.leg_machine.specs.Steps.{Step, nothing_sent, resend_step, taken, replied, taken_step, asking, not_asking, judged_step, numbered_step, vnak_step, prepared, inval_step, message_step, full_step}
 use Rattle.leg_machine.specs.Stages.{is_closing, is_ended}
 use Rattle.leg_machine.specs.Ticks.{Tick, quiet, hang_up_step, ping_step, last_step, due_frames, tick_step}
 use Rattle.leg_machine.specs.Tries.{Tried, tries, one_try, after_try}
-use Rattle.leg_machine.specs.Working.{learnt, settled, acknowledged, counts}
+use Rattle.leg_machine.specs.Working.{learnt, settled, acknowledged, counts, wants_vnak}
 use Rattle.call_signals.specs.declared.failure.Failure.TheVariants.{RecordFull}
 use Rattle.call_signals.specs.declared.effects.Answering.{Answering}
 use Rattle.call_signals.specs.declared.effects.Answering.TheVariants.{Acknowledged as Acks, Answered, Silent}
@@ -98,7 +98,9 @@ same_taken_step effect leg frame message now =
 same_judged : (judged : Received) (leg : LegState) (frame : FullFrame) (message : Message) (now : ℕ) → IsSameCall leg (judged_step judged leg frame message now).leg
 same_judged received.Taken leg frame message now = same_taken_step (effect_of leg frame message) leg frame message now
 same_judged received.Repeat leg frame message now = same leg
-same_judged received.Gap leg frame message now = same leg
+same_judged received.Gap leg frame message now =
+    chosen (λ (s : Step). IsSameCall leg s.leg) (wants_vnak leg now) (asking leg frame now) (not_asking leg)
+    (record { number = refl; remote = refl; ruled = record { rules = refl; width = refl; limit = refl } }) (same leg)
 
 same_numbered : (leg : LegState) (frame : FullFrame) (message : Message) (now : ℕ) → IsSameCall leg (numbered_step leg frame message now).leg
 same_numbered leg frame message now =

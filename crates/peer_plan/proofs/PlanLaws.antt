@@ -26,7 +26,7 @@ use Rattle.peer_plan.specs.declared.route.Route.{Route}
 use Rattle.peer_plan.specs.Keys.{key_name}
 use Rattle.peer_plan.specs.Fields.{◌>>=◌, number_of, text_of, value, value_at, each, items_len, within, list_in}
 use Rattle.peer_plan.specs.Plan.{IsPlan, IsPeer, IsRoute, is_name, is_prefix, counts_of}
-use Rattle.peer_plan.specs.Reading.{limits_in, address_in, endpoint_in, workers_in, passes_in, is_credential, credential_in, credentials_in, formats_in, media_in, window_in, rules_from, peer_in, has_double, is_named, is_endpoint, has_same_name, has_same_endpoint, told_apart, peers_in, has_prefix, new_route, route_in, routes_in}
+use Rattle.peer_plan.specs.Reading.{default_record_limit, vnak_ms_in, limits_in, address_in, endpoint_in, workers_in, passes_in, is_credential, credential_in, credentials_in, formats_in, media_in, window_in, rules_from, peer_in, has_double, is_named, is_endpoint, has_same_name, has_same_endpoint, told_apart, peers_in, has_prefix, new_route, route_in, routes_in}
 use Rattle.peer_plan.proofs.Ranges.{ranges_apart, total_within}
 use Rattle.peer_plan.proofs.FormatLaws.{formats_some}
 
@@ -109,6 +109,7 @@ pub record IsLimits (limits : Limits) : Type 0 where
   pub max_retries : IsWithin 0 20 limits.max_retries
   pub ping_ms : IsWithin 0 600000 limits.ping_ms
   pub record_limit : IsWithin 64 65536 limits.record_limit
+  pub vnak_ms : IsWithin 0 60000 limits.vnak_ms
 
 number_is : (ms : Members) (k : Key) (low high fallback n : ℕ) → low ≤ fallback → fallback ≤ high → value ms k (Ok fallback) (number_of low high) ≡ Ok n → IsWithin low high n
 number_is ms k low high fallback n least most h =
@@ -118,19 +119,36 @@ number_there : (ms : Members) (k : Key) (low high n : ℕ) → value ms k (Err (
 number_there ms k low high n h =
     value_is (IsWithin low high) k (Err (error.Missing k)) (number_of low high) (get_member (key_name k) ms) n (number_within low high n) (missing (error.Missing k) n) h
 
-pub limits_sound : (ms : Members) (limits : Limits) → limits_in ms ≡ Ok limits → IsLimits limits
+limit_default : (format : ℕ) → IsWithin 64 65536 (default_record_limit format)
+limit_default format = go (format == 3)
+  where
+    go : (b : Bool) → IsWithin 64 65536 (cond b 65536 4096)
+    go true = (omega arith, omega arith)
+    go false = (omega arith, omega arith)
+
+vnak_within : (format n : ℕ) (ms : Members) → vnak_ms_in format ms ≡ Ok n → IsWithin 0 60000 n
+vnak_within format n ms h = go (format == 3) h
+  where
+    go : (b : Bool) → cond b (value ms key.VnakMs (Ok 0) (number_of 0 60000)) (Ok 0) ≡ Ok n → IsWithin 0 60000 n
+    go true is = number_is ms key.VnakMs 0 60000 0 n (omega arith) (omega arith) is
+    go false is = default_within 0 60000 n 0 (omega arith) (omega arith) is
+
+pub limits_sound : (format : ℕ) (ms : Members) (limits : Limits) → limits_in format ms ≡ Ok limits → IsLimits limits
 unfolding limits_in
-limits_sound ms limits h =
+limits_sound format ms limits h =
     let a = bound (value ms key.RetryMs (Ok 1000) (number_of 1 60000)) _ limits h in
     let b = bound (value ms key.MaxRetries (Ok 4) (number_of 0 20)) _ limits a.2 in
     let c = bound (value ms key.PingMs (Ok 20000) (number_of 0 600000)) _ limits b.2 in
-    let d = bound (value ms key.RecordLimit (Ok 4096) (number_of 64 65536)) _ limits c.2 in
-    let is : record { retry_ms = a.0; max_retries = b.0; ping_ms = c.0; record_limit = d.0 } ≡ limits = cc in
+    let d = bound (value ms key.RecordLimit (Ok (default_record_limit format)) (number_of 64 65536)) _ limits c.2 in
+    let e = bound (vnak_ms_in format ms) _ limits d.2 in
+    let is : record { retry_ms = a.0; max_retries = b.0; ping_ms = c.0; record_limit = d.0; vnak_ms = e.0 } ≡ limits = cc in
+    let default = limit_default format in
     subst IsLimits is (record {
       retry_ms = number_is ms key.RetryMs 1 60000 1000 a.0 (omega arith) (omega arith) a.1;
       max_retries = number_is ms key.MaxRetries 0 20 4 b.0 (omega arith) (omega arith) b.1;
       ping_ms = number_is ms key.PingMs 0 600000 20000 c.0 (omega arith) (omega arith) c.1;
-      record_limit = number_is ms key.RecordLimit 64 65536 4096 d.0 (omega arith) (omega arith) d.1;
+      record_limit = number_is ms key.RecordLimit 64 65536 (default_record_limit format) d.0 default.0 default.1 d.1;
+      vnak_ms = vnak_within format e.0 ms e.1;
     })
 
 pub workers_within : (ms : Members) (workers : List Endpoint) → workers_in ms ≡ Ok workers → IsWithin 1 8 (length workers)
@@ -188,7 +206,7 @@ media_some ms media h =
     (λ d. formats_some d a.0) (missing (error.Missing key.Formats) a.0) a.1)
 
 window_within : (format n : ℕ) (ms : Members) → window_in format ms ≡ Ok n → IsWithin 1 127 n
-window_within format n ms h = go (format == 2) h
+window_within format n ms h = go (nat_le 2 format) h
   where
     go : (b : Bool) → cond b (value ms key.Window (Ok 64) (number_of 1 127)) (Ok 64) ≡ Ok n → IsWithin 1 127 n
     go true is = number_is ms key.Window 1 127 64 n (omega arith) (omega arith) is
@@ -218,6 +236,7 @@ peer_sound format workers limits ms peer some limited h =
         ping_ms = limited.ping_ms.1;
         record_limit = limited.record_limit;
         window = window_within format g.0 ms g.1;
+        vnak_ms = limited.vnak_ms.1;
       };
       numbers = number_is ms key.Numbers 1 512 64 f.0 (omega arith) (omega arith) f.1;
     })

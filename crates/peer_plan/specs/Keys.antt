@@ -1,5 +1,5 @@
 -- The keys of a plan, in their order.
-use Rattle.std.specs.Prelude.{ℕ, List, [], ◌∷◌, Bool, ◌||◌, ◌&&◌, ◌==◌, codes}
+use Rattle.std.specs.Prelude.{ℕ, List, [], ◌∷◌, Bool, ◌||◌, ◌&&◌, ◌==◌, nat_le, codes}
 use Rattle.std.specs.List.{list_any}
 use Rattle.std.specs.Str.{bytes_eq}
 use Rattle.peer_plan.specs.declared.key.Key.{Key}
@@ -14,6 +14,7 @@ key_name key.RetryMs = codes "retry_ms"
 key_name key.MaxRetries = codes "max_retries"
 key_name key.PingMs = codes "ping_ms"
 key_name key.RecordLimit = codes "record_limit"
+key_name key.VnakMs = codes "vnak_ms"
 key_name key.Worker = codes "worker"
 key_name key.Address = codes "address"
 key_name key.Port = codes "port"
@@ -39,9 +40,10 @@ abbrev pub is_known : Section → ℕ → List ℕ → Bool
 is_known section.Plan format name =
     is_one_of (key.Format ∷ key.RetryMs ∷ key.MaxRetries ∷ key.PingMs ∷ key.RecordLimit ∷ key.Worker ∷ key.Passes ∷ key.Peer
     ∷ key.Route ∷ []) name
+    || (format == 3 && bytes_eq (key_name key.VnakMs) name)
 is_known section.Worker format name = is_one_of (key.Address ∷ key.Port ∷ []) name
 is_known section.Peer format name =
     is_one_of (key.Name ∷ key.Address ∷ key.Port ∷ key.Worker ∷ key.User ∷ key.Secret ∷ key.Formats ∷ key.Trunk
     ∷ key.TrunkTimestamps ∷ key.Numbers ∷ []) name
-    || (format == 2 && bytes_eq (key_name key.Window) name)
+    || (nat_le 2 format && bytes_eq (key_name key.Window) name)
 is_known section.Route format name = is_one_of (key.Prefix ∷ key.Peer ∷ []) name

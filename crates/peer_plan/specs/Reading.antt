@@ -23,14 +23,29 @@ use Rattle.peer_plan.specs.FormatNames.{format_name}
 use Rattle.peer_plan.specs.Keys.{key_name}
 use Rattle.peer_plan.specs.Plan.{PlanView, is_name, is_prefix}
 
--- `retry_ms`, `max_retries`, `ping_ms`, `record_limit`
-unfoldable pub limits_in : Members → Result Limits PlanError
-limits_in ms = do
+-- how many entries a record has at most, where `record_limit` is absent
+abbrev pub default_record_limit : ℕ → ℕ
+default_record_limit format = if format == 3 then 65536 else 4096
+
+-- `vnak_ms`, in format 3 alone
+abbrev pub vnak_ms_in : ℕ → Members → Result ℕ PlanError
+vnak_ms_in format ms = if format == 3 then value ms key.VnakMs (Ok 0) (number_of 0 60000) else Ok 0
+
+-- `retry_ms`, `max_retries`, `ping_ms`, `record_limit`, `vnak_ms`
+unfoldable pub limits_in : ℕ → Members → Result Limits PlanError
+limits_in format ms = do
   retry_ms ← value ms key.RetryMs (Ok 1000) (number_of 1 60000)
   max_retries ← value ms key.MaxRetries (Ok 4) (number_of 0 20)
   ping_ms ← value ms key.PingMs (Ok 20000) (number_of 0 600000)
-  record_limit ← value ms key.RecordLimit (Ok 4096) (number_of 64 65536)
-  Ok (record { retry_ms = retry_ms; max_retries = max_retries; ping_ms = ping_ms; record_limit = record_limit })
+  record_limit ← value ms key.RecordLimit (Ok (default_record_limit format)) (number_of 64 65536)
+  vnak_ms ← vnak_ms_in format ms
+  Ok (record {
+    retry_ms = retry_ms;
+    max_retries = max_retries;
+    ping_ms = ping_ms;
+    record_limit = record_limit;
+    vnak_ms = vnak_ms;
+  })
 
 -- `address`, `port`
 abbrev pub address_in : Data → Option (List ℕ)
@@ -96,9 +111,9 @@ media_in ms = do
   trunk_timestamps ← value ms key.TrunkTimestamps (Ok false) as_bool
   Ok (record { formats = formats; trunk = trunk; trunk_timestamps = trunk_timestamps })
 
--- `window`, in format 2 alone
+-- `window`, from format 2 on
 abbrev pub window_in : ℕ → Members → Result ℕ PlanError
-window_in format ms = if format == 2 then value ms key.Window (Ok 64) (number_of 1 127) else Ok 64
+window_in format ms = if nat_le 2 format then value ms key.Window (Ok 64) (number_of 1 127) else Ok 64
 
 abbrev pub rules_from : Limits → Credentials → Media → ℕ → PeerRules
 rules_from limits credentials media window =
@@ -113,6 +128,7 @@ rules_from limits credentials media window =
       ping_ms = limits.ping_ms;
       record_limit = limits.record_limit;
       window = window;
+      vnak_ms = limits.vnak_ms;
     }
 
 unfoldable pub peer_in : ℕ → Limits → ℕ → Members → Result Peer PlanError
@@ -177,8 +193,8 @@ routes_in peers ms = value ms key.Route (Ok no_items) as_array >>= each key.Rout
 
 unfoldable pub plan_in : Members → Result PlanView PlanError
 plan_in ms = do
-  format ← value ms key.Format (Err (error.Missing key.Format)) (number_of 1 2)
-  limits ← limits_in ms
+  format ← value ms key.Format (Err (error.Missing key.Format)) (number_of 1 3)
+  limits ← limits_in format ms
   workers ← workers_in ms
   passes ← passes_in (length workers) ms
   peers ← peers_in format limits (length workers) ms

@@ -21,6 +21,7 @@ pub enum Key {
     MaxRetries,
     PingMs,
     RecordLimit,
+    VnakMs,
     /// The list of workers, and the worker of a peer.
     Worker,
     Address,
@@ -54,6 +55,7 @@ impl Key {
             Key::MaxRetries => "max_retries",
             Key::PingMs => "ping_ms",
             Key::RecordLimit => "record_limit",
+            Key::VnakMs => "vnak_ms",
             Key::Worker => "worker",
             Key::Address => "address",
             Key::Port => "port",
@@ -108,15 +110,17 @@ fn is_one_of(keys: &[Key], name: &str) -> bool
     keys.iter().any(|key| key.name() == name)
 }
 
-/// Whether a table of a plan of format 1 or 2 is read at the key of this name. At any other the table is not looked at.
+/// Whether a table of a plan of format 1, 2 or 3 is read at the key of this name. At any other the table is not looked at.
 pub fn is_known(section: Section, format: u64, name: &str) -> bool
     ensures { result ≡ is_known section format name.now }
 {
     match section {
-        Section::Plan => is_one_of(&PLAN_KEYS, name),
+        Section::Plan => {
+            is_one_of(&PLAN_KEYS, name) || format == 3 && Key::VnakMs.name() == name
+        }
         Section::Worker => is_one_of(&WORKER_KEYS, name),
         Section::Peer => {
-            is_one_of(&PEER_KEYS, name) || format == 2 && Key::Window.name() == name
+            is_one_of(&PEER_KEYS, name) || 2 <= format && Key::Window.name() == name
         }
         Section::Route => is_one_of(&ROUTE_KEYS, name),
     }

@@ -22,6 +22,7 @@ pub(crate) struct Limits {
     pub(crate) max_retries: u32,
     pub(crate) ping_ms: u64,
     pub(crate) record_limit: u32,
+    pub(crate) vnak_ms: u64,
 }
 
 // The user's name and secret of a peer.

@@ -48,7 +48,7 @@ impl Model for Plan {
 impl Plan {
     ghost use Rattle.peer_plan.specs.declared.route.Route.{Route};
 
-    /// The plan of a text in TOML, of format 1 or 2, or its first fault.
+    /// The plan of a text in TOML, of format 1, 2 or 3, or its first fault.
     ///
     /// Any octets may come. The keys are judged in the order of `Key`, lists in their order.
     pub fn read(alloc: Global, text: &[u8]) -> Result<Plan, PlanError>
@@ -222,7 +222,7 @@ fn plan_in(alloc: Global, table: &Table) -> Result<Plan, PlanError>
     ensures sound { IfOk result IsPlan }
 {
     let format = reading::format(table)?;
-    let limits = reading::limits(table)?;
+    let limits = reading::limits(table, format)?;
     let workers = reading::workers(alloc, table)?;
     let worker_count = workers.len() as u64;
     let passes = reading::passes(table, worker_count)?;

@@ -1,8 +1,8 @@
 //! Reading a plan from the values of a TOML document, key by key in the order of the plan's table.
-ghost use Rattle.std.specs.Prelude.{◌≡◌, ok_or, length};
+ghost use Rattle.std.specs.Prelude.{◌≡◌, ◌≤◌, ok_or, length};
 ghost use Rattle.toml.specs.View.{table_view};
 ghost use Rattle.peer_plan.specs.Fields.{Gives, number_of, value};
-ghost use Rattle.peer_plan.specs.Reading.{document_of, limits_in, passes_in};
+ghost use Rattle.peer_plan.specs.Reading.{document_of, default_record_limit, vnak_ms_in, limits_in, passes_in};
 
 mod fields;
 mod media;
@@ -37,33 +37,55 @@ pub(crate) fn document(alloc: Global, text: &[u8]) -> Result<Table, PlanError>
     }
 }
 
-// The number of the plan's format: 1 or 2.
+// The number of the plan's format: 1 to 3.
 pub(crate) fn format(table: &Table) -> Result<u64, PlanError>
-    ensures { result ≡ value (table_view table.now) Key.Format (Err (PlanError.Missing Key.Format)) (number_of 1 2) }
+    ensures { result ≡ value (table_view table.now) Key.Format (Err (PlanError.Missing Key.Format)) (number_of 1 3) }
 {
     number_at(
         table,
         Key::Format,
         Err(PlanError::Missing(Key::Format)),
         1,
-        2,
+        3,
     )
+}
+
+// How many entries a leg's record has at most, where the plan doesn't say it.
+fn default_record_limit(format: u64) -> u64
+    ensures value { result ≡ default_record_limit format }
+    ensures most { result ≤ 65536 }
+{
+    if format == 3 { 65_536 } else { 4096 }
+}
+
+// How long a leg waits before it asks for the same frame again, in milliseconds.
+fn vnak_ms(table: &Table, format: u64) -> Result<u64, PlanError>
+    ensures { result ≡ vnak_ms_in format (table_view table.now) }
+{
+    if format == 3 {
+        number_at(table, Key::VnakMs, Ok(0), 0, 60_000)
+    } else {
+        Ok(0)
+    }
 }
 
 // What the legs of all peers go by.
 #[tactic(auto, unfolding(crate::specs::Reading::limits_in))]
-pub(crate) fn limits(table: &Table) -> Result<Limits, PlanError>
-    ensures { Gives (λ limits. limits) result (limits_in (table_view table.now)) }
+pub(crate) fn limits(table: &Table, format: u64) -> Result<Limits, PlanError>
+    ensures { Gives (λ limits. limits) result (limits_in format (table_view table.now)) }
 {
     let retry_ms = number_at(table, Key::RetryMs, Ok(1000), 1, 60_000)?;
     let max_retries = number_at(table, Key::MaxRetries, Ok(4), 0, 20)?;
     let ping_ms = number_at(table, Key::PingMs, Ok(20_000), 0, 600_000)?;
-    let record_limit = number_at(table, Key::RecordLimit, Ok(4096), 64, 65_536)?;
+    let default_limit = default_record_limit(format);
+    let record_limit = number_at(table, Key::RecordLimit, Ok(default_limit), 64, 65_536)?;
+    let vnak_ms = vnak_ms(table, format)?;
     Ok(Limits {
         retry_ms,
         max_retries: max_retries as u32,
         ping_ms,
         record_limit: record_limit as u32,
+        vnak_ms,
     })
 }
 

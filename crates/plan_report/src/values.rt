@@ -20,6 +20,7 @@ fn by_default(table: &Table, key: Key) -> &'static str {
 pub(crate) fn format_of(table: &Table) -> u64 {
     match table.get(Key::Format.name()) {
         Some(Value::Integer(2)) => 2,
+        Some(Value::Integer(3)) => 3,
         _ => 1,
     }
 }
@@ -67,8 +68,13 @@ pub(crate) fn limits_of(plan: &Plan) -> &PeerRules
     plan.rules(0)
 }
 
-// The limits that all peers have, and how many passes there are.
-fn write_limits<W: Write>(plan: &Plan, table: &Table, writer: &mut W) -> io::Result<()> {
+// The limits that all peers have, and how many passes there are. Only format 3 has a key for the time between two VNAKs.
+fn write_limits<W: Write>(
+    plan: &Plan,
+    table: &Table,
+    format: u64,
+    writer: &mut W,
+) -> io::Result<()> {
     let rules = limits_of(plan);
     write_number(table, Key::RetryMs, rules.retry_ms, writer)?;
     write_number(table, Key::MaxRetries, u64::from(rules.max_retries), writer)?;
@@ -79,6 +85,9 @@ fn write_limits<W: Write>(plan: &Plan, table: &Table, writer: &mut W) -> io::Res
         u64::from(rules.record_limit),
         writer,
     )?;
+    if format == 3 {
+        write_number(table, Key::VnakMs, rules.vnak_ms, writer)?;
+    }
     write_number(table, Key::Passes, u64::from(plan.passes()), writer)
 }
 
@@ -179,7 +188,7 @@ fn write_routes<W: Write>(plan: &Plan, writer: &mut W) -> io::Result<()> {
 pub(crate) fn write_values<W: Write>(plan: &Plan, table: &Table, writer: &mut W) -> io::Result<()> {
     let format = format_of(table);
     writeln!(writer, "plan of format {format}")?;
-    write_limits(plan, table, writer)?;
+    write_limits(plan, table, format, writer)?;
     write_workers(plan, writer)?;
     for peer in 0..plan.peer_count() {
         if let Some(table) = table_at(table, Key::Peer, usize::from(peer)) {

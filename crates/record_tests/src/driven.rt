@@ -33,6 +33,7 @@ pub fn rules_of(record_limit: u32) -> PeerRules
         ping_ms: 0,
         record_limit,
         window: 64,
+        vnak_ms: 0,
     }
 }
 

@@ -20,7 +20,7 @@ use toml::{Table, Value};
 fn window(table: &Table, format: u64) -> Result<u64, PlanError>
     ensures { result ≡ window_in format (table_view table.now) }
 {
-    if format == 2 {
+    if 2 <= format {
         number_at(table, Key::Window, Ok(64), 1, 127)
     } else {
         Ok(64)
@@ -61,6 +61,7 @@ fn peer(table: &Table, format: u64, limits: Limits, workers: u64) -> Result<Peer
             ping_ms: limits.ping_ms,
             record_limit: limits.record_limit,
             window: window as u8,
+            vnak_ms: limits.vnak_ms,
         },
         numbers: numbers as u16,
     })

@@ -19,7 +19,7 @@ routes-requires c =
     let ms = table_view c.args.table.now in
     let some = workers_within ms c.in_ok-workers.workers.items c.in_ok-workers.ensures in
     let least : 1 ≤ c.len-worker_count.result = omega (arith, some.0, c.len-worker_count.ensures, c.in_ok-workers.workers.ok.0) in
-    let are = peers_sound c.in_ok-format.format c.len-worker_count.result c.in_ok-limits.limits ms c.in_ok-peers.peers.items least (limits_sound ms c.in_ok-limits.limits c.in_ok-limits.ensures) c.in_ok-peers.ensures in
+    let are = peers_sound c.in_ok-format.format c.len-worker_count.result c.in_ok-limits.limits ms c.in_ok-peers.peers.items least (limits_sound c.in_ok-format.format ms c.in_ok-limits.limits c.in_ok-limits.ensures) c.in_ok-peers.ensures in
     rw c.deref.ensures.value are.count.1
 
 pub overflow_cast-result : goal.overflow_cast-result
@@ -38,7 +38,7 @@ invariant_of-result c =
     let least : 1 ≤ c.len-worker_count.result = omega (arith, some.0, count) in
     let few : c.len-worker_count.result ≤ 64 = omega (arith, some.1, count) in
     let enough = passes_within ms c.len-worker_count.result c.in_ok-passes.passes few (sym c.in_ok-passes.ensures) in
-    let are = peers_sound c.in_ok-format.format c.len-worker_count.result c.in_ok-limits.limits ms c.in_ok-peers.peers.items least (limits_sound ms c.in_ok-limits.limits c.in_ok-limits.ensures) c.in_ok-peers.ensures in
+    let are = peers_sound c.in_ok-format.format c.len-worker_count.result c.in_ok-limits.limits ms c.in_ok-peers.peers.items least (limits_sound c.in_ok-format.format ms c.in_ok-limits.limits c.in_ok-limits.ensures) c.in_ok-peers.ensures in
     let lead = routes_sound c.in_ok-peers.peers.items ms c.in_ok-routes.routes.items (rw c.deref.ensures.value at c.in_ok-routes.ensures) in
     record {
       plan = plan_sound c.in_ok-workers.workers.items c.in_ok-passes.passes c.in_ok-peers.peers.items c.in_ok-routes.routes.items some
