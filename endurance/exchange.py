@@ -104,15 +104,33 @@ def spare_port(kind=socket.SOCK_DGRAM):
         return it.getsockname()[1]
 
 
+def is_spare(port):
+    with socket.socket(socket.AF_INET, socket.SOCK_DGRAM) as it:
+        try:
+            it.bind(("127.0.0.1", port))
+        except OSError:
+            return False
+    return True
+
+
+# Ports that the system gives nobody by itself, in blocks: scenes that run beside each other take theirs from different ones, so that none
+# takes a port that another has found to be spare. Each goes round in its block.
+BLOCK, FIRST_PORT, BLOCKS = 120, 11000, 175
+next_port = 0
+
+
 def spare_ports(count):
     """So many ports, no two the same."""
-    held = [socket.socket(socket.AF_INET, socket.SOCK_DGRAM) for _ in range(count)]
-    for it in held:
-        it.bind(("127.0.0.1", 0))
-    ports = [it.getsockname()[1] for it in held]
-    for it in held:
-        it.close()
-    return ports
+    global next_port
+    found = []
+    for _ in range(BLOCK):
+        port = FIRST_PORT + os.getpid() % BLOCKS * BLOCK + next_port % BLOCK
+        next_port += 1
+        if is_spare(port):
+            found.append(port)
+        if len(found) == count:
+            return found
+    raise Failed("there aren't enough spare ports")
 
 
 def within(what, look, seconds=PATIENCE):
