@@ -4,6 +4,7 @@
 
 mod calls;
 mod folder;
+mod hexadecimal;
 mod lane;
 mod marks;
 mod parts;

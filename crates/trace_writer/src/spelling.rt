@@ -3,6 +3,7 @@ ghost use Rattle.std.specs.Prelude.{◌≡◌, ◌++◌, ◌≤◌, OnOk, length
 ghost use Rattle.hex.specs.Hex.{encode_lower};
 ghost use Rattle.trace_writer.specs.Digits.{spells_digit, hidden, shown};
 
+use crate::hexadecimal::push_hex;
 use crate::marks::{Input, Mark};
 use peer_plan::{Endpoint, Plan};
 use std::alloc::{AllocError, Global};
@@ -47,31 +48,7 @@ fn is_digit(octets: &[u8]) -> bool
     octets.len() >= 12 && octets[0] >= 0x80 && matches!(octets[10] & 0x7f, 1 | 12)
 }
 
-// The octets in hexadecimal digits.
-fn push_hex(alloc: Global, text: &mut Vec<u8>, octets: &[u8]) -> Result<(), AllocError>
-    ensures { OnOk result (text.new.items ≡ text.old.items ++ encode_lower octets.now) }
-{
-    if octets.len() <= 256 {
-        return push_few(text, octets);
-    }
-    let digits = hex::encode(alloc, octets)?;
-    text.extend_from_slice(digits.as_bytes())
-}
-
-// The same of so few that they need no memory of their own: a mini frame has some 164.
-fn push_few(text: &mut Vec<u8>, octets: &[u8]) -> Result<(), AllocError>
-    requires { length octets.now ≤ 256 }
-    ensures { OnOk result (text.new.items ≡ text.old.items ++ encode_lower octets.now) }
-{
-    let mut room = [0u8; 512];
-    let digits = &mut room[..2 * octets.len()];
-    if hex::encode_to_slice(octets, digits).is_err() {
-        return Err(AllocError);
-    }
-    text.extend_from_slice(digits)
-}
-
-// The same of a frame that is a digit, with 0 in its place.
+// The octets of a frame that is a digit, with 0 in its place, in hexadecimal digits.
 fn push_hidden(alloc: Global, text: &mut Vec<u8>, octets: &[u8]) -> Result<(), AllocError>
     requires { 12 ≤ length octets.now }
     ensures { OnOk result (text.new.items ≡ text.old.items ++ encode_lower (hidden octets.now)) }
@@ -79,7 +56,7 @@ fn push_hidden(alloc: Global, text: &mut Vec<u8>, octets: &[u8]) -> Result<(), A
     let mut hidden = Vec::new(alloc);
     hidden.extend_from_slice(octets)?;
     hidden[11] = b'0';
-    push_hex(alloc, text, &hidden)
+    push_hex(text, &hidden)
 }
 
 // The octets of a datagram; of one that is a digit only that it is one, where they are hidden.
@@ -92,7 +69,7 @@ fn push_octets(
     ensures { OnOk result (text.new.items ≡ text.old.items ++ encode_lower (shown manner.shows_digits octets.now)) }
 {
     if manner.shows_digits || !is_digit(octets) {
-        push_hex(alloc, text, octets)
+        push_hex(text, octets)
     } else {
         push_hidden(alloc, text, octets)
     }
@@ -269,13 +246,15 @@ impl<'p> Script<'p> {
     // A datagram of a peer. One without octets can't be said by a script, and does nothing.
     fn push_datagram(&mut self, command: &str, peer: u16, octets: &[u8]) -> io::Result<()> {
         if octets.is_empty() {
-            self.text.write_all(b"# Without an octet: ")?;
+            self.text.extend_from_slice(b"# Without an octet: ")?;
         }
-        self.text.write_all(command.as_bytes())?;
-        self.text.write_all(name_of(self.plan, peer).as_bytes())?;
-        self.text.write_all(b" ")?;
+        self.text.extend_from_slice(command.as_bytes())?;
+        self.text
+            .extend_from_slice(name_of(self.plan, peer).as_bytes())?;
+        self.text.push(b' ')?;
         push_octets(self.alloc, self.manner, &mut self.text, octets)?;
-        self.text.write_all(b"\n")
+        self.text.push(b'\n')?;
+        Ok(())
     }
 
     // A datagram of nobody in the plan.
@@ -285,7 +264,7 @@ impl<'p> Script<'p> {
         }
         let [a, b, c, d] = from.address;
         write!(self.text, "stranger {a}.{b}.{c}.{d}:{} ", from.port)?;
-        push_hex(self.alloc, &mut self.text, octets)?;
+        push_hex(&mut self.text, octets)?;
         self.text.write_all(b"\n")
     }
 

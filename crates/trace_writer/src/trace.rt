@@ -187,7 +187,11 @@ impl Trace {
     /// Whether the datagram of a thread was turned away; then it isn't said again.
     pub(crate) fn take_turned_away(&self, thread: usize) -> bool {
         match self.lanes.get(thread) {
-            Some(notes) => notes.is_turned_away.swap(false, Ordering::SeqCst),
+            // (seldom is it so, and to look costs less than to write)
+            Some(notes) => {
+                notes.is_turned_away.load(Ordering::SeqCst)
+                    && notes.is_turned_away.swap(false, Ordering::SeqCst)
+            }
             None => false,
         }
     }

@@ -30,8 +30,8 @@ struct Taken {
 
 impl Taken {
     // The next mark, if there is one.
-    fn next(&self) -> Option<Mark> {
-        self.batch.marks.get(self.marks).copied()
+    fn next(&self) -> Option<&Mark> {
+        self.batch.marks.get(self.marks)
     }
 
     // The octets of that mark.
@@ -197,7 +197,7 @@ impl<'a, D: Folder> Writer<'a, D> {
 fn thread_of(taken: &[Taken], number: u64) -> Option<usize> {
     taken
         .iter()
-        .position(|one| one.next().map(|mark| mark.number) == Some(number))
+        .position(|one| one.next().is_some_and(|mark| mark.number == number))
 }
 
 // The lines of calls, in the order in which they began, as far as that is known. True if there were some.
@@ -210,7 +210,7 @@ fn tell_all<D: Folder>(taken: &mut [Taken], writer: &mut Writer<'_, D>) -> Resul
         let Some(one) = taken.get_mut(thread) else {
             break;
         };
-        let Some(mark) = one.next() else {
+        let Some(&mark) = one.next() else {
             break;
         };
         writer.tell(thread, &mark, one.octets(&mark))?;

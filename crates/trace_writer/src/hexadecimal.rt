@@ -1,0 +1,45 @@
+//! Hexadecimal digits.
+ghost use Rattle.std.specs.Prelude.{◌≡◌, ◌++◌, ◌*◌, ◌<◌, OnOk, length, slice_index};
+ghost use Rattle.hex.specs.Hex.{encode_lower, lower_digits};
+
+use std::alloc::AllocError;
+
+// What no datagram has: a text that is so long isn't made.
+const TOO_LONG: usize = 65_536;
+
+// The digit of a value.
+fn digit(value: u8) -> u8
+    requires { value < 16 }
+    ensures { result ≡ slice_index lower_digits value }
+{
+    if value < 10 {
+        b'0' + value
+    } else {
+        b'a' - 10 + value
+    }
+}
+
+// Each octet as two digits. A digit is reckoned, so that the processor does many at once: `hex`, which looks each up, takes three times as
+// long, and this is most of what a trace costs.
+fn write_digits(octets: &[u8], digits: &mut [u8])
+    requires { length digits.old ≡ 2 * length octets.now }
+    ensures { digits.new ≡ encode_lower octets.now }
+{
+    'octets: for i in 0..octets.len() {
+        digits[2 * i] = digit(octets[i] >> 4);
+        digits[2 * i + 1] = digit(octets[i] & 15);
+    }
+}
+
+/// Puts the octets behind a text, each as two digits. An error where there is no memory for them, or where there are 65,536 or more.
+pub(crate) fn push_hex(text: &mut Vec<u8>, octets: &[u8]) -> Result<(), AllocError>
+    ensures { OnOk result (text.new.items ≡ text.old.items ++ encode_lower octets.now) }
+{
+    if octets.len() >= TOO_LONG {
+        return Err(AllocError);
+    }
+    let before = text.len();
+    text.resize(before + 2 * octets.len(), 0)?;
+    write_digits(octets, &mut text[before..]);
+    Ok(())
+}
