@@ -1,11 +1,13 @@
 //! What the daemon shows: peers, calls, the accounts. Each as JSON.
-ghost use Rattle.std.specs.Prelude.{◌≡◌, ◌++◌, IfOk, OnErr, codes, option_copied, string_bytes};
-ghost use Rattle.serde_json.specs.View.{view};
+ghost use Rattle.std.specs.Prelude.{◌≡◌, ◌++◌, IfOk, OnErr, OnOk, codes, option_copied, string_bytes};
+ghost use Rattle.serde_json.specs.Data.{number, string, unsigned, put as with_member};
+ghost use Rattle.serde_json.specs.View.{view, members_view};
 ghost use Rattle.serde_json.specs.Written.{compact_text};
+ghost use Rattle.control_requests.specs.Members.{with_peer, with_traffic, with_parties, with_names, with_state};
 ghost use Rattle.control_requests.specs.Rows.{optional, optional_text, peer_data, call_data, accounts_data, followed, list_text};
 
 use crate::json_text::text_of;
-use serde_json::{Value, json};
+use serde_json::{Map, Value, put};
 use std::alloc::{AllocError, Global};
 use std::marker::Model;
 
@@ -96,58 +98,157 @@ fn optional_text(alloc: Global, text: Option<&str>) -> Result<Value, AllocError>
     }
 }
 
+// A number by a name.
+fn put_number(
+    alloc: Global,
+    members: &mut Map<String, Value>,
+    name: &str,
+    value: u64,
+) -> Result<(), AllocError>
+    ensures { OnOk result (members_view members.new.entries ≡ with_member name.now (number (unsigned value)) (members_view members.old.entries)) }
+{
+    put(members, alloc, name, Value::from(value))
+}
+
+// A text by a name.
+fn put_text(
+    alloc: Global,
+    members: &mut Map<String, Value>,
+    name: &str,
+    text: &str,
+) -> Result<(), AllocError>
+    ensures { OnOk result (members_view members.new.entries ≡ with_member name.now (string text.now) (members_view members.old.entries)) }
+{
+    let text = String::from_str(alloc, text)?;
+    put(members, alloc, name, Value::String(text))
+}
+
+// A number, or `null`, by a name.
+fn put_optional(
+    alloc: Global,
+    members: &mut Map<String, Value>,
+    name: &str,
+    value: Option<u64>,
+) -> Result<(), AllocError>
+    ensures { OnOk result (members_view members.new.entries ≡ with_member name.now (optional value) (members_view members.old.entries)) }
+{
+    put(members, alloc, name, optional(value))
+}
+
+// A text, or `null`, by a name.
+fn put_optional_text(
+    alloc: Global,
+    members: &mut Map<String, Value>,
+    name: &str,
+    text: Option<&str>,
+) -> Result<(), AllocError>
+    ensures { OnOk result (members_view members.new.entries ≡ with_member name.now (optional_text (option_copied text.entry)) (members_view members.old.entries)) }
+{
+    put(members, alloc, name, optional_text(alloc, text)?)
+}
+
+// Who a peer is, and what it has.
+fn put_peer(
+    alloc: Global,
+    members: &mut Map<String, Value>,
+    row: &PeerRow<'_>,
+) -> Result<(), AllocError>
+    ensures { OnOk result (members_view members.new.entries ≡ with_peer row.now (members_view members.old.entries)) }
+{
+    put_text(alloc, members, "endpoint", row.endpoint)?;
+    put_number(alloc, members, "legs", u64::from(row.legs))?;
+    put_text(alloc, members, "name", row.name)?;
+    put_number(alloc, members, "numbers", u64::from(row.numbers))?;
+    put_number(alloc, members, "worker", u64::from(row.worker))
+}
+
+// What was counted of a peer's datagrams.
+fn put_traffic(
+    alloc: Global,
+    members: &mut Map<String, Value>,
+    row: &PeerRow<'_>,
+) -> Result<(), AllocError>
+    ensures { OnOk result (members_view members.new.entries ≡ with_traffic row.now (members_view members.old.entries)) }
+{
+    put_number(alloc, members, "lost", row.lost)?;
+    put_number(alloc, members, "received", row.received)?;
+    put_number(alloc, members, "refused", row.refused)?;
+    put_number(alloc, members, "sent", row.sent)?;
+    put_optional(alloc, members, "silent_ms", row.silent_ms)
+}
+
 fn peer_value(alloc: Global, row: PeerRow<'_>) -> Result<Value, AllocError>
     ensures { IfOk result (λ value. view value ≡ peer_data row.entry) }
 {
-    let silent_ms = optional(row.silent_ms);
-    json!(in alloc; {
-        "endpoint": row.endpoint,
-        "legs": row.legs,
-        "lost": row.lost,
-        "name": row.name,
-        "numbers": row.numbers,
-        "received": row.received,
-        "refused": row.refused,
-        "sent": row.sent,
-        "silent_ms": silent_ms,
-        "worker": row.worker
-    })
+    let mut members = Map::new(alloc);
+    put_peer(alloc, &mut members, &row)?;
+    put_traffic(alloc, &mut members, &row)?;
+    Ok(Value::Object(members))
+}
+
+// Who calls whom.
+fn put_parties(
+    alloc: Global,
+    members: &mut Map<String, Value>,
+    row: &CallRow<'_>,
+) -> Result<(), AllocError>
+    ensures { OnOk result (members_view members.new.entries ≡ with_parties row.now (members_view members.old.entries)) }
+{
+    put_optional_text(alloc, members, "called", row.called)?;
+    put_optional_text(alloc, members, "calling", row.calling)?;
+    put_text(alloc, members, "format", row.format)?;
+    put_text(alloc, members, "peer", row.peer)?;
+    put_text(alloc, members, "stage", row.stage)
+}
+
+// By which numbers a leg is named.
+fn put_names(
+    alloc: Global,
+    members: &mut Map<String, Value>,
+    row: &CallRow<'_>,
+) -> Result<(), AllocError>
+    ensures { OnOk result (members_view members.new.entries ≡ with_names row.now (members_view members.old.entries)) }
+{
+    put_number(alloc, members, "number", u64::from(row.number))?;
+    put_optional(alloc, members, "partner", row.partner)?;
+    put_optional(alloc, members, "remote", row.remote)?;
+    put_number(alloc, members, "serial", row.serial)
+}
+
+// How long a leg is there, and what it keeps.
+fn put_state(
+    alloc: Global,
+    members: &mut Map<String, Value>,
+    row: &CallRow<'_>,
+) -> Result<(), AllocError>
+    ensures { OnOk result (members_view members.new.entries ≡ with_state row.now (members_view members.old.entries)) }
+{
+    put_number(alloc, members, "age_ms", row.age_ms)?;
+    put_number(alloc, members, "entries", row.entries)?;
+    put_number(alloc, members, "held", row.held)?;
+    put_number(alloc, members, "record_limit", row.record_limit)
 }
 
 fn call_value(alloc: Global, row: CallRow<'_>) -> Result<Value, AllocError>
     ensures { IfOk result (λ value. view value ≡ call_data row.entry) }
 {
-    let called = optional_text(alloc, row.called)?;
-    let calling = optional_text(alloc, row.calling)?;
-    let partner = optional(row.partner);
-    let remote = optional(row.remote);
-    json!(in alloc; {
-        "age_ms": row.age_ms,
-        "called": called,
-        "calling": calling,
-        "entries": row.entries,
-        "format": row.format,
-        "held": row.held,
-        "number": row.number,
-        "partner": partner,
-        "peer": row.peer,
-        "record_limit": row.record_limit,
-        "remote": remote,
-        "serial": row.serial,
-        "stage": row.stage
-    })
+    let mut members = Map::new(alloc);
+    put_parties(alloc, &mut members, &row)?;
+    put_names(alloc, &mut members, &row)?;
+    put_state(alloc, &mut members, &row)?;
+    Ok(Value::Object(members))
 }
 
 fn accounts_value(alloc: Global, row: AccountsRow) -> Result<Value, AllocError>
     ensures { IfOk result (λ value. view value ≡ accounts_data row) }
 {
-    json!(in alloc; {
-        "accepted": row.accepted,
-        "dropped": row.dropped,
-        "packed": row.packed,
-        "quelched": row.quelched,
-        "queued": row.queued
-    })
+    let mut members = Map::new(alloc);
+    put_number(alloc, &mut members, "accepted", row.accepted)?;
+    put_number(alloc, &mut members, "dropped", row.dropped)?;
+    put_number(alloc, &mut members, "packed", row.packed)?;
+    put_number(alloc, &mut members, "quelched", row.quelched)?;
+    put_number(alloc, &mut members, "queued", row.queued)?;
+    Ok(Value::Object(members))
 }
 
 /// The JSON of one call.
@@ -195,7 +296,7 @@ impl Model for Rows {
 }
 
 impl Rows {
-    ghost use Rattle.std.specs.Prelude.{[], OnOk};
+    ghost use Rattle.std.specs.Prelude.{[]};
 
     /// No rows yet.
     pub fn new(alloc: Global) -> Rows
