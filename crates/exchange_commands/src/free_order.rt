@@ -1,8 +1,8 @@
 //! In which order the free numbers of a peer are given out.
 ghost use Rattle.std.specs.Prelude.{◌<◌, length};
 
-use crate::player::peer_named;
 use crate::viewer::Stop;
+use crate::words::peer_of;
 use call_auth::Challenge;
 use exchange_core::{CallError, Exchange, NoGate, Pass};
 use peer_lock::Naming;
@@ -120,9 +120,7 @@ pub(crate) fn order_free<J: Naming, R: Wait>(
     now: u64,
     challenge: &Challenge,
 ) -> Result<(), Stop> {
-    let Some(peer) = peer_named(exchange.plan(), peer) else {
-        return Err(Stop::Script);
-    };
+    let peer = peer_of(exchange.plan(), peer)?;
     let numbers = numbers_in(alloc, text)?;
     if !is_order_of(&numbers, exchange.plan().range(peer))
         || has_leg(rt, exchange, pass, peer, &numbers)

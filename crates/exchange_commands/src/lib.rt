@@ -9,11 +9,13 @@ mod clock;
 mod digits;
 mod free_order;
 mod names;
+mod outboxes;
 mod player;
 mod printing;
 mod replaying;
 mod serving;
 mod viewer;
+mod words;
 
 pub use accounts::settle;
 pub use arguments::turn_count;
@@ -22,10 +24,10 @@ pub use checking::check;
 pub use clock::SinceOpening;
 pub use digits::Digits;
 pub use names::{call_error_name, order_error_name, refusal_name, stage_name};
-pub use player::peer_named;
 pub use replaying::{ReplayError, replay, replay_with, tell_outcome};
 pub use serving::{
-    PlainSockets, ServiceError, ServiceSeat, Sockets, reports_of, seats_of, serve,
-    service_error_name, wire_and_digits_of, write_reports,
+    PlainSockets, ServiceError, Sockets, reports_of, serve, service_error_name, wire_and_digits_of,
+    write_reports,
 };
 pub use viewer::{MediaAccounts, PeerOfPlan, Stop, Viewer};
+pub use words::peer_named;

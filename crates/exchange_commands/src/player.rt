@@ -1,18 +1,16 @@
 //! The lines of a script are played on an exchange, and a viewer is told what came of each.
-ghost use Rattle.std.specs.Prelude.{◌≡◌, ◌<◌, length, IfSome};
-
 use crate::free_order::order_free;
 use crate::names::{call_error_name, order_error_name, refusal_name};
+use crate::outboxes::{empty_outbox, empty_outboxes};
 use crate::viewer::{PeerOfPlan, Stop, Viewer};
+use crate::words::{endpoint_of, octets_of, peer_of};
 use call_auth::Challenge;
 use exchange_core::{Answer, Exchange, NoGate, Pass, Retired};
 use leg_machine::Stage;
 use peer_lock::{Naming, Status};
-use peer_plan::{Endpoint, Plan};
+use peer_plan::Plan;
 use script_lines::Line;
 use std::alloc::Global;
-use std::net::SocketAddrV4;
-use std::str;
 use std::sync::Wait;
 
 /// What is known between two lines.
@@ -26,18 +24,6 @@ pub struct Player {
     stages: Vec<Option<Stage>>,
     // The legs that were taken out since datagrams went out.
     retired: Vec<Retired>,
-}
-
-/// The place in the plan of the peer of a name; none where no peer has it.
-pub fn peer_named(plan: &Plan, name: &[u8]) -> Option<u16>
-    ensures { IfSome result (λ peer. peer < length plan.now.peers) }
-{
-    for peer in 0..plan.peer_count() {
-        if plan.name(peer).as_bytes() == name {
-            return Some(peer);
-        }
-    }
-    None
 }
 
 // How the leg of a number stands, at whatever peer.
@@ -57,64 +43,6 @@ fn status_of<J: Naming, R: Wait>(
         }
     }
     None
-}
-
-// The octets that these hexadecimal digits spell.
-fn octets_of(alloc: Global, digits: &[u8]) -> Result<Vec<u8>, Stop> {
-    match hex::decode(alloc, digits) {
-        Ok(octets) => Ok(octets),
-        Err(hex::FromHexError::OutOfMemory) => Err(Stop::Memory),
-        Err(_) => Err(Stop::Script),
-    }
-}
-
-// The endpoint that a text names, as `192.0.2.1:4569`.
-fn endpoint_of(text: &[u8]) -> Result<Endpoint, Stop> {
-    let Ok(text) = str::from_utf8(text) else {
-        return Err(Stop::Script);
-    };
-    match text.parse::<SocketAddrV4>() {
-        Ok(address) => Ok(Endpoint {
-            address: address.ip().octets(),
-            port: address.port(),
-        }),
-        Err(_) => Err(Stop::Script),
-    }
-}
-
-// All datagrams to a peer go out.
-fn empty_outbox<J: Naming, R: Wait, V: Viewer>(
-    rt: &R,
-    exchange: &Exchange<NoGate, J>,
-    pass: &mut Pass<J>,
-    place: u16,
-    moment: u64,
-    viewer: &mut V,
-) -> Result<(), Stop>
-    requires { place < length exchange.now.peers }
-{
-    let peer = PeerOfPlan::at(exchange.plan(), place);
-    for _ in 0..u64::MAX {
-        match exchange.take_out(rt, pass, place) {
-            Some(out) => viewer.sent(moment, peer, out.octets())?,
-            None => break,
-        }
-    }
-    Ok(())
-}
-
-// All datagrams go out, the peers in the order of the plan.
-fn empty_outboxes<J: Naming, R: Wait, V: Viewer>(
-    rt: &R,
-    exchange: &Exchange<NoGate, J>,
-    pass: &mut Pass<J>,
-    moment: u64,
-    viewer: &mut V,
-) -> Result<(), Stop> {
-    for place in 0..exchange.plan().peer_count() {
-        empty_outbox(rt, exchange, pass, place, moment, viewer)?;
-    }
-    Ok(())
 }
 
 impl Player {
@@ -244,9 +172,7 @@ impl Player {
         digits: &[u8],
         viewer: &mut V,
     ) -> Result<(), Stop> {
-        let Some(peer) = peer_named(exchange.plan(), peer) else {
-            return Err(Stop::Script);
-        };
+        let peer = peer_of(exchange.plan(), peer)?;
         let octets = octets_of(alloc, digits)?;
         let from = exchange.plan().endpoint(peer);
         let answer = exchange.datagram(
@@ -293,9 +219,7 @@ impl Player {
         number: &[u8],
         viewer: &mut V,
     ) -> Result<(), Stop> {
-        let Some(peer) = peer_named(exchange.plan(), peer) else {
-            return Err(Stop::Script);
-        };
+        let peer = peer_of(exchange.plan(), peer)?;
         if let Err(error) = exchange.call(rt, pass, peer, number, self.now) {
             viewer.refused(self.now, call_error_name(error))?;
         }
@@ -347,9 +271,7 @@ impl Player {
         peer: &[u8],
         viewer: &mut V,
     ) -> Result<(), Stop> {
-        let Some(peer) = peer_named(exchange.plan(), peer) else {
-            return Err(Stop::Script);
-        };
+        let peer = peer_of(exchange.plan(), peer)?;
         let answer = exchange.tick(rt, pass, peer, self.now);
         self.answered(answer, viewer)
     }
@@ -393,9 +315,7 @@ impl Player {
         peer: &[u8],
         viewer: &mut V,
     ) -> Result<(), Stop> {
-        let Some(peer) = peer_named(exchange.plan(), peer) else {
-            return Err(Stop::Script);
-        };
+        let peer = peer_of(exchange.plan(), peer)?;
         empty_outbox(rt, exchange, pass, peer, self.now, viewer)?;
         self.tell_changes(rt, exchange, pass, viewer)
     }

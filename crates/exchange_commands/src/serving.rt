@@ -87,7 +87,7 @@ pub fn service_error_name(error: ServiceError) -> Option<&'static str> {
 }
 
 /// A worker over a UDP socket of the system, by its clock.
-pub type ServiceSeat<'r, R, J, P> = Seat<MioWire, SinceOpening<'r, R>, Digits, J, P>;
+type ServiceSeat<'r, R, J, P> = Seat<MioWire, SinceOpening<'r, R>, Digits, J, P>;
 
 /// What is done with the socket of each worker once it is bound.
 pub trait Sockets {
@@ -174,7 +174,7 @@ fn seat_of<'r, J: Naming, P: Post, R: Clock + Net + RandomSource, S: Sockets>(
 ///
 /// `Bind`, `Entropy`, `Memory`: a socket isn't bound, the system gives no random octets, a request for memory was refused. Then the
 /// passes that were taken are gone.
-pub fn seats_of<'r, J: Naming, P: Post, R: Clock + Net + RandomSource, S: Sockets>(
+fn seats_of<'r, J: Naming, P: Post, R: Clock + Net + RandomSource, S: Sockets>(
     rt: &'r R,
     alloc: Global,
     plan: &Plan,

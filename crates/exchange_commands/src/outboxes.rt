@@ -1,0 +1,42 @@
+//! Datagrams go out, and a viewer sees them.
+ghost use Rattle.std.specs.Prelude.{◌<◌, length};
+
+use crate::viewer::{PeerOfPlan, Stop, Viewer};
+use exchange_core::{Exchange, NoGate, Pass};
+use peer_lock::Naming;
+use std::sync::Wait;
+
+/// All datagrams to a peer go out.
+pub(crate) fn empty_outbox<J: Naming, R: Wait, V: Viewer>(
+    rt: &R,
+    exchange: &Exchange<NoGate, J>,
+    pass: &mut Pass<J>,
+    place: u16,
+    moment: u64,
+    viewer: &mut V,
+) -> Result<(), Stop>
+    requires { place < length exchange.now.peers }
+{
+    let peer = PeerOfPlan::at(exchange.plan(), place);
+    for _ in 0..u64::MAX {
+        match exchange.take_out(rt, pass, place) {
+            Some(out) => viewer.sent(moment, peer, out.octets())?,
+            None => break,
+        }
+    }
+    Ok(())
+}
+
+/// All datagrams go out, the peers in the order of the plan.
+pub(crate) fn empty_outboxes<J: Naming, R: Wait, V: Viewer>(
+    rt: &R,
+    exchange: &Exchange<NoGate, J>,
+    pass: &mut Pass<J>,
+    moment: u64,
+    viewer: &mut V,
+) -> Result<(), Stop> {
+    for place in 0..exchange.plan().peer_count() {
+        empty_outbox(rt, exchange, pass, place, moment, viewer)?;
+    }
+    Ok(())
+}
