@@ -1,19 +1,16 @@
 //! What the service's own thread does beside the workers: clients of the control socket and of the metrics' address ask and are
 //! answered, one after another; the log is written; a stop drains the exchange.
 use crate::client::{Client, Stage};
-use crate::desk::Desk;
 use crate::doors::{Door, Doors, Stream};
-use crate::drain::Drain;
 use crate::journal::Journal;
 use crate::running::Settings;
-use crate::scraping::answer_scrape;
-use crate::socket_drops::SocketTable;
-use crate::telling::Told;
 use control_requests::{Answer, Reading, Request, Status};
 use log::{Log, warn};
 use mio::unix::SourceFd;
 use mio::{Events, Interest, Poll, Token};
 use peer_lock::Naming;
+use service_desk::{Desk, Drain};
+use service_telemetry::{SocketTable, Told, answer_scrape};
 use std::alloc::{AllocError, Global};
 use std::fs::{File, Files};
 use std::io;

@@ -1,18 +1,17 @@
 //! The files that are written while a service runs, the records of ended legs and the trace: what is made for them, and the thread that
 //! writes each beside the others.
-use crate::calls_told::tell_end;
 use crate::control::Control;
-use crate::desk::Desk;
 use crate::journal::Journal;
-use crate::running::{Settings, TraceOptions, serve_seats};
-use crate::service_watch::ServiceWatch;
-use crate::tracing::TracedSeat;
+use crate::running::{Settings, TraceOptions};
+use crate::seating::serve_seats;
 use call_writer::{Calendar, CallOutlets, CallRows, Disk, write_calls};
 use exchange_commands::ServiceError;
 use exchange_core::NoGate;
 use jiff::Timestamp;
 use peer_lock::Naming;
 use peer_plan::Plan;
+use service_desk::{Desk, ServiceWatch};
+use service_telemetry::tell_end;
 use std::alloc::{AllocError, Global};
 use std::io::ErrorKind;
 use std::net::Net;
@@ -22,6 +21,7 @@ use std::thread;
 use std::thread::Threads;
 use std::time::{Clock, Instant, SystemTime};
 use trace_writer::{Folder, Trace, TraceFile, TraceFolder, TraceNotes, TraceSettings, write_trace};
+use traced_seats::TracedSeat;
 use udp_workers::{Post, WatchedExchange};
 
 /// What a thread needs that writes the rows of ended legs to a file.
@@ -211,9 +211,9 @@ fn serve_traced<
     desk: &mut Desk<'_, J>,
     control: &mut Control<'_>,
     opened: Instant,
-    tracing: Option<Tracing<'_>>,
+    tracing: &mut Option<Tracing<'_>>,
 ) -> bool {
-    match tracing {
+    match tracing.take() {
         Some(tracing) => serve_beside_tracer(
             rt, disk, service, seats, desk, control, opened, tracing,
         ),
@@ -236,12 +236,10 @@ fn serve_beside_writer<
     desk: &mut Desk<'_, J>,
     control: &mut Control<'_>,
     opened: Instant,
+    outlets: &CallOutlets,
     records: Records<'_>,
-    tracing: Option<Tracing<'_>>,
+    tracing: &mut Option<Tracing<'_>>,
 ) -> bool {
-    let Some(outlets) = service.watch.calls() else {
-        return false;
-    };
     let level = control.settings.level;
     let Records {
         path,
@@ -276,13 +274,13 @@ pub(crate) fn serve_written<
     desk: &mut Desk<'_, J>,
     control: &mut Control<'_>,
     opened: Instant,
-    written: Written<'_>,
+    written: &mut Written<'_>,
 ) -> bool {
     let Written { records, tracing } = written;
-    match records {
-        Some(records) => serve_beside_writer(
-            rt, disk, service, seats, desk, control, opened, records, tracing,
+    match (service.watch.calls(), records.take()) {
+        (Some(outlets), Some(records)) => serve_beside_writer(
+            rt, disk, service, seats, desk, control, opened, outlets, records, tracing,
         ),
-        None => serve_traced(rt, disk, service, seats, desk, control, opened, tracing),
+        _ => serve_traced(rt, disk, service, seats, desk, control, opened, tracing),
     }
 }

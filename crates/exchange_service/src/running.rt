@@ -1,18 +1,13 @@
 //! A service: the workers of a plan serve until they are told to stop.
-ghost use Rattle.std.specs.Prelude.{◌≡◌, ◌+◌, ◌<◌, ◌≤◌, ◌^◌, IfOk, length, vec_len};
+ghost use Rattle.std.specs.Prelude.{◌≡◌, ◌+◌, ◌≤◌, ◌^◌, length, vec_len};
 
 use crate::control::Control;
-use crate::desk::Desk;
 use crate::doors::Doors;
-use crate::journal::Journal;
-use crate::receive_buffer::ReceiveBuffer;
-use crate::recording::{Written, serve_written, watch_of};
-use crate::service_watch::ServiceWatch;
+use crate::recording::watch_of;
+use crate::seating::serve_watched;
 use crate::socket_file;
-use crate::telling::tell_start;
-use crate::tracing::{TracedSeat, lane_of, traced_seats_of};
 use call_writer::Disk;
-use exchange_commands::{ServiceError, reports_of, service_error_name, settle, write_reports};
+use exchange_commands::{ServiceError, service_error_name, settle, write_reports};
 use exchange_core::{Exchange, NoGate, Pass};
 use log::LevelFilter;
 use media_ledger::Blank;
@@ -22,16 +17,16 @@ use peer_plan::Plan;
 use std::alloc::Global;
 use std::fs::{File, Files};
 use std::io::{ErrorKind, Write};
-use std::marker::{Brand, PhantomData};
+use std::marker::Brand;
 use std::net::{Net, SocketAddr};
 use std::random::RandomSource;
 use std::sync::Wait;
 use std::sync::ledger::Ledger;
 use std::thread::Threads;
 use std::time::{Clock, Instant};
-use std::{fs, io, thread};
-use trace_writer::{Folder, Trace, TraceLane};
-use udp_workers::{Post, TurnReport, WatchedExchange, start_until};
+use std::{fs, io};
+use trace_writer::Folder;
+use udp_workers::Post;
 
 /// How a service is run.
 #[derive(Clone, Copy)]
@@ -67,145 +62,13 @@ pub struct TraceOptions<'a> {
     pub shows_digits: bool,
 }
 
-/// The workers serve beside the control socket until they are told to end. False if a thread was refused: then they end at once.
-pub(crate) fn serve_seats<
-    J: Naming,
-    P: Post + Send + Sync,
-    R: Clock + Eprint + Net + RandomSource + Threads + Wait + Sync,
->(
-    rt: &R,
-    service: &WatchedExchange<'_, ServiceWatch, NoGate, J, P>,
-    seats: &[TracedSeat<'_, R, J, P>],
-    desk: &mut Desk<'_, J>,
-    control: &mut Control<'_>,
-    opened: Instant,
-) -> bool {
-    thread::scope(thread::scope_env(), rt, |scope| {
-        let started = start_until(rt, scope, service, seats);
-        control.run(rt, desk, opened);
-        started
-    })
-}
-
-// The seats of the workers. The log tells the start, and what room their sockets have.
-fn told_seats<'r, J: Naming, P: Post, R: Clock + Eprint + Net + RandomSource + Wait>(
-    rt: &'r R,
-    alloc: Global,
-    plan: &'r Plan,
-    passes: &mut Vec<Pass<J>>,
-    settings: &Settings<'_>,
-    opened: Instant,
-    trace: Option<&'r Trace>,
-) -> Result<Vec<TracedSeat<'r, R, J, P>>, ServiceError>
-    requires plan { plan.now ≡ P.plan }
-    requires enough { length plan.now.workers ≤ vec_len passes.old }
-    ensures { IfOk result (λ seats. vec_len seats ≤ 8) }
-{
-    let log = Journal {
-        rt,
-        level: settings.level,
-    };
-    tell_start(&log, plan, settings.version, settings.plan_path);
-    let sockets = ReceiveBuffer { log: &log };
-    traced_seats_of::<J, P, R, ReceiveBuffer<'_, Journal<'_, R>>>(
-        rt, alloc, plan, passes, opened, &sockets, trace,
-    )
-}
-
-// Has the seats serve so, beside a control socket with a pass of its own, which is given back. None if a thread was refused.
-fn serve_seated<
-    J: Naming,
-    P: Post + Send + Sync,
-    R: Clock + Eprint + Net + RandomSource + Threads + Wait + Sync,
-    D: Disk + Folder + Sync,
->(
-    rt: &R,
-    disk: &D,
-    exchange: &Exchange<NoGate, J>,
-    watch: &ServiceWatch,
-    written: Written<'_>,
-    seats: &[TracedSeat<'_, R, J, P>],
-    pass: Pass<J>,
-    lane: Option<TraceLane<'_>>,
-    control: &mut Control<'_>,
-    opened: Instant,
-) -> Option<Pass<J>>
-    requires plan { exchange.now ≡ P.plan }
-{
-    let settings = control.settings;
-    let mut desk = Desk {
-        exchange,
-        pass,
-        watch,
-        lane,
-        calls: settings.calls,
-        trace: settings.trace.map(|options| options.path),
-    };
-    let service = WatchedExchange {
-        exchange,
-        watch,
-        post: PhantomData,
-    };
-    let is_served = serve_written(
-        rt, disk, &service, seats, &mut desk, control, opened, written,
-    );
-    let Desk { pass, .. } = desk;
-    is_served.then_some(pass)
-}
-
-// The seats' passes go back to the others, and so does that of the socket, which there is where they served.
-fn give_back<J: Naming, P: Post, R: Clock + Wait>(
-    alloc: Global,
-    seats: Vec<TracedSeat<'_, R, J, P>>,
-    pass: Option<Pass<J>>,
-    passes: &mut Vec<Pass<J>>,
-) -> Result<Vec<TurnReport>, ServiceError> {
-    let Some(pass) = pass else {
-        return Err(ServiceError::NoThread);
-    };
-    if passes.push(pass).is_err() {
-        return Err(ServiceError::Memory);
-    }
-    reports_of(alloc, seats, passes)
-}
-
-// Has the workers of the plan serve so; their passes and that of the socket go back to the others.
-fn serve_watched<
-    J: Naming,
-    P: Post + Send + Sync,
-    R: Clock + Eprint + Net + RandomSource + Threads + Wait + Sync,
-    D: Disk + Folder + Sync,
->(
-    rt: &R,
-    disk: &D,
-    alloc: Global,
-    exchange: &Exchange<NoGate, J>,
-    watch: &ServiceWatch,
-    written: Written<'_>,
-    passes: &mut Vec<Pass<J>>,
-    control: &mut Control<'_>,
-    opened: Instant,
-) -> Result<Vec<TurnReport>, ServiceError>
-    requires plan { exchange.now ≡ P.plan }
-    requires enough { length exchange.now.workers + 1 ≤ vec_len passes.old }
-{
-    let (plan, trace) = (exchange.plan(), watch.trace());
-    let lane = lane_of(alloc, trace, plan.workers().len())?;
-    let pass = passes.remove(0);
-    let settings = control.settings;
-    let seats = told_seats::<J, P, R>(rt, alloc, plan, passes, settings, opened, trace)?;
-    let pass = serve_seated::<J, P, R, D>(
-        rt, disk, exchange, watch, written, &seats, pass, lane, control, opened,
-    );
-    give_back(alloc, seats, pass, passes)
-}
-
-// The same, with a watch that is made for it.
+// Has the workers of the plan serve, with a watch that is made for it, and writes their reports.
 fn serve_beside<
     J: Naming,
     P: Post + Send + Sync,
     R: Clock + Eprint + Net + RandomSource + Threads + Wait + Sync,
     D: Disk + Folder + Sync,
+    W: Write,
 >(
     rt: &R,
     disk: &D,
@@ -214,17 +77,27 @@ fn serve_beside<
     passes: &mut Vec<Pass<J>>,
     control: &mut Control<'_>,
     opened: Instant,
-) -> Result<Vec<TurnReport>, ServiceError>
+    writer: &mut W,
+) -> Result<(), ServiceError>
     requires plan { exchange.now ≡ P.plan }
     requires enough { length exchange.now.workers + 1 ≤ vec_len passes.old }
 {
-    let (watch, written) = watch_of(rt, disk, alloc, exchange.plan(), control.settings)?;
-    serve_watched::<J, P, R, D>(
-        rt, disk, alloc, exchange, &watch, written, passes, control, opened,
-    )
+    let (watch, mut written) = watch_of(rt, disk, alloc, exchange.plan(), control.settings)?;
+    let reports = serve_watched::<J, P, R, D>(
+        rt,
+        disk,
+        alloc,
+        exchange,
+        &watch,
+        &mut written,
+        passes,
+        control,
+        opened,
+    );
+    Ok(write_reports(&reports?, writer)?)
 }
 
-// The same, on an exchange that is opened for it; then the reports of the workers and its accounts are written.
+// The same, on an exchange that is opened for it; then its accounts are written.
 fn work<
     J: Naming,
     P: Post + Send + Sync,
@@ -253,7 +126,7 @@ fn work<
     let _passes = plan.passes();
     let (exchange, passes) = Exchange::<NoGate, J>::open(alloc, plan, NoGate, octets, steps)?;
     let mut passes = passes;
-    let reports = serve_beside::<J, P, R, D>(
+    let served = serve_beside::<J, P, R, D, W>(
         rt,
         disk,
         alloc,
@@ -261,9 +134,12 @@ fn work<
         &mut passes,
         control,
         opened,
-    )?;
-    write_reports(&reports, writer)?;
-    settle(exchange, passes, writer)
+        writer,
+    );
+    match served {
+        Ok(()) => settle(exchange, passes, writer),
+        Err(error) => Err(error),
+    }
 }
 
 // The same, by the ledgers and the plan that the caller names.

@@ -5,7 +5,7 @@ use std::sync::Wait;
 
 /// How far a drain is.
 #[derive(Clone, Copy, Debug, PartialEq, Eq)]
-pub(crate) struct Drain {
+pub struct Drain {
     /// How long it lasts at most, in milliseconds.
     limit: u64,
     // When it began.
@@ -14,7 +14,7 @@ pub(crate) struct Drain {
 
 impl Drain {
     /// A drain that hasn't begun.
-    pub(crate) fn new(limit: u64) -> Drain {
+    pub fn new(limit: u64) -> Drain {
         Drain { limit, since: None }
     }
 
@@ -26,7 +26,7 @@ impl Drain {
     }
 
     /// Where the service drains: hangs up what is still up, and ends the workers once no leg is left or its time is over.
-    pub(crate) fn go_on<R: Wait, J: Naming>(&mut self, rt: &R, desk: &mut Desk<'_, J>, now: u64) {
+    pub fn go_on<R: Wait, J: Naming>(&mut self, rt: &R, desk: &mut Desk<'_, J>, now: u64) {
         if !desk.is_draining() {
             return;
         }

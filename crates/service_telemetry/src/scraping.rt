@@ -1,15 +1,13 @@
 //! The metrics of a service, as they are now.
 ghost use Rattle.std.specs.Prelude.{◌<◌, length};
 
-use crate::desk::Desk;
-use crate::legs::count_legs;
-use crate::service_watch::{REFUSALS, ServiceWatch};
 use crate::socket_drops::{SocketTable, drop_counts};
 use control_requests::{Answer, Methods, Request, Status};
 use exchange_commands::refusal_name;
 use exchange_core::{Exchange, NoGate, Pass};
 use peer_lock::Naming;
 use peer_plan::Plan;
+use service_desk::{Desk, REFUSALS, ServiceWatch, count_legs};
 use service_report::{
     Family, Figure, Kind, Label, Labels, Metrics, PeerFigures, Sample, Scrape, scrape_of,
 };
@@ -150,10 +148,11 @@ fn push_refusals(
     metrics.push(alloc, &family)
 }
 
-// A count of the whole service.
-fn push_total(
+// A value of the whole service.
+fn push_value(
     alloc: Global,
     metrics: &mut Metrics,
+    kind: Kind,
     name: &str,
     help: &str,
     value: u64,
@@ -162,7 +161,7 @@ fn push_total(
     let family = Family {
         name,
         help,
-        kind: Kind::Counter,
+        kind,
         samples: &[Sample { labels, value }],
     };
     metrics.push(alloc, &family)
@@ -201,16 +200,18 @@ fn push_totals(
     metrics: &mut Metrics,
     watch: &ServiceWatch,
 ) -> Result<(), AllocError> {
-    push_total(
+    push_value(
         alloc,
         metrics,
+        Kind::Counter,
         "iax_strangers_total",
         "Datagrams that came from no peer of the plan.",
         watch.strangers(),
     )?;
-    push_total(
+    push_value(
         alloc,
         metrics,
+        Kind::Counter,
         "iax_socket_faults_total",
         "Calls of the workers' sockets that failed.",
         watch.faults(),
@@ -227,23 +228,26 @@ fn push_calls(
         return Ok(());
     };
     let state = calls.state();
-    push_total(
+    push_value(
         alloc,
         metrics,
+        Kind::Counter,
         "iax_call_records_written_total",
         "Records of ended call legs that were written to the file.",
         state.written,
     )?;
-    push_total(
+    push_value(
         alloc,
         metrics,
+        Kind::Counter,
         "iax_call_records_lost_total",
         "Records of ended call legs that were lost, since too many waited.",
         state.lost,
     )?;
-    push_gauge(
+    push_value(
         alloc,
         metrics,
+        Kind::Gauge,
         "iax_call_records_waiting",
         "Records of ended call legs that wait for the file.",
         state.waiting,
@@ -260,44 +264,30 @@ fn push_trace(
         return Ok(());
     };
     let state = trace.state();
-    push_total(
+    push_value(
         alloc,
         metrics,
+        Kind::Counter,
         "iax_trace_octets_written_total",
         "Octets that were written to the files of the trace.",
         state.written,
     )?;
-    push_total(
+    push_value(
         alloc,
         metrics,
+        Kind::Counter,
         "iax_trace_calls_lost_total",
         "Datagrams, ticks and orders that the trace lacks.",
         state.lost,
     )?;
-    push_gauge(
+    push_value(
         alloc,
         metrics,
+        Kind::Gauge,
         "iax_trace_up",
         "Whether the trace is written: 0 once it can't be written to.",
         u64::from(state.fault.is_none()),
     )
-}
-
-fn push_gauge(
-    alloc: Global,
-    metrics: &mut Metrics,
-    name: &str,
-    help: &str,
-    value: u64,
-) -> Result<(), AllocError> {
-    let labels = Labels::None;
-    let family = Family {
-        name,
-        help,
-        kind: Kind::Gauge,
-        samples: &[Sample { labels, value }],
-    };
-    metrics.push(alloc, &family)
 }
 
 // The answer to `GET /metrics`.
@@ -323,7 +313,7 @@ fn metrics_answer<J: Naming, R: Wait>(
 }
 
 /// Answers a request to the address of the metrics: `GET /metrics`, and nothing else.
-pub(crate) fn answer_scrape<J: Naming, R: Wait>(
+pub fn answer_scrape<J: Naming, R: Wait>(
     rt: &R,
     alloc: Global,
     desk: &mut Desk<'_, J>,

@@ -2,9 +2,6 @@
 ghost use Rattle.std.specs.Prelude.{◌<◌, length};
 
 use crate::calls_told::CallsTold;
-use crate::desk::Desk;
-use crate::legs::count_legs;
-use crate::service_watch::{REFUSALS, STRANGERS, ServiceWatch};
 use crate::socket_drops::{SocketTable, drop_counts};
 use crate::strangers::Strangers;
 use crate::trace_told::TraceTold;
@@ -13,6 +10,7 @@ use exchange_core::{Exchange, NoGate, Pass};
 use log::{Level, Log, debug, info, log_enabled, warn};
 use peer_lock::Naming;
 use peer_plan::{Endpoint, Plan};
+use service_desk::{Desk, REFUSALS, STRANGERS, ServiceWatch, count_legs};
 use service_report::{Hearing, News, Rounds, counted_since, news_of};
 use std::alloc::{AllocError, Global};
 use std::sync::Wait;
@@ -41,7 +39,7 @@ struct PeerTold {
 
 /// What was told of a service.
 #[derive(Drop)]
-pub(crate) struct Told {
+pub struct Told {
     stage: ServiceStage,
     peers: Vec<PeerTold>,
     // The drops of each worker's socket.
@@ -175,7 +173,7 @@ fn tell_drops_of<L: Log>(log: &L, worker: &str, drops: u64, seconds: u64) {
 
 impl Told {
     /// Nothing was told yet of a service that began at this moment.
-    pub(crate) fn new(alloc: Global, plan: &Plan, now: u64) -> Result<Told, AllocError> {
+    pub fn new(alloc: Global, plan: &Plan, now: u64) -> Result<Told, AllocError> {
         let mut peers = Vec::new(alloc);
         for _ in 0..plan.peer_count() {
             if peers.push(PeerTold::new(alloc)?).is_err() {
@@ -338,7 +336,7 @@ impl Told {
     }
 
     /// Tells what is to be told at this moment.
-    pub(crate) fn look<L: Log, J: Naming, R: Wait>(
+    pub fn look<L: Log, J: Naming, R: Wait>(
         &mut self,
         rt: &R,
         log: &L,
@@ -366,7 +364,7 @@ impl Told {
     }
 
     /// Tells the rest, at the end.
-    pub(crate) fn end<L: Log, J: Naming, R: Wait>(
+    pub fn end<L: Log, J: Naming, R: Wait>(
         &mut self,
         rt: &R,
         log: &L,
@@ -384,7 +382,7 @@ impl Told {
 }
 
 /// Tells what is served: the program's version, the plan's file, the endpoints.
-pub(crate) fn tell_start<L: Log>(log: &L, plan: &Plan, version: &str, path: &str) {
+pub fn tell_start<L: Log>(log: &L, plan: &Plan, version: &str, path: &str) {
     info!(log; "exchange_main {version} serves {path}");
     for (place, endpoint) in plan.workers().iter().enumerate() {
         let Endpoint { address, port } = *endpoint;

@@ -1,5 +1,5 @@
 use Rattle.std.proofs.Common.{◌≡◌, ◌+◌, ◌≤◌, vec_len}
-use Rattle.exchange_service.proofs.tracing.traced_seats_of.Given as goal
+use Rattle.traced_seats.proofs.seats.traced_seats_of.Given as goal
 
 abbrev pub invariant-loop-place : goal.invariant-loop-place
 invariant-loop-place g l = record {

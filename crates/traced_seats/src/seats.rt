@@ -18,7 +18,7 @@ use udp_workers::{Challenges, MioWire, Moments, Post, Seat, Wire, WireFault, Wor
 
 /// A wire whose datagrams are noted, where there is a trace.
 #[derive(Drop)]
-pub(crate) struct TracedWire<'t, R: Wait> {
+pub struct TracedWire<'t, R: Wait> {
     rt: &'t R,
     wire: MioWire,
     plan: &'t Plan,
@@ -27,7 +27,7 @@ pub(crate) struct TracedWire<'t, R: Wait> {
 
 /// Moments that are told to the trace, where there is one.
 #[derive(Drop)]
-pub(crate) struct TracedMoments<'t, R: Clock> {
+pub struct TracedMoments<'t, R: Clock> {
     moments: SinceOpening<'t, R>,
     trace: Option<&'t Trace>,
     thread: usize,
@@ -35,7 +35,7 @@ pub(crate) struct TracedMoments<'t, R: Clock> {
 
 /// Challenges that are told to the trace, where there is one.
 #[derive(Drop)]
-pub(crate) struct TracedDigits<'t, R: Wait> {
+pub struct TracedDigits<'t, R: Wait> {
     rt: &'t R,
     digits: Digits,
     trace: Option<&'t Trace>,
@@ -43,7 +43,7 @@ pub(crate) struct TracedDigits<'t, R: Wait> {
 }
 
 /// A worker of a service.
-pub(crate) type TracedSeat<'t, R, J, P> = Seat<
+pub type TracedSeat<'t, R, J, P> = Seat<
     TracedWire<'t, R>,
     TracedMoments<'t, R>,
     TracedDigits<'t, R>,
@@ -140,8 +140,8 @@ impl<'t, R: Wait> Challenges for TracedDigits<'t, R> {
     }
 }
 
-// The lane of a thread, where there is a trace.
-pub(crate) fn lane_of<'t>(
+/// The lane of a thread, where there is a trace.
+pub fn lane_of<'t>(
     alloc: Global,
     trace: Option<&'t Trace>,
     thread: usize,
@@ -213,13 +213,7 @@ fn seat_of<'t, J: Naming, P: Post, R: Clock + Net + RandomSource + Wait, S: Sock
 }
 
 /// The seats of all workers of the plan, in its order, at most 8, with what each tells the trace. Each takes the next pass.
-pub(crate) fn traced_seats_of<
-    't,
-    J: Naming,
-    P: Post,
-    R: Clock + Net + RandomSource + Wait,
-    S: Sockets,
->(
+pub fn traced_seats_of<'t, J: Naming, P: Post, R: Clock + Net + RandomSource + Wait, S: Sockets>(
     rt: &'t R,
     alloc: Global,
     plan: &'t Plan,

@@ -101,7 +101,7 @@ pub(crate) fn hang_up_all<J: Naming, R: Wait>(
 }
 
 /// How many legs a peer has.
-pub(crate) fn count_legs<J: Naming, R: Wait>(
+pub fn count_legs<J: Naming, R: Wait>(
     rt: &R,
     exchange: &Exchange<NoGate, J>,
     pass: &mut Pass<J>,

@@ -19,10 +19,10 @@ const DRAINING: u64 = 1;
 const ENDED: u64 = 2;
 
 /// How many strangers are kept until the log takes them.
-pub(crate) const STRANGERS: usize = 256;
+pub const STRANGERS: usize = 256;
 
 /// Why a datagram of a peer is refused.
-pub(crate) const REFUSALS: [Refusal; 14] = [
+pub const REFUSALS: [Refusal; 14] = [
     Refusal::StepsSpent,
     Refusal::TooLong,
     Refusal::Short,
@@ -64,21 +64,21 @@ struct PeerMarks {
 
 /// What is counted of a peer since the service began, modulo 2^64.
 #[derive(Clone, Copy, Debug, Default, PartialEq, Eq)]
-pub(crate) struct PeerMarksRead {
+pub struct PeerMarksRead {
     /// The moment at which it was last heard, in milliseconds since the exchange was opened.
-    pub(crate) heard: Option<u64>,
-    pub(crate) received: u64,
+    pub heard: Option<u64>,
+    pub received: u64,
     /// Those that were turned away among them.
-    pub(crate) refused: u64,
-    pub(crate) turned_away: u64,
-    pub(crate) sent: u64,
-    pub(crate) lost: u64,
-    pub(crate) legs_ended: u64,
+    pub refused: u64,
+    pub turned_away: u64,
+    pub sent: u64,
+    pub lost: u64,
+    pub legs_ended: u64,
 }
 
 /// How far a service is, and what its workers tell of each peer. All threads share it.
 #[derive(Drop)]
-pub(crate) struct ServiceWatch {
+pub struct ServiceWatch {
     stage: AtomicU64,
     peers: Vec<PeerMarks>,
     strangers: AtomicU64,
@@ -149,7 +149,7 @@ fn count_one(count: &AtomicU64) {
 impl ServiceWatch {
     /// A service that serves, with the peers of a plan, of which nothing was heard. The rows of ended legs go to these outlets, if there
     /// are some, and what the exchange is given is noted in the trace, if there is one.
-    pub(crate) fn new(
+    pub fn new(
         alloc: Global,
         plan: &Plan,
         calls: Option<CallOutlets>,
@@ -176,7 +176,7 @@ impl ServiceWatch {
     }
 
     /// What was counted of a peer, by its place in the plan; nothing of a place where there is none.
-    pub(crate) fn marks(&self, peer: u16) -> PeerMarksRead {
+    pub fn marks(&self, peer: u16) -> PeerMarksRead {
         match self.peers.get(usize::from(peer)) {
             Some(marks) => marks.read(),
             None => PeerMarksRead::default(),
@@ -184,7 +184,7 @@ impl ServiceWatch {
     }
 
     /// How many datagrams of a peer were refused for this reason.
-    pub(crate) fn refused_for(&self, peer: u16, refusal: Refusal) -> u64 {
+    pub fn refused_for(&self, peer: u16, refusal: Refusal) -> u64 {
         match self.peers.get(usize::from(peer)) {
             Some(marks) => match marks.refused_for(refusal) {
                 Some(count) => count.load(Ordering::Relaxed),
@@ -195,33 +195,33 @@ impl ServiceWatch {
     }
 
     /// Where the rows of ended legs go, if they are wanted.
-    pub(crate) fn calls(&self) -> Option<&CallOutlets> {
+    pub fn calls(&self) -> Option<&CallOutlets> {
         self.calls.as_ref()
     }
 
     /// Where it is noted what the exchange is given, if that is wanted.
-    pub(crate) fn trace(&self) -> Option<&Trace> {
+    pub fn trace(&self) -> Option<&Trace> {
         self.trace.as_ref()
     }
 
     /// How many datagrams came from strangers.
-    pub(crate) fn strangers(&self) -> u64 {
+    pub fn strangers(&self) -> u64 {
         self.strangers.load(Ordering::Relaxed)
     }
 
     /// How many calls of the sockets failed.
-    pub(crate) fn faults(&self) -> u64 {
+    pub fn faults(&self) -> u64 {
         self.faults.load(Ordering::Relaxed)
     }
 
     /// Gives the strangers that came since they were taken, at most as many as the list that takes their place has room for.
-    pub(crate) fn take_strangers<R: Wait>(&self, rt: &R, spare: Vec<Endpoint>) -> Vec<Endpoint> {
+    pub fn take_strangers<R: Wait>(&self, rt: &R, spare: Vec<Endpoint>) -> Vec<Endpoint> {
         let mut seen = self.seen.lock(rt);
         mem::replace(&mut *seen, spare)
     }
 
     /// Has the service drain; where it drains already, has its workers end.
-    pub(crate) fn stop(&self) {
+    pub fn stop(&self) {
         if self.stage.load(Ordering::SeqCst) == SERVING {
             self.stage.store(DRAINING, Ordering::SeqCst);
         } else {
@@ -230,17 +230,17 @@ impl ServiceWatch {
     }
 
     /// Has the workers end.
-    pub(crate) fn end(&self) {
+    pub fn end(&self) {
         self.stage.store(ENDED, Ordering::SeqCst);
     }
 
     /// Whether it was told to stop, and its workers go on.
-    pub(crate) fn is_draining(&self) -> bool {
+    pub fn is_draining(&self) -> bool {
         self.stage.load(Ordering::SeqCst) == DRAINING
     }
 
     /// Whether its workers are told to end.
-    pub(crate) fn has_ended(&self) -> bool {
+    pub fn has_ended(&self) -> bool {
         self.stage.load(Ordering::SeqCst) == ENDED
     }
 

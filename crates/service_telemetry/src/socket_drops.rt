@@ -16,14 +16,14 @@ pub(crate) struct DropCount {
 
 /// The system's table of UDP sockets, which is read anew each time.
 #[derive(Drop)]
-pub(crate) struct SocketTable {
+pub struct SocketTable {
     // None where the system has no table.
     file: Option<File>,
 }
 
 impl SocketTable {
     /// The table, where the system has one.
-    pub(crate) fn open<R: Files<File = File>>(rt: &R) -> SocketTable {
+    pub fn open<R: Files<File = File>>(rt: &R) -> SocketTable {
         SocketTable {
             file: File::open(rt, "/proc/net/udp").ok(),
         }

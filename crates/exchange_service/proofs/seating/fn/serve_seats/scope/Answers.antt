@@ -1,5 +1,5 @@
 use denote.Param.Send.{sendable}
-use Rattle.exchange_service.proofs.running.fn.serve_seats.scope.Goals as goal
+use Rattle.exchange_service.proofs.seating.fn.serve_seats.scope.Goals as goal
 
 -- that the parameters may go to other threads, by their own bounds alone: among all that the closure holds the search gives up
 pub start_until-started-requires-send-J : goal.start_until-started-requires-send-J

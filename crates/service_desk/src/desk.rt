@@ -23,27 +23,27 @@ const TABLE: &str =
 
 /// The exchange with a pass of its own, and what its workers tell.
 #[derive(Drop)]
-pub(crate) struct Desk<'x, J: Naming> {
-    pub(crate) exchange: &'x Exchange<NoGate, J>,
-    pub(crate) pass: Pass<J>,
-    pub(crate) watch: &'x ServiceWatch,
+pub struct Desk<'x, J: Naming> {
+    pub exchange: &'x Exchange<NoGate, J>,
+    pub pass: Pass<J>,
+    pub watch: &'x ServiceWatch,
     /// Where its orders are noted, if that is wanted.
-    pub(crate) lane: Option<TraceLane<'x>>,
+    pub lane: Option<TraceLane<'x>>,
     /// The name of the file of call records, if they are wanted.
-    pub(crate) calls: Option<&'x str>,
+    pub calls: Option<&'x str>,
     /// The name of the folder of the trace, if that is wanted.
-    pub(crate) trace: Option<&'x str>,
+    pub trace: Option<&'x str>,
 }
 
 impl<'x, J: Naming> Desk<'x, J> {
     /// Hangs up all legs that are still up. Gives how many legs there are.
-    pub(crate) fn hang_up_all<R: Wait>(&mut self, rt: &R, now: u64) -> u32 {
+    pub fn hang_up_all<R: Wait>(&mut self, rt: &R, now: u64) -> u32 {
         let (exchange, watch) = (self.exchange, self.watch);
         hang_up_all(rt, exchange, &mut self.pass, watch, &mut self.lane, now)
     }
 
     /// Where the trace would begin a new file: looks whether any leg is up.
-    pub(crate) fn look_for_rest<R: Wait>(&mut self, rt: &R, alloc: Global, now: u64) {
+    pub fn look_for_rest<R: Wait>(&mut self, rt: &R, alloc: Global, now: u64) {
         if let Some(lane) = &mut self.lane {
             if lane.begin_look() {
                 let is_at_rest = is_at_rest(rt, self.exchange, &mut self.pass);
@@ -53,27 +53,27 @@ impl<'x, J: Naming> Desk<'x, J> {
     }
 
     /// Whether the service was told to stop, and its workers still run.
-    pub(crate) fn is_draining(&self) -> bool {
+    pub fn is_draining(&self) -> bool {
         self.watch.is_draining()
     }
 
     /// Whether the workers are told to end.
-    pub(crate) fn has_ended(&self) -> bool {
+    pub fn has_ended(&self) -> bool {
         self.watch.has_ended()
     }
 
     /// Has the service drain; where it drains already, has its workers end.
-    pub(crate) fn stop(&self) {
+    pub fn stop(&self) {
         self.watch.stop();
     }
 
     /// Has the workers end.
-    pub(crate) fn end(&self) {
+    pub fn end(&self) {
         self.watch.end();
     }
 
     /// Does what a request asks, and answers it.
-    pub(crate) fn answer<R: Wait>(
+    pub fn answer<R: Wait>(
         &mut self,
         rt: &R,
         alloc: Global,

@@ -68,7 +68,7 @@ impl CallsTold {
 }
 
 /// Tells what became of the file of this name, at the end.
-pub(crate) fn tell_end<L: Log>(log: &L, path: &str, state: FileState) {
+pub fn tell_end<L: Log>(log: &L, path: &str, state: FileState) {
     if state.waiting > 0 {
         let waiting = state.waiting;
         warn!(log; "call records that couldn't be written to {path}: {waiting}");

@@ -1,0 +1,181 @@
+//! The workers of a plan in their seats, beside the control socket.
+ghost use Rattle.std.specs.Prelude.{◌≡◌, ◌+◌, ◌≤◌, IfOk, length, vec_len};
+
+use crate::control::Control;
+use crate::journal::Journal;
+use crate::receive_buffer::ReceiveBuffer;
+use crate::recording::{Written, serve_written};
+use crate::running::Settings;
+use call_writer::Disk;
+use exchange_commands::{ServiceError, reports_of};
+use exchange_core::{Exchange, NoGate, Pass};
+use peer_lock::Naming;
+use peer_plan::Plan;
+use service_desk::{Desk, ServiceWatch};
+use service_telemetry::tell_start;
+use std::alloc::Global;
+use std::marker::PhantomData;
+use std::net::Net;
+use std::random::RandomSource;
+use std::sync::Wait;
+use std::thread;
+use std::thread::Threads;
+use std::time::{Clock, Instant};
+use trace_writer::{Folder, Trace, TraceLane};
+use traced_seats::{TracedSeat, lane_of, traced_seats_of};
+use udp_workers::{Post, TurnReport, WatchedExchange, start_until};
+
+/// The workers serve beside the control socket until they are told to end. False if a thread was refused: then they end at once.
+pub(crate) fn serve_seats<
+    J: Naming,
+    P: Post + Send + Sync,
+    R: Clock + Eprint + Net + RandomSource + Threads + Wait + Sync,
+>(
+    rt: &R,
+    service: &WatchedExchange<'_, ServiceWatch, NoGate, J, P>,
+    seats: &[TracedSeat<'_, R, J, P>],
+    desk: &mut Desk<'_, J>,
+    control: &mut Control<'_>,
+    opened: Instant,
+) -> bool {
+    thread::scope(thread::scope_env(), rt, |scope| {
+        let started = start_until(rt, scope, service, seats);
+        control.run(rt, desk, opened);
+        started
+    })
+}
+
+// The seats of the workers. The log tells the start, and what room their sockets have.
+fn told_seats<'r, J: Naming, P: Post, R: Clock + Eprint + Net + RandomSource + Wait>(
+    rt: &'r R,
+    alloc: Global,
+    plan: &'r Plan,
+    passes: &mut Vec<Pass<J>>,
+    settings: &Settings<'_>,
+    opened: Instant,
+    trace: Option<&'r Trace>,
+) -> Result<Vec<TracedSeat<'r, R, J, P>>, ServiceError>
+    requires plan { plan.now ≡ P.plan }
+    requires enough { length plan.now.workers ≤ vec_len passes.old }
+    ensures { IfOk result (λ seats. vec_len seats ≤ 8) }
+{
+    let log = Journal {
+        rt,
+        level: settings.level,
+    };
+    tell_start(&log, plan, settings.version, settings.plan_path);
+    let sockets = ReceiveBuffer { log: &log };
+    traced_seats_of::<J, P, R, ReceiveBuffer<'_, Journal<'_, R>>>(
+        rt, alloc, plan, passes, opened, &sockets, trace,
+    )
+}
+
+// Has the seats serve, beside a control socket with a pass of its own, which is given back. None if a thread was refused.
+fn serve_seated<
+    J: Naming,
+    P: Post + Send + Sync,
+    R: Clock + Eprint + Net + RandomSource + Threads + Wait + Sync,
+    D: Disk + Folder + Sync,
+>(
+    rt: &R,
+    disk: &D,
+    exchange: &Exchange<NoGate, J>,
+    watch: &ServiceWatch,
+    written: &mut Written<'_>,
+    seats: &[TracedSeat<'_, R, J, P>],
+    pass: Pass<J>,
+    lane: Option<TraceLane<'_>>,
+    control: &mut Control<'_>,
+    opened: Instant,
+) -> Option<Pass<J>>
+    requires plan { exchange.now ≡ P.plan }
+{
+    let settings = control.settings;
+    let mut desk = Desk {
+        exchange,
+        pass,
+        watch,
+        lane,
+        calls: settings.calls,
+        trace: settings.trace.map(|options| options.path),
+    };
+    let service = WatchedExchange {
+        exchange,
+        watch,
+        post: PhantomData,
+    };
+    let is_served = serve_written(
+        rt, disk, &service, seats, &mut desk, control, opened, written,
+    );
+    let Desk { pass, .. } = desk;
+    is_served.then_some(pass)
+}
+
+// The same, with what the control socket tells the trace.
+fn serve_told<
+    J: Naming,
+    P: Post + Send + Sync,
+    R: Clock + Eprint + Net + RandomSource + Threads + Wait + Sync,
+    D: Disk + Folder + Sync,
+>(
+    rt: &R,
+    disk: &D,
+    alloc: Global,
+    exchange: &Exchange<NoGate, J>,
+    watch: &ServiceWatch,
+    written: &mut Written<'_>,
+    seats: &[TracedSeat<'_, R, J, P>],
+    pass: Pass<J>,
+    control: &mut Control<'_>,
+    opened: Instant,
+) -> Result<Pass<J>, ServiceError>
+    requires plan { exchange.now ≡ P.plan }
+{
+    let lane = lane_of(alloc, watch.trace(), exchange.plan().workers().len())?;
+    let served = serve_seated::<J, P, R, D>(
+        rt, disk, exchange, watch, written, seats, pass, lane, control, opened,
+    );
+    served.ok_or(ServiceError::NoThread)
+}
+
+// The seats' passes go back to the others, and so does that of the socket, which there is where they served.
+fn give_back<J: Naming, P: Post, R: Clock + Wait>(
+    alloc: Global,
+    seats: Vec<TracedSeat<'_, R, J, P>>,
+    pass: Result<Pass<J>, ServiceError>,
+    passes: &mut Vec<Pass<J>>,
+) -> Result<Vec<TurnReport>, ServiceError> {
+    if passes.push(pass?).is_err() {
+        return Err(ServiceError::Memory);
+    }
+    reports_of(alloc, seats, passes)
+}
+
+/// Has the workers of the plan serve; their passes and that of the socket go back to the others.
+pub(crate) fn serve_watched<
+    J: Naming,
+    P: Post + Send + Sync,
+    R: Clock + Eprint + Net + RandomSource + Threads + Wait + Sync,
+    D: Disk + Folder + Sync,
+>(
+    rt: &R,
+    disk: &D,
+    alloc: Global,
+    exchange: &Exchange<NoGate, J>,
+    watch: &ServiceWatch,
+    written: &mut Written<'_>,
+    passes: &mut Vec<Pass<J>>,
+    control: &mut Control<'_>,
+    opened: Instant,
+) -> Result<Vec<TurnReport>, ServiceError>
+    requires plan { exchange.now ≡ P.plan }
+    requires enough { length exchange.now.workers + 1 ≤ vec_len passes.old }
+{
+    let (plan, settings) = (exchange.plan(), control.settings);
+    let pass = passes.remove(0);
+    let seats = told_seats::<J, P, R>(rt, alloc, plan, passes, settings, opened, watch.trace())?;
+    let pass = serve_told::<J, P, R, D>(
+        rt, disk, alloc, exchange, watch, written, &seats, pass, control, opened,
+    );
+    give_back(alloc, seats, pass, passes)
+}

@@ -1,0 +1,14 @@
+//! What a service tells of itself: lines of its log, and its metrics.
+#![tactic(auto)]
+
+mod calls_told;
+mod scraping;
+mod socket_drops;
+mod strangers;
+mod telling;
+mod trace_told;
+
+pub use calls_told::tell_end;
+pub use scraping::answer_scrape;
+pub use socket_drops::SocketTable;
+pub use telling::{Told, tell_start};
