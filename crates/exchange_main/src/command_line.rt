@@ -162,19 +162,25 @@ fn trace_digits_option<'a>(alloc: Global) -> Arg<'a> {
         .action(ArgAction::Set)
 }
 
-fn run_command<'a>(alloc: Global) -> Result<Command<'a>, AllocError> {
-    Command::new(alloc, "run")
-        .about("Carries calls until it is told to stop, then prints the accounts")
-        .arg(plan(alloc))?
-        .arg(control_option(alloc))?
-        .arg(metrics_option(alloc))?
-        .arg(log_option(alloc))?
-        .arg(drain_option(alloc))?
+// What a service writes, and what ends it.
+fn with_files<'a>(alloc: Global, command: Command<'a>) -> Result<Command<'a>, AllocError> {
+    command
         .arg(calls_option(alloc))?
         .arg(trace_option(alloc))?
         .arg(trace_limit_option(alloc))?
         .arg(trace_digits_option(alloc))?
         .arg(stop_option(alloc))
+}
+
+fn run_command<'a>(alloc: Global) -> Result<Command<'a>, AllocError> {
+    let command = Command::new(alloc, "run")
+        .about("Carries calls until it is told to stop, then prints the accounts")
+        .arg(plan(alloc))?
+        .arg(control_option(alloc))?
+        .arg(metrics_option(alloc))?
+        .arg(log_option(alloc))?
+        .arg(drain_option(alloc))?;
+    with_files(alloc, command)
 }
 
 fn ctl_command<'a>(alloc: Global) -> Result<Command<'a>, AllocError> {
@@ -192,19 +198,37 @@ fn ctl_command<'a>(alloc: Global) -> Result<Command<'a>, AllocError> {
 /// The version of the program.
 pub(crate) const VERSION: &str = "0.1.0";
 
-/// The whole command line. The words of a parse have to live as long as `'a`.
-pub(crate) fn command_line<'a>(alloc: Global) -> Result<Command<'a>, AllocError> {
-    Command::new(alloc, "exchange_main")
-        .version(VERSION)
-        .about("An exchange of IAX2 calls (RFC 5456)")
-        .subcommand_required(true)
+// What is said of plans and scripts.
+fn with_plans<'a>(alloc: Global, command: Command<'a>) -> Result<Command<'a>, AllocError> {
+    command
         .subcommand(check_command(alloc)?)?
         .subcommand(explain_command(alloc)?)?
-        .subcommand(replay_command(alloc)?)?
+        .subcommand(replay_command(alloc)?)
+}
+
+// What is made of a script.
+fn with_views<'a>(alloc: Global, command: Command<'a>) -> Result<Command<'a>, AllocError> {
+    command
         .subcommand(ladder_command(alloc)?)?
         .subcommand(pcap_command(alloc)?)?
-        .subcommand(records_command(alloc)?)?
+        .subcommand(records_command(alloc)?)
+}
+
+// What carries calls.
+fn with_services<'a>(alloc: Global, command: Command<'a>) -> Result<Command<'a>, AllocError> {
+    command
         .subcommand(serve_command(alloc)?)?
         .subcommand(run_command(alloc)?)?
         .subcommand(ctl_command(alloc)?)
+}
+
+/// The whole command line. The words of a parse have to live as long as `'a`.
+pub(crate) fn command_line<'a>(alloc: Global) -> Result<Command<'a>, AllocError> {
+    let command = Command::new(alloc, "exchange_main")
+        .version(VERSION)
+        .about("An exchange of IAX2 calls (RFC 5456)")
+        .subcommand_required(true);
+    let command = with_plans(alloc, command)?;
+    let command = with_views(alloc, command)?;
+    with_services(alloc, command)
 }

@@ -302,6 +302,29 @@ fn refuse_memory<R: Print>(rt: &R) -> u8 {
     1
 }
 
+// The command that the words named.
+fn run_matched<
+    R: Files<File = File>
+        + Print
+        + Eprint
+        + Alloc
+        + Clock
+        + Net
+        + RandomSource
+        + Threads
+        + Wait
+        + Sync,
+    D: Disk + Folder + Sync,
+>(rt: &R, disk: &D, alloc: Global, matches: &ArgMatches<'_>) -> u8 {
+    match matches.subcommand() {
+        Some(("run", options)) => run_file(rt, disk, alloc, options),
+        Some(("ladder", options)) => ladder_files(rt, alloc, options),
+        Some(("pcap", options)) => pcap_files(rt, alloc, options),
+        Some(("records", options)) => record_files(rt, alloc, options),
+        _ => refuse_usage(rt),
+    }
+}
+
 // A command that is read by its options: `run`, and what asks for help or the version.
 fn run_by_options<
     R: Files<File = File>
@@ -320,13 +343,7 @@ fn run_by_options<
         return refuse_memory(rt);
     };
     match command.try_get_matches_from(words) {
-        Ok(matches) => match matches.subcommand() {
-            Some(("run", options)) => run_file(rt, disk, alloc, options),
-            Some(("ladder", options)) => ladder_files(rt, alloc, options),
-            Some(("pcap", options)) => pcap_files(rt, alloc, options),
-            Some(("records", options)) => record_files(rt, alloc, options),
-            _ => refuse_usage(rt),
-        },
+        Ok(matches) => run_matched(rt, disk, alloc, &matches),
         Err(error) => refuse_words(rt, &error),
     }
 }
