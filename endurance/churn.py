@@ -2,14 +2,17 @@
 call records of all legs add up."""
 import os
 import time
+from collections import namedtuple
 
 from exchange import PATIENCE, Exchange, plan_of, reported, rows_of, spare_ports, tell_accounts
+from memory import Memory, resident_octets
 from two_sites import tell_calls
 
 NUMBERS, AT_ONCE, DIGITS = 48, 32, 2
-# How much more resident memory there may be than after the first minute, in kilobytes; and than after the first third of a shorter run,
-# in which some of it is still touched for the first time.
-GROWTH, SHORT_GROWTH = 1024, 4096
+# How much more memory may be resident than after the first minute, or the first third of a shorter run, in kilobytes, where it
+# isn't in large blocks; how many more octets may be held at rest than after the first calls; and how many kilobytes may be
+# resident beyond all that was ever held at once: the program's own, its threads' stacks, and what the C library keeps.
+GROWTH, AT_REST, BESIDE = 1024, 1024, 4096
 
 
 class Records:
@@ -68,30 +71,80 @@ def a_run(tools, ports, seconds, **load):
     return tools.start("calls", *load_words(ports), seconds=seconds, at_once=AT_ONCE, digits=DIGITS, retry_ms=1000, patience=PATIENCE, **load)
 
 
-def watch(exchange, calls, records, seconds):
-    """Reads records and memory until the calls have ended: kilobytes by the seconds since the start."""
-    begun, memory, turned = time.monotonic(), [], 0
-    between = min(60, seconds / 8)
-    while calls.poll() is None and time.monotonic() < begun + seconds + 3 * PATIENCE:
-        elapsed = time.monotonic() - begun
-        if elapsed >= len(memory) * between:
-            memory.append((elapsed, exchange.kilobytes()))
-        if elapsed >= turned + min(10, between):
-            turned = elapsed
+class Look(namedtuple("Look", "elapsed resident held blocks")):
+    """What is resident and what is held at a moment, in kilobytes, and each large block, as what of it is resident and how large
+    it is."""
+
+    def in_large(self):
+        return sum(resident for resident, _ in self.blocks)
+
+    def of_large(self):
+        return sum(octets for _, octets in self.blocks)
+
+    def text(self):
+        each = ", ".join(f"{resident} of {octets}" for resident, octets in self.blocks)
+        large = f"in large blocks {self.in_large()} of {self.of_large()}: {each}"
+        return f"{self.elapsed:5.0f} s: KB resident {self.resident}, held {self.held}, {large}"
+
+
+class Looks:
+    """What a program holds, and what of it is resident, by the seconds since the start. Large blocks are rings and lists that are
+    reserved as the program starts, for what may have to wait; memory comes to them page by page, as they are used for the first
+    time."""
+
+    def __init__(self, exchange, memory):
+        self.exchange, self.memory, self.begun, self.all = exchange, memory, time.monotonic(), []
+
+    def elapsed(self):
+        return time.monotonic() - self.begun
+
+    def look(self):
+        process = self.exchange.process.pid
+        blocks = [(resident_octets(process, [it]) // 1024, it[1] // 1024) for it in self.memory.large()]
+        blocks.sort(key=lambda it: (-it[1], -it[0]))
+        self.all.append(Look(self.elapsed(), self.exchange.kilobytes(), self.memory.counts()[0] // 1024, blocks))
+
+    def tell(self, report, seconds):
+        for it in self.all:
+            report.note(it.text())
+        first = min(60, seconds / 3)
+        # The look at a minute is a little late.
+        early = max(it.resident - it.in_large() for it in self.all if it.elapsed <= first + 1)
+        late = max(it.resident - it.in_large() for it in self.all if it.elapsed > first + 1)
+        promise = f"beside large blocks memory doesn't grow after the first {first:.0f} s"
+        report.tell(promise, late <= early + GROWTH, until_then=f"{early} KB", later=f"{late} KB")
+        _, _, most, requests, untold = self.memory.counts()
+        resident, bound = max(it.resident for it in self.all), most // 1024 + BESIDE
+        is_kept = requests > 0 == untold and resident <= bound
+        report.tell("what is resident was asked for", is_kept, f"{resident} KB", at_most=f"{bound} KB")
+
+
+def at_rest(exchange, memory):
+    """Octets and blocks that are held while no leg is up, at the least: threads that write go on for a while."""
+    exchange.until_idle()
+    found = []
+    for _ in range(15):
+        time.sleep(0.1)
+        found.append(memory.counts()[:2])
+    return min(found)
+
+
+def watch(looks, calls, records, seconds):
+    """Reads records and memory until the calls have ended."""
+    turned, between = 0, min(60, seconds / 8)
+    while calls.poll() is None and looks.elapsed() < seconds + 3 * PATIENCE:
+        if looks.elapsed() >= len(looks.all) * between:
+            looks.look()
+        if looks.elapsed() >= turned + min(10, between):
+            turned = looks.elapsed()
             records.turn()
         time.sleep(0.1)
-    memory.append((time.monotonic() - begun, exchange.kilobytes()))
-    return memory
+    looks.look()
 
 
-def tell_memory(report, memory, seconds):
-    first = min(60, seconds / 3)
-    # The look at a minute is a little late.
-    early = max(it for elapsed, it in memory if elapsed <= first + 1)
-    late = max(it for elapsed, it in memory if elapsed > first + 1)
-    report.note("resident kilobytes: " + ", ".join(f"{elapsed:.0f} s {it}" for elapsed, it in memory))
-    most = early + (GROWTH if first == 60 else SHORT_GROWTH)
-    report.tell(f"memory doesn't grow after the first {first:.0f} s", late <= most, until_then=f"{early} KB", later=f"{late} KB")
+def tell_rest(report, before, after):
+    kept = {"octets_before": before[0], "after": after[0], "blocks_before": before[1], "blocks_after": after[1]}
+    report.tell("at rest as much is held as before the calls", before[1] > 0 and after[0] <= before[0] + AT_REST, **kept)
 
 
 def tell_records(report, records, seen, warming):
@@ -115,16 +168,18 @@ def run(tools, report, seconds, seed):
         "east": {"port": ports[2], "user": "east", "secret": "of the east", "numbers": NUMBERS},
     }
     records = Records(f"{folder}/calls.csv")
-    exchange = Exchange(folder, plan_of(ports[:1], peers, {"1": "west", "2": "east"}, retry_ms=1000), "--calls", records.path)
+    memory, plan = Memory(tools, f"{folder}/memory"), plan_of(ports[:1], peers, {"1": "west", "2": "east"}, retry_ms=1000)
+    exchange = Exchange(folder, plan, "--calls", records.path, environment=memory.environment)
     try:
         lasts = 5 if seconds is None else seconds
         warming = reported(a_run(tools, ports, 1.5 if seconds is None else 10, seed=seed), 3 * PATIENCE)
-        exchange.until_idle()
+        before = at_rest(exchange, memory)
         rate = warming["ended"] / warming["seconds"] / 2
         calls = a_run(tools, ports, lasts, rate=max(rate, NUMBERS * 3 / lasts), least=NUMBERS * 3, seed=seed + 1)
-        memory = watch(exchange, calls, records, lasts)
+        looks = Looks(exchange, memory)
+        watch(looks, calls, records, lasts)
         seen = reported(calls, PATIENCE)
-        exchange.until_idle()
+        after = at_rest(exchange, memory)
         status, lines = exchange.stop()
         records.turn()
         records.turn()
@@ -134,6 +189,7 @@ def run(tools, report, seconds, seed):
     tell_calls(report, seen)
     is_challenged = seen["challenged"] == 2 * seen["placed"] and not seen["bad_answers"]
     report.tell("each call was challenged twice, and the answers were right", is_challenged, challenged=seen["challenged"], bad_answers=seen["bad_answers"])
-    tell_memory(report, memory, lasts)
+    looks.tell(report, lasts)
+    tell_rest(report, before, after)
     tell_records(report, records, seen, warming)
     tell_accounts(report, "the exchange", status, lines, least=0)

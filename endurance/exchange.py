@@ -53,6 +53,7 @@ class Tools:
         "network": (("network.c",), []),
         "flood": (("flood.c",), []),
         "faults.so": (("faults.c",), ["-shared", "-fPIC", "-fno-builtin", "-ldl"]),
+        "memory.so": (("memory.c",), ["-shared", "-fPIC", "-fno-builtin"]),
     }
 
     def __init__(self, folder, share=1):
@@ -207,9 +208,9 @@ class Exchange:
         return {it.rpartition(" ")[0]: int(it.rpartition(" ")[2]) for it in lines if not it.startswith("#")}
 
     def kilobytes(self):
-        """Resident memory."""
+        """Resident memory, but for that of files, which the system takes and gives back as it likes."""
         with open(f"/proc/{self.process.pid}/status", encoding="ascii") as it:
-            return int(re.search(r"VmRSS:\s+(\d+)", it.read())[1])
+            return int(re.search(r"RssAnon:\s+(\d+)", it.read())[1])
 
     def processor_seconds(self):
         with open(f"/proc/{self.process.pid}/stat", encoding="ascii") as it:

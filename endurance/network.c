@@ -2,9 +2,13 @@
 // causes. It ends at SIGTERM, or after so many seconds, and then says what it has seen, as one line of JSON.
 //
 // network a=PORT:EXCHANGE_PORT b=PORT:EXCHANGE_PORT [loss=PERCENT] [repeats=PERCENT] [delay_ms=N] [reorder_ms=N] [retry_ms=N] [seed=N]
-//         [seconds=S] [spoil=digits|media|hangups|again]
+//         [seconds=S] [path_kbit=N] [queue_ms=N] [line_s=S] [spoil=digits|media|hangups|again]
 //
-// What the exchange at the end `a` sends to PORT of `a` goes on from PORT of `b` to the exchange at the end `b`, and the other way round.
+// What the exchange at the end `a` sends to PORT of `a` goes on from PORT of `b` to the exchange at the end `b`, and the other
+// way round. With `path_kbit` each of the two ways begins with a line of so many thousand bits a second, which sends one datagram
+// after the other, each with the 28 octets of its IPv4 and UDP headers. What comes to it waits for `queue_ms` at most; where it
+// would have to wait longer, it is lost. What the line has sent is then lost, repeated and delayed as it is without it. What
+// lines send is counted for `line_s` seconds after the first digit.
 // A frame that is sent again counts as sent for a VNAK where it was last sent less than `retry_ms` ago and its leg has just got one, else
 // as sent by the timer. `spoil` has it change what it carries, to show that this is noticed: digits, media, no HANGUP at all, or each
 // HANGUP a second time with the next number.
@@ -18,7 +22,8 @@
 #include <sys/socket.h>
 #include <time.h>
 
-enum { FULL = 12, MOST_OCTETS = 2048, ROOM = 1 << 17, DTMF = 1, IAX = 6, HANGUP = 5, ACK = 4, INVAL = 10, VNAK = 18 };
+enum { FULL = 12, MOST_OCTETS = 2048, HEADERS = 28, ROOM = 1 << 17, DTMF = 1, IAX = 6 };
+enum { HANGUP = 5, ACK = 4, INVAL = 10, VNAK = 18 };
 enum cause { FIRST, BY_TIMER, FOR_VNAK, ACKS, VNAKS, INVALS, MEDIA, CAUSES };
 
 struct datagram {
@@ -31,12 +36,16 @@ struct datagram {
 
 static const char *const names[CAUSES] = {"first", "by_timer", "for_vnak", "acks", "vnaks", "invals", "media"};
 static unsigned long counts[CAUSES], digits, lost, repeated, orders, carried;
+// By way: until when its line sends what it was given. Of both: what found no room in a queue, and how many the others were, with
+// how many octets, and how long they waited.
+static double busy_until[2], waited, first_digit;
+static unsigned long no_room, lined, line_octets;
 static struct datagram *heap[ROOM];
 static unsigned waiting;
 static double last_sent[2][32768][256], last_vnak[2][32768];
 static struct sockaddr_in exchanges[2];
 static int wires[2];
-static double loss, repeats, delay_ms, reorder_ms, retry_ms = 1000, seconds = 1e9;
+static double loss, repeats, delay_ms, reorder_ms, retry_ms = 1000, seconds = 1e9, path_kbit, queue_ms = 200, line_s = 1e9;
 static unsigned long long state = 1;
 static char spoil;
 static volatile sig_atomic_t is_told_to_end;
@@ -89,12 +98,25 @@ static enum cause cause_of(int from, const unsigned char *octets, unsigned lengt
     double *last = &last_sent[from][source][octets[8]], before = *last;
     *last = moment;
     if (!(octets[2] & 0x80)) {
-        if (octets[10] == DTMF) digits++;
+        if (octets[10] == DTMF && !digits++) first_digit = moment;
         return FIRST;
     }
     // A worker looks at what is due once a turn, and the datagram came some time after it was sent.
     int is_due = moment - before >= retry_ms * 0.98 / 1000, has_vnak = moment - last_vnak[from][source] < retry_ms / 2 / 1000;
     return !is_due && has_vnak ? FOR_VNAK : BY_TIMER;
+}
+
+// When the line of this way has sent a datagram that comes to it now; before now where it finds no room in the queue.
+static double sent_by_line(int from, unsigned length, double moment) {
+    if (path_kbit <= 0) return moment;
+    double wait = busy_until[from] > moment ? busy_until[from] - moment : 0;
+    double sent = moment + wait + (length + HEADERS) * 8 / (path_kbit * 1000), end = first_digit + line_s;
+    if (wait * 1000 > queue_ms) {
+        if (digits && moment < end) no_room++;
+        return moment - 1;
+    }
+    if (digits && sent < end) lined++, waited += wait, line_octets += length + HEADERS;
+    return busy_until[from] = sent;
 }
 
 static void put_off(int to, const unsigned char *octets, unsigned length, double moment) {
@@ -124,18 +146,20 @@ static int spoilt(unsigned char *octets, unsigned length) {
 static void take(int from, unsigned char *octets, unsigned length) {
     double moment = now();
     counts[cause_of(from, octets, length, moment)]++;
+    double sent = sent_by_line(from, length, moment);
+    if (sent < moment) return;
     if (chance() * 100 < loss || spoilt(octets, length)) {
         lost++;
         return;
     }
-    put_off(1 - from, octets, length, moment);
+    put_off(1 - from, octets, length, sent);
     if (spoil == 'a' && is_hangup(octets, length)) {
         octets[8]++;
-        put_off(1 - from, octets, length, moment);
+        put_off(1 - from, octets, length, sent);
     }
     if (chance() * 100 < repeats) {
         repeated++;
-        put_off(1 - from, octets, length, moment);
+        put_off(1 - from, octets, length, sent);
     }
 }
 
@@ -183,8 +207,9 @@ static void read_word(char *word) {
     const struct {
         const char *name;
         double *at;
-    } all[] = {{"loss", &loss},         {"repeats", &repeats}, {"delay_ms", &delay_ms}, {"reorder_ms", &reorder_ms},
-               {"retry_ms", &retry_ms}, {"seconds", &seconds}};
+    } all[] = {{"loss", &loss},         {"repeats", &repeats}, {"delay_ms", &delay_ms},   {"reorder_ms", &reorder_ms},
+               {"retry_ms", &retry_ms}, {"seconds", &seconds}, {"path_kbit", &path_kbit}, {"queue_ms", &queue_ms},
+               {"line_s", &line_s}};
     char *value = strchr(word, '=');
     if (!value) exit(2);
     *value++ = 0;
@@ -202,6 +227,15 @@ static int milliseconds_to_next(void) {
     return left <= 0 ? 0 : left < 19 ? (int)left + 1 : 20;
 }
 
+static void report(double moment) {
+    double took = moment - first_digit < line_s ? moment - first_digit : line_s;
+    printf("{\"lost\": %lu, \"repeated\": %lu, \"carried\": %lu, \"digits\": %lu", lost, repeated, carried, digits);
+    printf(", \"no_room\": %lu, \"line_kbit\": %.1f", no_room, (double)line_octets * 8 / 2 / took / 1000);
+    printf(", \"waited_ms\": %.1f", lined ? waited * 1000 / (double)lined : 0);
+    for (int cause = 0; cause < CAUSES; cause++) printf(", \"%s\": %lu", names[cause], counts[cause]);
+    printf("}\n");
+}
+
 int main(int count, char **words) {
     signal(SIGTERM, end_soon);
     for (int place = 1; place < count; place++) read_word(words[place]);
@@ -211,8 +245,6 @@ int main(int count, char **words) {
         receive(0), receive(1);
         deliver();
     }
-    printf("{\"lost\": %lu, \"repeated\": %lu, \"carried\": %lu, \"digits\": %lu", lost, repeated, carried, digits);
-    for (int cause = 0; cause < CAUSES; cause++) printf(", \"%s\": %lu", names[cause], counts[cause]);
-    printf("}\n");
+    report(now());
     return 0;
 }

@@ -1,33 +1,60 @@
-"""VNAK storms: twenty calls send digits both ways over a bad network between two exchanges, as fast as some digits on their way allow. A table of
-the datagrams between the exchanges by their cause, for each loss rate and each window."""
+"""VNAK storms: twenty calls send digits both ways over a bad network between two exchanges, as fast as some digits on their way
+allow. A table of the datagrams between the exchanges by their cause: for each loss rate and each window, without `vnak_ms` and
+with it; and on paths that carry so much a second and no more, for several `vnak_ms`."""
+import itertools
+import time
+from collections import namedtuple
+
 from exchange import PATIENCE, ended, reported
 from two_sites import Sites
 
-LOSSES, WINDOWS = (0, 5, 10, 20, 30), (64, 16, 8, 4)
-SHORT = ((0, 64), (20, 64), (20, 8))
+# What is lost, of a hundred; the window of the trunk's peers; thousand bits a second, each way, or 0 for no bound; how long a
+# datagram waits for such a path at most; the plan's `retry_ms`, and its `vnak_ms`, where 0 is a plan that doesn't speak of it.
+Storm = namedtuple("Storm", "loss window path_kbit queue_ms retry_ms vnak_ms")
 REPEATS, REORDER, CALLS, ON_THE_WAY = 5, 40, 20, 10
+# What a storm is by what was not given.
+USUAL = Storm(loss=[20], window=[64], path_kbit=[0], queue_ms=[200], retry_ms=[1000], vnak_ms=[0])
+# What a long run has: no bound; paths with a queue as it should be, and two retry_ms; with longer ones; other losses on one.
+TABLES = (
+    {"loss": [0, 5, 10, 20, 30], "window": [64, 16, 8, 4], "vnak_ms": [0, 60]},
+    {"path_kbit": [64, 128, 256, 512, 1024, 2048], "vnak_ms": [0, 20, 40, 60, 100, 200, 400]},
+    {"path_kbit": [512, 1024, 2048], "retry_ms": [200], "vnak_ms": [0, 40, 100, 200]},
+    {"path_kbit": [256, 512, 1024, 2048], "queue_ms": [2000], "retry_ms": [1000, 200], "vnak_ms": [0, 60, 200]},
+    {"path_kbit": [1024], "queue_ms": [5000], "retry_ms": [300], "vnak_ms": [0, 200]},
+    {"loss": [5, 10, 30], "path_kbit": [1024], "vnak_ms": [0, 60, 200]},
+)
+SHORT = ({"loss": [0]}, {"window": [64, 8]}, {"path_kbit": [512], "vnak_ms": [200]})
 CAUSES = ("first", "by_timer", "for_vnak", "acks", "vnaks", "invals")
-NAMES = ("loss %", "window", "on the way", "digits", "a second", "for each", "first", "timer", "for VNAK", "ACK", "VNAK", "INVAL", "cut")
+NAMES = (
+    "loss %", "window", "kbit/s", "queue", "retry_ms", "vnak_ms", "on the way", "digits", "a second", "for each", "first",
+    "timer", "for VNAK", "ACK", "VNAK", "INVAL", "used", "waited", "no room", "cut",
+)
 
 
 def on_the_way(window):
-    """How many digits a peer has on their way to the far peer. A leg sends `window - window / 4` frames while none is acknowledged, and a call whose
-    leg has no room for a digit is hung up. A digit that has come may be held until its ACK is back, so these are half of that room at most."""
+    """How many digits a peer has on their way to the far peer. A leg sends `window - window / 4` frames while none is
+    acknowledged, and a call whose leg has no room for a digit is hung up. A digit that has come may be held until its ACK is
+    back, so these are half of that room at most."""
     return min(ON_THE_WAY, (window - window // 4) // 2)
 
 
-def a_storm(tools, loss, window, seconds, seed, vnak_ms):
+def network_of(storm, seconds):
+    network = {"loss": storm.loss, "repeats": REPEATS, "reorder_ms": REORDER} if storm.loss else {}
+    path = {"path_kbit": storm.path_kbit, "queue_ms": storm.queue_ms, "line_s": seconds} if storm.path_kbit else {}
+    return network | path
+
+
+def a_storm(tools, storm, seconds, seed):
     """What `calls` and the network saw."""
-    keys = {"retry_ms": 1000, "max_retries": 20, "ping_ms": 20000}
-    if vnak_ms is not None:
-        keys |= {"format": 3, "vnak_ms": vnak_ms}
-    trunk = {"window": window, "numbers": 64}
-    network = {"loss": loss, "repeats": REPEATS, "reorder_ms": REORDER} if loss else {}
-    sites = Sites(tools, f"storm_{loss}_{window}", seed, trunk=trunk, keys=keys, **network)
+    keys = {"retry_ms": storm.retry_ms, "max_retries": 20, "ping_ms": 20000}
+    if storm.vnak_ms:
+        keys |= {"format": 3, "vnak_ms": storm.vnak_ms}
+    name = "storm_" + "_".join(f"{it}" for it in storm)
+    sites = Sites(tools, name, seed, trunk={"window": storm.window, "numbers": 64}, keys=keys, **network_of(storm, seconds))
     try:
         calls = tools.start(
             "calls", *sites.peer_words(), "route=0:2", "route=3:1", seconds=seconds, at_once=tools.some(CALLS), digits=5000,
-            on_the_way=on_the_way(window), retry_ms=1000, patience=2 * PATIENCE, seed=seed,
+            on_the_way=on_the_way(storm.window), retry_ms=1000, patience=2 * PATIENCE, seed=seed,
         )
         seen = reported(calls, seconds + 5 * PATIENCE)
         network = ended(sites.network)
@@ -36,25 +63,88 @@ def a_storm(tools, loss, window, seconds, seed, vnak_ms):
     return seen, network
 
 
-def line_of(loss, window, seconds, seen, network):
-    """A row of the table. Datagrams are those of the whole run, and so is what there is of them for each digit; digits are those that came in time."""
-    each = sum(network[it] for it in CAUSES) / max(1, seen["digits_taken"])
-    in_time, cut = seen["digits_in_time"], seen["cut"] + seen["inval"] + seen["stuck"]
-    numbers = [in_time, round(in_time / seconds, 1), round(each, 1), *(network[it] for it in CAUSES), cut]
-    return [f"{loss}", f"{window}", f"{on_the_way(window)}", *(f"{it}" for it in numbers)]
+def cut(seen):
+    """Calls that the exchange ended; some of them as they were hung up, so that one HANGUP crossed another."""
+    return sum(seen[it] for it in ("cut", "inval", "stuck", "rejected", "hangups_back"))
 
 
-def run(tools, report, seconds, seed, vnak_ms=None):
-    places = SHORT if seconds is None else [(loss, window) for loss in LOSSES for window in WINDOWS]
-    lasts = 1.5 if seconds is None else max(2, seconds / len(places))
+def for_each(seen, network):
+    """Datagrams between the exchanges for each digit that came, media apart."""
+    return sum(network[it] for it in CAUSES) / max(1, seen["digits_taken"])
+
+
+def line_of(storm, seconds, seen, network):
+    """A row of the table. Datagrams are those of the whole run, and so is what there is of them for each digit; digits are those
+    that came in time."""
+    each, in_time = for_each(seen, network), seen["digits_in_time"]
+    path = [storm.path_kbit, storm.queue_ms] if storm.path_kbit else ["any", ""]
+    place = [storm.loss, storm.window, *path, storm.retry_ms, storm.vnak_ms]
+    numbers = [on_the_way(storm.window), in_time, round(in_time / seconds, 1), round(each, 1), *(network[it] for it in CAUSES)]
+    line = [network["line_kbit"], network["waited_ms"], network["no_room"]] if storm.path_kbit else ["", "", ""]
+    return [f"{it}" for it in (*place, *numbers, *line, cut(seen))]
+
+
+class Pace:
+    """How long each storm lasts, so that all of them take about the time that is given: each goes on after its time until what it
+    has sent has come. One without a bound, which takes what processors there are, lasts five seconds at most."""
+
+    def __init__(self, seconds, count):
+        self.end = seconds and time.monotonic() + seconds
+        self.left, self.after, self.begun, self.lasts = count, [], 0, 0
+
+    def begin(self, storm):
+        self.begun, self.lasts = time.monotonic(), 1.5
+        if self.end:
+            mean_after = sum(self.after) / len(self.after) if self.after else 5
+            each = (self.end - self.begun) / self.left
+            self.lasts = max(2, each / 2, each - mean_after)
+        if not storm.path_kbit:
+            self.lasts = min(5, self.lasts)
+        return self.lasts
+
+    def is_over(self):
+        self.after = [*self.after, time.monotonic() - self.begun - self.lasts][-10:]
+        self.left -= 1
+
+
+class Sums:
+    """What all storms have in common, and the datagrams for each digit by storm."""
+
+    def __init__(self):
+        self.wrong, self.lacking, self.taken, self.each = 0, 0, [], {}
+
+    def add(self, storm, seen, network):
+        self.wrong += seen["wrong_digits"] + seen["hangups_twice"] + seen["offered_twice"]
+        self.lacking += seen["lacking_digits"]
+        self.taken.append(seen["digits_taken"])
+        self.each[storm] = for_each(seen, network)
+
+    def tell(self, report):
+        is_kept = self.wrong + self.lacking == 0 < min(self.taken)
+        promise = "each digit is taken once and in order in each storm"
+        report.tell(promise, is_kept, digits_taken=sum(self.taken), wrong=self.wrong, lacking=self.lacking)
+        # Without a loss, or with few digits on their way, there is hardly a VNAK.
+        pairs = [it for it in self.each if it.vnak_ms and it.loss and on_the_way(it.window) == ON_THE_WAY]
+        pairs = [it for it in pairs if it._replace(vnak_ms=0) in self.each]
+        more = [f"{it}" for it in pairs if self.each[it] >= self.each[it._replace(vnak_ms=0)]]
+        if pairs:
+            promise = "with vnak_ms a digit takes fewer datagrams"
+            report.tell(promise, not more, storms=len(pairs), others=len(more), first=more[:1])
+
+
+def storms_of(tables):
+    return [Storm(*it) for table in tables for it in itertools.product(*USUAL._replace(**table))]
+
+
+def run(tools, report, seconds, seed, given=None):
+    storms = storms_of([given] if given else SHORT if seconds is None else TABLES)
+    pace, sums = Pace(seconds, len(storms)), Sums()
     report.note("| " + " | ".join(NAMES) + " |")
     report.note("|" + "---|" * len(NAMES))
-    wrong, lacking, across = 0, 0, []
-    for loss, window in places:
-        seen, network = a_storm(tools, loss, window, lasts, seed, vnak_ms)
-        report.note("| " + " | ".join(line_of(loss, window, lasts, seen, network)) + " |")
-        wrong += seen["wrong_digits"] + seen["hangups_twice"] + seen["hangups_back"] + seen["offered_twice"]
-        lacking += seen["lacking_digits"]
-        across.append(seen["digits_taken"])
-    is_kept = wrong + lacking == 0 < min(across)
-    report.tell("each digit is taken once and in order in each storm", is_kept, digits_taken=sum(across), wrong=wrong, lacking=lacking)
+    for storm in storms:
+        lasts = pace.begin(storm)
+        seen, network = a_storm(tools, storm, lasts, seed)
+        pace.is_over()
+        sums.add(storm, seen, network)
+        report.note("| " + " | ".join(line_of(storm, lasts, seen, network)) + " |")
+    sums.tell(report)
