@@ -64,8 +64,13 @@ def a_storm(tools, storm, seconds, seed):
 
 
 def cut(seen):
-    """Calls that the exchange ended; some of them as they were hung up, so that one HANGUP crossed another."""
-    return sum(seen[it] for it in ("cut", "inval", "stuck", "rejected", "hangups_back"))
+    """Calls that the exchange ended."""
+    return sum(seen[it] for it in ("cut", "inval", "stuck", "rejected"))
+
+
+def crossed(seen):
+    """Calls that the exchange ended as they were hung up, so that one HANGUP crossed another: only where it ended others, too."""
+    return seen["hangups_back"] if cut(seen) else 0
 
 
 def for_each(seen, network):
@@ -81,7 +86,7 @@ def line_of(storm, seconds, seen, network):
     place = [storm.loss, storm.window, *path, storm.retry_ms, storm.vnak_ms]
     numbers = [on_the_way(storm.window), in_time, round(in_time / seconds, 1), round(each, 1), *(network[it] for it in CAUSES)]
     line = [network["line_kbit"], network["waited_ms"], network["no_room"]] if storm.path_kbit else ["", "", ""]
-    return [f"{it}" for it in (*place, *numbers, *line, cut(seen))]
+    return [f"{it}" for it in (*place, *numbers, *line, cut(seen) + crossed(seen))]
 
 
 class Pace:
@@ -114,7 +119,7 @@ class Sums:
         self.wrong, self.lacking, self.taken, self.each = 0, 0, [], {}
 
     def add(self, storm, seen, network):
-        self.wrong += seen["wrong_digits"] + seen["hangups_twice"] + seen["offered_twice"]
+        self.wrong += seen["wrong_digits"] + seen["hangups_twice"] + seen["offered_twice"] + seen["hangups_back"] - crossed(seen)
         self.lacking += seen["lacking_digits"]
         self.taken.append(seen["digits_taken"])
         self.each[storm] = for_each(seen, network)
