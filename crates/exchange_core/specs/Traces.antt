@@ -85,7 +85,7 @@ IsUnasked call offer (needs.OpenOut name) reply =
 IsUnasked call offer (needs.Order name act) reply = (reply ≡ replies.Order (Err order_errors.Gone)) × (length call.plan.peers ≤ name.peer)
 IsUnasked call offer (needs.Look peer number) reply = (reply ≡ replies.Look None) × (length call.plan.peers ≤ peer)
 IsUnasked call offer (needs.Retire name) reply = reply ≡ replies.Retire false
-IsUnasked call offer (needs.Route name) (replies.Route route) = IsRoute call.plan offer route
+IsUnasked call offer (needs.Route name) (replies.Route route) = IsRoute call.plan name.peer offer route
 IsUnasked call offer need reply = ⊥
 
 -- the step that is needed was made so, and this is its answer

@@ -14,13 +14,13 @@ use noted_steps::Pass;
 use peer_lock::{Naming, Offer};
 
 impl<G: Gate, J: Naming> Exchange<G, J> {
-    // Where the call leads that a leg offers.
-    fn route(&self, offer: Option<&Offer>) -> Route
-        ensures route { IsRoute self.now (option_copied offer.entry) result }
+    // Where the call leads that a leg of a peer offers.
+    fn route(&self, caller: u16, offer: Option<&Offer>) -> Route
+        ensures route { IsRoute self.now caller (option_copied offer.entry) result }
         ensures inside { LeadsInside result (length self.now.peers) }
     {
         match offer {
-            Some(offer) => self.route_for(offer),
+            Some(offer) => self.route_for(caller, offer),
             None => Route::Nowhere,
         }
     }
@@ -29,23 +29,23 @@ impl<G: Gate, J: Naming> Exchange<G, J> {
     pub(crate) fn route_noted(
         &self,
         pass: &mut Pass<J>,
-        _offered: LegName,
+        offered: LegName,
         offer: Option<&Offer>,
     ) -> Route
-        ensures noted { (given : GivenValue) → Makes (call_of self.now given) (option_copied offer.entry) (needs.Route _offered) (replies.Route result) pass.old pass.new }
+        ensures noted { (given : GivenValue) → Makes (call_of self.now given) (option_copied offer.entry) (needs.Route offered) (replies.Route result) pass.old pass.new }
         ensures credit { pass.new.credit ≡ pass.old.credit }
         ensures inside { LeadsInside result (length self.now.peers) }
     {
         pass.note_unasked();
-        self.route(offer)
+        self.route(offered.peer, offer)
     }
 
-    // Where an offered call leads.
-    fn route_for(&self, offer: &Offer) -> Route
-        ensures route { IsRoute self.now (Some offer.now) result }
+    // Where an offered call of a peer leads.
+    fn route_for(&self, caller: u16, offer: &Offer) -> Route
+        ensures route { IsRoute self.now caller (Some offer.now) result }
         ensures inside { LeadsInside result (length self.now.peers) }
     {
-        let Some(peer) = self.plan.route(offer.called.as_slice()) else {
+        let Some(peer) = self.plan.route(caller, offer.called.as_slice()) else {
             return Route::Nowhere;
         };
         if self.plan.rules(peer).formats.contains(offer.format) {

@@ -55,17 +55,66 @@ fn plan_of(rt: &impl Abort, alloc: Global) -> Plan
     plan
 }
 
-// A number leads there.
-fn leads(rt: &impl Abort, plan: &Plan, number: &[u8], peer: Option<u16>) {
-    same(rt, &plan.route(number), &peer);
+// A call of a peer to a number leads there.
+fn leads(rt: &impl Abort, plan: &Plan, caller: u16, number: &[u8], peer: Option<u16>) {
+    same(rt, &plan.route(caller, number), &peer);
 }
 
 #[test]
 fn routes(rt: HostRuntime) {
     let plan = plan_of(&rt, rt.alloc());
-    leads(&rt, &plan, b"300", Some(0));
-    leads(&rt, &plan, b"310", Some(1));
-    leads(&rt, &plan, b"200", None);
+    leads(&rt, &plan, 1, b"300", Some(0));
+    leads(&rt, &plan, 0, b"310", Some(1));
+    leads(&rt, &plan, 0, b"200", None);
+}
+
+/// Three peers: what begins with `3` leads to the second one, of the third's calls to the first one, and with `30` so of all calls; what
+/// begins with `4` leads there of the second's calls alone.
+const SOURCES: &str = "format = 3\n\
+[[worker]]\n\
+address = \"127.0.0.1\"\n\
+port = 4569\n\
+[[peer]]\n\
+name = \"west\"\n\
+address = \"127.0.0.1\"\n\
+port = 5001\n\
+worker = 0\n\
+formats = [\"ulaw\"]\n\
+[[peer]]\n\
+name = \"east\"\n\
+address = \"127.0.0.1\"\n\
+port = 5002\n\
+worker = 0\n\
+formats = [\"ulaw\"]\n\
+[[peer]]\n\
+name = \"north\"\n\
+address = \"127.0.0.1\"\n\
+port = 5003\n\
+worker = 0\n\
+formats = [\"ulaw\"]\n\
+[[route]]\n\
+prefix = \"3\"\n\
+source = \"north\"\n\
+peer = \"west\"\n\
+[[route]]\n\
+prefix = \"3\"\n\
+peer = \"east\"\n\
+[[route]]\n\
+prefix = \"30\"\n\
+peer = \"west\"\n\
+[[route]]\n\
+prefix = \"4\"\n\
+peer = \"west\"\n\
+source = \"east\"\n";
+
+#[test]
+fn routes_of_some_callers(rt: HostRuntime) {
+    let plan = Plan::read(rt.alloc(), SOURCES.as_bytes()).expect(&rt, "a plan");
+    leads(&rt, &plan, 2, b"31", Some(0));
+    leads(&rt, &plan, 0, b"31", Some(1));
+    leads(&rt, &plan, 2, b"30", Some(0));
+    leads(&rt, &plan, 1, b"4", Some(0));
+    leads(&rt, &plan, 0, b"4", None);
 }
 
 #[test]

@@ -3,5 +3,6 @@ mod Each
 mod Ranges
 mod FormatLaws
 mod RouteLaws
+mod ReadingLaws
 mod PlanLaws
 mod PeerLaws

@@ -1,21 +1,21 @@
 -- What is so of every plan that is read.
-use Rattle.std.proofs.Common.{◌≡◌, ◌≢◌, ℕ, pos, negsuc, zero, suc, ◌+◌, ◌-◌, ◌<◌, ◌≤◌, Bool, true, false, cond, List, [], ◌∷◌, ◌++◌, length, get_or, Option, Some, None, Result, Ok, Err, IsSome, refl, sym, ap, subst, ◌∙◌, arith, nat_le, nat_lt, ◌&&◌, ◌||◌, ◌==◌, is_some}
-use Rattle.std.specs.Prelude.{All, option_map, position, ok_or}
+use Rattle.std.proofs.Common.{◌≡◌, ◌≢◌, ℕ, zero, suc, ◌-◌, ◌<◌, ◌≤◌, Bool, true, false, cond, List, [], ◌∷◌, ◌++◌, length, get_or, Option, Some, None, Ok, Err, IsSome, refl, sym, ap, subst, ◌∙◌, arith, nat_le, nat_lt, ◌&&◌, ◌||◌, ◌==◌, is_some}
+use Rattle.std.specs.Prelude.{All, IfSome, option_map, position, ok_or, nat_eq}
+use Rattle.std.specs.Option.{option_eq}
 use Rattle.std.specs.List.{position_or_len}
 use Rattle.std.specs.List.{list_any, AllPairs}
 use Rattle.std.specs.Str.{bytes_eq}
 use Rattle.std.proofs.lemmas.Bool.{true≢false}
 use Rattle.std.proofs.lemmas.Bool.Decides.{nat_tests}
-use Rattle.std.proofs.lemmas.List.{length-map, length-append, get_or_default}
+use Rattle.std.proofs.lemmas.List.{length-map, get_or_default}
 use Rattle.std.proofs.lemmas.List.Elements.{All-push}
 use Rattle.std.proofs.lemmas.List.Quantifiers.{all_pairs_push}
 use Rattle.std.proofs.lemmas.Slice.Eq.{bytes_eq-Decides}
-use Rattle.toml.specs.Data.{Data, integer, string, table, Items, no_items, item, Members, get_member, as_array, as_bool, as_str}
+use Rattle.toml.specs.Data.{Data, no_items, Members, get_member, as_array, as_bool, as_str}
 use Rattle.call_signals.specs.PeerRules.{IsWithin}
 use Rattle.call_signals.specs.Formats.{lowest_format}
 use Rattle.peer_plan.specs.declared.key.Key.{Key}
 use Rattle.peer_plan.specs.declared.key.Key.TheVariants as key
-use Rattle.peer_plan.specs.declared.error.PlanError.{PlanError}
 use Rattle.peer_plan.specs.declared.error.PlanError.TheVariants as error
 use Rattle.peer_plan.specs.declared.endpoint.Endpoint.{Endpoint}
 use Rattle.peer_plan.specs.declared.peer.Peer.{Peer}
@@ -24,83 +24,12 @@ use Rattle.peer_plan.specs.declared.peer.Credentials.{Credentials}
 use Rattle.peer_plan.specs.declared.peer.Media.{Media}
 use Rattle.peer_plan.specs.declared.route.Route.{Route}
 use Rattle.peer_plan.specs.Keys.{key_name}
-use Rattle.peer_plan.specs.Fields.{◌>>=◌, number_of, text_of, value, value_at, each, items_len, within, list_in}
-use Rattle.peer_plan.specs.Plan.{IsPlan, IsPeer, IsRoute, is_name, is_prefix, counts_of}
-use Rattle.peer_plan.specs.Reading.{default_record_limit, vnak_ms_in, limits_in, address_in, endpoint_in, workers_in, passes_in, is_credential, credential_in, credentials_in, formats_in, media_in, window_in, rules_from, peer_in, has_double, is_named, is_endpoint, has_same_name, has_same_endpoint, told_apart, peers_in, has_prefix, new_route, route_in, routes_in}
+use Rattle.peer_plan.specs.Fields.{number_of, text_of, value, value_at, each, list_in}
+use Rattle.peer_plan.specs.Plan.{IsPlan, IsPeer, IsRoute, AreApart, is_name, is_prefix, counts_of}
+use Rattle.peer_plan.specs.Reading.{default_record_limit, vnak_ms_in, limits_in, address_in, endpoint_in, workers_in, passes_in, is_credential, credential_in, credentials_in, formats_in, media_in, window_in, rules_from, peer_in, has_double, is_named, is_endpoint, has_same_name, has_same_endpoint, told_apart, peers_in, peer_named, source_at, source_in, has_way, new_route, route_in, routes_in}
 use Rattle.peer_plan.proofs.Ranges.{ranges_apart, total_within}
 use Rattle.peer_plan.proofs.FormatLaws.{formats_some}
-
--- ---- steps of a reading
-
-bound : {A B : Type 0} (m : Result A PlanError) (f : A → Result B PlanError) (y : B) → (m >>= f) ≡ Ok y → (x : A) × (m ≡ Ok x) × (f x ≡ Ok y)
-bound (Ok x) f y h = (x, refl, h)
-bound (Err e) f y h = absurd (cc)
-
-found_in : {A : Type 0} (o : Option A) (e : PlanError) (x : A) → ok_or o e ≡ Ok x → o ≡ Some x
-found_in None e x h = absurd (cc)
-found_in (Some y) e x h = let same : y ≡ x = cc in ap Some same
-
--- what a value is, if it is so of each that is read, and of the fallback
-value_is : {A : Type 0} (P : A → Type 0) (k : Key) (fallback : Result A PlanError) (read : Data → Option A) (o : Option Data) (x : A)
-    → ((d : Data) → read d ≡ Some x → P x) → (fallback ≡ Ok x → P x) → value_at k fallback read o ≡ Ok x → P x
-value_is P k fallback read None x each_read else_is h = else_is h
-value_is P k fallback read (Some d) x each_read else_is h = each_read d (found_in (read d) (error.Range k) x h)
-
-number_within : (low high n : ℕ) (d : Data) → number_of low high d ≡ Some n → IsWithin low high n
-number_within low high n (integer (pos m)) h = go (nat_le low m) (nat_le m high) refl refl h
-  where
-    go : (a b : Bool) → nat_le low m ≡ a → nat_le m high ≡ b → cond (a && b) (Some m) None ≡ Some n → IsWithin low high n
-    go true true least most is = let same : m ≡ n = cc in subst (IsWithin low high) same (grind (arith, nat_tests), grind (arith, nat_tests))
-    go true false least most is = absurd (cc)
-    go false b least most is = absurd (cc)
-number_within low high n (integer (negsuc m)) h = absurd (cc)
-number_within low high n _ h = absurd (cc)
-
-text_fits : (fits : List ℕ → Bool) (text : List ℕ) (d : Data) → text_of fits d ≡ Some text → fits text ≡ true
-text_fits fits text (string s) h = go (fits s) refl h
-  where
-    go : (b : Bool) → fits s ≡ b → cond b (Some s) None ≡ Some text → fits text ≡ true
-    go true is h = let same : s ≡ text = cc in subst (λ t. fits t ≡ true) same is
-    go false is h = absurd (cc)
-text_fits fits text _ h = absurd (cc)
-
-default_within : (low high n fallback : ℕ) → low ≤ fallback → fallback ≤ high → ◌≡◌ {A = Result ℕ PlanError} (Ok fallback) (Ok n) → IsWithin low high n
-default_within low high n fallback least most h = let same : fallback ≡ n = cc in subst (IsWithin low high) same (least, most)
-
-missing : {A : Type 0} {P : Type 0} (e : PlanError) (x : A) → Err e ≡ Ok x → P
-missing e x h = absurd (cc)
-
--- ---- lists of tables
-
-each_keeps : {A : Type 0} (Kept : List A → Type 0) (k : Key) (read : List A → Members → Result A PlanError)
-    → ((before : List A) (ms : Members) (next : A) → Kept before → read before ms ≡ Ok next → Kept (before ++ next ∷ []))
-    → (before : List A) (ds : Items) (all : List A) → Kept before → each k read before ds ≡ Ok all → Kept all
-unfolding each
-each_keeps Kept k read keeps before no_items all kept h = let same : before ≡ all = cc in subst Kept same kept
-each_keeps Kept k read keeps before (item (table ms) ds) all kept h =
-    let one = bound (read before ms) (λ next. each k read (before ++ next ∷ []) ds) all h in
-    each_keeps Kept k read keeps (before ++ one.0 ∷ []) ds all (keeps before ms one.0 kept one.1) one.2
-each_keeps Kept k read keeps before (item _ ds) all kept h = absurd (cc)
-
-each_len : {A : Type 0} (k : Key) (read : List A → Members → Result A PlanError) (before : List A) (ds : Items) (all : List A) → each k read before ds ≡ Ok all → length all ≡ length before + items_len ds
-unfolding each
-each_len k read before no_items all h = let same : before ≡ all = cc in omega (arith, ap length same)
-each_len k read before (item (table ms) ds) all h =
-    let one = bound (read before ms) (λ next. each k read (before ++ next ∷ []) ds) all h in
-    let rest = each_len k read (before ++ one.0 ∷ []) ds all one.2 in
-    omega (arith, simp length-append at rest)
-each_len k read before (item _ ds) all h = absurd (cc)
-
-list_within : (ms : Members) (k : Key) (most : ℕ) (ds : Items) → list_in ms k most ≡ Ok ds → IsWithin 1 most (items_len ds)
-unfolding list_in
-list_within ms k most ds h =
-    let one = bound (value ms k (Err (error.Missing k)) as_array) (within k most) ds h in
-    go one.0 (items_len one.0 == 0) (nat_lt most (items_len one.0)) refl refl one.2
-  where
-    go : (es : Items) (a b : Bool) → (items_len es == 0) ≡ a → nat_lt most (items_len es) ≡ b → cond a (Err (error.Missing k)) (cond b (Err (error.Range k)) (Ok es)) ≡ Ok ds → IsWithin 1 most (items_len ds)
-    go es true b none many is = absurd (cc)
-    go es false true none many is = absurd (cc)
-    go es false false none many is = let same : es ≡ ds = cc in subst (λ x. IsWithin 1 most (items_len x)) same (grind (arith, nat_tests), grind (arith, nat_tests))
+use Rattle.peer_plan.proofs.ReadingLaws.{bound, found_in, value_is, number_within, text_fits, default_within, missing, each_keeps, each_len, list_within}
 
 -- ---- limits, workers, passes
 
@@ -315,35 +244,72 @@ place_within p xs i h = go (nat_lt (position_or_len p xs) (length xs)) refl h
 
 pub record AreRoutes (peers : ℕ) (routes : List Route) : Type 0 where
   pub each : All (IsRoute peers) routes
-  pub prefixes : AllPairs (λ route other. route.prefix ≢ other.prefix) routes
+  pub ways : AllPairs AreApart routes
 
-new_is : (before : List Route) (prefix : List ℕ) (peer : ℕ) (route : Route) → new_route before prefix peer ≡ Ok route → (record { prefix = prefix; peer = peer } ≡ route) × (has_prefix prefix before ≡ false)
-new_is before prefix peer route h = go (has_prefix prefix before) refl h
+new_is : (before : List Route) (prefix : List ℕ) (source : Option ℕ) (peer : ℕ) (route : Route) → new_route before prefix source peer ≡ Ok route
+    → (record { prefix = prefix; source = source; peer = peer } ≡ route) × (has_way prefix source before ≡ false)
+new_is before prefix source peer route h = go (has_way prefix source before) refl h
   where
-    go : (b : Bool) → has_prefix prefix before ≡ b → cond b (Err error.SameRoute) (Ok (record { prefix = prefix; peer = peer })) ≡ Ok route → (record { prefix = prefix; peer = peer } ≡ route) × (has_prefix prefix before ≡ false)
+    go : (b : Bool) → has_way prefix source before ≡ b → cond b (Err error.SameRoute) (Ok (record { prefix = prefix; source = source; peer = peer })) ≡ Ok route
+        → (record { prefix = prefix; source = source; peer = peer } ≡ route) × (has_way prefix source before ≡ false)
     go true there is = absurd (cc)
     go false there is = (cc, there)
 
-route_kept : (peers : List Peer) (before : List Route) (ms : Members) (next : Route) → AreRoutes (length peers) before → route_in peers before ms ≡ Ok next → AreRoutes (length peers) (before ++ next ∷ [])
+-- a source is one of the peers
+named_within : (peers : List Peer) (name : List ℕ) (i : ℕ) → peer_named peers name ≡ Ok i → i < length peers
+named_within peers name i h = place_within (is_named name) peers i (found_in (position (is_named name) peers) error.UnknownPeer i h)
+
+source_at_within : (peers : List Peer) (o : Option Data) (source : Option ℕ) → source_at peers o ≡ Ok source → IfSome source (λ i. i < length peers)
+unfolding source_at
+source_at_within peers None source h = let same : None ≡ source = cc in subst (λ s. IfSome s (λ i. i < length peers)) same tt
+source_at_within peers (Some d) source h =
+    let a = bound (ok_or (as_str d) (error.Range key.Source)) _ source h in
+    let b = bound (peer_named peers a.0) _ source a.2 in
+    let same : Some b.0 ≡ source = cc in
+    subst (λ s. IfSome s (λ i. i < length peers)) same (named_within peers a.0 b.0 b.1)
+
+source_within : (format : ℕ) (peers : List Peer) (ms : Members) (source : Option ℕ) → source_in format peers ms ≡ Ok source → IfSome source (λ i. i < length peers)
+source_within format peers ms source h = go (format == 3) h
+  where
+    go : (b : Bool) → cond b (source_at peers (get_member (key_name key.Source) ms)) (Ok None) ≡ Ok source → IfSome source (λ i. i < length peers)
+    go true is = source_at_within peers (get_member (key_name key.Source) ms) source is
+    go false is = let same : None ≡ source = cc in subst (λ s. IfSome s (λ i. i < length peers)) same tt
+
+-- a way that isn't there is apart from those that are
+sources_same : (a b : Option ℕ) → a ≡ b → option_eq nat_eq a b ≡ true
+sources_same None b h = let same : None ≡ b = h in subst (λ o. option_eq nat_eq None o ≡ true) same refl
+sources_same (Some n) b h = let same : Some n ≡ b = h in subst (λ o. option_eq nat_eq (Some n) o ≡ true) same (grind (arith, nat_tests))
+
+both_true : (a b : Bool) → (a && b) ≡ false → b ≡ true → a ≡ false
+both_true true true h is = absurd (true≢false h)
+both_true false b h is = refl
+both_true true false h is = absurd (true≢false (sym is))
+
+way_apart : (route other : Route) → (bytes_eq route.prefix other.prefix && option_eq nat_eq route.source other.source) ≡ false → AreApart route other
+way_apart route other h = λ prefix source.
+    differ route.prefix other.prefix (both_true (bytes_eq route.prefix other.prefix) (option_eq nat_eq route.source other.source) h (sources_same route.source other.source source)) (sym prefix)
+
+route_kept : (format : ℕ) (peers : List Peer) (before : List Route) (ms : Members) (next : Route) → AreRoutes (length peers) before → route_in format peers before ms ≡ Ok next → AreRoutes (length peers) (before ++ next ∷ [])
 unfolding route_in
-route_kept peers before ms next kept h =
+route_kept format peers before ms next kept h =
     let a = bound (value ms key.Prefix (Err (error.Missing key.Prefix)) (text_of is_prefix)) _ next h in
     let b = bound (value ms key.Peer (Err (error.Missing key.Peer)) as_str) _ next a.2 in
-    let c = bound (ok_or (position (is_named b.0) peers) error.UnknownPeer) _ next b.2 in
-    let d = new_is before a.0 c.0 next c.2 in
+    let c = bound (peer_named peers b.0) _ next b.2 in
+    let d = bound (source_in format peers ms) _ next c.2 in
+    let e = new_is before a.0 d.0 c.0 next d.2 in
+    let new : Route = record { prefix = a.0; source = d.0; peer = c.0 } in
     let fits = value_is (λ t. is_prefix t ≡ true) key.Prefix (Err (error.Missing key.Prefix)) (text_of is_prefix) (get_member (key_name key.Prefix) ms) a.0 (text_fits is_prefix a.0) (missing (error.Missing key.Prefix) a.0) a.1 in
-    let place = place_within (is_named b.0) peers c.0 (found_in (position (is_named b.0) peers) error.UnknownPeer c.0 c.1) in
-    subst (λ route. AreRoutes (length peers) (before ++ route ∷ [])) d.0 (record {
-      each = All-push (IsRoute (length peers)) before (record { prefix = a.0; peer = c.0 }) kept.each (record { prefix = fits; peer = place });
-      prefixes = all_pairs_push (λ route other. route.prefix ≢ other.prefix) before (record { prefix = a.0; peer = c.0 }) kept.prefixes
-          (λ k e lt same. differ (get_or before k e).prefix a.0 (none_of (λ route. bytes_eq route.prefix a.0) before k e d.1 lt) (sym same));
+    subst (λ route. AreRoutes (length peers) (before ++ route ∷ [])) e.0 (record {
+      each = All-push (IsRoute (length peers)) before new kept.each (record { prefix = fits; source = source_within format peers ms d.0 d.1; peer = named_within peers b.0 c.0 c.1 });
+      ways = all_pairs_push AreApart before new kept.ways
+          (λ k d' lt. way_apart (get_or before k d') new (none_of (λ route. bytes_eq route.prefix a.0 && option_eq nat_eq route.source d.0) before k d' e.1 lt));
     })
 
-pub routes_sound : (peers : List Peer) (ms : Members) (routes : List Route) → routes_in peers ms ≡ Ok routes → AreRoutes (length peers) routes
+pub routes_sound : (format : ℕ) (peers : List Peer) (ms : Members) (routes : List Route) → routes_in format peers ms ≡ Ok routes → AreRoutes (length peers) routes
 unfolding routes_in
-routes_sound peers ms routes h =
-    let a = bound (value ms key.Route (Ok no_items) as_array) (each key.Route (route_in peers) []) routes h in
-    each_keeps (AreRoutes (length peers)) key.Route (route_in peers) (route_kept peers) [] a.0 routes (record { each = λ k d lt. absurd (omega arith); prefixes = λ i j d lt less. absurd (omega arith) }) a.2
+routes_sound format peers ms routes h =
+    let a = bound (value ms key.Route (Ok no_items) as_array) (each key.Route (route_in format peers) []) routes h in
+    each_keeps (AreRoutes (length peers)) key.Route (route_in format peers) (route_kept format peers) [] a.0 routes (record { each = λ k d lt. absurd (omega arith); ways = λ i j d lt less. absurd (omega arith) }) a.2
 
 -- ---- the plan
 
@@ -363,7 +329,7 @@ plan_sound workers passes peers routes some enough are lead =
       routes = lead.each;
       names = are.names;
       endpoints = are.endpoints;
-      prefixes = lead.prefixes;
+      ways = lead.ways;
       apart = λ peer other number ne h k. ranges_apart (counts_of peers) peer other number ne h k;
       total = let most = total_within (counts_of peers) 512 (λ i lt. (numbers_at (length workers) peers are.each i lt).1) in omega (arith, simp length-map at most, are.count.1);
     }

@@ -30,6 +30,7 @@ key_name key.Numbers = codes "numbers"
 key_name key.Window = codes "window"
 key_name key.Route = codes "route"
 key_name key.Prefix = codes "prefix"
+key_name key.Source = codes "source"
 
 -- one of these keys has the name
 abbrev pub is_one_of : List Key → List ℕ → Bool
@@ -46,4 +47,5 @@ is_known section.Peer format name =
     is_one_of (key.Name ∷ key.Address ∷ key.Port ∷ key.Worker ∷ key.User ∷ key.Secret ∷ key.Formats ∷ key.Trunk
     ∷ key.TrunkTimestamps ∷ key.Numbers ∷ []) name
     || (nat_le 2 format && bytes_eq (key_name key.Window) name)
-is_known section.Route format name = is_one_of (key.Prefix ∷ key.Peer ∷ []) name
+is_known section.Route format name =
+    is_one_of (key.Prefix ∷ key.Peer ∷ []) name || (format == 3 && bytes_eq (key_name key.Source) name)

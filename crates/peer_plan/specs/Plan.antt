@@ -1,5 +1,5 @@
 -- What a plan is: workers, passes, peers with their numbers, and routes.
-use Rattle.std.specs.Prelude.{◌≡◌, ◌≢◌, ◌≤◌, ◌<◌, ℕ, zero, suc, ◌+◌, ◌*◌, List, [], ◌∷◌, length, map, Bool, true, ◌&&◌, ◌||◌, nat_le, nat_lt, nat_eq, Option, Some, None, ◌==◌, slice_index, All, Contains}
+use Rattle.std.specs.Prelude.{◌≡◌, ◌≢◌, ◌≤◌, ◌<◌, ℕ, zero, suc, ◌+◌, ◌*◌, List, [], ◌∷◌, length, map, Bool, true, ◌&&◌, ◌||◌, nat_le, nat_lt, nat_eq, Option, Some, None, is_some, if◌then◌else◌, ◌==◌, slice_index, All, Contains, IfSome}
 use Rattle.std.specs.Char.{is_ascii_alphanumeric}
 use Rattle.std.specs.List.{list_all, starts_with, AllPairs}
 use Rattle.call_signals.specs.PeerRules.{IsPeerRules, IsWithin}
@@ -60,16 +60,38 @@ IsInRange range number = (range.first ≤ number) × (number < range.first + ran
 abbrev pub begins : List ℕ → Route → Bool
 begins text route = starts_with nat_eq text route.prefix
 
--- a route's prefix is longer than that of another, if there is one
-abbrev pub is_longer : Route → Option Route → Bool
-is_longer route None = true
-is_longer route (Some other) = nat_lt (length other.prefix) (length route.prefix)
+-- a route is for the calls of a peer: it has no source, or this one
+abbrev pub is_source : ℕ → Option ℕ → Bool
+is_source caller None = true
+is_source caller (Some source) = source == caller
+
+abbrev pub is_open_to : ℕ → Route → Bool
+is_open_to caller route = is_source caller route.source
+
+-- a call of a peer to the number fits a route
+unfoldable pub fits : ℕ → List ℕ → Route → Bool
+fits caller text route = begins text route && is_open_to caller route
 
 -- of the routes whose prefix begins the text, this is the one with the longest prefix
 pub record IsLongest (routes : List Route) (text : List ℕ) (route : Route) : Type 0 where
   pub listed : Contains routes route
   pub starts : begins text route ≡ true
   pub longest : All (λ other. begins text other ≡ true → length other.prefix ≤ length route.prefix) routes
+
+-- how near a route is: one with a longer prefix is nearer, and of two of one length one with a source
+abbrev pub nearness : Route → ℕ
+nearness route = 2 * length route.prefix + (if is_some route.source then 1 else 0)
+
+-- a route is nearer than another, if there is one
+abbrev pub is_nearer : Route → Option Route → Bool
+is_nearer route None = true
+is_nearer route (Some other) = nat_lt (nearness other) (nearness route)
+
+-- of the routes that a call fits, this is the nearest
+pub record IsNearest (routes : List Route) (caller : ℕ) (text : List ℕ) (route : Route) : Type 0 where
+  pub listed : Contains routes route
+  pub fitting : fits caller text route ≡ true
+  pub nearest : All (λ other. fits caller text other ≡ true → nearness other ≤ nearness route) routes
 
 -- ---- what is so of every plan
 
@@ -82,7 +104,12 @@ pub record IsPeer (workers : ℕ) (peer : Peer) : Type 0 where
 
 pub record IsRoute (peers : ℕ) (route : Route) : Type 0 where
   pub prefix : is_prefix route.prefix ≡ true
+  pub source : IfSome route.source (λ source. source < peers)
   pub peer : route.peer < peers
+
+-- two routes are not for the same calls
+abbrev pub AreApart : Route → Route → Type 0
+AreApart route other = route.prefix ≡ other.prefix → route.source ≢ other.source
 
 pub record IsPlan (plan : PlanView) : Type 0 where
   pub workers : IsWithin 1 8 (length plan.workers)
@@ -90,10 +117,10 @@ pub record IsPlan (plan : PlanView) : Type 0 where
   pub peer_count : IsWithin 1 32 (length plan.peers)
   pub peers : All (IsPeer (length plan.workers)) plan.peers
   pub routes : All (IsRoute (length plan.peers)) plan.routes
-  -- no two peers have one name or one endpoint, and no two routes one prefix
+  -- no two peers have one name or one endpoint, and no two routes one prefix and one source
   pub names : AllPairs (λ peer other. peer.name ≢ other.name) plan.peers
   pub endpoints : AllPairs (λ peer other. peer.endpoint ≢ other.endpoint) plan.peers
-  pub prefixes : AllPairs (λ route other. route.prefix ≢ other.prefix) plan.routes
+  pub ways : AllPairs AreApart plan.routes
   -- the ranges lie apart, within 1 ..= 16,384
   pub apart : (peer other number : ℕ) → peer ≢ other → IsInRange (range_of (counts_of plan.peers) peer) number → IsInRange (range_of (counts_of plan.peers) other) number → ⊥
   pub total : total_of (counts_of plan.peers) ≤ 32 * 512

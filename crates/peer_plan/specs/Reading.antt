@@ -1,6 +1,7 @@
 -- How a plan is read from a document: the keys in their order, with the first fault.
-use Rattle.std.specs.Prelude.{ℕ, ◌-◌, List, [], ◌∷◌, length, Option, Some, None, Result, Ok, Err, Bool, true, false, is_some, nat_le, ◌==◌, ◌&&◌, if◌then◌else◌, ok_or, option_map, option_and_then, position, codes}
+use Rattle.std.specs.Prelude.{ℕ, ◌-◌, List, [], ◌∷◌, length, Option, Some, None, Result, Ok, Err, Bool, true, false, is_some, nat_le, nat_eq, ◌==◌, ◌&&◌, if◌then◌else◌, ok_or, option_map, option_and_then, position}
 use Rattle.std.specs.List.{list_all, list_any}
+use Rattle.std.specs.Option.{option_eq}
 use Rattle.std.specs.Str.{is_utf8, bytes_eq}
 use Rattle.toml.specs.Data.{Data, Items, no_items, item, Members, get_member, as_array, as_bool, as_str}
 use Rattle.toml.specs.Parse.{parse_document}
@@ -172,24 +173,41 @@ peers_in format limits workers ms = do
   peers ← each key.Peer (λ _. peer_in format limits workers) [] tables
   told_apart peers
 
--- whether a route has this prefix
-abbrev pub has_prefix : List ℕ → List Route → Bool
-has_prefix prefix routes = list_any (λ route. bytes_eq route.prefix prefix) routes
+-- the place of the peer of a name
+abbrev pub peer_named : List Peer → List ℕ → Result ℕ PlanError
+peer_named peers name = ok_or (position (is_named name) peers) error.UnknownPeer
 
-abbrev pub new_route : List Route → List ℕ → ℕ → Result Route PlanError
-new_route before prefix peer =
-    if has_prefix prefix before then Err error.SameRoute else Ok (record { prefix = prefix; peer = peer })
+-- `source`, in format 3 alone
+unfoldable pub source_at : List Peer → Option Data → Result (Option ℕ) PlanError
+source_at peers None = Ok None
+source_at peers (Some d) = do
+  name ← ok_or (as_str d) (error.Range key.Source)
+  source ← peer_named peers name
+  Ok (Some source)
 
-unfoldable pub route_in : List Peer → List Route → Members → Result Route PlanError
-route_in peers before ms = do
+abbrev pub source_in : ℕ → List Peer → Members → Result (Option ℕ) PlanError
+source_in format peers ms = if format == 3 then source_at peers (get_member (key_name key.Source) ms) else Ok None
+
+-- whether a route has this prefix and this source
+abbrev pub has_way : List ℕ → Option ℕ → List Route → Bool
+has_way prefix source routes = list_any (λ route. bytes_eq route.prefix prefix && option_eq nat_eq route.source source) routes
+
+abbrev pub new_route : List Route → List ℕ → Option ℕ → ℕ → Result Route PlanError
+new_route before prefix source peer =
+    if has_way prefix source before then Err error.SameRoute
+    else Ok (record { prefix = prefix; source = source; peer = peer })
+
+unfoldable pub route_in : ℕ → List Peer → List Route → Members → Result Route PlanError
+route_in format peers before ms = do
   prefix ← value ms key.Prefix (Err (error.Missing key.Prefix)) (text_of is_prefix)
   name ← value ms key.Peer (Err (error.Missing key.Peer)) as_str
-  peer ← ok_or (position (is_named name) peers) error.UnknownPeer
-  new_route before prefix peer
+  peer ← peer_named peers name
+  source ← source_in format peers ms
+  new_route before prefix source peer
 
 -- `[[route]]`, which may be absent
-unfoldable pub routes_in : List Peer → Members → Result (List Route) PlanError
-routes_in peers ms = value ms key.Route (Ok no_items) as_array >>= each key.Route (route_in peers) []
+unfoldable pub routes_in : ℕ → List Peer → Members → Result (List Route) PlanError
+routes_in format peers ms = value ms key.Route (Ok no_items) as_array >>= each key.Route (route_in format peers) []
 
 unfoldable pub plan_in : Members → Result PlanView PlanError
 plan_in ms = do
@@ -198,7 +216,7 @@ plan_in ms = do
   workers ← workers_in ms
   passes ← passes_in (length workers) ms
   peers ← peers_in format limits (length workers) ms
-  routes ← routes_in peers ms
+  routes ← routes_in format peers ms
   Ok (record { workers = workers; passes = passes; peers = peers; routes = routes })
 
 -- the table that toml reads from the text, where it reads one

@@ -19,9 +19,9 @@ pub enum PlanError {
     SameName,
     /// Two peers have one endpoint.
     SameEndpoint,
-    /// No peer has the name that a route gives.
+    /// No peer has a name that a route gives.
     UnknownPeer,
-    /// Two routes have one prefix.
+    /// Two routes have one prefix and one source, or none.
     SameRoute,
     /// Memory ran out.
     Memory,

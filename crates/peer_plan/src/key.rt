@@ -40,6 +40,7 @@ pub enum Key {
     /// The list of routes.
     Route,
     Prefix,
+    Source,
 }
 
 impl Key {
@@ -71,6 +72,7 @@ impl Key {
             Key::Window => "window",
             Key::Route => "route",
             Key::Prefix => "prefix",
+            Key::Source => "source",
         }
     }
 }
@@ -122,7 +124,9 @@ pub fn is_known(section: Section, format: u64, name: &str) -> bool
         Section::Peer => {
             is_one_of(&PEER_KEYS, name) || 2 <= format && Key::Window.name() == name
         }
-        Section::Route => is_one_of(&ROUTE_KEYS, name),
+        Section::Route => {
+            is_one_of(&ROUTE_KEYS, name) || format == 3 && Key::Source.name() == name
+        }
     }
 }
 

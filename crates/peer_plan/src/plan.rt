@@ -3,7 +3,7 @@ ghost use Rattle.std.specs.Prelude.{◌≡◌, ◌≢◌, ◌<◌, ◌≤◌, �
 ghost use Rattle.call_signals.specs.PeerRules.{IsPeerRules, IsWithin};
 ghost use Rattle.toml.specs.View.{table_view};
 ghost use Rattle.peer_plan.specs.Fields.{Gives};
-ghost use Rattle.peer_plan.specs.Plan.{IsPlan, IsLongest, begins, range_of, counts_of, total_of};
+ghost use Rattle.peer_plan.specs.Plan.{IsPlan, IsNearest, fits, range_of, counts_of, total_of};
 ghost use Rattle.peer_plan.specs.Reading.{is_endpoint, plan_in, plan_of};
 
 use crate::endpoint::Endpoint;
@@ -12,7 +12,7 @@ use crate::number_range::NumberRange;
 use crate::peer::Peer;
 use crate::reading;
 use crate::route::Route;
-use crate::routing::longest;
+use crate::routing::nearest;
 use call_signals::PeerRules;
 use std::alloc::{AllocError, Global};
 use std::marker::Model;
@@ -121,6 +121,15 @@ impl Plan {
         self.routes[route].prefix.as_str()
     }
 
+    /// The peer whose calls alone a route is for; none where it is for those of all.
+    pub fn source(&self, route: usize) -> Option<u16>
+        requires { route < length self.now.routes }
+        ensures value { option_map (λ route. route.source) (slice_get self.now.routes route) ≡ Some result }
+        ensures place { IfSome result (λ source. source < length self.now.peers) }
+    {
+        self.routes[route].source
+    }
+
     /// The peer that a route leads to.
     pub fn target(&self, route: usize) -> u16
         requires { route < length self.now.routes }
@@ -204,13 +213,14 @@ impl Plan {
         Some(place as u16)
     }
 
-    /// The peer of the longest prefix that begins a called number. Takes the time of a comparison with each prefix.
-    pub fn route(&self, number: &[u8]) -> Option<u16>
-        ensures found { IfSome result (λ peer. (route : Route) × IsLongest self.now.routes number.now route × (route.peer ≡ peer)) }
-        ensures none { IfNone result (All (λ route. begins number.now route ≡ false) self.now.routes) }
+    /// Where a call of a peer leads: to the peer of the longest prefix that begins the called number, among the routes for all and those
+    /// for this caller; of two of one length the latter's. Takes the time of a comparison with each prefix.
+    pub fn route(&self, caller: u16, number: &[u8]) -> Option<u16>
+        ensures found { IfSome result (λ peer. (route : Route) × IsNearest self.now.routes caller number.now route × (route.peer ≡ peer)) }
+        ensures none { IfNone result (All (λ route. fits caller number.now route ≡ false) self.now.routes) }
         ensures place { IfSome result (λ peer. peer < length self.now.peers) }
     {
-        let route = longest(&self.routes, number)?;
+        let route = nearest(&self.routes, caller, number)?;
         Some(route.peer)
     }
 }
@@ -227,7 +237,7 @@ fn plan_in(alloc: Global, table: &Table) -> Result<Plan, PlanError>
     let worker_count = workers.len() as u64;
     let passes = reading::passes(table, worker_count)?;
     let peers = reading::peers(alloc, table, format, limits, worker_count)?;
-    let routes = reading::routes(alloc, table, &peers)?;
+    let routes = reading::routes(alloc, table, format, &peers)?;
     let endpoints = endpoints(alloc, &peers)?;
     let counts = counts(alloc, &peers)?;
     Ok(Plan {

@@ -29,7 +29,8 @@ impl ShortText {
     }
 
     pub(crate) fn as_str(&self) -> &str
-        ensures { result.now ≡ self.now }
+        ensures value { result.now ≡ self.now }
+        ensures most { length result.now ≤ 32 }
     {
         self.text.as_str()
     }

@@ -178,8 +178,11 @@ fn write_peer<W: Write>(
 
 fn write_routes<W: Write>(plan: &Plan, writer: &mut W) -> io::Result<()> {
     for route in 0..plan.route_count() {
-        let target = plan.name(plan.target(route));
-        writeln!(writer, "route \"{}\" to {target}", plan.prefix(route))?;
+        write!(writer, "route \"{}\"", plan.prefix(route))?;
+        if let Some(source) = plan.source(route) {
+            write!(writer, " from {}", plan.name(source))?;
+        }
+        writeln!(writer, " to {}", plan.name(plan.target(route)))?;
     }
     Ok(())
 }

@@ -35,11 +35,40 @@ fn warn_of_credentials<W: Write>(plan: &Plan, peer: u16, writer: &mut W) -> io::
     Ok(())
 }
 
-// A route has no source, so the peer that it leads to reaches itself.
+// Whether calls of a peer may take a route: it is for all, or for this peer's.
+fn is_open_to(plan: &Plan, route: usize, caller: u16) -> bool
+    requires { route < length plan.now.routes }
+{
+    match plan.source(route) {
+        Some(source) => source == caller,
+        None => true,
+    }
+}
+
+// Whether each number of a route leads calls of a peer elsewhere, by a route of the same prefix that is for this peer's alone.
+fn is_passed_over(plan: &Plan, route: usize, caller: u16) -> bool
+    requires { route < length plan.now.routes }
+{
+    if plan.source(route).is_some() {
+        return false;
+    }
+    for other in 0..plan.route_count() {
+        if plan.source(other) == Some(caller) && plan.prefix(other) == plan.prefix(route) {
+            return true;
+        }
+    }
+    false
+}
+
+// Unless a route has a source, the peer that it leads to reaches itself.
 fn warn_of_return<W: Write>(plan: &Plan, route: usize, writer: &mut W) -> io::Result<()>
     requires { route < length plan.now.routes }
 {
-    let target = plan.name(plan.target(route));
+    let peer = plan.target(route);
+    if !is_open_to(plan, route, peer) || is_passed_over(plan, route, peer) {
+        return Ok(());
+    }
+    let target = plan.name(peer);
     let prefix = plan.prefix(route);
     writeln!(
         writer,
@@ -47,10 +76,10 @@ fn warn_of_return<W: Write>(plan: &Plan, route: usize, writer: &mut W) -> io::Re
     )
 }
 
-// Whether a route leads to a peer.
-fn is_target(plan: &Plan, peer: u16) -> bool {
+// Whether a route leads calls of a peer to another, or back to it.
+fn reaches(plan: &Plan, caller: u16, target: u16) -> bool {
     for route in 0..plan.route_count() {
-        if plan.target(route) == peer {
+        if plan.target(route) == target && is_open_to(plan, route, caller) {
             return true;
         }
     }
@@ -88,7 +117,9 @@ fn warn_of_callers<W: Write>(plan: &Plan, target: u16, writer: &mut W) -> io::Re
     requires { target < length plan.now.peers }
 {
     for caller in 0..plan.peer_count() {
-        warn_of_formats(plan, caller, target, writer)?;
+        if reaches(plan, caller, target) {
+            warn_of_formats(plan, caller, target, writer)?;
+        }
     }
     Ok(())
 }
@@ -102,9 +133,7 @@ pub(crate) fn write_warnings<W: Write>(plan: &Plan, writer: &mut W) -> io::Resul
         warn_of_return(plan, route, writer)?;
     }
     for target in 0..plan.peer_count() {
-        if is_target(plan, target) {
-            warn_of_callers(plan, target, writer)?;
-        }
+        warn_of_callers(plan, target, writer)?;
     }
     Ok(())
 }

@@ -1,8 +1,8 @@
 //! The list of routes.
-ghost use Rattle.std.specs.Prelude.{◌≡◌, ◌≤◌, ◌<◌, [], length, IfSome, position};
-ghost use Rattle.toml.specs.View.{table_view, items_view};
+ghost use Rattle.std.specs.Prelude.{◌≡◌, ◌≤◌, ◌<◌, [], length, IfSome, option_map, position};
+ghost use Rattle.toml.specs.View.{view, table_view, items_view};
 ghost use Rattle.peer_plan.specs.Fields.{Gives, each};
-ghost use Rattle.peer_plan.specs.Reading.{is_named, has_prefix, route_in, routes_in};
+ghost use Rattle.peer_plan.specs.Reading.{is_named, source_at, source_in, has_way, route_in, routes_in};
 
 use crate::error::PlanError;
 use crate::key::Key;
@@ -21,39 +21,73 @@ fn peer_named(peers: &[Peer], name: &str) -> Option<usize>
     peers.iter().position(|peer| peer.name.as_str() == name)
 }
 
-fn has_prefix(prefix: &str, routes: &[Route]) -> bool
-    ensures { result ≡ has_prefix prefix.now routes.now }
+// The peer whose calls alone a route is for, if the value names one.
+#[tactic(auto, unfolding(crate::specs::Reading::source_at))]
+fn source_at(found: Option<&Value>, peers: &[Peer]) -> Result<Option<u16>, PlanError>
+    requires { length peers.now ≤ 32 }
+    ensures { result ≡ source_at peers.now (option_map (λ x. view x.now) found.entry) }
 {
-    routes.iter().any(|route| route.prefix.as_str() == prefix)
+    let Some(found) = found else {
+        return Ok(None);
+    };
+    let name = found.as_str().ok_or(PlanError::Range(Key::Source))?;
+    let source = peer_named(peers, name).ok_or(PlanError::UnknownPeer)?;
+    Ok(Some(source as u16))
+}
+
+// The same of a route of a plan.
+fn source(table: &Table, format: u64, peers: &[Peer]) -> Result<Option<u16>, PlanError>
+    requires { length peers.now ≤ 32 }
+    ensures { result ≡ source_in format peers.now (table_view table.now) }
+{
+    if format == 3 {
+        source_at(member(table, Key::Source), peers)
+    } else {
+        Ok(None)
+    }
+}
+
+// Whether a route is for the same calls.
+fn has_way(prefix: &str, source: Option<u16>, routes: &[Route]) -> bool
+    ensures { result ≡ has_way prefix.now source routes.now }
+{
+    routes.iter().any(|route| route.prefix.as_str() == prefix && route.source == source)
 }
 
 #[tactic(auto, unfolding(crate::specs::Reading::route_in))]
-fn route(table: &Table, peers: &[Peer], before: &[Route]) -> Result<Route, PlanError>
+fn route(table: &Table, format: u64, peers: &[Peer], before: &[Route]) -> Result<Route, PlanError>
     requires { length peers.now ≤ 32 }
-    ensures { result ≡ route_in peers.now before.now (table_view table.now) }
+    ensures { result ≡ route_in format peers.now before.now (table_view table.now) }
 {
     let prefix = prefix_at(table, Key::Prefix)?;
     let name = text_at(table, Key::Peer)?;
     let peer = peer_named(peers, name).ok_or(PlanError::UnknownPeer)?;
-    if has_prefix(prefix.as_str(), before) {
+    let source = source(table, format, peers)?;
+    if has_way(prefix.as_str(), source, before) {
         return Err(PlanError::SameRoute);
     }
     Ok(Route {
         prefix,
+        source,
         peer: peer as u16,
     })
 }
 
-fn each_route(alloc: Global, items: &[Value], peers: &[Peer]) -> Result<Vec<Route>, PlanError>
+fn each_route(
+    alloc: Global,
+    items: &[Value],
+    format: u64,
+    peers: &[Peer],
+) -> Result<Vec<Route>, PlanError>
     requires { length peers.now ≤ 32 }
-    ensures { Gives (λ routes. routes.items) result (each Key.Route (route_in peers.now) [] (items_view items.now)) }
+    ensures { Gives (λ routes. routes.items) result (each Key.Route (route_in format peers.now) [] (items_view items.now)) }
 {
     let mut routes = Vec::with_capacity(alloc, items.len())?;
     for item in items {
         let Some(table) = item.as_table() else {
             return Err(PlanError::Range(Key::Route));
         };
-        let next = route(table, peers, &routes)?;
+        let next = route(table, format, peers, &routes)?;
         routes.push(next)?;
     }
     Ok(routes)
@@ -61,9 +95,14 @@ fn each_route(alloc: Global, items: &[Value], peers: &[Peer]) -> Result<Vec<Rout
 
 // The routes to these peers, none if the plan has no list of them.
 #[tactic(auto, unfolding(crate::specs::Reading::routes_in, crate::specs::Fields::each))]
-pub(crate) fn routes(alloc: Global, table: &Table, peers: &[Peer]) -> Result<Vec<Route>, PlanError>
+pub(crate) fn routes(
+    alloc: Global,
+    table: &Table,
+    format: u64,
+    peers: &[Peer],
+) -> Result<Vec<Route>, PlanError>
     requires { length peers.now ≤ 32 }
-    ensures { Gives (λ routes. routes.items) result (routes_in peers.now (table_view table.now)) }
+    ensures { Gives (λ routes. routes.items) result (routes_in format peers.now (table_view table.now)) }
 {
     let Some(found) = member(table, Key::Route) else {
         return Ok(Vec::new(alloc));
@@ -71,5 +110,5 @@ pub(crate) fn routes(alloc: Global, table: &Table, peers: &[Peer]) -> Result<Vec
     let Some(items) = found.as_array() else {
         return Err(PlanError::Range(Key::Route));
     };
-    each_route(alloc, items.as_slice(), peers)
+    each_route(alloc, items.as_slice(), format, peers)
 }

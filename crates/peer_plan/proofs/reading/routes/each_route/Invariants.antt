@@ -8,4 +8,4 @@ use Rattle.peer_plan.proofs.reading.routes.each_route.Given as goal
 -- what is read so far, and what is left
 abbrev pub invariant-loop-item : goal.invariant-loop-item
 invariant-loop-item l =
-    each key.Route (route_in l.peers) l.routes.items (items_view (drop l.item-index l.items)) ≡ each key.Route (route_in l.peers) [] (items_view l.items)
+    each key.Route (route_in l.format l.peers) l.routes.items (items_view (drop l.item-index l.items)) ≡ each key.Route (route_in l.format l.peers) [] (items_view l.items)

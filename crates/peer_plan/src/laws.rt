@@ -1,0 +1,17 @@
+//! The laws of a plan.
+ghost use Rattle.std.specs.Prelude.{◌≡◌, ◌≢◌, ℕ, List, All, Ok, None, false};
+ghost use Rattle.toml.specs.Data.{Members};
+ghost use Rattle.peer_plan.specs.Plan.{begins, fits, IsLongest, IsNearest};
+ghost use Rattle.peer_plan.specs.Reading.{source_in};
+ghost use Rattle.peer_plan.specs.declared.peer.Peer.{Peer};
+ghost use Rattle.peer_plan.specs.declared.route.Route.{Route};
+
+/// Whoever calls, the longest prefix leads where no route has a source; so it is in each plan of format 1 or 2.
+pub fn longest_prefixes_lead()
+    ensures somewhere { (routes : List Route) (caller : ℕ) (text : List ℕ) (route : Route) →
+        All (λ other. other.source ≡ None) routes → IsNearest routes caller text route → IsLongest routes text route }
+    ensures nowhere { (routes : List Route) (caller : ℕ) (text : List ℕ) →
+        All (λ other. other.source ≡ None) routes → All (λ other. fits caller text other ≡ false) routes →
+        All (λ other. begins text other ≡ false) routes }
+    ensures before { (format : ℕ) (peers : List Peer) (ms : Members) → format ≢ 3 → source_in format peers ms ≡ Ok None }
+{}
