@@ -14,6 +14,7 @@ mod player;
 mod printing;
 mod replaying;
 mod serving;
+mod stages;
 mod viewer;
 mod words;
 

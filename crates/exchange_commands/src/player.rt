@@ -2,11 +2,11 @@
 use crate::free_order::order_free;
 use crate::names::{call_error_name, order_error_name, refusal_name};
 use crate::outboxes::{empty_outbox, empty_outboxes};
+use crate::stages::Stages;
 use crate::viewer::{PeerOfPlan, Stop, Viewer};
 use crate::words::{endpoint_of, octets_of, peer_of};
 use call_auth::Challenge;
 use exchange_core::{Answer, Exchange, NoGate, Pass, Retired};
-use leg_machine::Stage;
 use peer_lock::{Naming, Status};
 use peer_plan::Plan;
 use script_lines::Line;
@@ -20,44 +20,29 @@ pub struct Player {
     challenge: Challenge,
     // Whether what goes out waits for a line that sends it.
     holds: bool,
-    // By number, from 1 on, after the line before.
-    stages: Vec<Option<Stage>>,
+    // Those that the viewer was told.
+    stages: Stages,
     // The legs that were taken out since datagrams went out.
     retired: Vec<Retired>,
 }
 
-// How the leg of a number stands, at whatever peer.
-fn status_of<J: Naming, R: Wait>(
-    rt: &R,
-    exchange: &Exchange<NoGate, J>,
-    pass: &mut Pass<J>,
-    number: u64,
-) -> Option<Status> {
-    let Ok(number) = u16::try_from(number) else {
-        return None;
-    };
-    for peer in 0..exchange.plan().peer_count() {
-        let status = exchange.status(rt, pass, peer, number);
-        if status.is_some() {
-            return status;
-        }
+// Whether a datagram is a full frame: only such a one can open a leg.
+fn is_full(octets: &[u8]) -> bool {
+    match octets.first() {
+        Some(octet) => *octet >= 0x80,
+        None => false,
     }
-    None
 }
 
 impl Player {
     /// At the beginning: moment 0, challenge `0`, no leg. `None` where memory was refused.
     pub fn new(alloc: Global, plan: &Plan) -> Option<Player> {
         let challenge = Challenge::new(b"0")?;
-        let numbers = usize::from(plan.number_count());
-        let Ok(stages) = vec![in alloc; None; numbers] else {
-            return None;
-        };
         Some(Player {
             now: 0,
             challenge,
             holds: false,
-            stages,
+            stages: Stages::new(alloc, plan).ok()?,
             retired: Vec::new(alloc),
         })
     }
@@ -82,6 +67,7 @@ impl Player {
                 Ok(())
             }
             Line::Free(peer, numbers) => {
+                self.stages.doubt();
                 let (now, challenge) = (self.now, &self.challenge);
                 order_free(rt, alloc, exchange, pass, peer, numbers, now, challenge)
             }
@@ -174,6 +160,9 @@ impl Player {
     ) -> Result<(), Stop> {
         let peer = peer_of(exchange.plan(), peer)?;
         let octets = octets_of(alloc, digits)?;
+        if is_full(octets.as_slice()) {
+            self.stages.doubt();
+        }
         let from = exchange.plan().endpoint(peer);
         let answer = exchange.datagram(
             rt,
@@ -220,6 +209,7 @@ impl Player {
         viewer: &mut V,
     ) -> Result<(), Stop> {
         let peer = peer_of(exchange.plan(), peer)?;
+        self.stages.doubt();
         if let Err(error) = exchange.call(rt, pass, peer, number, self.now) {
             viewer.refused(self.now, call_error_name(error))?;
         }
@@ -235,7 +225,11 @@ impl Player {
         number: u64,
         viewer: &mut V,
     ) -> Result<(), Stop> {
-        let Some(Status { name, .. }) = status_of(rt, exchange, pass, number) else {
+        let status = match u16::try_from(number) {
+            Ok(number) => self.stages.status(rt, exchange, pass, number),
+            Err(_) => None,
+        };
+        let Some(Status { name, .. }) = status else {
             return viewer.refused(self.now, "NoLeg");
         };
         if name.peer >= exchange.plan().peer_count() {
@@ -330,10 +324,7 @@ impl Player {
     ) -> Result<(), Stop> {
         self.tell_retired(viewer)?;
         self.retired.clear();
-        for place in 0..self.stages.len() {
-            self.tell_stage(rt, exchange, pass, place, viewer)?;
-        }
-        Ok(())
+        self.stages.tell(rt, exchange, pass, self.now, viewer)
     }
 
     // The legs that were taken out, by ascending number.
@@ -341,35 +332,12 @@ impl Player {
         if self.retired.is_empty() {
             return Ok(());
         }
-        for place in 0..self.stages.len() {
+        for place in 0..self.stages.count() {
             for retired in &self.retired {
                 if usize::from(retired.name.number) == place.saturating_add(1) {
                     viewer.retired(self.now, retired)?;
                 }
             }
-        }
-        Ok(())
-    }
-
-    // The stage of a number, where it changed.
-    fn tell_stage<J: Naming, R: Wait, V: Viewer>(
-        &mut self,
-        rt: &R,
-        exchange: &Exchange<NoGate, J>,
-        pass: &mut Pass<J>,
-        place: usize,
-        viewer: &mut V,
-    ) -> Result<(), Stop> {
-        let Ok(number) = u16::try_from(place.saturating_add(1)) else {
-            return Ok(());
-        };
-        let stage = status_of(rt, exchange, pass, u64::from(number)).map(|status| status.stage);
-        let Some(before) = self.stages.get_mut(place) else {
-            return Ok(());
-        };
-        if *before != stage {
-            *before = stage;
-            viewer.staged(self.now, number, stage)?;
         }
         Ok(())
     }

@@ -1,0 +1,143 @@
+//! The stages of the plan's numbers, as a viewer was told them last.
+use crate::viewer::{Stop, Viewer};
+use exchange_core::{Exchange, NoGate, Pass};
+use leg_machine::Stage;
+use peer_lock::{Naming, Status};
+use peer_plan::Plan;
+use std::alloc::{AllocError, Global};
+use std::sync::Wait;
+
+/// What was told of each number, and which of them may be another way now.
+///
+/// A leg is opened by a full frame or by a call that goes out, and by nothing else; so behind any other line only the numbers are looked
+/// at that had a leg before it.
+#[derive(Drop)]
+pub(crate) struct Stages {
+    // By number, from 1 on.
+    told: Vec<Option<Stage>>,
+    // The peer of each number.
+    peers: Vec<u16>,
+    // The places of the numbers that have a leg, ascending, where nothing says otherwise.
+    live: Vec<usize>,
+    // Whether others may have one, or some of these none.
+    is_stale: bool,
+}
+
+// The peer of each number of a plan.
+fn peers_of(alloc: Global, plan: &Plan) -> Result<Vec<u16>, AllocError> {
+    let mut peers = Vec::new(alloc);
+    for peer in 0..plan.peer_count() {
+        for _ in 0..plan.range(peer).count {
+            if peers.push(peer).is_err() {
+                return Err(AllocError);
+            }
+        }
+    }
+    Ok(peers)
+}
+
+impl Stages {
+    /// No number of the plan has a leg.
+    pub(crate) fn new(alloc: Global, plan: &Plan) -> Result<Stages, AllocError> {
+        let peers = peers_of(alloc, plan)?;
+        Ok(Stages {
+            told: vec![in alloc; None; peers.len()]?,
+            live: Vec::with_capacity(alloc, peers.len())?,
+            peers,
+            is_stale: false,
+        })
+    }
+
+    /// How many numbers there are.
+    pub(crate) fn count(&self) -> usize {
+        self.told.len()
+    }
+
+    /// A leg may have been opened at any number.
+    pub(crate) fn doubt(&mut self) {
+        self.is_stale = true;
+    }
+
+    /// How the leg of a number stands.
+    pub(crate) fn status<J: Naming, R: Wait>(
+        &self,
+        rt: &R,
+        exchange: &Exchange<NoGate, J>,
+        pass: &mut Pass<J>,
+        number: u16,
+    ) -> Option<Status> {
+        let &peer = self.peers.get(usize::from(number).wrapping_sub(1))?;
+        if peer >= exchange.plan().peer_count() {
+            return None;
+        }
+        exchange.status(rt, pass, peer, number)
+    }
+
+    /// The viewer is told each stage that is another than before, by ascending number.
+    pub(crate) fn tell<J: Naming, R: Wait, V: Viewer>(
+        &mut self,
+        rt: &R,
+        exchange: &Exchange<NoGate, J>,
+        pass: &mut Pass<J>,
+        now: u64,
+        viewer: &mut V,
+    ) -> Result<(), Stop> {
+        if self.is_stale {
+            return self.tell_all(rt, exchange, pass, now, viewer);
+        }
+        for turn in 0..self.live.len() {
+            if let Some(&place) = self.live.get(turn) {
+                self.is_stale |= self
+                    .tell_one(rt, exchange, pass, place, now, viewer)?
+                    .is_none();
+            }
+        }
+        Ok(())
+    }
+
+    // The same, of all numbers.
+    fn tell_all<J: Naming, R: Wait, V: Viewer>(
+        &mut self,
+        rt: &R,
+        exchange: &Exchange<NoGate, J>,
+        pass: &mut Pass<J>,
+        now: u64,
+        viewer: &mut V,
+    ) -> Result<(), Stop> {
+        self.live.clear();
+        for place in 0..self.told.len() {
+            let stage = self.tell_one(rt, exchange, pass, place, now, viewer)?;
+            if stage.is_some() && self.live.push(place).is_err() {
+                return Err(Stop::Memory);
+            }
+        }
+        self.is_stale = false;
+        Ok(())
+    }
+
+    // The stage of the number at a place, which is told where it is another than before.
+    fn tell_one<J: Naming, R: Wait, V: Viewer>(
+        &mut self,
+        rt: &R,
+        exchange: &Exchange<NoGate, J>,
+        pass: &mut Pass<J>,
+        place: usize,
+        now: u64,
+        viewer: &mut V,
+    ) -> Result<Option<Stage>, Stop> {
+        let Ok(number) = u16::try_from(place.saturating_add(1)) else {
+            return Ok(None);
+        };
+        let stage = self
+            .status(rt, exchange, pass, number)
+            .map(|status| status.stage);
+        let Some(told) = self.told.get_mut(place) else {
+            return Ok(None);
+        };
+        if *told != stage {
+            *told = stage;
+            viewer.staged(now, number, stage)?;
+        }
+        Ok(stage)
+    }
+}
