@@ -8,6 +8,8 @@
 
 struct wanted wanted;
 struct seen seen;
+struct told told[MOST_TOLD];
+unsigned told_count;
 unsigned active;
 int is_closing;
 static struct call calls[SLOTS];
@@ -39,10 +41,15 @@ static void to_stage(struct call *call, enum stage stage) {
     call->changed = now();
 }
 
+static void tell(const struct call *call, const char *what) {
+    if (told_count < MOST_TOLD) told[told_count++] = (struct told){call->id, what, now()};
+}
+
 // The exchange ended the call, or it makes no progress: what is left is hung up, and the call is watched no more.
-static void fail(struct call *call, unsigned long *counted) {
+static void fail(struct call *call, unsigned long *counted, const char *what) {
     if (call->stage == FAILED || call->stage == OVER) return;
     ++*counted;
+    tell(call, what);
     for (int side = 0; side < 2; side++)
         if (call->ends[side] && !call->ends[side]->is_dead)
             send_numbered(call->ends[side], timestamp_of(call->ends[side]), IAX, HANGUP, NULL, 0);
@@ -145,16 +152,21 @@ static void ping_where_quiet(struct call *call, double moment) {
     }
 }
 
-// The call is told, and its legs' numbers are free.
+static void count_lacking(const struct call *call) {
+    unsigned sent = call->digits_sent[0] + call->digits_sent[1], taken = call->digits_taken[0] + call->digits_taken[1];
+    seen.lacking_digits += sent - taken;
+    if (sent != taken) tell(call, "lacking_digits");
+}
+
+// The call is counted, and its legs' numbers are free.
 static void close_call(struct call *call) {
     for (int side = 0; side < 2; side++)
         if (call->ends[side]) call->ends[side]->call = NULL, call->ends[side]->freed = now();
     if (call->stage == OVER) {
         seen.ended++;
-        if (!call->early)
-            seen.lacking_digits += call->digits_sent[0] + call->digits_sent[1] - call->digits_taken[0] - call->digits_taken[1];
-        if (call->hangups[call->hanger]) seen.hangups_back++;
-        if (call->hangups[1 - call->hanger] > 1) seen.hangups_twice++;
+        if (!call->early) count_lacking(call);
+        if (call->hangups[call->hanger]) seen.hangups_back++, tell(call, "hangups_back");
+        if (call->hangups[1 - call->hanger] > 1) seen.hangups_twice++, tell(call, "hangups_twice");
         if (!call->hangups[1 - call->hanger]) seen.hangups_missing++;
     }
     call->stage = NONE;
@@ -184,7 +196,7 @@ static void step_time(struct call *call, double moment) {
     if (wanted.ping_ms && call->stage <= HANGING) ping_where_quiet(call, moment);
     if (call->stage < OVER && moment - call->changed > wanted.patience + wanted.hold_ms / 1000.0) {
         seen.last_stuck_stage = call->stage;
-        fail(call, &seen.stuck);
+        fail(call, &seen.stuck, "stuck");
     }
 }
 
@@ -244,9 +256,10 @@ static void check_digest(struct leg *leg, unsigned timestamp, const unsigned cha
 
 static void take_digit(struct leg *leg, int digit) {
     struct call *call = leg->call;
-    if (digit != digit_of(call->id, 1 - leg->side, call->digits_taken[leg->side])) seen.wrong_digits++;
-    if (call->digits_taken[leg->side] >= call->digits_sent[1 - leg->side]) seen.wrong_digits++;
-    call->digits_taken[leg->side]++, seen.digits_taken++;
+    unsigned place = call->digits_taken[leg->side]++;
+    seen.digits_taken++;
+    if (digit != digit_of(call->id, 1 - leg->side, place)) seen.wrong_digits++, tell(call, "wrong_digits");
+    if (place >= call->digits_sent[1 - leg->side]) seen.wrong_digits++, tell(call, "wrong_digits");
 }
 
 static void take_media(struct leg *leg, const unsigned char *media, unsigned length) {
@@ -265,7 +278,7 @@ static void take_media(struct leg *leg, const unsigned char *media, unsigned len
 static void take_hangup(struct leg *leg) {
     struct call *call = leg->call;
     call->hangups[leg->side]++;
-    if (call->stage < HANGING) fail(call, &seen.cut);
+    if (call->stage < HANGING) fail(call, &seen.cut, "cut");
 }
 
 static void take_iax(struct leg *leg, int subclass, unsigned timestamp, const unsigned char *data, unsigned length) {
@@ -275,7 +288,7 @@ static void take_iax(struct leg *leg, int subclass, unsigned timestamp, const un
     case AUTHREP: check_digest(leg, timestamp, data, length); break;
     case PING: send_numbered(leg, timestamp, IAX, PONG, NULL, 0); break;
     case LAGRQ: send_numbered(leg, timestamp, IAX, LAGRP, NULL, 0); break;
-    case REJECT: fail(leg->call, &seen.rejected); break;
+    case REJECT: fail(leg->call, &seen.rejected, "rejected"); break;
     case HANGUP: take_hangup(leg); break;
     default: break;
     }
@@ -308,9 +321,9 @@ static struct leg *offered(struct peer *peer, unsigned theirs, const unsigned ch
     memcpy(digits, called + prefix, size - prefix);
     struct call *call = slot_of(strtoul(digits, NULL, 10));
     if (call->stage == NONE || call->id != strtoul(digits, NULL, 10) || call->stage == FAILED) return NULL;
-    if (call->to != peer) seen.misrouted++;
+    if (call->to != peer) seen.misrouted++, tell(call, "misrouted");
     else if (!call->ends[1] && (call->ends[1] = open_leg(peer, call, 1))) learn(call->ends[1], theirs);
-    else if (call->ends[1] && call->ends[1]->theirs != theirs) seen.offered_twice++;
+    else if (call->ends[1] && call->ends[1]->theirs != theirs) seen.offered_twice++, tell(call, "offered_twice");
     return call->to == peer && call->ends[1] && call->ends[1]->theirs == theirs ? call->ends[1] : NULL;
 }
 
@@ -319,7 +332,7 @@ static void take_inval(struct leg *leg) {
     struct call *call = leg->call;
     leg->peer->inval++;
     leg->oldest = leg->sent, leg->is_dead = 1;
-    if (call->stage < HANGING || (leg->side != call->hanger && !call->hangups[leg->side])) fail(call, &seen.inval);
+    if (call->stage < HANGING || (leg->side != call->hanger && !call->hangups[leg->side])) fail(call, &seen.inval, "inval");
     step_call(call, now());
 }
 

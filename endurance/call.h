@@ -4,7 +4,7 @@
 
 #include "leg.h"
 
-enum { SLOTS = 8192, MOST_PEERS = 8, MOST_ROUTES = 16, MEDIA = 160, LARGEST_CALL = 10000000 };
+enum { SLOTS = 8192, MOST_PEERS = 8, MOST_ROUTES = 16, MEDIA = 160, LARGEST_CALL = 10000000, MOST_TOLD = 4096 };
 enum stage { NONE, PLACED, UP, QUIET, HANGING, OVER, FAILED };
 
 struct call {
@@ -37,8 +37,18 @@ struct seen {
     double last_stuck_stage;
 };
 
+// A call with which something was wrong: what, by the name that `seen` has for it, and how many seconds after the start.
+struct told {
+    unsigned long id;
+    const char *what;
+    double at;
+};
+
 extern struct wanted wanted;
 extern struct seen seen;
+// The first of them; all are counted in `seen`.
+extern struct told told[MOST_TOLD];
+extern unsigned told_count;
 extern unsigned active;
 // No call is placed any more, and those that are up end once what they have sent has come.
 extern int is_closing;

@@ -169,8 +169,12 @@ static void report(double begun) {
     TELL(digits_sent), TELL(digits_taken), TELL(wrong_digits), TELL(lacking_digits), TELL(media_sent), TELL(media_taken), TELL(wrong_media);
     TELL(hangups_twice), TELL(hangups_missing), TELL(hangups_back), TELL(offered_twice), TELL(misrouted), TELL(rejected), TELL(cut);
     TELL(inval), TELL(stuck), TELL(bad_answers), TELL(digits_in_time);
-    printf(", \"last_stuck_stage\": %.0f, \"first_answer\": %.3f}\n", seen.last_stuck_stage,
+    printf(", \"last_stuck_stage\": %.0f, \"first_answer\": %.3f", seen.last_stuck_stage,
            seen.answered ? seen.first_answer - begun : -1);
+    printf(", \"told\": [");
+    for (unsigned place = 0; place < told_count; place++)
+        printf("%s[\"%s\", %lu, %.3f]", place ? ", " : "", told[place].what, told[place].id, told[place].at - begun);
+    printf("]}\n");
 }
 
 int main(int count, char **words) {

@@ -220,8 +220,8 @@ class Exchange:
     def is_idle(self):
         return self.legs() == []
 
-    def until_idle(self):
-        within("no leg is left", self.is_idle)
+    def until_idle(self, seconds=PATIENCE):
+        within("no leg is left", self.is_idle, seconds)
 
     def stop(self):
         """Tells it to stop: what it printed, as its status and its lines."""

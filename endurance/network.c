@@ -2,7 +2,7 @@
 // causes. It ends at SIGTERM, or after so many seconds, and then says what it has seen, as one line of JSON.
 //
 // network a=PORT:EXCHANGE_PORT b=PORT:EXCHANGE_PORT [loss=PERCENT] [repeats=PERCENT] [delay_ms=N] [reorder_ms=N] [retry_ms=N] [seed=N]
-//         [seconds=S] [path_kbit=N] [queue_ms=N] [line_s=S] [spoil=digits|media|hangups|again]
+//         [seconds=S] [path_kbit=N] [queue_ms=N] [line_s=S] [spoil=digits|media|calls|hangups|again]
 //
 // What the exchange at the end `a` sends to PORT of `a` goes on from PORT of `b` to the exchange at the end `b`, and the other
 // way round. With `path_kbit` each of the two ways begins with a line of so many thousand bits a second, which sends one datagram
@@ -10,8 +10,8 @@
 // would have to wait longer, it is lost. What the line has sent is then lost, repeated and delayed as it is without it. What
 // lines send is counted for `line_s` seconds after the first digit.
 // A frame that is sent again counts as sent for a VNAK where it was last sent less than `retry_ms` ago and its leg has just got one, else
-// as sent by the timer. `spoil` has it change what it carries, to show that this is noticed: digits, media, no HANGUP at all, or each
-// HANGUP a second time with the next number.
+// as sent by the timer. `spoil` has it change what it carries, to show that this is noticed: digits, media, one digit in fifty to a
+// HANGUP, no HANGUP at all, or each HANGUP a second time with the next number.
 #define _GNU_SOURCE
 #include <arpa/inet.h>
 #include <poll.h>
@@ -139,6 +139,7 @@ static int is_hangup(const unsigned char *octets, unsigned length) {
 static int spoilt(unsigned char *octets, unsigned length) {
     int is_full = length >= FULL && octets[0] & 0x80;
     if (spoil == 'd' && is_full && octets[10] == DTMF && chance() < 0.05) octets[11] ^= 1;
+    if (spoil == 'c' && is_full && octets[10] == DTMF && chance() < 0.02) octets[10] = IAX, octets[11] = HANGUP;
     if (spoil == 'm' && !is_full && length > 40 && chance() < 0.05) octets[24] ^= 4;
     return spoil == 'h' && is_hangup(octets, length);
 }

@@ -3,10 +3,11 @@ allow. A table of the datagrams between the exchanges by their cause: for each l
 with it; and on paths that carry so much a second and no more, for several `vnak_ms`."""
 import itertools
 import time
-from collections import namedtuple
+from collections import Counter, namedtuple
 
-from exchange import PATIENCE, ended, reported
-from two_sites import Sites
+from endings import ENDED, Endings
+from exchange import PATIENCE, Failed, reported
+from two_sites import PREFIX, TRUNK_NAME, Sites
 
 # What is lost, of a hundred; the window of the trunk's peers; thousand bits a second, each way, or 0 for no bound; how long a
 # datagram waits for such a path at most; the plan's `retry_ms`, and its `vnak_ms`, where 0 is a plan that doesn't speak of it.
@@ -24,6 +25,8 @@ TABLES = (
     {"loss": [5, 10, 30], "path_kbit": [1024], "vnak_ms": [0, 60, 200]},
 )
 SHORT = ({"loss": [0]}, {"window": [64, 8]}, {"path_kbit": [512], "vnak_ms": [200]})
+# What is wrong wherever it is seen: of digits, and of offered and hung up calls.
+DIGITS, OFFERS = ("wrong_digits", "lacking_digits"), ("offered_twice", "misrouted", "hangups_twice")
 CAUSES = ("first", "by_timer", "for_vnak", "acks", "vnaks", "invals")
 NAMES = (
     "loss %", "window", "kbit/s", "queue", "retry_ms", "vnak_ms", "on the way", "digits", "a second", "for each", "first",
@@ -44,33 +47,33 @@ def network_of(storm, seconds):
     return network | path
 
 
-def a_storm(tools, storm, seconds, seed):
-    """What `calls` and the network saw."""
+def a_storm(tools, storm, seconds, seed, spoil=None):
+    """What `calls` and the network saw, and how calls ended at the exchanges."""
     keys = {"retry_ms": storm.retry_ms, "max_retries": 20, "ping_ms": 20000}
     if storm.vnak_ms:
         keys |= {"format": 3, "vnak_ms": storm.vnak_ms}
     name = "storm_" + "_".join(f"{it}" for it in storm)
-    sites = Sites(tools, name, seed, trunk={"window": storm.window, "numbers": 64}, keys=keys, **network_of(storm, seconds))
+    trunk = {"window": storm.window, "numbers": 64}
+    sites = Sites(tools, name, seed, trunk=trunk, keys=keys, spoil=spoil, **network_of(storm, seconds))
     try:
         calls = tools.start(
             "calls", *sites.peer_words(), "route=0:2", "route=3:1", seconds=seconds, at_once=tools.some(CALLS), digits=5000,
-            on_the_way=on_the_way(storm.window), retry_ms=1000, patience=2 * PATIENCE, seed=seed,
+            on_the_way=on_the_way(storm.window), retry_ms=1000, patience=round(seconds) + 2 * PATIENCE, seed=seed,
         )
         seen = reported(calls, seconds + 5 * PATIENCE)
-        network = ended(sites.network)
+        for it in sites.exchanges:
+            it.until_idle(2 * PATIENCE)
+        printed, network = sites.stop()
     finally:
         sites.kill()
-    return seen, network
+    if any(status for status, _ in printed):
+        raise Failed(f"the exchanges ended so: {printed}")
+    return seen, network, Endings(sites.records, PREFIX, TRUNK_NAME)
 
 
-def cut(seen):
-    """Calls that the exchange ended."""
-    return sum(seen[it] for it in ("cut", "inval", "stuck", "rejected"))
-
-
-def crossed(seen):
-    """Calls that the exchange ended as they were hung up, so that one HANGUP crossed another: only where it ended others, too."""
-    return seen["hangups_back"] if cut(seen) else 0
+def ended_there(seen):
+    """Calls that an exchange ended."""
+    return sum(seen[it] for it in ENDED)
 
 
 def for_each(seen, network):
@@ -86,7 +89,7 @@ def line_of(storm, seconds, seen, network):
     place = [storm.loss, storm.window, *path, storm.retry_ms, storm.vnak_ms]
     numbers = [on_the_way(storm.window), in_time, round(in_time / seconds, 1), round(each, 1), *(network[it] for it in CAUSES)]
     line = [network["line_kbit"], network["waited_ms"], network["no_room"]] if storm.path_kbit else ["", "", ""]
-    return [f"{it}" for it in (*place, *numbers, *line, cut(seen) + crossed(seen))]
+    return [f"{it}" for it in (*place, *numbers, *line, ended_there(seen))]
 
 
 class Pace:
@@ -116,18 +119,35 @@ class Sums:
     """What all storms have in common, and the datagrams for each digit by storm."""
 
     def __init__(self):
-        self.wrong, self.lacking, self.taken, self.each = 0, 0, [], {}
+        self.seen, self.why, self.taken, self.each = Counter(), Counter(), [], {}
 
-    def add(self, storm, seen, network):
-        self.wrong += seen["wrong_digits"] + seen["hangups_twice"] + seen["offered_twice"] + seen["hangups_back"] - crossed(seen)
-        self.lacking += seen["lacking_digits"]
+    def add(self, storm, seen, network, endings):
+        """Answers what was wrong, by kind: how often, and where first."""
         self.taken.append(seen["digits_taken"])
         self.each[storm] = for_each(seen, network)
+        self.seen.update({it: seen[it] for it in DIGITS + OFFERS + tuple(ENDED)})
+        told = [(*it, endings.why_of(*it[:2])) for it in seen["told"]]
+        ended = [why for what, _, _, why in told if what in ENDED]
+        self.why.update(why or "unknown" for why in ended)
+        # What `calls` has counted, and had no room to tell.
+        self.why["unknown"] += ended_there(seen) - len(ended)
+        wrong = [(what, f"call {call} after {moment:.1f} s") for what, call, moment, why in told if not why]
+        first = dict(reversed(wrong))
+        return [f"{what} {count}, first of {first[what]}" for what, count in Counter(it[0] for it in wrong).items()]
+
+    def counts(self, names):
+        return {it: self.seen[it] for it in names}
 
     def tell(self, report):
-        is_kept = self.wrong + self.lacking == 0 < min(self.taken)
-        promise = "each digit is taken once and in order in each storm"
-        report.tell(promise, is_kept, digits_taken=sum(self.taken), wrong=self.wrong, lacking=self.lacking)
+        digits, offers, ended = (self.counts(it) for it in (DIGITS, OFFERS, ENDED))
+        is_kept = sum(digits.values()) == 0 < min(self.taken)
+        report.tell("each digit is taken once and in order in each storm", is_kept, digits_taken=sum(self.taken), **digits)
+        report.tell("each call is offered once and hung up once", not any(offers.values()), **offers)
+        unknown = self.why.pop("unknown")
+        report.tell("exchanges end calls only for reasons that are in their records", not unknown, **ended, **self.why, without_one=unknown)
+        self.tell_vnaks(report)
+
+    def tell_vnaks(self, report):
         # Without a loss, or with few digits on their way, there is hardly a VNAK.
         pairs = [it for it in self.each if it.vnak_ms and it.loss and on_the_way(it.window) == ON_THE_WAY]
         pairs = [it for it in pairs if it._replace(vnak_ms=0) in self.each]
@@ -141,15 +161,16 @@ def storms_of(tables):
     return [Storm(*it) for table in tables for it in itertools.product(*USUAL._replace(**table))]
 
 
-def run(tools, report, seconds, seed, given=None):
+def run(tools, report, seconds, seed, given=None, spoil=None):
     storms = storms_of([given] if given else SHORT if seconds is None else TABLES)
     pace, sums = Pace(seconds, len(storms)), Sums()
     report.note("| " + " | ".join(NAMES) + " |")
     report.note("|" + "---|" * len(NAMES))
     for storm in storms:
         lasts = pace.begin(storm)
-        seen, network = a_storm(tools, storm, lasts, seed)
+        seen, network, endings = a_storm(tools, storm, lasts, seed, spoil)
         pace.is_over()
-        sums.add(storm, seen, network)
         report.note("| " + " | ".join(line_of(storm, lasts, seen, network)) + " |")
+        for wrong in sums.add(storm, seen, network, endings):
+            report.note(f"wrong in {storm}: {wrong}")
     sums.tell(report)

@@ -4,6 +4,10 @@ from exchange import PATIENCE, RETRY_MS, Exchange, ended, plan_of, reported, spa
 
 LOSS, REPEATS, DELAY, REORDER = 8, 5, 5, 20
 SECRET = "between the two sites"
+# The name that each exchange has for the other.
+TRUNK_NAME = "far"
+# How many digits of a called number say which peer is called.
+PREFIX = 2
 TRUNK = {"user": "site", "secret": SECRET, "trunk": True, "numbers": 256}
 
 
@@ -14,16 +18,17 @@ class Sites:
         folder = tools.folder_of(name)
         self.ports = dict(zip(("a", "b", "net_a", "net_b", "west1", "west2", "east1", "east2"), spare_ports(8)))
         keys = keys or {}
-        self.exchanges, self.network = [], None
+        self.exchanges, self.records, self.network = [], [], None
         try:
             for worker, far, names, routes in (
-                ("a", "net_a", ("west1", "west2"), {"11": "west1", "12": "west2", "2": "far"}),
-                ("b", "net_b", ("east1", "east2"), {"21": "east1", "22": "east2", "1": "far"}),
+                ("a", "net_a", ("west1", "west2"), {"11": "west1", "12": "west2", "2": TRUNK_NAME}),
+                ("b", "net_b", ("east1", "east2"), {"21": "east1", "22": "east2", "1": TRUNK_NAME}),
             ):
                 peers = {it: {"port": self.ports[it], "numbers": 128} | self.secret_of(it) for it in names}
-                peers["far"] = {"port": self.ports[far]} | TRUNK | (trunk or {})
+                peers[TRUNK_NAME] = {"port": self.ports[far]} | TRUNK | (trunk or {})
                 plan = plan_of([self.ports[worker]], peers, routes, **keys)
-                self.exchanges.append(Exchange(f"{folder}/{worker}", plan, "--calls", f"{folder}/{worker}.csv"))
+                self.records.append(f"{folder}/{worker}.csv")
+                self.exchanges.append(Exchange(f"{folder}/{worker}", plan, "--calls", self.records[-1]))
             ends = [f"a={self.ports['net_a']}:{self.ports['a']}", f"b={self.ports['net_b']}:{self.ports['b']}"]
             self.network = tools.start("network", *ends, seed=seed, retry_ms=keys.get("retry_ms", RETRY_MS), **network)
         except BaseException:
