@@ -26,7 +26,7 @@ pub struct Player {
     retired: Vec<Retired>,
 }
 
-// Whether a datagram is a full frame: only such a one can open a leg.
+// Whether a datagram is a full frame: only such a one can open a leg, or have a leg stand otherwise.
 fn is_full(octets: &[u8]) -> bool {
     match octets.first() {
         Some(octet) => *octet >= 0x80,
@@ -235,6 +235,7 @@ impl Player {
         if name.peer >= exchange.plan().peer_count() {
             return viewer.refused(self.now, "NoLeg");
         }
+        self.stages.doubt_live();
         match exchange.hang_up(rt, pass, name, self.now) {
             Ok(answer) => self.answered(answer, viewer),
             Err(error) => viewer.refused(self.now, order_error_name(error)),
@@ -249,6 +250,7 @@ impl Player {
         pass: &mut Pass<J>,
         viewer: &mut V,
     ) -> Result<(), Stop> {
+        self.stages.doubt_live();
         for peer in 0..exchange.plan().peer_count() {
             let answer = exchange.tick(rt, pass, peer, self.now);
             self.answered(answer, viewer)?;
@@ -266,6 +268,7 @@ impl Player {
         viewer: &mut V,
     ) -> Result<(), Stop> {
         let peer = peer_of(exchange.plan(), peer)?;
+        self.stages.doubt_live();
         let answer = exchange.tick(rt, pass, peer, self.now);
         self.answered(answer, viewer)
     }

@@ -7,10 +7,20 @@ use peer_plan::Plan;
 use std::alloc::{AllocError, Global};
 use std::sync::Wait;
 
+// Which numbers may be another way than was told.
+#[derive(Clone, Copy, PartialEq, Eq)]
+enum Changed {
+    None,
+    // Those that had a leg.
+    Live,
+    Any,
+}
+
 /// What was told of each number, and which of them may be another way now.
 ///
 /// A leg is opened by a full frame or by a call that goes out, and by nothing else; so behind any other line only the numbers are looked
-/// at that had a leg before it.
+/// at that had a leg before it. A datagram that is no full frame brings media at most, and leaves each leg in its stage: behind it no
+/// number is looked at.
 #[derive(Drop)]
 pub(crate) struct Stages {
     // By number, from 1 on.
@@ -19,8 +29,8 @@ pub(crate) struct Stages {
     peers: Vec<u16>,
     // The places of the numbers that have a leg, ascending, where nothing says otherwise.
     live: Vec<usize>,
-    // Whether others may have one, or some of these none.
-    is_stale: bool,
+    // Where others may have one, or some of these none, that is any.
+    changed: Changed,
 }
 
 // The peer of each number of a plan.
@@ -44,7 +54,7 @@ impl Stages {
             told: vec![in alloc; None; peers.len()]?,
             live: Vec::with_capacity(alloc, peers.len())?,
             peers,
-            is_stale: false,
+            changed: Changed::None,
         })
     }
 
@@ -55,7 +65,14 @@ impl Stages {
 
     /// A leg may have been opened at any number.
     pub(crate) fn doubt(&mut self) {
-        self.is_stale = true;
+        self.changed = Changed::Any;
+    }
+
+    /// Each leg that there is may stand otherwise.
+    pub(crate) fn doubt_live(&mut self) {
+        if self.changed == Changed::None {
+            self.changed = Changed::Live;
+        }
     }
 
     /// How the leg of a number stands.
@@ -82,14 +99,29 @@ impl Stages {
         now: u64,
         viewer: &mut V,
     ) -> Result<(), Stop> {
-        if self.is_stale {
-            return self.tell_all(rt, exchange, pass, now, viewer);
+        match self.changed {
+            Changed::None => Ok(()),
+            Changed::Live => self.tell_live(rt, exchange, pass, now, viewer),
+            Changed::Any => self.tell_all(rt, exchange, pass, now, viewer),
         }
+    }
+
+    // The same, of the numbers that had a leg.
+    fn tell_live<J: Naming, R: Wait, V: Viewer>(
+        &mut self,
+        rt: &R,
+        exchange: &Exchange<NoGate, J>,
+        pass: &mut Pass<J>,
+        now: u64,
+        viewer: &mut V,
+    ) -> Result<(), Stop> {
+        self.changed = Changed::None;
         for turn in 0..self.live.len() {
             if let Some(&place) = self.live.get(turn) {
-                self.is_stale |= self
-                    .tell_one(rt, exchange, pass, place, now, viewer)?
-                    .is_none();
+                let stage = self.tell_one(rt, exchange, pass, place, now, viewer)?;
+                if stage.is_none() {
+                    self.changed = Changed::Any;
+                }
             }
         }
         Ok(())
@@ -111,7 +143,7 @@ impl Stages {
                 return Err(Stop::Memory);
             }
         }
-        self.is_stale = false;
+        self.changed = Changed::None;
         Ok(())
     }
 
