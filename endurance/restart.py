@@ -26,7 +26,9 @@ class Restarted:
         self.started = 0
 
     def start(self):
-        self.exchange = Exchange(self.folder, self.plan, "--calls", f"{self.folder}/calls.csv", "--trace", f"{self.folder}/trace")
+        # (the least, so that files are written over)
+        trace = ("--trace", f"{self.folder}/trace", "--trace-limit", "1")
+        self.exchange = Exchange(self.folder, self.plan, "--calls", f"{self.folder}/calls.csv", *trace)
         self.started += 1
 
     def load(self):
@@ -65,20 +67,20 @@ def tell_records(report, path, started):
 
 
 def tell_traces(report, folder, plan):
+    """Each file as the SIGKILL left it: its lines end at its end, or at an octet 0 with older ones behind it. A moment that goes
+    backward is refused, and so are lines that run into older ones."""
     files = sorted(os.listdir(folder))
-    lines, refused = 0, []
+    lines, older, refused = 0, 0, []
     for name in files:
-        with open(f"{folder}/{name}", encoding="ascii") as it:
-            text = it.read()
-        whole = f"{folder}/whole"
-        with open(whole, "w", encoding="ascii") as it:
-            it.write(text[: text.rfind("\n") + 1])
-        lines += text.count("\n")
-        found = subprocess.run([*PROGRAM, "replay", plan, whole], capture_output=True, text=True, timeout=10 * PATIENCE)
-        if found.returncode != 0:
+        with open(f"{folder}/{name}", "rb") as it:
+            text, _, behind = it.read().partition(b"\0")
+        lines += text.count(b"\n")
+        older += len(behind) > 0
+        found = subprocess.run([*PROGRAM, "replay", plan, f"{folder}/{name}"], capture_output=True, text=True, timeout=10 * PATIENCE)
+        if found.returncode != 0 or text[-1:] not in (b"", b"\n"):
             refused.append(f"{name}: {found.stdout[-100:]!r}")
-        os.remove(whole)
-    report.tell("the traces can be replayed to their last whole line", lines > 0 and not refused, files=len(files), lines=lines, refused=refused)
+    seen = {"files": len(files), "lines": lines, "with_older_lines": older, "refused": refused}
+    report.tell("the traces can be replayed to their last line", lines > 0 and not refused, **seen)
 
 
 def a_restart(place, limit):

@@ -9,7 +9,7 @@ use exchange_core::{Exchange, NoGate, Pass};
 use media_ledger::Blank;
 use peer_lock::{Naming, Service};
 use peer_plan::{Plan, PlanError};
-use script_lines::{Line, line_of};
+use script_lines::{Line, ends_script, line_of};
 use std::alloc::{AllocError, Global};
 use std::io::Write;
 use std::marker::Brand;
@@ -111,6 +111,9 @@ fn work_script<J: Naming, R: Wait, V: Viewer>(
     viewer: &mut V,
 ) -> Result<(), ReplayError> {
     for (place, line) in script.split(|octet| *octet == b'\n').enumerate() {
+        if ends_script(line) {
+            break;
+        }
         if let Err(stop) = work_line(rt, alloc, player, open, line, viewer) {
             return Err(stopped_at(place.saturating_add(1), stop));
         }

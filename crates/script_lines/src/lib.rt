@@ -3,4 +3,4 @@
 
 mod lines;
 
-pub use lines::{Line, decimal, line_of};
+pub use lines::{Line, decimal, ends_script, line_of};

@@ -1,5 +1,6 @@
 //! The lines of a script.
-ghost use Rattle.std.specs.Prelude.{◌≡◌, length, Some};
+ghost use Rattle.std.specs.List.{starts_with};
+ghost use Rattle.std.specs.Prelude.{◌≡◌, ◌∷◌, [], length, nat_eq, Some};
 ghost use Rattle.script_lines.specs.declared.lines.Line.TheVariants.{Nothing};
 
 /// What a line asks for.
@@ -104,6 +105,14 @@ fn said_by(line: &[u8]) -> Option<Line<'_>> {
         [Some(command), Some(peer), Some(word), None] => said_by_three(command, peer, word),
         _ => None,
     }
+}
+
+/// Whether the script ends before this line, since it begins with the octet 0. So a file can be written over from its beginning: what
+/// stands behind the last line that was written isn't looked at.
+pub fn ends_script(line: &[u8]) -> bool
+    ensures { result ≡ starts_with nat_eq line.now (0 ∷ []) }
+{
+    line.starts_with(&[0])
 }
 
 /// What a line says; `None` where it isn't of these forms.

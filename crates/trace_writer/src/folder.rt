@@ -10,7 +10,7 @@ pub trait Folder {
     /// Makes a folder of this name, with the mode 0700, where there is none.
     fn make(&self, path: &str) -> io::Result<()>;
 
-    /// Opens the file of a name, to write to it from its beginning. Where there is one it is emptied, else it is made, with the mode 0600.
+    /// Opens the file of a name, to write over it from its beginning. Where there is none it is made, with the mode 0600.
     fn begin(&self, path: &str) -> io::Result<File>;
 
     /// When the file of a name was changed last, in seconds since the beginning of 1970; none where there is no file.
@@ -37,7 +37,6 @@ impl<R: Files<File = File>> Folder for R {
         OpenOptions::new()
             .write(true)
             .create(true)
-            .truncate(true)
             .mode(0o600)
             .open(self, path)
     }

@@ -13,6 +13,9 @@ const FILES: u64 = 8;
 // How many octets of the last lines are kept, so that they can make room for the line that ends a trace.
 const KEPT: usize = 1024;
 
+// What stands behind the last whole line while a file is written: there a script ends.
+const END: [u8; 1] = [0];
+
 /// A folder for a trace.
 #[derive(Clone, Copy, Debug)]
 pub struct TraceFolder<'a> {
@@ -58,13 +61,18 @@ impl TraceFolder<'_> {
         Ok(oldest)
     }
 
-    // Begins the file at a place anew.
+    // Begins the file at a place anew. What it had is given up, and is written over: that takes the system half of what it takes to
+    // empty a file and to fill it again.
     fn begin<D: Folder>(&self, disk: &D, alloc: Global, place: u64) -> io::Result<TraceFile> {
         let path = self.path_of(alloc, place)?;
+        let file = disk.begin(path.as_str())?;
+        if file.write_all_at(&END, 0).is_err() {
+            file.set_len(0)?;
+        }
         Ok(TraceFile {
             alloc,
             place,
-            file: disk.begin(path.as_str())?,
+            file,
             length: 0,
             tail: Vec::new(alloc),
         })
@@ -109,10 +117,29 @@ impl TraceFile {
         let _ = self.tail.extend_from_slice(text.get(from..).unwrap_or(b""));
     }
 
+    // Puts whole lines, the first octet of which is given apart, behind those that there are. That octet comes last, over the end that
+    // stood there: whenever the service is killed, the file's lines are those of a time before or after this.
+    fn put(&self, first: u8, rest: &[u8]) -> io::Result<()> {
+        let behind_first = self.length.saturating_add(1);
+        let behind_all = behind_first.saturating_add(rest.len() as u64);
+        self.file.write_all_at(rest, behind_first)?;
+        self.file.write_all_at(&END, behind_all)?;
+        self.file.write_all_at(&[first], self.length)
+    }
+
+    /// No more is written: the file ends with its lines.
+    pub(crate) fn finish(&self) {
+        // (else its lines end where they did)
+        let _ = self.file.set_len(self.length);
+    }
+
     /// Writes whole lines behind those that there are. Where it fails, so many of these are cut off that there is room for one line,
     /// which says why the trace ends.
     pub(crate) fn write(&mut self, text: &[u8]) -> Result<(), Fault> {
-        match self.file.write_all_at(text, self.length) {
+        let Some((first, rest)) = text.split_first() else {
+            return Ok(());
+        };
+        match self.put(*first, rest) {
             Ok(()) => {
                 self.length = self.length.saturating_add(text.len() as u64);
                 self.keep_tail(text);

@@ -168,6 +168,7 @@ impl<'a, D: Folder> Writer<'a, D> {
     // The next file is begun.
     fn turn_over(&mut self) -> Result<(), Fault> {
         self.write()?;
+        self.file.finish();
         self.file = self
             .settings
             .folder
@@ -259,6 +260,9 @@ fn write_noted<R: Wait, D: Folder>(
         let _ = writer.script.end();
     }
     writer.write()?;
+    if are_over {
+        writer.file.finish();
+    }
     let is_half = writer.length() >= writer.settings.folder.part() / 2;
     writer.trace.ask_for_rest(is_half);
     Ok(())
