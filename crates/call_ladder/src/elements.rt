@@ -1,8 +1,9 @@
 //! Information elements in words ("Information Elements").
 use crate::words::{write_formats, write_octets, write_quoted};
 use info_elements::{
-    AUTHMETHODS, CALLED_NUMBER, CALLING_NUMBER, CAPABILITY, CAUSE, CAUSECODE, CHALLENGE, FORMAT,
-    IAX_UNKNOWN, MD5_RESULT, USERNAME, VERSION, next_element, u32_in,
+    AUTHMETHODS, CALLED_NUMBER, CALLING_NAME, CALLING_NUMBER, CALLINGPRES, CALLINGTNS, CALLINGTON,
+    CAPABILITY, CAUSE, CAUSECODE, CHALLENGE, FORMAT, IAX_UNKNOWN, MD5_RESULT, USERNAME, VERSION,
+    next_element, u32_in,
 };
 use std::io;
 use std::io::Write;
@@ -61,11 +62,25 @@ fn write_u8(number: u8, name: &str, value: &[u8], out: &mut Vec<u8>) -> io::Resu
     }
 }
 
+// Whether the number that calls may be shown, by two bits; the others say who vouches for it.
+fn write_presentation(value: &[u8], out: &mut Vec<u8>) -> io::Result<()> {
+    write_u8(CALLINGPRES, "presentation ", value, out)?;
+    match value {
+        [value] => match *value & 0x60 {
+            0x20 => out.write_all(b" (withheld)"),
+            0x40 => out.write_all(b" (no number)"),
+            _ => Ok(()),
+        },
+        _ => Ok(()),
+    }
+}
+
 // An element of a number that has a text.
 fn write_text(number: u8, value: &[u8], out: &mut Vec<u8>) -> io::Result<()> {
     match number {
         CALLED_NUMBER => write_named("", value, out),
         CALLING_NUMBER => write_named("from ", value, out),
+        CALLING_NAME => write_named("name ", value, out),
         USERNAME => write_named("user ", value, out),
         CHALLENGE => write_named("challenge ", value, out),
         CAUSE => write_quoted(value, out),
@@ -83,6 +98,9 @@ fn write_element(number: u8, value: &[u8], out: &mut Vec<u8>) -> io::Result<()> 
         VERSION => write_u16(number, "version ", value, out),
         AUTHMETHODS => write_methods(value, out),
         CAUSECODE => write_u8(number, "cause ", value, out),
+        CALLINGPRES => write_presentation(value, out),
+        CALLINGTON => write_u8(number, "type of number ", value, out),
+        CALLINGTNS => write_u16(number, "transit network ", value, out),
         IAX_UNKNOWN => write_u8(number, "unknown subclass ", value, out),
         _ => write_text(number, value, out),
     }

@@ -85,11 +85,11 @@ module _ (laws : PeersSteps) (old new : Stored) (scene : Scene) (called : Bool) 
       → ComesOut scene (needs.OpenOut name) called new reply
   sends_new name reply leased a =
       let d = a.does in
-      let s = opens_out a.before name d.called d.calling d.format d.now in
+      let s = opens_out a.before name d.called d.caller d.format d.now in
       let seen : Reply = replies.OpenOut (Ok tt) in
       let mine = are name.peer a.before a.at in
       let free : is_free_name a.before.legs name ≡ true = free_name _ (is_free_name a.before.legs name) _ _ _ d.unrefused in
-      let step = laws.calls_out a.before name d.called d.calling d.format d.now scene called mine.sound.legs free
+      let step = laws.calls_out a.before name d.called d.caller d.format d.now scene called mine.sound.legs free
       (of.legs.sees name.peer a.before a.at) leased in
       let left = subst (λ (p : PeerView). IsWorldStep scene (needs.OpenOut name) called a.before.legs p.legs seen
       (dropped scene.leases name)) (sym d.becomes) step in

@@ -41,7 +41,7 @@ new_in name before after reply d =
 new_out : (name : LegName) (before after : PeerView) (reply : Reply) → SendsNew name before after reply
     → IsShapedAs before.legs after.legs
 new_out name before after reply d =
-    becomes before after (opens_out before name d.called d.calling d.format d.now).peer d.becomes
+    becomes before after (opens_out before name d.called d.caller d.format d.now).peer d.becomes
     (placed before.legs name.number _)
 
 module _ (P : ℕ → PeerView → Type 0) (stays : IsOfShape P) where

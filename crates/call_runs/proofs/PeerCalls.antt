@@ -54,15 +54,15 @@ heard_new before after name credit frame now challenge step onwards unrefused pe
       }));
     })
 
-pub called_out : (before after : PeerView) (name : LegName) (credit : ℕ) (called : List ℕ) (calling : Option (List ℕ))
+pub called_out : (before after : PeerView) (name : LegName) (credit : ℕ) (called : List ℕ) (caller : List ℕ)
     (format : Format) (now : ℕ)
-    → open_out_refused before credit name ≡ None → after ≡ (opens_out before name called calling format now).peer
+    → open_out_refused before credit name ≡ None → after ≡ (opens_out before name called caller format now).peer
     → Calls name before after (replies.OpenOut (Ok tt))
-called_out before after name credit called calling format now unrefused peer =
+called_out before after name credit called caller format now unrefused peer =
     inl (record {
       credit = credit;
       called = called;
-      calling = calling;
+      caller = caller;
       format = format;
       now = now;
       unrefused = unrefused;

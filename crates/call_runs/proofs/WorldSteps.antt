@@ -44,10 +44,10 @@ pub record PeersSteps : Type 0 where
       → IsWorldStep scene (needs.OpenIn name) called peer.legs (opens_in peer name frame now challenge).peer.legs
       (replies.OpenIn (Ok (heard (opens_in peer name frame now challenge).step.touched
       (opens_in peer name frame now challenge).signals))) (dropped scene.leases name)
-  pub calls_out : (peer : PeerView) (name : LegName) (number : List ℕ) (calling : Option (List ℕ)) (format : Format) (now : ℕ)
+  pub calls_out : (peer : PeerView) (name : LegName) (number : List ℕ) (caller : List ℕ) (format : Format) (now : ℕ)
       (scene : Scene) (called : Bool)
       → AreLegs peer.legs → is_free_name peer.legs name ≡ true → Sees scene.legs peer.legs → is_leased scene.leases name ≡ true
-      → IsWorldStep scene (needs.OpenOut name) called peer.legs (opens_out peer name number calling format now).peer.legs
+      → IsWorldStep scene (needs.OpenOut name) called peer.legs (opens_out peer name number caller format now).peer.legs
       (replies.OpenOut (Ok tt)) (dropped scene.leases name)
   pub orders : (peer : PeerView) (credit : ℕ) (name : LegName) (act : Act) (order : Order) (now : ℕ) (scene : Scene)
       (called : Bool) → AreLegs peer.legs

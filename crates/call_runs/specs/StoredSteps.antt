@@ -68,11 +68,11 @@ pub record TakesNew (name : LegName) (old new : PeerView) (reply : Reply) : Type
 pub record SendsNew (name : LegName) (old new : PeerView) (reply : Reply) : Type 0 where
   pub credit : ℕ
   pub called : List ℕ
-  pub calling : Option (List ℕ)
+  pub caller : List ℕ
   pub format : Format
   pub now : ℕ
   pub unrefused : open_out_refused old credit name ≡ None
-  pub becomes : new ≡ (opens_out old name called calling format now).peer
+  pub becomes : new ≡ (opens_out old name called caller format now).peer
   pub answers : reply ≡ replies.OpenOut (Ok tt)
 
 -- the leg of a name obeys an order

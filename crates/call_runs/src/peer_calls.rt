@@ -1,6 +1,5 @@
 //! What the calls of a peer do, as steps on the exchange that is stored: each function makes one call and nothing else, and is
 //! here for what its clauses say of that call. Moments are in milliseconds.
-ghost use Rattle.std.specs.Option.{ForSome};
 ghost use Rattle.std.specs.Prelude.{◌≡◌, ◌≤◌, [], ◌∷◌, length};
 ghost use Rattle.call_steps.specs.Acts.{act_kind};
 ghost use Rattle.call_steps.specs.declared.needs.Need.TheVariants as needs;
@@ -16,7 +15,7 @@ use call_auth::Challenge;
 use call_book::{Lease, LegName};
 use call_steps::{Act, Heard, Reply};
 use iax_frames::Full;
-use leg_machine::{Format, Order};
+use leg_machine::{Caller, Format, Order};
 use peer_lock::{Naming, Onwards, Pass, PeerState};
 
 /// A datagram comes to a peer, at most 2,048 octets. What is handed up is written to the list, which is empty.
@@ -73,16 +72,15 @@ pub fn call<J: Naming>(
     pass: &mut Pass<J>,
     lease: Lease,
     called: &[u8],
-    calling: Option<&[u8]>,
+    caller: &Caller,
     format: Format,
     now: u64,
 ) -> (Reply, Option<Lease>)
-    requires called { length called.now ≤ 255 }
-    requires calling { ForSome calling (λ text. length text.now ≤ 255) }
+    requires { length called.now ≤ 255 }
     ensures made { Calls lease peer.old peer.new result.0 }
     ensures leases { leases_in result.1 ≡ leases_after (needs.OpenOut lease) result.0 (lease ∷ []) }
 {
-    match peer.open_out(pass, lease, called, calling, format, now) {
+    match peer.open_out(pass, lease, called, caller, format, now) {
         Ok(_) => (Reply::OpenOut(Ok(())), None),
         Err((lease, error)) => (Reply::OpenOut(Err(error)), Some(lease)),
     }

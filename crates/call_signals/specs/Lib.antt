@@ -1,3 +1,4 @@
+pub mod Caller
 pub mod Causes
 pub mod Credential
 pub mod Effects

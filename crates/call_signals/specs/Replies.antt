@@ -1,8 +1,8 @@
 -- The replies of a leg, and the elements of its frames ("IAX Frames", "Control Frames", "Information Elements").
 use Rattle.std.specs.Prelude.{ℕ, List, [], ◌∷◌, ◌++◌, Option, None, Some}
 use Rattle.std.specs.Int.{w32, to_be_bytes}
-use Rattle.info_elements.specs.Element.{element}
-use Rattle.info_elements.specs.Numbers.{CALLED_NUMBER, CALLING_NUMBER, USERNAME, CAPABILITY, FORMAT, VERSION, AUTHMETHODS, CHALLENGE, CAUSE, CAUSECODE}
+use Rattle.info_elements.specs.Numbers.{CALLED_NUMBER, USERNAME, CAPABILITY, FORMAT, VERSION, AUTHMETHODS, CHALLENGE, CAUSE, CAUSECODE}
+pub use Rattle.call_signals.specs.Caller.{element_of, element_if}
 use Rattle.call_signals.specs.Causes.{cause_code, cause_text}
 use Rattle.call_signals.specs.Formats.{format_bit}
 use Rattle.call_signals.specs.declared.causes.Cause.{Cause}
@@ -12,25 +12,16 @@ use Rattle.call_signals.specs.declared.signals.Indication.TheVariants.{Ringing, 
 use Rattle.call_signals.specs.declared.replies.Reply.{Reply}
 use Rattle.call_signals.specs.declared.replies.Reply.TheVariants.{AuthReq, AuthRep, Accept, Reject, Hangup, Ping, Pong, LagRp, Unsupport, Indicate, Answer, Dtmf}
 
--- an element of this number and value
-abbrev pub element_of : ℕ → List ℕ → List ℕ
-element_of number value = element (record { number = number; value = value })
-
--- an element that is left out where there is no value
-abbrev pub element_if : ℕ → Option (List ℕ) → List ℕ
-element_if number None = []
-element_if number (Some value) = element_of number value
-
 abbrev pub cause_elements : Cause → List ℕ
 cause_elements cause = element_of CAUSE (cause_text cause) ++ element_of CAUSECODE (cause_code cause ∷ [])
 
 abbrev pub format_bits : Format → List ℕ
 format_bits format = to_be_bytes w32 (format_bit format)
 
--- the data of a NEW: version 2 and the one format
-abbrev pub new_elements : Option (List ℕ) → List ℕ → Option (List ℕ) → Format → List ℕ
-new_elements user called calling format =
-    element_of VERSION (0 ∷ 2 ∷ []) ++ element_of CALLED_NUMBER called ++ element_if CALLING_NUMBER calling
+-- the data of a NEW: version 2, the elements that say who calls, and the one format
+abbrev pub new_elements : Option (List ℕ) → List ℕ → List ℕ → Format → List ℕ
+new_elements user called caller format =
+    element_of VERSION (0 ∷ 2 ∷ []) ++ element_of CALLED_NUMBER called ++ caller
     ++ element_if USERNAME user ++ element_of FORMAT (format_bits format) ++ element_of CAPABILITY (format_bits format)
 
 -- the data of an AUTHREQ: the method is MD5

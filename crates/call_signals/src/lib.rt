@@ -2,6 +2,7 @@
 //! and the rules that its peer goes by ("Frame Types", "Call Setup", "Information Elements").
 #![tactic(auto)]
 
+mod caller;
 mod causes;
 pub mod effects;
 mod failure;
@@ -19,6 +20,7 @@ mod rules;
 mod signals;
 mod stages;
 
+pub use caller::Caller;
 pub use causes::Cause;
 pub use effects::{Answering, Effect, Mark};
 pub use failure::Failure;

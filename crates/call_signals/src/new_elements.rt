@@ -1,10 +1,13 @@
 //! The information elements that a NEW is read for ("Call Setup", "Information Elements").
 ghost use Rattle.std.specs.Prelude.{◌≡◌, ◌≤◌, length, Some, IfSome};
 ghost use Rattle.std.specs.Option.{ForSome};
-ghost use Rattle.info_elements.specs.Element.{u16_in, u32_in};
+ghost use Rattle.info_elements.specs.Element.{u8_in, u16_in, u32_in};
 ghost use Rattle.call_signals.specs.NewElements.{new_elements, named, with_element};
 
-use info_elements::{CALLED_NUMBER, CALLING_NUMBER, CAPABILITY, FORMAT, VERSION, next_element};
+use info_elements::{
+    CALLED_NUMBER, CALLING_NAME, CALLING_NUMBER, CALLINGPRES, CALLINGTNS, CALLINGTON, CAPABILITY,
+    FORMAT, VERSION, next_element,
+};
 
 /// The information elements of a NEW, each by its name. Of the elements of one number the last counts.
 #[derive(Clone, Copy, Debug)]
@@ -13,12 +16,30 @@ pub struct NewElements<'a> {
     pub called: Option<&'a [u8]>,
     /// CALLING NUMBER, at most 255 octets.
     pub calling: Option<&'a [u8]>,
+    /// CALLING NAME, at most 255 octets.
+    pub name: Option<&'a [u8]>,
+    /// CALLINGPRES, where it has one octet.
+    pub presentation: Option<u8>,
+    /// CALLINGTON, where it has one octet.
+    pub number_type: Option<u8>,
+    /// CALLINGTNS, where it has two octets.
+    pub network: Option<u16>,
     /// FORMAT, where it has four octets.
     pub format: Option<u32>,
     /// CAPABILITY, where it has four octets.
     pub capability: Option<u32>,
     /// VERSION, where it has two octets.
     pub version: Option<u16>,
+}
+
+// The number in a value of one octet.
+fn number_of_one(value: &[u8]) -> Option<u8>
+    ensures { result ≡ u8_in (Some value.now) }
+{
+    match value {
+        [a] => Some(*a),
+        _ => None,
+    }
 }
 
 // The number in a value of two octets.
@@ -47,10 +68,15 @@ impl<'a> NewElements<'a> {
         ensures elements { named result ≡ new_elements octets.now }
         ensures called { IfSome result.called (λ text. length text.now ≤ 255) }
         ensures calling { IfSome result.calling (λ text. length text.now ≤ 255) }
+        ensures name { IfSome result.name (λ text. length text.now ≤ 255) }
     {
         let mut elements = NewElements {
             called: None,
             calling: None,
+            name: None,
+            presentation: None,
+            number_type: None,
+            network: None,
             format: None,
             capability: None,
             version: None,
@@ -67,10 +93,12 @@ impl<'a> NewElements<'a> {
     fn with(self, number: u8, value: &'a [u8]) -> NewElements<'a>
         requires called { ForSome self.called (λ text. length text.now ≤ 255) }
         requires calling { ForSome self.calling (λ text. length text.now ≤ 255) }
+        requires name { ForSome self.name (λ text. length text.now ≤ 255) }
         requires short { length value.now ≤ 255 }
         ensures elements { named result ≡ with_element (named self.entry) (record { number = number; value = value.now }) }
         ensures called { IfSome result.called (λ text. length text.now ≤ 255) }
         ensures calling { IfSome result.calling (λ text. length text.now ≤ 255) }
+        ensures name { IfSome result.name (λ text. length text.now ≤ 255) }
     {
         match number {
             CALLED_NUMBER => NewElements {
@@ -79,6 +107,22 @@ impl<'a> NewElements<'a> {
             },
             CALLING_NUMBER => NewElements {
                 calling: Some(value),
+                ..self
+            },
+            CALLING_NAME => NewElements {
+                name: Some(value),
+                ..self
+            },
+            CALLINGPRES => NewElements {
+                presentation: number_of_one(value),
+                ..self
+            },
+            CALLINGTON => NewElements {
+                number_type: number_of_one(value),
+                ..self
+            },
+            CALLINGTNS => NewElements {
+                network: number_of_two(value),
                 ..self
             },
             FORMAT => NewElements {

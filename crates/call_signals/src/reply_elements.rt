@@ -1,15 +1,15 @@
 //! Information elements in their order, for the frames that a leg sends ("Information Elements").
 ghost use Rattle.std.specs.Prelude.{◌≡◌, ◌+◌, ◌≤◌, ◌++◌, length};
-ghost use Rattle.std.specs.Option.{option_copied, ForSome};
 ghost use Rattle.call_signals.specs.Replies as replies;
 
+use crate::caller::Caller;
 use crate::causes::Cause;
 use crate::formats::Format;
 use crate::rules::Credential;
 use iax_frames::Payload;
 use info_elements::{
-    AUTHMETHODS, CALLED_NUMBER, CALLING_NUMBER, CAPABILITY, CAUSE, CAUSECODE, CHALLENGE, FORMAT,
-    USERNAME, VERSION, append_to,
+    AUTHMETHODS, CALLED_NUMBER, CAPABILITY, CAUSE, CAUSECODE, CHALLENGE, FORMAT, USERNAME, VERSION,
+    append_to,
 };
 
 // An element that is left out where there is no user.
@@ -20,19 +20,6 @@ fn append_user(payload: &mut Payload, user: &Option<Credential>)
 {
     match user {
         Some(user) => append_to(payload, USERNAME, user.as_slice()),
-        None => {}
-    }
-}
-
-// An element that is left out where no number calls.
-fn append_calling(payload: &mut Payload, calling: Option<&[u8]>)
-    requires room { length payload.old ≤ 1000 }
-    requires short { ForSome calling (λ text. length text.now ≤ 255) }
-    ensures appended { payload.new ≡ payload.old ++ replies.element_if CALLING_NUMBER (option_copied calling.entry) }
-    ensures short { length payload.new ≤ length payload.old + 257 }
-{
-    match calling {
-        Some(text) => append_to(payload, CALLING_NUMBER, text),
         None => {}
     }
 }
@@ -56,21 +43,20 @@ pub fn cause_elements(cause: Cause) -> Payload
     payload
 }
 
-/// The data of a NEW; the numbers have at most 255 octets.
+/// The data of a NEW; the number that is called has at most 255 octets.
 pub fn new_elements(
     user: &Option<Credential>,
     called: &[u8],
-    calling: Option<&[u8]>,
+    caller: &Caller,
     format: Format,
 ) -> Payload
-    requires called { length called.now ≤ 255 }
-    requires calling { ForSome calling (λ text. length text.now ≤ 255) }
-    ensures { result ≡ replies.new_elements user.now called.now (option_copied calling.entry) format }
+    requires { length called.now ≤ 255 }
+    ensures { result ≡ replies.new_elements user.now called.now caller.now format }
 {
     let bits = format.bit().to_be_bytes();
     let mut payload = one_element(VERSION, &[0, 2]);
     append_to(&mut payload, CALLED_NUMBER, called);
-    append_calling(&mut payload, calling);
+    payload.append(caller.as_slice());
     append_user(&mut payload, user);
     append_to(&mut payload, FORMAT, &bits);
     append_to(&mut payload, CAPABILITY, &bits);

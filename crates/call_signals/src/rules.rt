@@ -88,6 +88,10 @@ pub struct PeerRules {
     /// How long a leg that asked for a missing frame by VNAK waits before it asks for the same one again: 0 ..= 60,000
     /// milliseconds, where 0 has each gap answered.
     pub vnak_ms: u64,
+    /// Whether a POKE that belongs to no call is answered by PONG.
+    pub poke: bool,
+    /// Whether CALLING NAME, CALLINGPRES, CALLINGTON and CALLINGTNS of an offered call are carried on to its far leg.
+    pub carries_caller: bool,
 }
 
 impl PeerRules {
@@ -107,6 +111,8 @@ impl PeerRules {
             record_limit: self.record_limit,
             window: self.window,
             vnak_ms: self.vnak_ms,
+            poke: self.poke,
+            carries_caller: self.carries_caller,
         }
     }
 }

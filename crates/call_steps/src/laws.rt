@@ -79,9 +79,9 @@ pub fn peers_steps_are_the_worlds()
         (dropped scene.leases name) }
     ensures refused_calls_in { (legs : PeerLegs) (name : LegName) (error : OpenError) (scene : Scene) (called : Bool) → Sees scene.legs legs →
         IsWorldStep scene (needs.OpenIn name) called legs legs (replies.OpenIn (Err error)) scene.leases }
-    ensures calls_out { (peer : PeerView) (name : LegName) (number : List ℕ) (calling : Option (List ℕ)) (format : Format) (now : ℕ) (scene : Scene) (called : Bool) →
+    ensures calls_out { (peer : PeerView) (name : LegName) (number : List ℕ) (caller : List ℕ) (format : Format) (now : ℕ) (scene : Scene) (called : Bool) →
         AreLegs peer.legs → is_free_name peer.legs name ≡ true → Sees scene.legs peer.legs → is_leased scene.leases name ≡ true →
-        IsWorldStep scene (needs.OpenOut name) called peer.legs (opens_out peer name number calling format now).peer.legs
+        IsWorldStep scene (needs.OpenOut name) called peer.legs (opens_out peer name number caller format now).peer.legs
         (replies.OpenOut (Ok tt)) (dropped scene.leases name) }
     ensures refused_calls_out { (legs : PeerLegs) (name : LegName) (error : OpenError) (scene : Scene) (called : Bool) → Sees scene.legs legs →
         IsWorldStep scene (needs.OpenOut name) called legs legs (replies.OpenOut (Err error)) scene.leases }

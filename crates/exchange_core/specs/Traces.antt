@@ -1,6 +1,7 @@
 -- The steps of a call, as they are noted under its pass.
 use Rattle.std.specs.Prelude.{◌≡◌, ◌≢◌, ℕ, ◌≤◌, ◌++◌, ◌∷◌, ◌⊎◌, [], Bool, List, Option, None, Some, Result, Ok, Err, false, is_some, length, option_copied, option_map, slice_get, All}
 use Rattle.call_book.specs.declared.leg_name.LegName.{LegName}
+use Rattle.call_signals.specs.Caller.{numbered}
 use Rattle.call_signals.specs.Formats.{lowest_format}
 use Rattle.call_signals.specs.declared.formats.Format.{Format}
 use Rattle.call_steps.specs.Acts.{act_kind, act_media}
@@ -69,11 +70,11 @@ octets_of None = []
 octets_of (Some media) = media
 
 -- a leg of this peer is opened for the number that is called from outside, in the lowest format of the peer; else for what is offered
-abbrev pub IsCallFor : PlanView → Option (List ℕ) → Option Offer → ℕ → List ℕ → Option (List ℕ) → Format → Type 0
-IsCallFor plan (Some text) offer peer called calling format =
-    (called ≡ text) × (calling ≡ None) × (option_map (λ peer. lowest_format peer.rules.formats) (slice_get plan.peers peer) ≡ Some (Some format))
-IsCallFor plan None (Some offer) peer called calling format = (called ≡ offer.called) × (calling ≡ offer.calling) × (format ≡ offer.format)
-IsCallFor plan None None peer called calling format = ⊥
+abbrev pub IsCallFor : PlanView → Option (List ℕ) → Option Offer → ℕ → List ℕ → List ℕ → Format → Type 0
+IsCallFor plan (Some text) offer peer called caller format =
+    (called ≡ text) × (caller ≡ numbered None) × (option_map (λ peer. lowest_format peer.rules.formats) (slice_get plan.peers peer) ≡ Some (Some format))
+IsCallFor plan None (Some offer) peer called caller format = (called ≡ offer.called) × (caller ≡ offer.caller) × (format ≡ offer.format)
+IsCallFor plan None None peer called caller format = ⊥
 
 -- ---- one step
 
@@ -95,9 +96,9 @@ IsMade call offer need reply (mades.Datagram peer octets now answer onwards) =
 IsMade call offer need reply (mades.OpenIn peer name head payload now challenge answer onwards) =
     (need ≡ needs.OpenIn name) × (reply ≡ replies.OpenIn (heard_of answer onwards)) × (peer ≡ name.peer)
     × SpellsFull call.octets (record { head = head; payload = payload }) × (call.challenge ≡ Some challenge) × (now ≡ call.now)
-IsMade call offer need reply (mades.OpenOut peer name called calling format now answer) =
+IsMade call offer need reply (mades.OpenOut peer name called caller format now answer) =
     (need ≡ needs.OpenOut name) × (reply ≡ replies.OpenOut (done_of answer)) × (peer ≡ name.peer)
-    × IsCallFor call.plan call.called offer peer called calling format × (now ≡ call.now)
+    × IsCallFor call.plan call.called offer peer called caller format × (now ≡ call.now)
 IsMade call offer need reply (mades.Order peer name kind media now answer) =
     (act : Act) × (need ≡ needs.Order name act) × (reply ≡ replies.Order (done_of answer)) × (peer ≡ name.peer) × (kind ≡ act_kind act)
     × (media ≡ octets_of (act_media act call.octets)) × (now ≡ call.now)
@@ -119,10 +120,10 @@ pub record Makes (call : Call) (offer : Option Offer) (need : Need) (reply : Rep
 -- the pass has noted that a leg was opened so by a NEW of ours, for the number that is called from outside or for what is offered
 pub record OpensOut (plan : PlanView) (outside : Option (List ℕ)) (offer : Option Offer) (name : LegName) (now : ℕ) (answer : Result Step OpenError) (old new : Noted) : Type 0 where
   pub called : List ℕ
-  pub calling : Option (List ℕ)
+  pub caller : List ℕ
   pub format : Format
-  pub is_for : IsCallFor plan outside offer name.peer called calling format
-  pub noted : Notes (mades.OpenOut name.peer name called calling format now answer) old new
+  pub is_for : IsCallFor plan outside offer name.peer called caller format
+  pub noted : Notes (mades.OpenOut name.peer name called caller format now answer) old new
 
 -- ---- all steps of a call
 

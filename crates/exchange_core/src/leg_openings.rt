@@ -20,7 +20,7 @@ use crate::hands::{Given, Hands};
 use call_book::{Lease, LegName};
 use call_steps::Heard;
 use iax_frames::Full;
-use leg_machine::Format;
+use leg_machine::{Caller, Format};
 use noted_steps::Pass;
 use peer_lock::{Naming, Offer, OpenError, ReadDatagram, Step};
 use std::sync::Wait;
@@ -32,17 +32,6 @@ fn opening_in<'d, 'o>(datagram: &'d ReadDatagram<'o>) -> &'d Full<'o>
     ensures spelled { SpellsFull datagram.now result.now }
 {
     datagram.full().unwrap()
-}
-
-// The number that calls, as it is offered.
-fn calling_of(offer: &Offer) -> Option<&[u8]>
-    ensures same { option_copied result ≡ offer.now.calling }
-    ensures short { ForSome result (λ text. length text.now ≤ 255) }
-{
-    match &offer.calling {
-        Some(calling) => Some(calling.as_slice()),
-        None => None,
-    }
 }
 
 impl<G: Gate, J: Naming> Exchange<G, J> {
@@ -75,7 +64,8 @@ impl<G: Gate, J: Naming> Exchange<G, J> {
         ensures no_remote { IfErr result (λ back. back.1 ≢ OpenError.RemoteBusy) }
     {
         let format = self.lowest_format(lease.name().peer);
-        self.open_out(rt, pass, lease, called, None, format, now)
+        let nobody = Caller::numbered(None);
+        self.open_out(rt, pass, lease, called, &nobody, format, now)
     }
 
     // The far leg of an offered call is opened under a lease, with what is offered.
@@ -95,8 +85,7 @@ impl<G: Gate, J: Naming> Exchange<G, J> {
         ensures no_remote { IfErr result (λ back. back.1 ≢ OpenError.RemoteBusy) }
     {
         let called = offer.called.as_slice();
-        let calling = calling_of(offer);
-        self.open_out(rt, pass, lease, called, calling, offer.format, now)
+        self.open_out(rt, pass, lease, called, &offer.caller, offer.format, now)
     }
 
     // A leg is opened under a lease: that of a call from outside, where there is one, else the far leg of what is offered.

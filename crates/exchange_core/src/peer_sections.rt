@@ -1,7 +1,6 @@
 //! The locked sections of peers: each takes one peer's lock, and makes at most one step.
-ghost use Rattle.std.specs.Prelude.{◌≡◌, ◌≢◌, ℕ, ◌+◌, ◌<◌, ◌≤◌, Some, length, option_copied, IfOk, IfErr, OnOk, OnErr};
+ghost use Rattle.std.specs.Prelude.{◌≡◌, ◌≢◌, ℕ, ◌+◌, ◌<◌, ◌≤◌, Some, length, IfOk, IfErr, OnOk, OnErr};
 ghost use Rattle.std.specs.Bool.{OnFalse};
-ghost use Rattle.std.specs.Option.{ForSome};
 ghost use Rattle.std.specs.Sync.Mutex.{mutex_guard_value};
 ghost use Rattle.exchange_core.specs.Covered.{TakesCredit};
 ghost use Rattle.exchange_core.specs.Newcomers.{SpellsOpening};
@@ -16,7 +15,7 @@ use crate::gates::Gate;
 use call_auth::Challenge;
 use call_book::Lease;
 use iax_frames::{Full, Out};
-use leg_machine::Format;
+use leg_machine::{Caller, Format};
 use noted_steps::{NotedPeer, Pass};
 use peer_lock::laws::media_is_the_datagrams;
 use peer_lock::{Naming, Onwards, OpenError, PeerError, ReadDatagram, Status, Step};
@@ -139,14 +138,13 @@ impl<G: Gate, J: Naming> Exchange<G, J> {
         pass: &mut Pass<J>,
         lease: Lease,
         called: &[u8],
-        calling: Option<&[u8]>,
+        caller: &Caller,
         format: Format,
         now: u64,
     ) -> Result<Step, (Lease, OpenError)>
         requires peer { lease.peer < length self.now.peers }
         requires called { length called.now ≤ 255 }
-        requires calling { ForSome calling (λ text. length text.now ≤ 255) }
-        ensures noted { Notes (mades.OpenOut lease.peer lease called.now (option_copied calling.entry) format now (without_lease result)) pass.old pass.new }
+        ensures noted { Notes (mades.OpenOut lease.peer lease called.now caller.now format now (without_lease result)) pass.old pass.new }
         ensures credit { OnOk result (pass.new.credit ≡ with_step pass.old.credit 0) }
         ensures touched { IfOk result (λ step. step.touched ≡ Some lease) }
         ensures lease { IfErr result (λ back. back.0 ≡ lease) }
@@ -155,6 +153,6 @@ impl<G: Gate, J: Naming> Exchange<G, J> {
     {
         let peer = lease.name().peer;
         self.locked(rt, peer)
-            .open_out(pass, lease, called, calling, format, now)
+            .open_out(pass, lease, called, caller, format, now)
     }
 }

@@ -3,10 +3,11 @@
 use crate::opened::{Scene, is_ended, play_on};
 use crate::same::{holds, same};
 use crate::scenes::plans::PLAN;
-use crate::scenes::{Told, WEST_PLACE, heard, heard_from, take_out};
+use crate::scenes::{Told, WEST_PLACE, heard, heard_from, status_of, take_out};
 use exchange_core::{Exchange, NoGate, Pass, Refusal};
 use peer_lock::Naming;
 use peer_plan::Endpoint;
+use std::alloc::Global;
 use std::process::Abort;
 use std::sync::Wait;
 use std::test::*;
@@ -46,6 +47,19 @@ const FOR_NO_LEG: [u8; 12] = [0x80, 7, 0, 0x63, 0, 0, 0, 0x0a, 5, 3, 6, 5];
 
 const INVAL: [u8; 12] = [0x80, 0x63, 0, 7, 0, 0, 0, 0, 0, 0, 6, 0x0a];
 
+// The frame is answered, in one step.
+fn is_answered<R: Wait, J: Naming>(
+    rt: &R,
+    exchange: &Exchange<NoGate, J>,
+    pass: &mut Pass<J>,
+    frame: &[u8],
+) -> bool {
+    match heard(rt, exchange, pass, WEST_PLACE, frame, 0) {
+        Some(told) => told.refused.is_none() && told.steps == 1,
+        None => false,
+    }
+}
+
 // Each of so many frames is answered, in one step.
 fn all_answered<R: Wait, J: Naming>(
     rt: &R,
@@ -54,13 +68,8 @@ fn all_answered<R: Wait, J: Naming>(
     count: u32,
 ) -> bool {
     for _ in 0..count {
-        match heard(rt, exchange, pass, WEST_PLACE, &FOR_NO_LEG, 0) {
-            Some(told) => {
-                if told.refused.is_some() || told.steps != 1 {
-                    return false;
-                }
-            }
-            None => return false,
+        if !is_answered(rt, exchange, pass, &FOR_NO_LEG) {
+            return false;
         }
     }
     true
@@ -98,5 +107,71 @@ pub fn outbox_filled<R: Abort + Wait, J: Naming>(
 #[test]
 fn full_outbox(rt: HostRuntime) {
     let played = play_on(&rt, rt.alloc(), PLAN, Scene::OutboxFilled);
+    holds(&rt, "balanced accounts", is_ended(played));
+}
+
+/// A POKE that belongs to no call, and what answers it.
+const POKE: [u8; 12] = [0x80, 7, 0, 0, 0, 0, 0, 5, 0, 0, 6, 0x1e];
+
+const PONG: [u8; 12] = [0xff, 0xff, 0, 7, 0, 0, 0, 5, 0, 1, 6, 3];
+
+/// A NEW for 200, in mu-law, from the number of the POKEs.
+const NEW: [u8; 33] = [
+    0x80, 7, 0, 0, 0, 0, 0, 0, 0, 0, 6, 1, 0x0b, 2, 0, 2, 1, 3, 0x32, 0x30, 0x30, 9, 4, 0, 0, 0, 4,
+    8, 4, 0, 0, 0, 4,
+];
+
+// The oldest datagram for the peer is a PONG.
+fn is_pong<R: Wait, J: Naming>(rt: &R, exchange: &Exchange<NoGate, J>, pass: &mut Pass<J>) -> bool {
+    match take_out(rt, exchange, pass, WEST_PLACE) {
+        Some(out) => out.octets() == PONG.as_slice(),
+        None => false,
+    }
+}
+
+// Each of so many POKEs is answered by a PONG.
+fn all_ponged<R: Wait, J: Naming>(
+    rt: &R,
+    exchange: &Exchange<NoGate, J>,
+    pass: &mut Pass<J>,
+    count: u32,
+) -> bool {
+    for _ in 0..count {
+        if !is_answered(rt, exchange, pass, &POKE) || !is_pong(rt, exchange, pass) {
+            return false;
+        }
+    }
+    true
+}
+
+/// A hundred thousand POKEs leave no leg and take no number: the call that follows has the first one.
+pub fn poked<R: Abort + Wait, J: Naming>(
+    rt: &R,
+    exchange: &Exchange<NoGate, J>,
+    pass: &mut Pass<J>,
+) {
+    holds(rt, "PONGs", all_ponged(rt, exchange, pass, 100_000));
+    for number in 1..5 {
+        let leg = status_of(rt, exchange, pass, number);
+        holds(rt, "no leg", leg.is_none());
+    }
+    let told = heard(rt, exchange, pass, WEST_PLACE, &NEW, 0).expect(rt, "an answer");
+    same(rt, &told.refused, &None);
+    let leg = status_of(rt, exchange, pass, 1);
+    holds(rt, "the first number", leg.is_some());
+}
+
+// The plan in format 3, where a POKE is answered.
+fn in_format_3(alloc: Global) -> Option<String> {
+    let mut text = String::new(alloc);
+    text.push_str("format = 3\n").ok()?;
+    text.push_str(PLAN.strip_prefix("format = 1\n")?).ok()?;
+    Some(text)
+}
+
+#[test]
+fn flood_of_pokes(rt: HostRuntime) {
+    let plan = in_format_3(rt.alloc()).expect(&rt, "a plan");
+    let played = play_on(&rt, rt.alloc(), plan.as_str(), Scene::Poked);
     holds(&rt, "balanced accounts", is_ended(played));
 }

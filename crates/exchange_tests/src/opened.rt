@@ -2,7 +2,7 @@
 ghost use Rattle.std.specs.Prelude.{◌≡◌, ◌+◌, ◌^◌, length};
 
 use crate::growths::{call, call_and_end};
-use crate::hostile::{from_nobody, outbox_filled};
+use crate::hostile::{from_nobody, outbox_filled, poked};
 use crate::leaving::left;
 use crate::looking::looked;
 use crate::same::holds;
@@ -33,6 +33,8 @@ pub enum Scene {
     FromNobody,
     /// Nobody takes out what waits to be sent.
     OutboxFilled,
+    /// A hundred thousand POKEs, then a call.
+    Poked,
     /// An accepted call is looked at from outside.
     Looked,
     /// An accepted call ends, and its legs are told.
@@ -56,6 +58,7 @@ fn play<R: Abort + Sync + Threads + Wait, J: Naming>(
         (Scene::CallAndEnd, [pass]) => call_and_end(rt, exchange, pass),
         (Scene::FromNobody, [pass]) => from_nobody(rt, exchange, pass),
         (Scene::OutboxFilled, [pass]) => outbox_filled(rt, exchange, pass),
+        (Scene::Poked, [pass]) => poked(rt, exchange, pass),
         _ => holds(rt, "as many passes as the plan says", false),
     }
 }

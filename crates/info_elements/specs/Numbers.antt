@@ -7,6 +7,9 @@ CALLED_NUMBER = 0x01
 abbrev pub CALLING_NUMBER : ℕ
 CALLING_NUMBER = 0x02
 
+abbrev pub CALLING_NAME : ℕ
+CALLING_NAME = 0x04
+
 abbrev pub USERNAME : ℕ
 USERNAME = 0x06
 
@@ -33,6 +36,15 @@ CAUSE = 0x16
 
 abbrev pub IAX_UNKNOWN : ℕ
 IAX_UNKNOWN = 0x17
+
+abbrev pub CALLINGPRES : ℕ
+CALLINGPRES = 0x26
+
+abbrev pub CALLINGTON : ℕ
+CALLINGTON = 0x27
+
+abbrev pub CALLINGTNS : ℕ
+CALLINGTNS = 0x28
 
 abbrev pub CAUSECODE : ℕ
 CAUSECODE = 0x2a

@@ -4,6 +4,8 @@
 pub const CALLED_NUMBER: u8 = 0x01;
 /// The number that calls: a text.
 pub const CALLING_NUMBER: u8 = 0x02;
+/// The name of who calls: a text.
+pub const CALLING_NAME: u8 = 0x04;
 /// A user's name: a text.
 pub const USERNAME: u8 = 0x06;
 /// All formats that can be used: the bits of formats in 4 octets.
@@ -22,5 +24,11 @@ pub const MD5_RESULT: u8 = 0x10;
 pub const CAUSE: u8 = 0x16;
 /// The subclass that isn't known: 1 octet.
 pub const IAX_UNKNOWN: u8 = 0x17;
+/// Whether the number that calls may be shown, and who vouches for it: 1 octet.
+pub const CALLINGPRES: u8 = 0x26;
+/// What type of number calls: 1 octet.
+pub const CALLINGTON: u8 = 0x27;
+/// The transit network that the caller chose: 2 octets.
+pub const CALLINGTNS: u8 = 0x28;
 /// Why a call ends: 1 octet.
 pub const CAUSECODE: u8 = 0x2a;

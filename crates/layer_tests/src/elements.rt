@@ -1,6 +1,6 @@
 //! Information elements, read and written.
 use crate::same::{holds, same, same_octets};
-use call_signals::NewElements;
+use call_signals::{Caller, NewElements};
 use iax_frames::{CallNumber, FullHead, Payload, write_full};
 use info_elements::{
     CAUSE, CAUSECODE, CHALLENGE, Cut, Elements, FORMAT, VERSION, append, append_to, elements,
@@ -95,6 +95,25 @@ fn absent_elements_of_a_new(rt: HostRuntime) {
     holds(&rt, "no called number", read.called.is_none());
     same(&rt, &read.format, &None);
     same(&rt, &read.capability, &None);
+}
+
+/// Of a NEW: CALLING NAME Al, CALLINGPRES 0x23, CALLINGTON 0x10, CALLINGTNS 0x0102, CALLINGTON of no octet.
+const CALLER: [u8; 16] = [
+    4, 2, b'A', b'l', 0x26, 1, 0x23, 0x27, 1, 0x10, 0x28, 2, 1, 2, 0x27, 0,
+];
+
+/// What is carried on of these.
+const CARRIED: [u8; 11] = [4, 2, b'A', b'l', 0x26, 1, 0x23, 0x28, 2, 1, 2];
+
+#[test]
+fn caller_of_a_new(rt: HostRuntime) {
+    let read = NewElements::read(&CALLER);
+    let caller = Caller::of(&read, true);
+    same_octets(&rt, caller.as_slice(), &CARRIED);
+    let caller = Caller::of(&read, false);
+    same_octets(&rt, caller.as_slice(), &[]);
+    let caller = Caller::numbered(Some(b"20"));
+    same_octets(&rt, caller.as_slice(), &[2, 2, b'2', b'0']);
 }
 
 fn head() -> FullHead {

@@ -11,7 +11,8 @@ use crate::same::{same, same_octets};
 use call_auth::Challenge;
 use iax_frames::{CallNumber, Datagram, Full, read};
 use leg_machine::{
-    Cause, Digit, Format, Heard, Judged, Leg, Order, OrderError, Replies, Signal, Stage, StepError,
+    Caller, Cause, Digit, Format, Heard, Judged, Leg, Order, OrderError, Replies, Signal, Stage,
+    StepError,
 };
 use peer_plan::{Plan, PlanError};
 use std::alloc::{AllocError, Global};
@@ -188,7 +189,7 @@ fn opened_out(alloc: Global, plan: &Plan, replies: &mut Replies) -> Option<Leg>
         plan.rules(1),
         CallNumber::new(5),
         b"300",
-        None,
+        &Caller::numbered(None),
         Format::Ulaw,
         0,
         replies,

@@ -173,11 +173,11 @@ media-sent (media.Mini timestamp) leg octets now all = stays leg all
 
 -- ---- openings
 
-pub call-sent : (rules : PeerRules) (number : ℕ) (called : List ℕ) (calling : Option (List ℕ)) (format : Format) (now : ℕ)
-    → let s = open_out_step rules number called calling format now in AllSent s.leg s.replies
-call-sent rules number called calling format now =
+pub call-sent : (rules : PeerRules) (number : ℕ) (called : List ℕ) (caller : List ℕ) (format : Format) (now : ℕ)
+    → let s = open_out_step rules number called caller format now in AllSent s.leg s.replies
+call-sent rules number called caller format now =
     let leg = leg_for_call rules number format now in
-    one-sent leg (open_out_step rules number called calling format now).leg (new_frame leg now called calling) refl (All-nil IsNumberedFrame) refl
+    one-sent leg (open_out_step rules number called caller format now).leg (new_frame leg now called caller) refl (All-nil IsNumberedFrame) refl
 
 -- a leg that took a NEW before anything else
 pub opened-written : (effect : Effect) (leg new : LegState) (frame : FullFrame) (now : ℕ) (before datagrams : List (List ℕ))

@@ -108,6 +108,6 @@ pub opening-sent : (rules : PeerRules) (number : ℕ) (frame : FullFrame) (now :
 opening-sent rules number frame now challenge =
     taken-sent (opening_effect (opening_of rules frame)) (leg_for_new rules number frame now challenge) frame New now (All-nil IsNumberedFrame)
 
-pub call-sends : (rules : PeerRules) (number : ℕ) (called : List ℕ) (calling : Option (List ℕ)) (format : Format) (now : ℕ)
-    → HasSentAtMostOne (open_out_step rules number called calling format now).leg
-call-sends rules number called calling format now = (Some _, refl)
+pub call-sends : (rules : PeerRules) (number : ℕ) (called : List ℕ) (caller : List ℕ) (format : Format) (now : ℕ)
+    → HasSentAtMostOne (open_out_step rules number called caller format now).leg
+call-sends rules number called caller format now = (Some _, refl)

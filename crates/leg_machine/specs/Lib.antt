@@ -12,6 +12,7 @@ pub mod Ticks
 pub mod Tie
 pub mod Tries
 pub mod Working
+pub use Rattle.call_signals.specs.Caller
 pub use Rattle.call_signals.specs.Causes
 pub use Rattle.call_signals.specs.Credential
 pub use Rattle.call_signals.specs.Formats

@@ -9,6 +9,8 @@ use Rattle.leg_machine.specs.Legs.{LegState}
 use Rattle.leg_machine.specs.Replies.{new_frame, outgoing, next_byte}
 use Rattle.leg_machine.specs.Steps.{Step, taken_step}
 use Rattle.leg_machine.specs.Working.{sent}
+use Rattle.call_signals.specs.Caller.{caller_by}
+use Rattle.call_signals.specs.NewElements.{new_elements}
 use Rattle.call_signals.specs.declared.formats.Format.{Format}
 use Rattle.call_signals.specs.declared.formats.Format.TheVariants.{Gsm}
 use Rattle.call_signals.specs.declared.messages.Message.TheVariants.{New}
@@ -68,10 +70,10 @@ leg_for_call rules number format now = record {
 }
 
 -- a NEW goes out
-abbrev pub open_out_step : PeerRules → ℕ → List ℕ → Option (List ℕ) → Format → ℕ → Step
-open_out_step rules number called calling format now =
+abbrev pub open_out_step : PeerRules → ℕ → List ℕ → List ℕ → Format → ℕ → Step
+open_out_step rules number called caller format now =
     let leg = leg_for_call rules number format now in
-    let frame = new_frame leg now called calling in
+    let frame = new_frame leg now called caller in
     record {
       leg = sent leg frame now;
       replies = outgoing leg false (next_byte leg) frame ∷ [];
@@ -102,3 +104,7 @@ called_of leg = unwrap_or (last_of CALLED_NUMBER (elements_of (opening_data leg.
 -- the number that calls
 abbrev pub calling_of : LegState → Option (List ℕ)
 calling_of leg = last_of CALLING_NUMBER (elements_of (opening_data leg.window.history))
+
+-- .. and what more is carried on of who calls
+abbrev pub caller_of : LegState → List ℕ
+caller_of leg = caller_by leg.rules.carries_caller (new_elements (opening_data leg.window.history))

@@ -39,12 +39,12 @@ reply_frame leg now reply = record {
 }
 
 -- the NEW of a call from here
-abbrev pub new_frame : LegState → ℕ → List ℕ → Option (List ℕ) → Frame
-new_frame leg now called calling = record {
+abbrev pub new_frame : LegState → ℕ → List ℕ → List ℕ → Frame
+new_frame leg now called caller = record {
   ts = present_of leg now;
   kind = 6;
   subclass = 1;
-  payload = new_elements leg.rules.user called calling leg.format;
+  payload = new_elements leg.rules.user called caller leg.format;
 }
 
 -- media as a full frame

@@ -68,8 +68,8 @@ pub fn steps_are_seen()
     ensures ticks { (grown : Bool) (leg : LegState) (now : ℕ) → IsSeenTick (seen leg) (seen (tick_step grown leg now).leg) }
     ensures calls_in { (rules : PeerRules) (number : ℕ) (frame : FullFrame) (now : ℕ) (challenge : List ℕ) → 1 ≤ rules.window →
         IsSeenOpening (seen (open_in_step rules number frame now challenge).leg) (open_in_step rules number frame now challenge).signal }
-    ensures calls_out { (rules : PeerRules) (number : ℕ) (called : List ℕ) (calling : Option (List ℕ)) (format : Format) (now : ℕ) →
-        seen (open_out_step rules number called calling format now).leg ≡ fresh_leg Waiting }
+    ensures calls_out { (rules : PeerRules) (number : ℕ) (called : List ℕ) (caller : List ℕ) (format : Format) (now : ℕ) →
+        seen (open_out_step rules number called caller format now).leg ≡ fresh_leg Waiting }
 {}
 
 /// Each step of a leg adds to its record what one turn of a network's side adds: a full frame at most an acknowledgement, then at
@@ -80,8 +80,8 @@ pub fn steps_take_turns()
     ensures ticks { (grown : Bool) (leg : LegState) (now : ℕ) → SendsAtMostOne leg (tick_step grown leg now).leg }
     ensures calls_in { (rules : PeerRules) (number : ℕ) (frame : FullFrame) (now : ℕ) (challenge : List ℕ) →
         TakesFirstTurn frame (open_in_step rules number frame now challenge).leg }
-    ensures calls_out { (rules : PeerRules) (number : ℕ) (called : List ℕ) (calling : Option (List ℕ)) (format : Format) (now : ℕ) →
-        HasSentAtMostOne (open_out_step rules number called calling format now).leg }
+    ensures calls_out { (rules : PeerRules) (number : ℕ) (called : List ℕ) (caller : List ℕ) (format : Format) (now : ℕ) →
+        HasSentAtMostOne (open_out_step rules number called caller format now).leg }
 {}
 
 /// What a leg sends in a step, a side of a network with its record sends, or it is a mini frame; and what its record has as sent
@@ -96,7 +96,7 @@ pub fn steps_send_as_sides()
         HasSent (tick_step grown leg now).leg (map spelling (tick_step grown leg now).replies) }
     ensures calls_in { (rules : PeerRules) (number : ℕ) (frame : FullFrame) (now : ℕ) (challenge : List ℕ) →
         HasSent (open_in_step rules number frame now challenge).leg (map spelling (open_in_step rules number frame now challenge).replies) }
-    ensures calls_out { (rules : PeerRules) (number : ℕ) (called : List ℕ) (calling : Option (List ℕ)) (format : Format) (now : ℕ) →
-        HasSent (open_out_step rules number called calling format now).leg
-        (map spelling (open_out_step rules number called calling format now).replies) }
+    ensures calls_out { (rules : PeerRules) (number : ℕ) (called : List ℕ) (caller : List ℕ) (format : Format) (now : ℕ) →
+        HasSent (open_out_step rules number called caller format now).leg
+        (map spelling (open_out_step rules number called caller format now).replies) }
 {}

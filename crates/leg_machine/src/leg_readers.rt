@@ -4,7 +4,7 @@ ghost use Rattle.std.specs.Option.{ForSome};
 ghost use Rattle.seq_window.specs.History.{IsLegal};
 ghost use Rattle.leg_machine.specs.Media.{accepts_media};
 ghost use Rattle.leg_machine.specs.Onward.{onward_of};
-ghost use Rattle.leg_machine.specs.Openings.{opening_data, new_data, called_of, calling_of};
+ghost use Rattle.leg_machine.specs.Openings.{opening_data, new_data, called_of, calling_of, caller_of};
 ghost use Rattle.leg_machine.specs.Ticks.{is_idle};
 ghost use Rattle.call_signals.specs.NewElements.{named, new_elements};
 ghost use Rattle.call_signals.specs.declared.signals.Signal.TheVariants.{Offered};
@@ -12,8 +12,8 @@ ghost use Rattle.call_signals.specs.declared.signals.Signal.TheVariants.{Offered
 use crate::legs::Leg;
 use crate::machine::Machine;
 use call_signals::{
-    ElementText, Failure, Format, Indication, MediaIn, MediaSpan, NewElements, Onward, Signal,
-    Stage,
+    Caller, ElementText, Failure, Format, Indication, MediaIn, MediaSpan, NewElements, Onward,
+    Signal, Stage,
 };
 use iax_frames::CallNumber;
 use info_elements::{CALLED_NUMBER, CALLING_NUMBER, last_in};
@@ -178,11 +178,19 @@ impl Leg {
         last_in(self.opening_data(), CALLING_NUMBER)
     }
 
+    /// What is carried on of who calls, where a call is offered.
+    pub fn caller(&self) -> Caller
+        ensures { result ≡ caller_of self.now.state }
+    {
+        Caller::of(&self.opening_elements(), self.machine.rules.carries_caller)
+    }
+
     /// The elements of the NEW that opened the leg, by one reading; all absent where no NEW came.
     pub fn opening_elements(&self) -> NewElements<'_>
         ensures elements { named result ≡ new_elements (opening_data self.now.state.window.history) }
         ensures called { IfSome result.called (λ text. length text.now ≤ 255) }
         ensures calling { IfSome result.calling (λ text. length text.now ≤ 255) }
+        ensures name { IfSome result.name (λ text. length text.now ≤ 255) }
     {
         NewElements::read(self.opening_data())
     }
@@ -204,6 +212,7 @@ impl Leg {
         ensures elements { named result ≡ new_elements (new_data self.now.state.window.history) }
         ensures called { IfSome result.called (λ text. length text.now ≤ 255) }
         ensures calling { IfSome result.calling (λ text. length text.now ≤ 255) }
+        ensures name { IfSome result.name (λ text. length text.now ≤ 255) }
     {
         NewElements::read(self.new_data())
     }

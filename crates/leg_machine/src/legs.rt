@@ -1,6 +1,5 @@
 //! A leg, by the calls of the layer above.
-ghost use Rattle.std.specs.Prelude.{◌≡◌, ◌==◌, ℕ, ◌+◌, ◌≤◌, ◌<◌, ◌↔◌, true, None, Some, Err, [], length, map, All, option_copied, IfOk, IfErr, OnOk, OnErr};
-ghost use Rattle.std.specs.Option.{ForSome};
+ghost use Rattle.std.specs.Prelude.{◌≡◌, ◌==◌, ℕ, ◌+◌, ◌≤◌, ◌<◌, ◌↔◌, true, None, Some, Err, [], length, map, All, IfOk, IfErr, OnOk, OnErr};
 ghost use Rattle.iax_frames.specs.FullFrame.{spelling};
 ghost use Rattle.leg_machine.specs.Legs.{capacity_of, is_short_of_entries};
 ghost use Rattle.leg_machine.specs.Media.{media_sent, after_media, media_frames};
@@ -18,8 +17,8 @@ use crate::media::MediaSent;
 use call_auth::Challenge;
 use call_signals::openings::{call_format, opening_of};
 use call_signals::{
-    Format, Heard, LocalNumber, Message, NewElements, Order, OrderError, PeerRules, Replies, Stage,
-    StepError,
+    Caller, Format, Heard, LocalNumber, Message, NewElements, Order, OrderError, PeerRules,
+    Replies, Stage, StepError,
 };
 use iax_frames::{CallNumber, Full};
 use seq_window::Window;
@@ -115,7 +114,7 @@ impl Leg {
         rules: &PeerRules,
         number: CallNumber,
         called: &[u8],
-        calling: Option<&[u8]>,
+        caller: &Caller,
         format: Format,
         now: u64,
         replies: &mut Replies,
@@ -123,11 +122,10 @@ impl Leg {
         requires rules { IsPeerRules rules.now }
         requires number { 1 ≤ number }
         requires called { length called.now ≤ 255 }
-        requires calling { ForSome calling (λ text. length text.now ≤ 255) }
         requires empty { replies.old ≡ [] }
-        ensures leg { IfOk result (λ leg. leg.state ≡ (open_out_step rules.now number called.now (option_copied calling.entry) format now).leg) }
+        ensures leg { IfOk result (λ leg. leg.state ≡ (open_out_step rules.now number called.now caller.now format now).leg) }
         ensures replies { OnOk result (replies.new ≡
-            map spelling (open_out_step rules.now number called.now (option_copied calling.entry) format now).replies) }
+            map spelling (open_out_step rules.now number called.now caller.now format now).replies) }
         ensures tied { IfOk result (λ leg. HasSentAtMostOne leg.state) }
         ensures sendings { IfOk result (λ leg. All (IsSending leg.state) replies.new) }
         ensures seen { IfOk result (λ leg. seen leg.state ≡ fresh_leg Stage.Waiting) }
@@ -155,7 +153,7 @@ impl Leg {
             resent: 0,
             window,
         };
-        let frame = machine.new_frame(called, calling, now);
+        let frame = machine.new_frame(called, caller, now);
         machine.send_frame(frame, now, replies);
         Ok(Leg { machine })
     }

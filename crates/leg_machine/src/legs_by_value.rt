@@ -6,6 +6,7 @@ ghost use Rattle.leg_machine.specs.Legs.{capacity_of, is_short_of_entries};
 ghost use Rattle.leg_machine.specs.Onward.{outcome_of, order_outcome, HandsUp};
 ghost use Rattle.leg_machine.specs.Openings.{open_in_step, open_out_step};
 ghost use Rattle.leg_machine.specs.OrderTable.{order_refused, wants_memory, IsRefusal, IsShortMedia, order_carried};
+ghost use Rattle.call_signals.specs.Caller.{numbered};
 ghost use Rattle.call_signals.specs.PeerRules.{IsPeerRules};
 ghost use Rattle.leg_machine.specs.Seen.{seen, kind_of, stage_after, fresh_leg, IsSeenFrame, IsSeenOpening, IsSeenOrder, IsSeenTick};
 ghost use Rattle.leg_machine.specs.Steps.{full_step};
@@ -16,7 +17,7 @@ ghost use Rattle.call_signals.specs.declared.stages.Stage.TheVariants as stages;
 use crate::legs::Leg;
 use call_auth::Challenge;
 use call_signals::{
-    Format, Heard, Judged, Onward, Order, OrderError, Outcome, PeerRules, Replies, Signal,
+    Caller, Format, Heard, Judged, Onward, Order, OrderError, Outcome, PeerRules, Replies, Signal,
     StepError, TickOutcome,
 };
 use iax_frames::{CallNumber, Full};
@@ -89,20 +90,21 @@ impl Leg {
         requires number { 1 ≤ number }
         requires called { length called.now ≤ 255 }
         requires calling { ForSome calling (λ text. length text.now ≤ 255) }
-        ensures leg { IfOk result (λ opened. opened.0.state ≡ (open_out_step rules.now number called.now (option_copied calling.entry) format now).leg) }
+        ensures leg { IfOk result (λ opened. opened.0.state ≡ (open_out_step rules.now number called.now (numbered (option_copied calling.entry)) format now).leg) }
         ensures outcome { IfOk result (λ opened. opened.1 ≡
-            outcome_of (open_out_step rules.now number called.now (option_copied calling.entry) format now)) }
+            outcome_of (open_out_step rules.now number called.now (numbered (option_copied calling.entry)) format now)) }
         ensures tied { IfOk result (λ opened. HasSentAtMostOne opened.0.state) }
         ensures sendings { IfOk result (λ opened. All (IsSending opened.0.state) opened.1.replies) }
         ensures seen { IfOk result (λ opened. seen opened.0.state ≡ fresh_leg stages.Waiting) }
     {
+        let caller = Caller::numbered(calling);
         let mut replies = Replies::new();
         let leg = Leg::open_out_into(
             alloc,
             rules,
             number,
             called,
-            calling,
+            &caller,
             format,
             now,
             &mut replies,

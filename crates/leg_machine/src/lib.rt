@@ -17,9 +17,9 @@ mod ticking;
 mod working_order;
 
 pub use call_signals::{
-    Cause, Credential, Digit, ElementText, Failure, Format, Formats, Heard, Indication, Judged,
-    MediaIn, MediaSpan, Message, Onward, Order, OrderError, OrderKind, Outcome, PeerRules, Replies,
-    Signal, Stage, StepError, TickOutcome,
+    Caller, Cause, Credential, Digit, ElementText, Failure, Format, Formats, Heard, Indication,
+    Judged, MediaIn, MediaSpan, Message, Onward, Order, OrderError, OrderKind, Outcome, PeerRules,
+    Replies, Signal, Stage, StepError, TickOutcome,
 };
 pub use legs::Leg;
 pub use media::MediaSent;

@@ -1,11 +1,10 @@
 //! The frames that a leg sends, with their data.
 ghost use Rattle.std.specs.Prelude.{◌≡◌, ◌+◌, ◌≤◌, ◌++◌, [], ◌∷◌, length, option_map, map};
-ghost use Rattle.std.specs.Option.{option_copied, ForSome};
 ghost use Rattle.leg_machine.specs.Replies as replies;
 
 use crate::machine::Machine;
-use call_signals::Reply;
 use call_signals::reply_elements::{auth_req_elements, cause_elements, new_elements, one_element};
+use call_signals::{Caller, Reply};
 use iax_frames::{Frame, Payload};
 use info_elements::{FORMAT, IAX_UNKNOWN, MD5_RESULT};
 
@@ -60,16 +59,15 @@ impl Machine {
     }
 
     /// The NEW of a call from here.
-    pub fn new_frame(&self, called: &[u8], calling: Option<&[u8]>, now: u64) -> Frame
-        requires called { length called.now ≤ 255 }
-        requires calling { ForSome calling (λ text. length text.now ≤ 255) }
-        ensures { result ≡ replies.new_frame (leg_of self.now) now called.now (option_copied calling.entry) }
+    pub fn new_frame(&self, called: &[u8], caller: &Caller, now: u64) -> Frame
+        requires { length called.now ≤ 255 }
+        ensures { result ≡ replies.new_frame (leg_of self.now) now called.now caller.now }
     {
         Frame {
             ts: self.present(now),
             kind: 6,
             subclass: 1,
-            payload: new_elements(&self.rules.user, called, calling, self.format),
+            payload: new_elements(&self.rules.user, called, caller, self.format),
         }
     }
 

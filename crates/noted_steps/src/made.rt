@@ -5,7 +5,7 @@ ghost use Rattle.noted_steps.specs.Notes.{without_lease};
 use call_auth::Challenge;
 use call_book::{BridgeError, Lease, LegName, ReserveError, Stale};
 use iax_frames::FullHead;
-use leg_machine::{Format, OrderKind};
+use leg_machine::{Caller, Format, OrderKind};
 use peer_lock::{
     EndedLeg, Onwards, OpenError, OrderError, PeerError, Status, Step, StepsSpent, TickReport,
 };
@@ -31,9 +31,8 @@ pub enum Made {
         Result<Step, OpenError>,
         Seen<Onwards>,
     ),
-    /// A NEW of ours opens a leg of a peer: the name, the number that is called, the one that calls, the format, the moment, and the
-    /// answer.
-    OpenOut(u16, LegName, Octets, Option<Octets>, Format, u64, Result<Step, OpenError>),
+    /// A NEW of ours opens a leg of a peer: the name, the number that is called, who calls, the format, the moment, and the answer.
+    OpenOut(u16, LegName, Octets, Seen<Caller>, Format, u64, Result<Step, OpenError>),
     /// A leg of a peer gets an order: the leg's name, the order with its media, the moment, and the answer.
     Order(u16, LegName, OrderKind, Octets, u64, Result<Step, OrderError>),
     /// Time goes on at a peer: the moment, and the answer.

@@ -1,6 +1,5 @@
 //! The steps of a peer, each noted under its pass.
-ghost use Rattle.std.specs.Prelude.{◌≡◌, ◌+◌, ◌≤◌, ◌↔◌, ◌⊎◌, length, option_copied, option_map, true, false, All, Err, None, Some, IfErr, IfOk, IfNone, IfSome, IsErr, IsNone, IsTrue, OnErr, OnOk, OnSome};
-ghost use Rattle.std.specs.Option.{ForSome};
+ghost use Rattle.std.specs.Prelude.{◌≡◌, ◌+◌, ◌≤◌, ◌↔◌, ◌⊎◌, length, option_map, true, false, All, Err, None, Some, IfErr, IfOk, IfNone, IfSome, IsErr, IsNone, IsTrue, OnErr, OnOk, OnSome};
 ghost use Rattle.call_signals.specs.Orders.{kind_of};
 ghost use Rattle.call_signals.specs.declared.outcomes.Judged.TheVariants.{Unnumbered};
 ghost use Rattle.iax_frames.specs.declared.datagram.Datagram.{Datagram as DatagramValue};
@@ -28,7 +27,7 @@ use crate::pass::Pass;
 use call_auth::Challenge;
 use call_book::{Lease, LegName};
 use iax_frames::Full;
-use leg_machine::{Format, Order};
+use leg_machine::{Caller, Format, Order};
 use peer_lock::{
     EndedLeg, Naming, Onwards, OpenError, OrderError, PeerError, ReadDatagram, Status, Step,
     StepsSpent, TickReport,
@@ -42,16 +41,6 @@ fn media_in(order: &Order) -> Octets
     match order {
         Order::Media(media) => Octets::of(media),
         _ => Octets::new(),
-    }
-}
-
-// A text that may be absent.
-fn text_in(text: Option<&[u8]>) -> Option<Octets>
-    ensures { result ≡ option_copied text.entry }
-{
-    match text {
-        Some(text) => Some(Octets::of(text)),
-        None => None,
     }
 }
 
@@ -184,15 +173,14 @@ impl<J: Naming> NotedPeer<J> {
         pass: &mut Pass<J>,
         lease: Lease,
         called: &[u8],
-        calling: Option<&[u8]>,
+        caller: &Caller,
         format: Format,
         now: u64,
     ) -> Result<Step, (Lease, OpenError)>
-        requires called { length called.now ≤ 255 }
-        requires calling { ForSome calling (λ text. length text.now ≤ 255) }
-        ensures noted { Notes (mades.OpenOut self.old.number lease called.now (option_copied calling.entry) format now (without_lease result)) pass.old pass.new }
+        requires { length called.now ≤ 255 }
+        ensures noted { Notes (mades.OpenOut self.old.number lease called.now caller.now format now (without_lease result)) pass.old pass.new }
         ensures number { self.new.number ≡ self.old.number }
-        ensures peer { OnOk result (self.new.state ≡ (opens_out self.old.state lease called.now (option_copied calling.entry) format now).peer) }
+        ensures peer { OnOk result (self.new.state ≡ (opens_out self.old.state lease called.now caller.now format now).peer) }
         ensures step { IfOk result (λ step. step ≡ leg_alone lease Unnumbered) }
         ensures credit { OnOk result (pass.new.credit ≡ with_step pass.old.credit 0) }
         ensures unrefused { OnOk result (open_out_refused self.old.state J.first_steps lease ≡ None) }
@@ -203,12 +191,12 @@ impl<J: Naming> NotedPeer<J> {
         let name = lease.name();
         let answer = self
             .state
-            .open_out(&mut pass.credits, lease, called, calling, format, now);
+            .open_out(&mut pass.credits, lease, called, caller, format, now);
         let made = Made::OpenOut(
             self.number,
             name,
             Octets::of(called),
-            text_in(calling),
+            Seen::of(caller),
             format,
             now,
             told(&answer),

@@ -2,7 +2,7 @@
 ghost use Rattle.std.specs.Prelude.{◌≡◌, ◌≤◌, ◌+◌, ◌<◌, ◌++◌, ◌∷◌, [], ◌==◌, length, slice_get, option_copied, Option, None, Some, OnOk, OnErr};
 
 use call_book::LegName;
-use leg_machine::{ElementText, Format, Signal};
+use leg_machine::{Caller, ElementText, Format, Signal};
 use std::alloc::{AllocError, Global};
 use std::marker::Model;
 
@@ -11,8 +11,8 @@ use std::marker::Model;
 pub struct Offer {
     /// The number that is called, at most 255 octets; absent, it is empty.
     pub called: ElementText,
-    /// The number that calls, at most 255 octets.
-    pub calling: Option<ElementText>,
+    /// Who calls, as far as it is carried on.
+    pub caller: Caller,
     /// The format of the call.
     pub format: Format,
 }

@@ -209,6 +209,6 @@ pub open_in_is : (rules : PeerRules) (number : ℕ) (frame : FullFrame) (now : �
     → IsSameCall (leg_for_new rules number frame now challenge) (open_in_step rules number frame now challenge).leg
 open_in_is rules number frame now challenge = same_taken_step (opening_effect (opening_of rules frame)) (leg_for_new rules number frame now challenge) frame New now
 
-pub open_out_is : (rules : PeerRules) (number : ℕ) (called : List ℕ) (calling : Option (List ℕ)) (format : Format) (now : ℕ)
-    → IsSameCall (leg_for_call rules number format now) (open_out_step rules number called calling format now).leg
-open_out_is rules number called calling format now = record { number = refl; remote = refl; ruled = record { rules = refl; width = refl; limit = refl } }
+pub open_out_is : (rules : PeerRules) (number : ℕ) (called : List ℕ) (caller : List ℕ) (format : Format) (now : ℕ)
+    → IsSameCall (leg_for_call rules number format now) (open_out_step rules number called caller format now).leg
+open_out_is rules number called caller format now = record { number = refl; remote = refl; ruled = record { rules = refl; width = refl; limit = refl } }

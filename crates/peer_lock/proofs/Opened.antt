@@ -28,13 +28,13 @@ took_new view old name number frame now challenge outbox replies view_is number_
     ∙ ap (λ (v : PeerView). record v { outbox = put v.outbox (map spelling (open_in_step v.rules name.number frame now challenge).replies) }) view_is
 
 -- what a leg that calls sends goes to the outbox
-pub sent_new : (view old : PeerView) (name : LegName) (number : ℕ) (called : List ℕ) (calling : Option (List ℕ)) (format : Format) (now : ℕ) (outbox replies : List (List ℕ))
-    → view ≡ old → number ≡ name.number → outbox ≡ put view.outbox replies → replies ≡ map spelling (open_out_step view.rules number called calling format now).replies
-    → record view { outbox = outbox } ≡ record old { outbox = put old.outbox (map spelling (open_out_step old.rules name.number called calling format now).replies) }
-sent_new view old name number called calling format now outbox replies view_is number_is outbox_is replies_are =
+pub sent_new : (view old : PeerView) (name : LegName) (number : ℕ) (called : List ℕ) (caller : List ℕ) (format : Format) (now : ℕ) (outbox replies : List (List ℕ))
+    → view ≡ old → number ≡ name.number → outbox ≡ put view.outbox replies → replies ≡ map spelling (open_out_step view.rules number called caller format now).replies
+    → record view { outbox = outbox } ≡ record old { outbox = put old.outbox (map spelling (open_out_step old.rules name.number called caller format now).replies) }
+sent_new view old name number called caller format now outbox replies view_is number_is outbox_is replies_are =
     ap (λ (sent : List (List ℕ)). record view { outbox = sent }) (outbox_is ∙ ap (put view.outbox) replies_are)
-    ∙ ap (λ (n : ℕ). record view { outbox = put view.outbox (map spelling (open_out_step view.rules n called calling format now).replies) }) number_is
-    ∙ ap (λ (v : PeerView). record v { outbox = put v.outbox (map spelling (open_out_step v.rules name.number called calling format now).replies) }) view_is
+    ∙ ap (λ (n : ℕ). record view { outbox = put view.outbox (map spelling (open_out_step view.rules n called caller format now).replies) }) number_is
+    ∙ ap (λ (v : PeerView). record v { outbox = put v.outbox (map spelling (open_out_step v.rules name.number called caller format now).replies) }) view_is
 
 module _ (old : PeerView) (name lease : LegName) (frame : FullFrame) (now : ℕ) (challenge : List ℕ) (name_is : name ≡ lease) where
   pub opened_leg : (leg : LegState) → leg ≡ (open_in_step old.rules name.number frame now challenge).leg → leg ≡ (open_in_step old.rules lease.number frame now challenge).leg

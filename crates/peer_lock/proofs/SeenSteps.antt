@@ -84,20 +84,20 @@ module _ (law : (rules : PeerRules) (number : ℕ) (frame : FullFrame) (now : �
         touched = refl;
       }
 
-module _ (law : (rules : PeerRules) (number : ℕ) (called : List ℕ) (calling : Option (List ℕ)) (format : Format) (now : ℕ)
-    → seen (open_out_step rules number called calling format now).leg ≡ fresh_leg Waiting) where
-  pub call_out_seen : (peer : PeerView) (name : LegName) (called : List ℕ) (calling : Option (List ℕ)) (format : Format) (now : ℕ) → is_free_name peer.legs name ≡ true
-      → OpensOut peer.legs (opens_out peer name called calling format now).peer.legs name
-  call_out_seen peer name called calling format now free =
+module _ (law : (rules : PeerRules) (number : ℕ) (called : List ℕ) (caller : List ℕ) (format : Format) (now : ℕ)
+    → seen (open_out_step rules number called caller format now).leg ≡ fresh_leg Waiting) where
+  pub call_out_seen : (peer : PeerView) (name : LegName) (called : List ℕ) (caller : List ℕ) (format : Format) (now : ℕ) → is_free_name peer.legs name ≡ true
+      → OpensOut peer.legs (opens_out peer name called caller format now).peer.legs name
+  call_out_seen peer name called caller format now free =
       let is = free_name peer.legs name free in
-      let s = open_out_step peer.rules name.number called calling format now in
+      let s = open_out_step peer.rules name.number called caller format now in
       let turns = placed_turns peer.legs name.number (Some (record { name = name; leg = s.leg })) is.first is.within in
       record {
         peer = is.peer;
         free = ap (option_map seen_named) is.none;
         turns = record {
           peer = turns.peer;
-          there = turns.there ∙ (λ i. Some (record { name = name; seen = law peer.rules name.number called calling format now i }));
+          there = turns.there ∙ (λ i. Some (record { name = name; seen = law peer.rules name.number called caller format now i }));
           rest = turns.rest;
         };
       }

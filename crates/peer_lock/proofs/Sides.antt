@@ -26,7 +26,7 @@ use Rattle.peer_legs.specs.Legs.{NamedLeg, is_free_name, leg_at, leg_named, with
 use Rattle.peer_legs.proofs.PlaceLaws.{placed_there, stands_at}
 use Rattle.peer_legs.proofs.RuleChanges.{number_fits}
 use Rattle.peer_lock.specs.Arrivals.{datagram_step, delivered_step}
-use Rattle.peer_lock.specs.Delivery.{Delivery, NeedsNumber, GetsInval, NoCall, delivered, is_new, unknown_call}
+use Rattle.peer_lock.specs.Delivery.{Delivery, NeedsNumber, Gets, NoCall, delivered, is_new, is_poke, inval_for, pong_for, unknown_call}
 use Rattle.peer_lock.specs.Openings.{opens_in, opens_out}
 use Rattle.peer_lock.specs.Orders.{order_refused_by, refused_at, ordered_if, ordered_at, ordered_step, counted_media, short_media, queued_media, carried_media, is_full_for, with_media}
 use Rattle.outbox.specs.Outbox.{put}
@@ -44,19 +44,22 @@ use Rattle.peer_lock.proofs.SeenSteps.{free_name, ordered_legs, unspent}
 
 module _ (turns : (leg : LegState) (frame : FullFrame) (now : ℕ) → TakesTurn leg frame (full_step leg frame now).leg)
     (sends : (leg : LegState) (frame : FullFrame) (now : ℕ) → SendsNumbered leg → HasSent (full_step leg frame now).leg (map spelling (full_step leg frame now).replies)) where
-  unknown_side : (first : ℕ) (peer : PeerView) (frame : FullFrame) (now : ℕ) → ComesToNone peer frame (delivered_step first peer (unknown_call frame) frame now).peer
+  unknown_side : (first : ℕ) (peer : PeerView) (frame : FullFrame) (now : ℕ) → ComesToNone peer frame (delivered_step first peer (unknown_call peer.rules.poke frame) frame now).peer
   unknown_side first peer frame now =
       let P : Delivery → Type 0 = λ d. ComesToNone peer frame (delivered_step first peer d frame now).peer in
       let needs : P NeedsNumber = record { legs = refl; outbox = inl refl } in
-      let gets : P GetsInval = record { legs = refl; outbox = inr refl } in
+      let inval : P (Gets (inval_for frame.head)) = record { legs = refl; outbox = inr (inl refl) } in
+      let pong : P (Gets (pong_for frame.head)) = record { legs = refl; outbox = inr (inr refl) } in
       let no_call : P NoCall = record { legs = refl; outbox = inl refl } in
-      either P (frame.head.destination == 0) (cond (is_new (message_of frame.head) && (frame.head.oseqno == 0)) NeedsNumber NoCall)
-      (cond (is_numbered (message_of frame.head)) GetsInval NoCall)
-      (either P (is_new (message_of frame.head) && (frame.head.oseqno == 0)) NeedsNumber NoCall needs no_call)
-      (either P (is_numbered (message_of frame.head)) GetsInval NoCall gets no_call)
+      let poked = cond (peer.rules.poke && is_poke (message_of frame.head)) (Gets (pong_for frame.head)) NoCall in
+      either P (frame.head.destination == 0) (cond (is_new (message_of frame.head) && (frame.head.oseqno == 0)) NeedsNumber poked)
+      (cond (is_numbered (message_of frame.head)) (Gets (inval_for frame.head)) NoCall)
+      (either P (is_new (message_of frame.head) && (frame.head.oseqno == 0)) NeedsNumber poked needs
+      (either P (peer.rules.poke && is_poke (message_of frame.head)) (Gets (pong_for frame.head)) NoCall pong no_call))
+      (either P (is_numbered (message_of frame.head)) (Gets (inval_for frame.head)) NoCall inval no_call)
 
   full_side : (first : ℕ) (peer : PeerView) (frame : FullFrame) (now : ℕ) (o : Option NamedLeg) → IsSoundPeer peer → found peer.legs frame ≡ o
-      → TakesTurnAtLeg peer frame (delivered_step first peer (delivered o frame) frame now).peer ⊎ ComesToNone peer frame (delivered_step first peer (delivered o frame) frame now).peer
+      → TakesTurnAtLeg peer frame (delivered_step first peer (delivered peer.rules.poke o frame) frame now).peer ⊎ ComesToNone peer frame (delivered_step first peer (delivered peer.rules.poke o frame) frame now).peer
   full_side first peer frame now None sound is = inr (unknown_side first peer frame now)
   full_side first peer frame now (Some named) sound is =
       let at = found_named peer.legs frame named sound.legs is in
@@ -185,21 +188,21 @@ module _ (turns : (rules : PeerRules) (number : ℕ) (frame : FullFrame) (now : 
     tied = turns peer.rules name.number frame now challenge;
   }
 
-module _ (turns : (rules : PeerRules) (number : ℕ) (called : List ℕ) (calling : Option (List ℕ)) (format : Format) (now : ℕ)
-    → HasSentAtMostOne (open_out_step rules number called calling format now).leg)
-    (sends : (rules : PeerRules) (number : ℕ) (called : List ℕ) (calling : Option (List ℕ)) (format : Format) (now : ℕ)
-    → HasSent (open_out_step rules number called calling format now).leg (map spelling (open_out_step rules number called calling format now).replies)) where
-  pub call_out_side : (peer : PeerView) (name : LegName) (called : List ℕ) (calling : Option (List ℕ)) (format : Format) (now : ℕ) → is_free_name peer.legs name ≡ true
-      → SendsNew peer name (opens_out peer name called calling format now).peer
-  call_out_side peer name called calling format now free = record {
-    leg = (open_out_step peer.rules name.number called calling format now).leg;
+module _ (turns : (rules : PeerRules) (number : ℕ) (called : List ℕ) (caller : List ℕ) (format : Format) (now : ℕ)
+    → HasSentAtMostOne (open_out_step rules number called caller format now).leg)
+    (sends : (rules : PeerRules) (number : ℕ) (called : List ℕ) (caller : List ℕ) (format : Format) (now : ℕ)
+    → HasSent (open_out_step rules number called caller format now).leg (map spelling (open_out_step rules number called caller format now).replies)) where
+  pub call_out_side : (peer : PeerView) (name : LegName) (called : List ℕ) (caller : List ℕ) (format : Format) (now : ℕ) → is_free_name peer.legs name ≡ true
+      → SendsNew peer name (opens_out peer name called caller format now).peer
+  call_out_side peer name called caller format now free = record {
+    leg = (open_out_step peer.rules name.number called caller format now).leg;
     opens = record {
       free = (free_name peer.legs name free).none;
       legs = refl;
-      there = opened_there peer name (open_out_step peer.rules name.number called calling format now).leg free;
-      datagrams = map spelling (open_out_step peer.rules name.number called calling format now).replies;
+      there = opened_there peer name (open_out_step peer.rules name.number called caller format now).leg free;
+      datagrams = map spelling (open_out_step peer.rules name.number called caller format now).replies;
       outbox = refl;
-      sendings = (sends peer.rules name.number called calling format now).sendings;
+      sendings = (sends peer.rules name.number called caller format now).sendings;
     };
-    tied = turns peer.rules name.number called calling format now;
+    tied = turns peer.rules name.number called caller format now;
   }

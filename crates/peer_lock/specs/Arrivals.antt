@@ -1,10 +1,11 @@
 -- The steps of a peer in which a datagram comes ("Full Frames", "Mini Frames", "Meta Frames").
-use Rattle.std.specs.Prelude.{ℕ, ◌+◌, Bool, false, List, [], ◌∷◌, ◌++◌, Option, None, Some, length, map, if◌then◌else◌}
+use Rattle.std.specs.Prelude.{ℕ, ◌+◌, Bool, List, [], ◌∷◌, ◌++◌, Option, None, Some, length, map, if◌then◌else◌}
 use Rattle.call_book.specs.declared.leg_name.LegName.{LegName}
 use Rattle.iax_frames.specs.FullFrame.{FullFrame, spelling}
 use Rattle.iax_frames.specs.MiniFrame.{MiniFrame}
 use Rattle.iax_frames.specs.TrunkFrame.{TrunkFrame, is_timed, head_len, entry_item}
 use Rattle.iax_frames.specs.declared.datagram.Datagram.{Datagram}
+use Rattle.iax_frames.specs.declared.full_frame.FullHead.{FullHead}
 use Rattle.iax_frames.specs.declared.datagram.Datagram.TheVariants.{Full, Mini, Video, Trunk}
 use Rattle.leg_machine.specs.Media.{accepts_media}
 use Rattle.leg_machine.specs.Steps.{full_step}
@@ -12,7 +13,7 @@ use Rattle.call_signals.specs.declared.signals.MediaSpan.{MediaSpan}
 use Rattle.call_signals.specs.declared.signals.Signal.{Signal}
 use Rattle.call_signals.specs.declared.signals.Signal.TheVariants.{Media}
 use Rattle.peer_accounts.specs.Accounts.{stepped, with_accepted}
-use Rattle.peer_lock.specs.Delivery.{Delivery, Reaches, NeedsNumber, GetsInval, NoCall, delivery, full_refused}
+use Rattle.peer_lock.specs.Delivery.{Delivery, Reaches, NeedsNumber, Gets, NoCall, delivery, full_refused}
 use Rattle.peer_legs.specs.Legs.{PeerLegs, NamedLeg, leg_of_remote}
 use Rattle.peer_accounts.specs.Grants.{granted}
 use Rattle.peer_lock.specs.Peer.{PeerView, PeerStep, handed_up, offer_with, leg_alone, no_leg, alone, with_datagram, with_step}
@@ -35,26 +36,14 @@ reached_step first peer named frame now =
       octets = up.octets;
     }
 
--- INVAL from the number that the frame names, to its source
-abbrev pub inval_for : FullFrame → FullFrame
-inval_for frame = record {
-  head = record {
-    source = frame.head.destination;
-    retransmitted = false;
-    destination = frame.head.source;
-    timestamp = 0;
-    oseqno = 0;
-    iseqno = 0;
-    frame_type = 6;
-    subclass = 0x0a;
-  };
-  payload = [];
-}
+-- a frame without data
+abbrev pub bare : FullHead → List ℕ
+bare head = spelling (record { head = head; payload = [] })
 
 abbrev pub delivered_step : ℕ → PeerView → Delivery → FullFrame → ℕ → PeerStep
 delivered_step first peer (Reaches named) frame now = reached_step first peer named frame now
 delivered_step first peer NeedsNumber frame now = alone peer
-delivered_step first peer GetsInval frame now = alone (with_datagram peer (spelling (inval_for frame)))
+delivered_step first peer (Gets answer) frame now = alone (with_datagram peer (bare answer))
 delivered_step first peer NoCall frame now = alone peer
 
 -- ---- media
@@ -128,13 +117,13 @@ mini_refused None = Some errors.NoCall
 mini_refused (Some named) = None
 
 abbrev pub datagram_refused : PeerView → Datagram → Option PeerError
-datagram_refused peer (Full frame) = full_refused peer.legs frame
+datagram_refused peer (Full frame) = full_refused peer frame
 datagram_refused peer (Mini mini) = mini_refused (leg_of_remote peer.legs mini.source)
 datagram_refused peer (Video video) = None
 datagram_refused peer (Trunk trunk) = None
 
 abbrev pub datagram_step : ℕ → PeerView → Datagram → ℕ → PeerStep
-datagram_step first peer (Full frame) now = delivered_step first peer (delivery peer.legs frame) frame now
+datagram_step first peer (Full frame) now = delivered_step first peer (delivery peer frame) frame now
 datagram_step first peer (Mini mini) now = media_step peer (mini_media first peer mini)
 datagram_step first peer (Video video) now = alone peer
 datagram_step first peer (Trunk trunk) now = media_step peer (trunk_media first peer trunk)

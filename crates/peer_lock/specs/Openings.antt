@@ -63,9 +63,9 @@ opens_in peer name frame now challenge =
     }
 
 -- a call goes out
-abbrev pub opens_out : PeerView → LegName → List ℕ → Option (List ℕ) → Format → ℕ → PeerStep
-opens_out peer name called calling format now =
-    let s = open_out_step peer.rules name.number called calling format now in
+abbrev pub opens_out : PeerView → LegName → List ℕ → List ℕ → Format → ℕ → PeerStep
+opens_out peer name called caller format now =
+    let s = open_out_step peer.rules name.number called caller format now in
     record {
       peer = with_opened peer (record { name = name; leg = s.leg }) (map spelling s.replies);
       step = leg_alone name Unnumbered;

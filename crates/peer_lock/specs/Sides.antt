@@ -2,6 +2,7 @@
 use Rattle.std.specs.Prelude.{◌≡◌, ◌⊎◌, ℕ, false, List, [], ◌∷◌, ◌++◌, All, Option, None, Some, slice_get}
 use Rattle.call_book.specs.declared.leg_name.LegName.{LegName}
 use Rattle.iax_frames.specs.FullFrame.{FullFrame, spelling}
+use Rattle.iax_frames.specs.declared.full_frame.FullHead.{FullHead}
 use Rattle.iax_frames.specs.MiniFrame.{MiniFrame, SpellsMini}
 use Rattle.call_signals.specs.Messages.{message_of, is_inval}
 use Rattle.call_signals.specs.declared.rules.PeerRules.{PeerRules}
@@ -12,7 +13,8 @@ use Rattle.leg_machine.specs.Legs.{LegState}
 use Rattle.leg_machine.specs.Tie.{numbered_frame, TakesTurn, SendsAtMostOne, TakesFirstTurn, HasSentAtMostOne}
 use Rattle.leg_machine.specs.Tie.{IsSendingOf, IsSending, IsSendingOrMini}
 use Rattle.peer_legs.specs.Legs.{PeerLegs, NamedLeg, leg_at, with_leg, with_place}
-use Rattle.peer_lock.specs.Arrivals.{inval_for}
+use Rattle.peer_lock.specs.Arrivals.{bare}
+use Rattle.peer_lock.specs.Delivery.{inval_for, pong_for}
 use Rattle.outbox.specs.Outbox.{put}
 use Rattle.peer_lock.specs.Peer.{PeerView}
 use Rattle.seq_window.specs.Network.{Action, SendNumbered, SendUnnumbered, Retransmit, JudgeAcknowledgement, JudgeNumber}
@@ -37,10 +39,14 @@ pub record TakesTurnAtLeg (old : PeerView) (frame : FullFrame) (new : PeerView) 
   pub tied : TakesTurn named.leg frame leg
   pub sendings : All (IsSending leg) datagrams
 
--- a full frame comes to no leg: none changes, and at most an INVAL goes out
+-- the outbox has one frame more, without data
+abbrev pub SendsBare : PeerView → FullHead → PeerView → Type 0
+SendsBare old head new = new.outbox ≡ put old.outbox (bare head ∷ [])
+
+-- a full frame comes to no leg: none changes, and at most an INVAL goes out, or the PONG for a POKE
 pub record ComesToNone (old : PeerView) (frame : FullFrame) (new : PeerView) : Type 0 where
   pub legs : new.legs ≡ old.legs
-  pub outbox : (new.outbox ≡ old.outbox) ⊎ (new.outbox ≡ put old.outbox (spelling (inval_for frame) ∷ []))
+  pub outbox : (new.outbox ≡ old.outbox) ⊎ SendsBare old (inval_for frame.head) new ⊎ SendsBare old (pong_for frame.head) new
 
 -- neither a leg changes, nor does anything go out
 pub record SendsNothing (old new : PeerView) : Type 0 where

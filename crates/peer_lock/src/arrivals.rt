@@ -5,10 +5,9 @@ ghost use Rattle.leg_machine.specs.Steps.{full_step, heard_of};
 ghost use Rattle.peer_accounts.specs.Accounts.{stepped, with_accepted, with_step as with_credit};
 ghost use Rattle.peer_accounts.specs.Grants.{granted};
 ghost use Rattle.iax_frames.specs.FullFrame.{spelling};
-ghost use Rattle.peer_lock.specs.Arrivals.{reached_step, delivered_step, datagram_step, datagram_refused};
-ghost use Rattle.peer_lock.specs.Arrivals as answer;
+ghost use Rattle.peer_lock.specs.Arrivals.{bare, reached_step, delivered_step, datagram_step, datagram_refused};
 ghost use Rattle.peer_legs.specs.Finding.{can_reach, is_reached, found};
-ghost use Rattle.peer_lock.specs.Delivery.{delivery, delivery_refused, unknown_call, full_refused, Reaches, GetsInval};
+ghost use Rattle.peer_lock.specs.Delivery.{delivery, delivery_refused, unknown_call, full_refused, Reaches, Gets};
 ghost use Rattle.peer_lock.specs.Delivery as answers;
 ghost use Rattle.peer_legs.specs.Legs.{NamedLeg as NamedLegValue, leg_at, leg_of_remote, with_leg};
 ghost use Rattle.peer_accounts.specs.HandedUp.{IsNothing};
@@ -17,6 +16,7 @@ ghost use Rattle.peer_lock.specs.Peer as spec;
 ghost use Rattle.outbox.specs.Outbox.{put};
 ghost use Rattle.peer_lock.specs.Peer.{handed_up, leg_alone, offer_with, no_leg, counted, with_datagram};
 ghost use Rattle.iax_frames.specs.declared.datagram.Datagram.{Datagram as DatagramValue};
+ghost use Rattle.iax_frames.specs.declared.full_frame.FullHead.{FullHead as FullHeadValue};
 ghost use Rattle.peer_lock.specs.declared.errors.PeerError.{PeerError as PeerErrorValue};
 ghost use Rattle.peer_lock.specs.Unworked.{IsSoundFull, IsRefusedFull, IsCutFrame, IsSound, IsRefusedRead, IsShortDatagram, IsWorked, IsUnworked};
 
@@ -25,34 +25,21 @@ use crate::outboxes::put_all;
 use crate::read_datagram::ReadDatagram;
 use crate::state::PeerState;
 use crate::steps::Step;
-use iax_frames::{Datagram, Full, FullHead, Out, write_full};
+use iax_frames::{CallNumber, Datagram, Full, FullHead, write_full};
 use info_elements::elements;
 use leg_machine::{ElementText, Heard, Judged, Message, Signal, StepError};
 use peer_accounts::{Naming, Offer, Onwards, Pass};
 use peer_legs::NamedLeg;
 
-// What the offered call of a leg asks for, by one reading of its NEW.
+// What the offered call of a leg asks for.
 fn offer_of(named: &NamedLeg) -> Offer
     ensures { result ≡ spec.offer_of named.now.leg }
 {
     let leg = named.leg();
-    let elements = leg.opening_elements();
-    let called = match elements.called {
-        Some(called) => called,
-        None => &[],
-    };
-    let called = ElementText::new(called);
-    match elements.calling {
-        Some(calling) => Offer {
-            called,
-            calling: Some(ElementText::new(calling)),
-            format: leg.format(),
-        },
-        None => Offer {
-            called,
-            calling: None,
-            format: leg.format(),
-        },
+    Offer {
+        called: ElementText::new(leg.called()),
+        caller: leg.caller(),
+        format: leg.format(),
     }
 }
 
@@ -79,11 +66,17 @@ fn is_new(message: &Message) -> bool
     matches!(message, Message::New)
 }
 
-// INVAL from the number that a frame names, to its source.
-fn inval_for(frame: &Full) -> Out
-    ensures { result ≡ spelling (answer.inval_for frame.now) }
+fn is_poke(message: &Message) -> bool
+    ensures { result ≡ answers.is_poke message.now }
 {
-    let head = FullHead {
+    matches!(message, Message::Poke)
+}
+
+// INVAL from the number that a frame names, to its source.
+fn inval_for(frame: &Full) -> FullHead
+    ensures { result ≡ answers.inval_for frame.now.head }
+{
+    FullHead {
         source: frame.destination(),
         retransmitted: false,
         destination: frame.source(),
@@ -92,11 +85,44 @@ fn inval_for(frame: &Full) -> Out
         iseqno: 0,
         frame_type: 6,
         subclass: 0x0a,
-    };
-    match write_full(&head, &[]) {
-        Ok(out) => out,
-        Err(_) => unreachable!(),
     }
+}
+
+// PONG to the source of a POKE, from a number that is none of a plan.
+fn pong_for(frame: &Full) -> FullHead
+    ensures { result ≡ answers.pong_for frame.now.head }
+{
+    FullHead {
+        source: CallNumber::new(0x7fff),
+        retransmitted: false,
+        destination: frame.source(),
+        timestamp: frame.timestamp(),
+        oseqno: 0,
+        iseqno: frame.oseqno().wrapping_add(1),
+        frame_type: 6,
+        subclass: 3,
+    }
+}
+
+// The frame without data that answers one which no leg has.
+fn answer_to(frame: &Full, poke: bool) -> Result<FullHead, PeerError>
+    ensures answer { IfOk result (λ head. unknown_call poke frame.now ≡ Gets head) }
+    ensures refused { IfErr result (λ e. Some e ≡ delivery_refused (unknown_call poke frame.now)) }
+{
+    let message = Message::of(frame);
+    if frame.destination().get() == 0 {
+        if is_new(&message) && frame.oseqno() == 0 {
+            return Err(PeerError::NeedsNumber);
+        }
+        if poke && is_poke(&message) {
+            return Ok(pong_for(frame));
+        }
+        return Err(PeerError::NoCall);
+    }
+    if !message.is_numbered() {
+        return Err(PeerError::NoCall);
+    }
+    Ok(inval_for(frame))
 }
 
 impl<J: Naming> PeerState<J> {
@@ -193,38 +219,32 @@ impl<J: Naming> PeerState<J> {
         }
     }
 
-    // A step without a leg, in which this datagram is sent.
-    fn answer_alone(&mut self, pass: &mut Pass<J>, out: &Out) -> Step
+    // A step without a leg, in which this frame is sent, without data.
+    fn answer_alone(&mut self, pass: &mut Pass<J>, head: &FullHead) -> Step
         requires { self.old.accounts.steps ≢ J.first_steps }
-        ensures peer { self.new ≡ counted (with_datagram self.old out.now) }
+        ensures peer { self.new ≡ counted (with_datagram self.old (bare head.now)) }
         ensures step { result ≡ no_leg }
         ensures credit { pass.new ≡ with_credit pass.old 0 }
     {
-        self.outbox.put(out);
+        match write_full(head, &[]) {
+            Ok(out) => self.outbox.put(&out),
+            Err(_) => unreachable!(),
+        }
         self.step_alone(pass)
     }
 
     // A full frame that no leg has.
     fn answer_unknown(&mut self, pass: &mut Pass<J>, frame: &Full) -> Result<Step, PeerError>
         requires { self.old.accounts.steps ≢ J.first_steps }
-        ensures peer { OnOk result (self.new ≡ counted (with_datagram self.old (spelling (answer.inval_for frame.now)))) }
+        ensures peer { OnOk result ((head : FullHeadValue) → unknown_call self.old.rules.poke frame.now ≡ Gets head → self.new ≡ counted (with_datagram self.old (bare head))) }
+        ensures answer { OnOk result ((head : FullHeadValue) × (unknown_call self.old.rules.poke frame.now ≡ Gets head)) }
         ensures step { IfOk result (λ step. step ≡ no_leg) }
         ensures credit { OnOk result (pass.new ≡ with_credit pass.old 0) }
-        ensures unrefused { OnOk result (unknown_call frame.now ≡ GetsInval) }
-        ensures refused { IfErr result (λ e. Some e ≡ delivery_refused (unknown_call frame.now)) }
+        ensures refused { IfErr result (λ e. Some e ≡ delivery_refused (unknown_call self.old.rules.poke frame.now)) }
         ensures err { OnErr result ((self.new ≡ self.old) × (pass.new ≡ pass.old)) }
     {
-        let message = Message::of(frame);
-        if frame.destination().get() == 0 {
-            if is_new(&message) && frame.oseqno() == 0 {
-                return Err(PeerError::NeedsNumber);
-            }
-            return Err(PeerError::NoCall);
-        }
-        if !message.is_numbered() {
-            return Err(PeerError::NoCall);
-        }
-        Ok(self.answer_alone(pass, &inval_for(frame)))
+        let head = answer_to(frame, self.rules.poke)?;
+        Ok(self.answer_alone(pass, &head))
     }
 
     // A full frame comes for which a leg is looked for.
@@ -238,9 +258,9 @@ impl<J: Naming> PeerState<J> {
         requires steps { self.old.accounts.steps ≢ J.first_steps }
         requires short { length frame.now.payload ≤ 1388 }
         requires nothing { IsNothing onwards.old }
-        ensures made { IfOk result (λ step. Makes (delivered_step J.first_octets self.old (delivery self.old.legs frame.now) frame.now now) self.new step pass.old pass.new onwards.new) }
-        ensures unrefused { OnOk result (full_refused self.old.legs frame.now ≡ None) }
-        ensures refused { IfErr result (λ e. IsDue (full_refused self.old.legs frame.now) e) }
+        ensures made { IfOk result (λ step. Makes (delivered_step J.first_octets self.old (delivery self.old frame.now) frame.now now) self.new step pass.old pass.new onwards.new) }
+        ensures unrefused { OnOk result (full_refused self.old frame.now ≡ None) }
+        ensures refused { IfErr result (λ e. IsDue (full_refused self.old frame.now) e) }
         ensures err { OnErr result (IsUnchanged self.old self.new pass.old pass.new onwards.new) }
     {
         match self.legs.find(frame) {
@@ -259,11 +279,11 @@ impl<J: Naming> PeerState<J> {
     ) -> Result<Step, PeerError>
         requires steps { self.old.accounts.steps ≢ J.first_steps }
         requires nothing { IsNothing onwards.old }
-        ensures made { IfOk result (λ step. Makes (delivered_step J.first_octets self.old (delivery self.old.legs frame.now) frame.now now) self.new step pass.old pass.new onwards.new) }
+        ensures made { IfOk result (λ step. Makes (delivered_step J.first_octets self.old (delivery self.old frame.now) frame.now now) self.new step pass.old pass.new onwards.new) }
         ensures sound { OnOk result (IsSoundFull frame.now) }
-        ensures unrefused { OnOk result (full_refused self.old.legs frame.now ≡ None) }
+        ensures unrefused { OnOk result (full_refused self.old frame.now ≡ None) }
         ensures unsound { (e : PeerErrorValue) → IsRefusedFull frame.now e → result ≡ Err e }
-        ensures refused { IfErr result (λ e. IsRefusedFull frame.now e ⊎ (IsSoundFull frame.now × IsDue (full_refused self.old.legs frame.now) e)) }
+        ensures refused { IfErr result (λ e. IsRefusedFull frame.now e ⊎ (IsSoundFull frame.now × IsDue (full_refused self.old frame.now) e)) }
         ensures err { OnErr result (IsUnchanged self.old self.new pass.old pass.new onwards.new) }
     {
         if frame.payload().len() > 1388 {

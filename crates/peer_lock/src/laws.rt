@@ -49,9 +49,9 @@ pub fn steps_are_seen()
         IsSeenDatagram peer.legs (datagram_step first peer datagram now) }
     ensures calls_in { (peer : PeerView) (name : LegName) (frame : FullFrame) (now : ℕ) (challenge : List ℕ) → AreLegs peer.legs →
         1 ≤ peer.rules.window → is_free_name peer.legs name ≡ true → OpensIn peer.legs name (opens_in peer name frame now challenge) }
-    ensures calls_out { (peer : PeerView) (name : LegName) (called : List ℕ) (calling : Option (List ℕ)) (format : Format) (now : ℕ) →
+    ensures calls_out { (peer : PeerView) (name : LegName) (called : List ℕ) (caller : List ℕ) (format : Format) (now : ℕ) →
         AreLegs peer.legs → is_free_name peer.legs name ≡ true →
-        OpensOut peer.legs (opens_out peer name called calling format now).peer.legs name }
+        OpensOut peer.legs (opens_out peer name called caller format now).peer.legs name }
     ensures orders { (peer : PeerView) (credit : ℕ) (name : LegName) (order : Order) (now : ℕ) → AreLegs peer.legs →
         order_refused_by peer credit name order now ≡ None →
         Obeys peer.legs (ordered_step peer name order now).legs name (kind_of order) }
@@ -75,8 +75,8 @@ pub fn steps_are_of_sides()
         TakesDatagram peer datagram (datagram_step first peer datagram now).peer }
     ensures calls_in { (peer : PeerView) (name : LegName) (frame : FullFrame) (now : ℕ) (challenge : List ℕ) →
         is_free_name peer.legs name ≡ true → TakesNew peer name frame (opens_in peer name frame now challenge).peer }
-    ensures calls_out { (peer : PeerView) (name : LegName) (called : List ℕ) (calling : Option (List ℕ)) (format : Format) (now : ℕ) →
-        is_free_name peer.legs name ≡ true → SendsNew peer name (opens_out peer name called calling format now).peer }
+    ensures calls_out { (peer : PeerView) (name : LegName) (called : List ℕ) (caller : List ℕ) (format : Format) (now : ℕ) →
+        is_free_name peer.legs name ≡ true → SendsNew peer name (opens_out peer name called caller format now).peer }
     ensures orders { (peer : PeerView) (credit : ℕ) (name : LegName) (order : Order) (now : ℕ) → IsSoundPeer peer →
         order_refused_by peer credit name order now ≡ None → SendsAtLeg peer name (ordered_step peer name order now) }
     ensures ticks { (old new : PeerView) (now : ℕ) (report : TickReport) → IsSoundPeer old → Ticks old now report new →

@@ -1,6 +1,5 @@
 //! The steps of a peer in which a leg is opened ("Call Setup").
-ghost use Rattle.std.specs.Prelude.{◌≡◌, ◌≢◌, ◌+◌, ◌<◌, ◌≤◌, [], length, map, None, Some, IsNone, IsTrue, ◌↔◌, true, option_copied, IfOk, IfErr, OnOk, OnErr};
-ghost use Rattle.std.specs.Option.{ForSome};
+ghost use Rattle.std.specs.Prelude.{◌≡◌, ◌≢◌, ◌+◌, ◌<◌, ◌≤◌, [], length, map, None, Some, IsNone, IsTrue, ◌↔◌, true, IfOk, IfErr, OnOk, OnErr};
 ghost use Rattle.iax_frames.specs.FullFrame.{spelling};
 ghost use Rattle.peer_accounts.specs.Accounts.{with_step as with_credit};
 ghost use Rattle.std.specs.Prelude.{ℕ};
@@ -23,7 +22,7 @@ use crate::steps::Step;
 use call_auth::Challenge;
 use call_book::{Lease, LegName};
 use iax_frames::{CallNumber, Full};
-use leg_machine::{Format, Heard, Judged, Leg};
+use leg_machine::{Caller, Format, Heard, Judged, Leg};
 use peer_accounts::{Naming, Onwards, Pass};
 use peer_legs::open_in;
 use std::alloc::AllocError;
@@ -187,15 +186,14 @@ impl<J: Naming> PeerState<J> {
         &mut self,
         name: LegName,
         called: &[u8],
-        calling: Option<&[u8]>,
+        caller: &Caller,
         format: Format,
         now: u64,
     ) -> Result<Leg, AllocError>
         requires called { length called.now ≤ 255 }
-        requires calling { ForSome calling (λ text. length text.now ≤ 255) }
         requires free { is_free_name self.old.legs name ≡ true }
-        ensures peer { OnOk result (self.new ≡ record self.old { outbox = put self.old.outbox (map spelling (open_out_step self.old.rules name.number called.now (option_copied calling.entry) format now).replies) }) }
-        ensures leg { IfOk result (λ leg. leg.state ≡ (open_out_step self.old.rules name.number called.now (option_copied calling.entry) format now).leg) }
+        ensures peer { OnOk result (self.new ≡ record self.old { outbox = put self.old.outbox (map spelling (open_out_step self.old.rules name.number called.now caller.now format now).replies) }) }
+        ensures leg { IfOk result (λ leg. leg.state ≡ (open_out_step self.old.rules name.number called.now caller.now format now).leg) }
         ensures ruled { IfOk result (λ leg. IsLegOf self.old.rules leg.state) }
         ensures err { OnErr result (self.new ≡ self.old) }
     {
@@ -207,7 +205,7 @@ impl<J: Naming> PeerState<J> {
             &self.rules,
             number,
             called,
-            calling,
+            caller,
             format,
             now,
             &mut self.replies,
@@ -227,13 +225,12 @@ impl<J: Naming> PeerState<J> {
         pass: &mut Pass<J>,
         lease: Lease,
         called: &[u8],
-        calling: Option<&[u8]>,
+        caller: &Caller,
         format: Format,
         now: u64,
     ) -> Result<Step, (Lease, OpenError)>
         requires called { length called.now ≤ 255 }
-        requires calling { ForSome calling (λ text. length text.now ≤ 255) }
-        ensures peer { OnOk result (self.new ≡ (opens_out self.old lease called.now (option_copied calling.entry) format now).peer) }
+        ensures peer { OnOk result (self.new ≡ (opens_out self.old lease called.now caller.now format now).peer) }
         ensures step { IfOk result (λ step. step ≡ leg_alone lease Unnumbered) }
         ensures credit { OnOk result (pass.new ≡ with_credit pass.old 0) }
         ensures unrefused { OnOk result (open_out_refused self.old J.first_steps lease ≡ None) }
@@ -244,7 +241,7 @@ impl<J: Naming> PeerState<J> {
         if let Some(refusal) = self.opening_refused(lease.name()) {
             return Err((lease, refusal));
         }
-        match self.send_new(lease.name(), called, calling, format, now) {
+        match self.send_new(lease.name(), called, caller, format, now) {
             Ok(leg) => {
                 let name = lease.name();
                 self.seat(pass, lease, leg);

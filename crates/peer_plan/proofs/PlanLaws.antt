@@ -1,5 +1,5 @@
 -- What is so of every plan that is read.
-use Rattle.std.proofs.Common.{◌≡◌, ◌≢◌, ℕ, zero, suc, ◌-◌, ◌<◌, ◌≤◌, Bool, true, false, cond, List, [], ◌∷◌, ◌++◌, length, get_or, Option, Some, None, Ok, Err, IsSome, refl, sym, ap, subst, ◌∙◌, arith, nat_le, nat_lt, ◌&&◌, ◌||◌, ◌==◌, is_some}
+use Rattle.std.proofs.Common.{◌≡◌, ◌≢◌, ℕ, zero, suc, ◌-◌, ◌<◌, ◌≤◌, Bool, true, false, cond, List, [], ◌∷◌, ◌++◌, length, get_or, Option, Some, None, Result, Ok, Err, IsSome, refl, sym, ap, subst, ◌∙◌, arith, nat_le, nat_lt, ◌&&◌, ◌||◌, ◌==◌, is_some}
 use Rattle.std.specs.Prelude.{All, IfSome, option_map, position, ok_or, nat_eq}
 use Rattle.std.specs.Option.{option_eq}
 use Rattle.std.specs.List.{position_or_len}
@@ -26,7 +26,7 @@ use Rattle.peer_plan.specs.declared.route.Route.{Route}
 use Rattle.peer_plan.specs.Keys.{key_name}
 use Rattle.peer_plan.specs.Fields.{number_of, text_of, value, value_at, each, list_in}
 use Rattle.peer_plan.specs.Plan.{IsPlan, IsPeer, IsRoute, AreApart, is_name, is_prefix, counts_of}
-use Rattle.peer_plan.specs.Reading.{default_record_limit, vnak_ms_in, limits_in, address_in, endpoint_in, workers_in, passes_in, is_credential, credential_in, credentials_in, formats_in, media_in, window_in, rules_from, peer_in, has_double, is_named, is_endpoint, has_same_name, has_same_endpoint, told_apart, peers_in, peer_named, source_at, source_in, has_way, new_route, route_in, routes_in}
+use Rattle.peer_plan.specs.Reading.{default_record_limit, vnak_ms_in, limits_in, address_in, endpoint_in, workers_in, passes_in, is_credential, credential_in, credentials_in, formats_in, media_in, window_in, poke_in, rules_from, peer_in, has_double, is_named, is_endpoint, has_same_name, has_same_endpoint, told_apart, peers_in, peer_named, source_at, source_in, has_way, new_route, route_in, routes_in}
 use Rattle.peer_plan.proofs.Ranges.{ranges_apart, total_within}
 use Rattle.peer_plan.proofs.FormatLaws.{formats_some}
 use Rattle.peer_plan.proofs.ReadingLaws.{bound, found_in, value_is, number_within, text_fits, default_within, missing, each_keeps, each_len, list_within}
@@ -141,6 +141,11 @@ window_within format n ms h = go (nat_le 2 format) h
     go true is = number_is ms key.Window 1 127 64 n (omega arith) (omega arith) is
     go false is = default_within 1 127 n 64 (omega arith) (omega arith) is
 
+-- the value of a reading that was no fault
+abbrev value_or : {A E : Type 0} → A → Result A E → A
+value_or other (Ok x) = x
+value_or other (Err e) = other
+
 peer_sound : (format workers : ℕ) (limits : Limits) (ms : Members) (peer : Peer) → 1 ≤ workers → IsLimits limits → peer_in format limits workers ms ≡ Ok peer → IsPeer workers peer
 unfolding peer_in
 peer_sound format workers limits ms peer some limited h =
@@ -151,7 +156,8 @@ peer_sound format workers limits ms peer some limited h =
     let e = bound (media_in ms) _ peer d.2 in
     let f = bound (value ms key.Numbers (Ok 64) (number_of 1 512)) _ peer e.2 in
     let g = bound (window_in format ms) _ peer f.2 in
-    let is : record { name = a.0; endpoint = b.0; worker = c.0; rules = rules_from limits d.0 e.0 g.0; numbers = f.0 } ≡ peer = cc in
+    let i = bound (poke_in format ms) _ peer g.2 in
+    let is : record { name = a.0; endpoint = b.0; worker = c.0; rules = rules_from format limits d.0 e.0 g.0 i.0; numbers = f.0 } ≡ peer = ap (value_or peer) i.2 in
     let place = number_there ms key.Worker 0 (workers - 1) c.0 c.1 in
     subst (IsPeer workers) is (record {
       name = value_is (λ t. is_name t ≡ true) key.Name (Err (error.Missing key.Name)) (text_of is_name) (get_member (key_name key.Name) ms) a.0 (text_fits is_name a.0) (missing (error.Missing key.Name) a.0) a.1;

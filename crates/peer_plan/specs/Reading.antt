@@ -116,8 +116,13 @@ media_in ms = do
 abbrev pub window_in : ℕ → Members → Result ℕ PlanError
 window_in format ms = if nat_le 2 format then value ms key.Window (Ok 64) (number_of 1 127) else Ok 64
 
-abbrev pub rules_from : Limits → Credentials → Media → ℕ → PeerRules
-rules_from limits credentials media window =
+-- `poke`, in format 3 alone
+abbrev pub poke_in : ℕ → Members → Result Bool PlanError
+poke_in format ms = if format == 3 then value ms key.Poke (Ok true) as_bool else Ok false
+
+-- who calls is carried on in format 3 alone
+abbrev pub rules_from : ℕ → Limits → Credentials → Media → ℕ → Bool → PeerRules
+rules_from format limits credentials media window poke =
     record {
       user = credentials.user;
       secret = credentials.secret;
@@ -130,6 +135,8 @@ rules_from limits credentials media window =
       record_limit = limits.record_limit;
       window = window;
       vnak_ms = limits.vnak_ms;
+      poke = poke;
+      carries_caller = format == 3;
     }
 
 unfoldable pub peer_in : ℕ → Limits → ℕ → Members → Result Peer PlanError
@@ -141,7 +148,8 @@ peer_in format limits workers ms = do
   media ← media_in ms
   numbers ← value ms key.Numbers (Ok 64) (number_of 1 512)
   window ← window_in format ms
-  Ok (record { name = name; endpoint = endpoint; worker = worker; rules = rules_from limits credentials media window; numbers = numbers })
+  poke ← poke_in format ms
+  Ok (record { name = name; endpoint = endpoint; worker = worker; rules = rules_from format limits credentials media window poke; numbers = numbers })
 
 -- whether two of a list are the same by a test
 abbrev pub has_double : {A : Type 0} → (A → A → Bool) → List A → Bool

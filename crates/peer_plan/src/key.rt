@@ -37,6 +37,7 @@ pub enum Key {
     TrunkTimestamps,
     Numbers,
     Window,
+    Poke,
     /// The list of routes.
     Route,
     Prefix,
@@ -70,6 +71,7 @@ impl Key {
             Key::TrunkTimestamps => "trunk_timestamps",
             Key::Numbers => "numbers",
             Key::Window => "window",
+            Key::Poke => "poke",
             Key::Route => "route",
             Key::Prefix => "prefix",
             Key::Source => "source",
@@ -122,7 +124,9 @@ pub fn is_known(section: Section, format: u64, name: &str) -> bool
         }
         Section::Worker => is_one_of(&WORKER_KEYS, name),
         Section::Peer => {
-            is_one_of(&PEER_KEYS, name) || 2 <= format && Key::Window.name() == name
+            is_one_of(&PEER_KEYS, name)
+                || 2 <= format && Key::Window.name() == name
+                || format == 3 && Key::Poke.name() == name
         }
         Section::Route => {
             is_one_of(&ROUTE_KEYS, name) || format == 3 && Key::Source.name() == name

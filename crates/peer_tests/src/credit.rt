@@ -3,7 +3,7 @@ ghost use Rattle.std.specs.Prelude.{◌≡◌};
 
 use crate::desk::{Desk, PLENTY, desk_of, plan_of};
 use crate::same::{holds, same};
-use leg_machine::{Format, MediaSpan, Signal, Stage};
+use leg_machine::{Caller, Format, MediaSpan, Signal, Stage};
 use media_ledger::Blank;
 use peer_lock::Naming;
 use peer_plan::Plan;
@@ -55,7 +55,14 @@ fn calls_out<J: Naming>(desk: &mut Desk<J>) -> bool {
     };
     let pass = &mut desk.pass;
     desk.state
-        .open_out(pass, lease, b"300", None, Format::Ulaw, 0)
+        .open_out(
+            pass,
+            lease,
+            b"300",
+            &Caller::numbered(None),
+            Format::Ulaw,
+            0,
+        )
         .is_ok()
 }
 

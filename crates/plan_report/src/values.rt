@@ -173,6 +173,9 @@ fn write_peer<W: Write>(
     write_credentials(rules, writer)?;
     write_media(rules, table, writer)?;
     write_window(rules.window, table, format, writer)?;
+    if format == 3 {
+        write_flag(table, Key::Poke, rules.poke, writer)?;
+    }
     write_numbers(plan, peer, table, writer)
 }
 

@@ -5,7 +5,7 @@ ghost use Rattle.call_signals.specs.PeerRules.{IsPeerRules};
 use crate::same::{holds, same};
 use call_auth::Challenge;
 use call_records::CallRecord;
-use call_signals::{Cause, Credential, Digit, Format, Formats, Order, PeerRules, Replies};
+use call_signals::{Caller, Cause, Credential, Digit, Format, Formats, Order, PeerRules, Replies};
 use iax_frames::{CallNumber, Datagram, Full, read};
 use leg_machine::Leg;
 use seq_window::Record;
@@ -34,6 +34,8 @@ pub fn rules_of(record_limit: u32) -> PeerRules
         record_limit,
         window: 64,
         vnak_ms: 0,
+        poke: false,
+        carries_caller: false,
     }
 }
 
@@ -140,7 +142,7 @@ pub fn calling(rt: &impl Abort, alloc: Global, rules: &PeerRules) -> Driven
         rules,
         CallNumber::new(5),
         b"300",
-        None,
+        &Caller::numbered(None),
         Format::Ulaw,
         0,
         &mut replies,

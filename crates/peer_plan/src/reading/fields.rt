@@ -45,13 +45,13 @@ pub(crate) fn number_at(
     }
 }
 
-// The flag at a key: not set where it is absent.
-pub(crate) fn flag_at(table: &Table, key: Key) -> Result<bool, PlanError>
-    ensures { result ≡ value (table_view table.now) key (Ok false) as_bool }
+// The flag at a key, or what stands for it where it is absent.
+pub(crate) fn flag_at(table: &Table, key: Key, fallback: bool) -> Result<bool, PlanError>
+    ensures { result ≡ value (table_view table.now) key (Ok fallback) as_bool }
 {
     match member(table, key) {
         Some(found) => found.as_bool().ok_or(PlanError::Range(key)),
-        None => Ok(false),
+        None => Ok(fallback),
     }
 }
 

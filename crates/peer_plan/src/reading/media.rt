@@ -80,8 +80,8 @@ pub(crate) fn media(table: &Table) -> Result<Media, PlanError>
     ensures { result ≡ media_in (table_view table.now) }
 {
     let formats = formats_at(table, Key::Formats)?;
-    let trunk = flag_at(table, Key::Trunk)?;
-    let trunk_timestamps = flag_at(table, Key::TrunkTimestamps)?;
+    let trunk = flag_at(table, Key::Trunk, false)?;
+    let trunk_timestamps = flag_at(table, Key::TrunkTimestamps, false)?;
     Ok(Media {
         formats,
         trunk,

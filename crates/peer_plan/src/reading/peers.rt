@@ -3,13 +3,13 @@ ghost use Rattle.std.specs.Prelude.{◌≡◌, ◌≤◌, []};
 ghost use Rattle.std.specs.List.{list_any};
 ghost use Rattle.toml.specs.View.{table_view, items_view};
 ghost use Rattle.peer_plan.specs.Fields.{Gives, each};
-ghost use Rattle.peer_plan.specs.Reading.{window_in, peer_in, is_named, is_endpoint, has_same_name, has_same_endpoint, peers_in};
+ghost use Rattle.peer_plan.specs.Reading.{window_in, poke_in, peer_in, is_named, is_endpoint, has_same_name, has_same_endpoint, peers_in};
 
 use crate::endpoint::Endpoint;
 use crate::error::PlanError;
 use crate::key::Key;
 use crate::peer::{Limits, Peer};
-use crate::reading::fields::{list_at, number_at};
+use crate::reading::fields::{flag_at, list_at, number_at};
 use crate::reading::media::media;
 use crate::reading::texts::{credentials, endpoint, name_at};
 use call_signals::PeerRules;
@@ -24,6 +24,17 @@ fn window(table: &Table, format: u64) -> Result<u64, PlanError>
         number_at(table, Key::Window, Ok(64), 1, 127)
     } else {
         Ok(64)
+    }
+}
+
+// Whether a POKE that belongs to no call is answered.
+fn poke(table: &Table, format: u64) -> Result<bool, PlanError>
+    ensures { result ≡ poke_in format (table_view table.now) }
+{
+    if format == 3 {
+        flag_at(table, Key::Poke, true)
+    } else {
+        Ok(false)
     }
 }
 
@@ -46,6 +57,7 @@ fn peer(table: &Table, format: u64, limits: Limits, workers: u64) -> Result<Peer
     let media = media(table)?;
     let numbers = number_at(table, Key::Numbers, Ok(64), 1, 512)?;
     let window = window(table, format)?;
+    let poke = poke(table, format)?;
     Ok(Peer {
         name,
         endpoint,
@@ -62,6 +74,8 @@ fn peer(table: &Table, format: u64, limits: Limits, workers: u64) -> Result<Peer
             record_limit: limits.record_limit,
             window: window as u8,
             vnak_ms: limits.vnak_ms,
+            poke,
+            carries_caller: format == 3,
         },
         numbers: numbers as u16,
     })

@@ -29,9 +29,9 @@ returns-clause-refused_calls_in c legs name error scene called sees =
     nothing_changed scene (needs.OpenIn name) called legs (replies.OpenIn (Err error)) (RefusesOpening error) sees refl
 
 pub returns-clause-calls_out : goal.returns-clause-calls_out
-returns-clause-calls_out c peer name number calling format now scene called are free sees leased =
-    call_out_is peer.legs (opens_out peer name number calling format now).peer.legs name scene called sees leased
-    (c.steps_are_seen.ensures.calls_out peer name number calling format now are free)
+returns-clause-calls_out c peer name number caller format now scene called are free sees leased =
+    call_out_is peer.legs (opens_out peer name number caller format now).peer.legs name scene called sees leased
+    (c.steps_are_seen.ensures.calls_out peer name number caller format now are free)
 
 pub returns-clause-refused_calls_out : goal.returns-clause-refused_calls_out
 returns-clause-refused_calls_out c legs name error scene called sees =

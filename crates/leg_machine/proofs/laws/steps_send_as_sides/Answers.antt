@@ -22,6 +22,6 @@ returns-clause-calls_in c rules number frame now challenge =
     has-sent step.leg step.replies (opening-sent rules number frame now challenge)
 
 pub returns-clause-calls_out : goal.returns-clause-calls_out
-returns-clause-calls_out c rules number called calling format now =
-    let step = open_out_step rules number called calling format now in
-    has-sent step.leg step.replies (call-sent rules number called calling format now)
+returns-clause-calls_out c rules number called caller format now =
+    let step = open_out_step rules number called caller format now in
+    has-sent step.leg step.replies (call-sent rules number called caller format now)

@@ -16,4 +16,4 @@ pub returns-clause-calls_in : goal.returns-clause-calls_in
 returns-clause-calls_in c rules number frame now challenge = opening-turn rules number frame now challenge
 
 pub returns-clause-calls_out : goal.returns-clause-calls_out
-returns-clause-calls_out c rules number called calling format now = call-sends rules number called calling format now
+returns-clause-calls_out c rules number called caller format now = call-sends rules number called caller format now

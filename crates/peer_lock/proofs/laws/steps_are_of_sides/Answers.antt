@@ -11,8 +11,8 @@ returns-clause-calls_in c peer name frame now challenge free =
     call_in_side c.steps_take_turns.ensures.calls_in c.steps_send_as_sides.ensures.calls_in peer name frame now challenge free
 
 pub returns-clause-calls_out : goal.returns-clause-calls_out
-returns-clause-calls_out c peer name called calling format now free =
-    call_out_side c.steps_take_turns.ensures.calls_out c.steps_send_as_sides.ensures.calls_out peer name called calling format now free
+returns-clause-calls_out c peer name called caller format now free =
+    call_out_side c.steps_take_turns.ensures.calls_out c.steps_send_as_sides.ensures.calls_out peer name called caller format now free
 
 pub returns-clause-orders : goal.returns-clause-orders
 returns-clause-orders c peer credit name order now sound none =

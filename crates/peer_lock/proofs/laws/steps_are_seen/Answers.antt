@@ -10,8 +10,8 @@ returns-clause-calls_in c peer name frame now challenge are some free =
     call_in_seen c.steps_are_seen.ensures.calls_in peer name frame now challenge some free
 
 pub returns-clause-calls_out : goal.returns-clause-calls_out
-returns-clause-calls_out c peer name called calling format now are free =
-    call_out_seen c.steps_are_seen.ensures.calls_out peer name called calling format now free
+returns-clause-calls_out c peer name called caller format now are free =
+    call_out_seen c.steps_are_seen.ensures.calls_out peer name called caller format now free
 
 pub returns-clause-orders : goal.returns-clause-orders
 returns-clause-orders c peer credit name order now are none = order_seen c.steps_are_seen.ensures.orders peer credit name order now none

@@ -11,6 +11,7 @@ invariant-loop-number l =
     (with_elements (named l.elements) (elements_of l.rest) ≡ new_elements l.fn.octets)
     × IfSome l.elements.called (λ text. length text.now ≤ 255)
     × IfSome l.elements.calling (λ text. length text.now ≤ 255)
+    × IfSome l.elements.name (λ text. length text.now ≤ 255)
 
 abbrev pub decreases-loop-number : goal.decreases-loop-number
 decreases-loop-number l = length l.rest

@@ -23,4 +23,4 @@ pub returns-clause-err : goal.returns-clause-err
 returns-clause-err g c = rw (sym c.self.view_is, sym c.pass.view_is) c.open_out-answer.ensures.err
 
 pub returns-clause-noted : goal.returns-clause-noted
-returns-clause-noted g c = record { made = rw (sym c.self.view_is, sym c.pass.view_is, sym c.name-name.ensures, sym c.of.ensures, sym c.text_in.ensures, sym c.told.ensures) c.push.ensures; begun = ap (λ pass. pass.begun) c.pass.view_is }
+returns-clause-noted g c = record { made = rw (sym c.self.view_is, sym c.pass.view_is, sym c.name-name.ensures, sym c.of.ensures, sym c.of-2.ensures, sym c.told.ensures) c.push.ensures; begun = ap (λ pass. pass.begun) c.pass.view_is }
