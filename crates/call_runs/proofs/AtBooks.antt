@@ -7,7 +7,7 @@ use Rattle.call_book.specs.declared.errors.BridgeError.{BridgeError}
 use Rattle.call_book.specs.declared.errors.ReserveError.{ReserveError}
 use Rattle.call_book.specs.declared.leg_name.LegName.{LegName}
 use Rattle.call_steps.specs.Acts.{act_kind}
-use Rattle.call_steps.specs.Scene.{Leg, Scene, Choice, Goes, KeepsLeg, Answer, answer, answered, is_leased, dropped, leg_at, if_named, at_leg, status_of, reserves, bridges}
+use Rattle.call_steps.specs.Scene.{Leg, Scene, Choice, Goes, KeepsLeg, Answer, answer, answered, is_leased, dropped, leg_at, if_named, at_leg, status_of, told_cause, reserves, bridges}
 use Rattle.call_steps.specs.SeenReply.{seen_reply}
 use Rattle.call_steps.specs.declared.acts.Act.{Act}
 use Rattle.call_steps.specs.declared.needs.Need.{Need}
@@ -79,16 +79,17 @@ module _ (laws : PeersSteps) (old new : Stored) (scene : Scene) (called : Bool) 
       → Answers (replies.Look (look_at (slice_get old.peers place) number)) old new reply
       → ComesOut scene (needs.Look place number) called new reply
   looks place number reply made =
-      unchanged (needs.Look place number) reply (replies.Look (look_at (slice_get old.peers place) number)) Goes made
-      (ap (answer scene) (go (slice_get old.peers place) refl)) refl
+      let told = go (slice_get old.peers place) refl in
+      unchanged (needs.Look place number) reply (replies.Look (look_at (slice_get old.peers place) number)) told.0 made
+      (ap (answer scene) told.1) refl
     where
       go : (o : Option PeerView) → slice_get old.peers place ≡ o
-          → replies.Look (status_of (leg_at scene.legs place number)) ≡ seen_reply (replies.Look (look_at o number))
-      go None at = ap (λ (l : Option Leg). replies.Look (status_of l)) (of.legs.none place number at)
+          → (choice : Choice) × (replies.Look (status_of (told_cause choice) (leg_at scene.legs place number)) ≡ seen_reply (replies.Look (look_at o number)))
+      go None at = (Goes, ap (λ (l : Option Leg). replies.Look (status_of (told_cause Goes) l)) (of.legs.none place number at))
       go (Some peer) at =
           let seen = seen_reply (replies.Look (look_at (Some peer) number)) in
-          subst (λ (n : ℕ). replies.Look (status_of (leg_at scene.legs n number)) ≡ seen) (are place peer at).place_is
-          (laws.looks peer.legs number scene called (of.legs.sees place peer at)).answers
+          let step = laws.looks peer.legs number scene called (of.legs.sees place peer at) in
+          (step.choice, subst (λ (n : ℕ). replies.Look (status_of (told_cause step.choice) (leg_at scene.legs n number)) ≡ seen) (are place peer at).place_is step.answers)
 
   pub partners : (name : LegName) (reply : Reply) → Answers (replies.Partner (partner_of old.book name)) old new reply
       → ComesOut scene (needs.Partner name) called new reply

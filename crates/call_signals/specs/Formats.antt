@@ -1,5 +1,5 @@
 -- Formats of voice ("Media Formats").
-use Rattle.std.specs.Prelude.{ℕ, Bool, true, false, Option, None, Some, if◌then◌else◌}
+use Rattle.std.specs.Prelude.{ℕ, Bool, ◌&&◌, true, false, Option, None, Some, if◌then◌else◌}
 use Rattle.call_signals.specs.declared.formats.Format.{Format}
 use Rattle.call_signals.specs.declared.formats.Format.TheVariants.{Gsm, Ulaw, Alaw}
 use Rattle.call_signals.specs.declared.formats.Formats.{Formats}
@@ -26,3 +26,19 @@ same_format Gsm Gsm = true
 same_format Ulaw Ulaw = true
 same_format Alaw Alaw = true
 same_format _ _ = false
+
+-- one format and no other
+abbrev pub format_alone : Format → Formats
+format_alone format = record { gsm = same_format format Gsm; ulaw = same_format format Ulaw; alaw = same_format format Alaw }
+
+-- those that both have
+abbrev pub formats_of_both : Formats → Formats → Formats
+formats_of_both formats other = record {
+  gsm = formats.gsm && other.gsm;
+  ulaw = formats.ulaw && other.ulaw;
+  alaw = formats.alaw && other.alaw;
+}
+
+-- a format where it is one of them, else the one of the lowest bit
+abbrev pub format_among : Formats → Format → Option Format
+format_among formats format = if has_format formats format then Some format else lowest_format formats

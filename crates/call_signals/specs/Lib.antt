@@ -2,6 +2,7 @@ pub mod Caller
 pub mod Causes
 pub mod Credential
 pub mod Effects
+pub mod Endings
 pub mod Formats
 pub mod FrameElements
 pub mod Messages

@@ -4,7 +4,7 @@ use Rattle.iax_frames.specs.FullFrame.{FullFrame}
 use Rattle.info_elements.specs.Element.{u32_in}
 use Rattle.info_elements.specs.Numbers.{CAPABILITY, FORMAT}
 use Rattle.call_signals.specs.Effects.{row, rejected}
-use Rattle.call_signals.specs.Formats.{format_bit, has_format, lowest_format}
+use Rattle.call_signals.specs.Formats.{format_bit, has_format, lowest_format, format_alone}
 use Rattle.call_signals.specs.FrameElements.{element_in}
 use Rattle.call_signals.specs.NewElements.{NewElements, new_elements}
 use Rattle.call_signals.specs.declared.causes.Cause.TheVariants.{CallRejected}
@@ -53,6 +53,13 @@ abbrev pub format_by : Formats → NewElements → Option Format
 format_by formats elements =
     let wanted = unwrap_or elements.format 0 in
     chosen_format (common_formats formats wanted (unwrap_or elements.capability 0)) wanted
+
+-- the formats that the call may have: all that are common where it is routed by them, else the one that is chosen
+abbrev pub offered_formats : PeerRules → NewElements → Format → Formats
+offered_formats rules elements format =
+    if rules.routes_format
+    then common_formats rules.formats (unwrap_or elements.format 0) (unwrap_or elements.capability 0)
+    else format_alone format
 
 abbrev pub call_format : Formats → FullFrame → Option Format
 call_format formats frame = format_by formats (new_elements frame.payload)

@@ -1,4 +1,8 @@
 //! Why a leg ends that no HANGUP or REJECT ended.
+ghost use Rattle.std.specs.Prelude.{◌≡◌};
+ghost use Rattle.call_signals.specs.Endings.{failure_cause};
+
+use crate::causes::Cause;
 
 /// Why a leg ended without a HANGUP or REJECT of its own making it so.
 #[derive(Clone, Copy, Debug, PartialEq, Eq)]
@@ -9,4 +13,17 @@ pub enum Failure {
     RecordFull,
     /// The other side knows no such call (INVAL, "IAX Frames").
     Inval,
+}
+
+impl Failure {
+    /// Its cause, for the leg's partner: the other side was silent where retries are spent, else normal clearing.
+    pub fn cause(self) -> Cause
+        ensures { result ≡ failure_cause self }
+    {
+        match self {
+            Failure::RetriesSpent => Cause::NoUserResponding,
+            Failure::RecordFull => Cause::NormalClearing,
+            Failure::Inval => Cause::NormalClearing,
+        }
+    }
 }

@@ -1,6 +1,6 @@
 //! Formats of voice ("Media Formats").
 ghost use Rattle.std.specs.Prelude.{◌≡◌};
-ghost use Rattle.call_signals.specs.Formats.{format_bit, has_format, lowest_format, same_format};
+ghost use Rattle.call_signals.specs.Formats.{format_bit, has_format, lowest_format, same_format, formats_of_both, format_alone, format_among};
 
 /// A format of voice.
 #[derive(Clone, Copy, Debug, PartialEq, Eq)]
@@ -68,6 +68,39 @@ impl Formats {
             Some(Format::Alaw)
         } else {
             None
+        }
+    }
+
+    /// This one alone.
+    pub fn alone(format: Format) -> Formats
+        ensures { result ≡ format_alone format }
+    {
+        Formats {
+            gsm: format.is(Format::Gsm),
+            ulaw: format.is(Format::Ulaw),
+            alaw: format.is(Format::Alaw),
+        }
+    }
+
+    /// Those that both have.
+    pub fn of_both(self, other: Formats) -> Formats
+        ensures { result ≡ formats_of_both self other }
+    {
+        Formats {
+            gsm: self.gsm && other.gsm,
+            ulaw: self.ulaw && other.ulaw,
+            alaw: self.alaw && other.alaw,
+        }
+    }
+
+    /// This format where it is one of them, else the one of the lowest bit.
+    pub fn among(self, format: Format) -> Option<Format>
+        ensures { result ≡ format_among self format }
+    {
+        if self.contains(format) {
+            Some(format)
+        } else {
+            self.lowest()
         }
     }
 }

@@ -5,6 +5,7 @@
 mod caller;
 mod causes;
 pub mod effects;
+mod endings;
 mod failure;
 mod formats;
 pub mod laws;
@@ -23,6 +24,7 @@ mod stages;
 pub use caller::Caller;
 pub use causes::Cause;
 pub use effects::{Answering, Effect, Mark};
+pub use endings::ending_cause;
 pub use failure::Failure;
 pub use formats::{Format, Formats};
 pub use local_number::LocalNumber;

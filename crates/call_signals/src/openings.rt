@@ -72,6 +72,18 @@ pub fn call_format(formats: Formats, elements: &NewElements) -> Option<Format>
     chosen_format(common_formats(formats, wanted, capable), wanted)
 }
 
+/// The formats that the call of a NEW may have: all that are common where it is routed by them, else the one that is chosen.
+pub fn offered_formats(rules: &PeerRules, elements: &NewElements, format: Format) -> Formats
+    ensures { result ≡ opening.offered_formats rules.now (named elements.now) format }
+{
+    if rules.routes_format {
+        let wanted = elements.format.unwrap_or(0);
+        common_formats(rules.formats, wanted, elements.capability.unwrap_or(0))
+    } else {
+        Formats::alone(format)
+    }
+}
+
 fn is_version_2(version: Option<u16>) -> bool
     ensures { result ≡ opening.is_version_2 version }
 {

@@ -2,14 +2,15 @@
 ghost use Rattle.std.specs.Prelude.{◌≡◌};
 
 use crate::causes::Cause;
+use crate::formats::Format;
 use crate::signals::{Digit, Indication};
 use std::alloc::AllocError;
 
 /// What the layer above lets a leg do.
 #[derive(Clone, Copy, Debug)]
 pub enum Order<'a> {
-    /// Accepts the offered call.
-    Accept,
+    /// Accepts the offered call, in this format.
+    Accept(Format),
     /// Rejects the offered call.
     Reject(Cause),
     /// Tells how the call goes on.
@@ -20,10 +21,10 @@ pub enum Order<'a> {
     Dtmf(Digit),
     /// Sends 1 to 1,380 octets of media.
     Media(&'a [u8]),
-    /// Hangs up.
-    Hangup,
-    /// Hangs up as soon as a tick can.
-    Doom,
+    /// Hangs up, for this cause.
+    Hangup(Cause),
+    /// Hangs up as soon as a tick can, for this cause.
+    Doom(Cause),
     /// The layer above is done with the end of the call.
     Paid,
 }
@@ -31,14 +32,14 @@ pub enum Order<'a> {
 /// An order without the octets of its media.
 #[derive(Clone, Copy, Debug, PartialEq, Eq)]
 pub enum OrderKind {
-    Accept,
+    Accept(Format),
     Reject(Cause),
     Indicate(Indication),
     Answer,
     Dtmf(Digit),
     Media,
-    Hangup,
-    Doom,
+    Hangup(Cause),
+    Doom(Cause),
     Paid,
 }
 
@@ -50,14 +51,14 @@ impl Order<'_> {
         ensures { result ≡ kind_of self.now }
     {
         match self {
-            Order::Accept => OrderKind::Accept,
+            Order::Accept(format) => OrderKind::Accept(*format),
             Order::Reject(cause) => OrderKind::Reject(*cause),
             Order::Indicate(indication) => OrderKind::Indicate(*indication),
             Order::Answer => OrderKind::Answer,
             Order::Dtmf(digit) => OrderKind::Dtmf(*digit),
             Order::Media(_) => OrderKind::Media,
-            Order::Hangup => OrderKind::Hangup,
-            Order::Doom => OrderKind::Doom,
+            Order::Hangup(cause) => OrderKind::Hangup(*cause),
+            Order::Doom(cause) => OrderKind::Doom(*cause),
             Order::Paid => OrderKind::Paid,
         }
     }

@@ -38,7 +38,8 @@ pub fn one_element(number: u8, value: &[u8]) -> Payload
 pub fn cause_elements(cause: Cause) -> Payload
     ensures { result ≡ replies.cause_elements cause }
 {
-    let mut payload = one_element(CAUSE, cause.text());
+    let text = cause.text();
+    let mut payload = one_element(CAUSE, text.as_slice());
     append_to(&mut payload, CAUSECODE, &[cause.code()]);
     payload
 }

@@ -92,6 +92,10 @@ pub struct PeerRules {
     pub poke: bool,
     /// Whether CALLING NAME, CALLINGPRES, CALLINGTON and CALLINGTNS of an offered call are carried on to its far leg.
     pub carries_caller: bool,
+    /// Whether a leg notes why it ends, for its partner; else each end is normal clearing.
+    pub carries_cause: bool,
+    /// Whether the format of an offered call is chosen when it is routed, among all that are common; else it is chosen before.
+    pub routes_format: bool,
 }
 
 impl PeerRules {
@@ -113,6 +117,8 @@ impl PeerRules {
             vnak_ms: self.vnak_ms,
             poke: self.poke,
             carries_caller: self.carries_caller,
+            carries_cause: self.carries_cause,
+            routes_format: self.routes_format,
         }
     }
 }

@@ -4,6 +4,7 @@ use Rattle.std.specs.Prelude.{Ok, Err}
 use Rattle.std.proofs.lemmas.Bool.{cond_both}
 use Rattle.call_book.specs.Book.{is_same}
 use Rattle.call_book.specs.declared.leg_name.LegName.{LegName}
+use Rattle.call_signals.specs.declared.causes.Cause.{Cause}
 use Rattle.call_signals.specs.declared.signals.Signal.{Signal}
 use Rattle.call_signals.specs.declared.signals.Signal.TheVariants as signals
 use Rattle.peer_lock.specs.declared.errors.OrderError.TheVariants as order_errors
@@ -50,14 +51,14 @@ goes rest = go_on_from_past rest.onward rest.touched rest.looks
 heard_past : (heard : Heard) (rest : Rest) → beginning_at (after_heard heard rest).place ≡ None
 heard_past heard rest = go_on_from_past heard.onwards.signals heard.touched rest.looks
 
-status_past : (name : LegName) (owes : Bool) (rest : Rest) → beginning_at (after_status name owes rest).place ≡ None
-status_past name true rest = refl
-status_past name false rest = refl
+status_past : (name : LegName) (owes : Bool) (cause : Cause) (rest : Rest) → beginning_at (after_status name owes cause rest).place ≡ None
+status_past name true cause rest = refl
+status_past name false cause rest = refl
 
 looked : (reply : Reply) (name : LegName) (rest : Rest) → beginning_at (after_look reply name rest).place ≡ None
 looked (replies.Look (Some status)) name rest =
-    cond_both (is_same status.name name) (after_status status.name status.owes rest) (go_on rest) (λ (w : Work). beginning_at w.place ≡ None)
-    (λ _. status_past status.name status.owes rest) (λ _. goes rest)
+    cond_both (is_same status.name name) (after_status status.name status.owes status.cause rest) (go_on rest) (λ (w : Work). beginning_at w.place ≡ None)
+    (λ _. status_past status.name status.owes status.cause rest) (λ _. goes rest)
 looked reply name rest = goes rest
 
 no_room_past : (act : Act) (partner : LegName) (rest : Rest) → beginning_at (after_no_room act partner rest).place ≡ None
@@ -74,40 +75,40 @@ passed reply partner act rest = goes rest
 
 told_past : (place : Place) (reply : Reply) (rest : Rest) → beginning_at place ≡ None → beginning_at (told_at place reply rest).place ≡ None
 told_past (places.GiveBack name) reply rest h = refl
-told_past (places.Routing offered) (replies.Route (routes.To peer)) rest h = refl
+told_past (places.Routing offered) (replies.Route (routes.To peer format)) rest h = refl
 told_past (places.Routing offered) (replies.Route routes.WithoutFormat) rest h = refl
 told_past (places.Routing offered) reply rest h = refl
 told_past (places.Rejecting offered cause) (replies.Order (Ok done)) rest h = goes rest
 told_past (places.Rejecting offered cause) reply rest h = refl
-told_past (places.ReserveOut offered peer) (replies.Reserve (Ok target)) rest h = refl
-told_past (places.ReserveOut offered peer) reply rest h = refl
-told_past (places.Bridging offered target) (replies.Bridge (Ok done)) rest h = refl
-told_past (places.Bridging offered target) reply rest h = refl
-told_past (places.Accepting offered target) (replies.Order (Ok done)) rest h = refl
-told_past (places.Accepting offered target) reply rest h = refl
+told_past (places.ReserveOut offered peer format) (replies.Reserve (Ok target)) rest h = refl
+told_past (places.ReserveOut offered peer format) reply rest h = refl
+told_past (places.Bridging offered target format) (replies.Bridge (Ok done)) rest h = refl
+told_past (places.Bridging offered target format) reply rest h = refl
+told_past (places.Accepting offered target format) (replies.Order (Ok done)) rest h = refl
+told_past (places.Accepting offered target format) reply rest h = refl
 told_past (places.OpenOut offered target) (replies.OpenOut (Ok done)) rest h = refl
 told_past (places.OpenOut offered target) reply rest h = refl
 told_past (places.Checking target) (replies.Partner (Some partner)) rest h = goes rest
 told_past (places.Checking target) reply rest h = refl
 told_past (places.Undoing offered target) reply rest h = refl
-told_past (places.Dooming name) reply rest h = goes rest
+told_past (places.Dooming name cause) reply rest h = goes rest
 told_past (places.Finding name act) (replies.Partner (Some partner)) rest h = refl
 told_past (places.Finding name act) reply rest h = goes rest
 told_past (places.Passing partner act) reply rest h = passed reply partner act rest
 told_past (places.Looking name) reply rest h = looked reply name rest
-told_past (places.LookingAt peer number) (replies.Look (Some status)) rest h = status_past status.name status.owes rest
+told_past (places.LookingAt peer number) (replies.Look (Some status)) rest h = status_past status.name status.owes status.cause rest
 told_past (places.LookingAt peer number) reply rest h = goes rest
-told_past (places.FindingPartner name) (replies.Partner (Some partner)) rest h = refl
-told_past (places.FindingPartner name) reply rest h = refl
-told_past (places.HangingUp name partner) (replies.Order (Ok done)) rest h = refl
-told_past (places.HangingUp name partner) (replies.Order (Err order_errors.Gone)) rest h = refl
-told_past (places.HangingUp name partner) (replies.Order (Err order_errors.WrongStage)) rest h = refl
-told_past (places.HangingUp name partner) reply rest h = refl
-told_past (places.Paying name) reply rest h = refl
-told_past (places.Retiring name) (replies.Retire true) rest h = refl
-told_past (places.Retiring name) reply rest h = goes rest
-told_past (places.Freeing name) (replies.Release (Ok (Some partner))) rest h = refl
-told_past (places.Freeing name) reply rest h = goes rest
+told_past (places.FindingPartner name cause) (replies.Partner (Some partner)) rest h = refl
+told_past (places.FindingPartner name cause) reply rest h = refl
+told_past (places.HangingUp name partner cause) (replies.Order (Ok done)) rest h = refl
+told_past (places.HangingUp name partner cause) (replies.Order (Err order_errors.Gone)) rest h = refl
+told_past (places.HangingUp name partner cause) (replies.Order (Err order_errors.WrongStage)) rest h = refl
+told_past (places.HangingUp name partner cause) reply rest h = refl
+told_past (places.Paying name cause) reply rest h = refl
+told_past (places.Retiring name cause) (replies.Retire true) rest h = refl
+told_past (places.Retiring name cause) reply rest h = goes rest
+told_past (places.Freeing name cause) (replies.Release (Ok (Some partner))) rest h = refl
+told_past (places.Freeing name cause) reply rest h = goes rest
 told_past places.End reply rest h = refl
 told_past place reply rest h = absurd (cc)
 

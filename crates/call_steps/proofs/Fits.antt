@@ -7,6 +7,8 @@ use Rattle.call_book.specs.declared.errors.BridgeError.{BridgeError}
 use Rattle.call_book.specs.declared.errors.ReserveError.{ReserveError}
 use Rattle.call_book.specs.declared.leg_name.LegName.{LegName}
 use Rattle.call_book.proofs.Changes.{IsReserved, reserved, IsBridged, bridged_by, release_keeps, lost}
+use Rattle.call_signals.specs.declared.causes.Cause.{Cause}
+use Rattle.call_signals.specs.declared.causes.Cause.TheVariants.{NormalClearing}
 use Rattle.leg_machine.specs.Seen.{SeenFrame, frame_effect, opening_effect, stage_after}
 use Rattle.call_signals.specs.declared.openings.Opening.{Opening}
 use Rattle.call_signals.specs.declared.openings.Opening.TheVariants.{Offers}
@@ -36,7 +38,7 @@ use Rattle.call_steps.specs.declared.replies.Heard.{Heard}
 use Rattle.call_steps.specs.declared.replies.Reply.TheVariants as replies
 use Rattle.call_steps.specs.SeenReply.{heard}
 use Rattle.call_steps.specs.Work.{Work, Rest, next_at, next_look, finish, place_for, passed_on, go_on_from, go_on, after_heard, after_refused_datagram, after_no_room, after_status, told_at, in_hand}
-use Rattle.call_steps.specs.Scene.{Leg, Scene, Choice, RefusesDatagram, RefusesOpening, RefusesOrder, RefusesTick, KeepsLeg, Brings, HasMedia, Lapses, Opens, LeadsTo, leg_at, leg_named, replaced, without, Answer, answer, heard_of, nothing_heard, brought, brings, all_media, at_datagram, all_lapsed, at_tick, is_leased, dropped, can_open, opened, opens_in, busy_in, at_open_in, opens_out, busy_out, at_open_out, refuses_order, carried, refused, obeys, at_leg, at_order, status_of, is_done, retires, keeps, at_retire, reserves, bridges, releases, is_stale, at_release, answered, is_call}
+use Rattle.call_steps.specs.Scene.{Leg, Scene, Choice, RefusesDatagram, RefusesOpening, RefusesOrder, RefusesTick, KeepsLeg, Brings, HasMedia, Lapses, Opens, LeadsTo, leg_at, leg_named, replaced, without, Answer, answer, heard_of, nothing_heard, brought, brings, all_media, at_datagram, all_lapsed, at_tick, is_leased, dropped, can_open, opened, opens_in, busy_in, at_open_in, opens_out, busy_out, at_open_out, refuses_order, carried, refused, obeys, at_leg, at_order, status_of, told_cause, is_done, retires, keeps, at_retire, reserves, bridges, releases, is_stale, at_release, answered, is_call}
 use Rattle.call_steps.specs.Law.{times, names_of}
 use Rattle.call_steps.proofs.BookNames.{bit, is_same_itself, same_name, has_name_is}
 use Rattle.call_steps.proofs.Held.{scene, IsHeld, same_names, names_replaced, names_lapsed, found_named, leased_own, dropped_own, without_times}
@@ -72,9 +74,9 @@ refused_hand : (error : PeerError) (peer : ℕ) (rest : Rest) → in_hand (after
 refused_hand peer_errors.NeedsNumber peer rest = refl
 refused_hand error peer rest = refl
 
-pub status_hand : (name : LegName) (owes : Bool) (rest : Rest) → in_hand (after_status name owes rest).place ≡ []
-status_hand name true rest = refl
-status_hand name false rest = refl
+pub status_hand : (name : LegName) (owes : Bool) (cause : Cause) (rest : Rest) → in_hand (after_status name owes cause rest).place ≡ []
+status_hand name true cause rest = refl
+status_hand name false cause rest = refl
 
 pub no_room_hand : (act : Act) (partner : LegName) (rest : Rest) → in_hand (after_no_room act partner rest).place ≡ []
 no_room_hand (acts.Media span) partner rest = go_on_hand rest
@@ -247,16 +249,16 @@ module _ (others : LegName → ℕ) where
     done_some None h = absurd (cc)
     done_some (Some leg) h = (leg, refl)
 
-    retires_fits : (name : LegName) (rest : Rest) → IsHeld others (scene book legs [])
-        → Fits (places.Retiring name) rest (cond (is_done (leg_named legs name)) (retires (scene book legs []) name) (keeps (scene book legs [])))
-    retires_fits name rest h =
-        cond_both (is_done (leg_named legs name)) (retires (scene book legs []) name) (keeps (scene book legs [])) (Fits (places.Retiring name) rest)
+    retires_fits : (name : LegName) (cause : Cause) (rest : Rest) → IsHeld others (scene book legs [])
+        → Fits (places.Retiring name cause) rest (cond (is_done (leg_named legs name)) (retires (scene book legs []) name) (keeps (scene book legs [])))
+    retires_fits name cause rest h =
+        cond_both (is_done (leg_named legs name)) (retires (scene book legs []) name) (keeps (scene book legs [])) (Fits (places.Retiring name cause) rest)
         (λ is. let leg = done_some (leg_named legs name) is in record { held = retired_held name leg.0 leg.1 h; leases = refl })
         (λ _. record { held = h; leases = sym (go_on_hand rest) })
 
-    retire_fits : (name : LegName) (rest : Rest) (choice : Choice) → IsHeld others (scene book legs []) → Fits (places.Retiring name) rest (at_retire (scene book legs []) name choice)
-    retire_fits name rest KeepsLeg h = record { held = h; leases = sym (go_on_hand rest) }
-    retire_fits name rest choice h = retires_fits name rest h
+    retire_fits : (name : LegName) (cause : Cause) (rest : Rest) (choice : Choice) → IsHeld others (scene book legs []) → Fits (places.Retiring name cause) rest (at_retire (scene book legs []) name choice)
+    retire_fits name cause rest KeepsLeg h = record { held = h; leases = sym (go_on_hand rest) }
+    retire_fits name cause rest choice h = retires_fits name cause rest h
 
   -- the step that a place needs, if any
   abbrev pub FitsIf : Book → List Leg → Place → Rest → Choice → Option Need → Type 0
@@ -273,7 +275,7 @@ module _ (others : LegName → ℕ) where
       routed : (route : Route) → Fits (places.Routing offered) rest (answer (scene book legs []) (replies.Route route))
       routed routes.Nowhere = record { held = h; leases = refl }
       routed routes.WithoutFormat = record { held = h; leases = refl }
-      routed (routes.To peer) = record { held = h; leases = refl }
+      routed (routes.To peer format) = record { held = h; leases = refl }
 
       route_fits : (choice : Choice) → FitsIf book legs (places.Routing offered) rest choice (Some (needs.Route offered))
       route_fits (LeadsTo route) = routed route
@@ -283,15 +285,15 @@ module _ (others : LegName → ℕ) where
       hand : (r : Result (Unit {0}) OrderError) → [] ≡ in_hand (told_at (places.Rejecting offered cause) (replies.Order r) rest).place
       hand (Ok done) = sym (go_on_hand rest)
       hand (Err error) = refl
-  place_fits book legs (places.ReserveOut offered peer) rest choice h = reserves_fits book legs (places.ReserveOut offered peer) rest peer (reserve_answer book peer) refl h (λ _. refl) (λ _. refl)
-  place_fits book legs (places.Bridging offered target) rest choice h = bridges_fits book legs (places.Bridging offered target) rest (target ∷ []) offered target (bridge_answer book offered target) refl h hand
+  place_fits book legs (places.ReserveOut offered peer format) rest choice h = reserves_fits book legs (places.ReserveOut offered peer format) rest peer (reserve_answer book peer) refl h (λ _. refl) (λ _. refl)
+  place_fits book legs (places.Bridging offered target format) rest choice h = bridges_fits book legs (places.Bridging offered target format) rest (target ∷ []) offered target (bridge_answer book offered target) refl h hand
     where
-      hand : (r : Result (Unit {0}) BridgeError) → target ∷ [] ≡ in_hand (told_at (places.Bridging offered target) (replies.Bridge r) rest).place
+      hand : (r : Result (Unit {0}) BridgeError) → target ∷ [] ≡ in_hand (told_at (places.Bridging offered target format) (replies.Bridge r) rest).place
       hand (Ok done) = refl
       hand (Err error) = refl
-  place_fits book legs (places.Accepting offered target) rest choice h = order_fits book legs (places.Accepting offered target) rest (target ∷ []) kinds.Accept h hand offered choice
+  place_fits book legs (places.Accepting offered target format) rest choice h = order_fits book legs (places.Accepting offered target format) rest (target ∷ []) (kinds.Accept format) h hand offered choice
     where
-      hand : (r : Result (Unit {0}) OrderError) → target ∷ [] ≡ in_hand (told_at (places.Accepting offered target) (replies.Order r) rest).place
+      hand : (r : Result (Unit {0}) OrderError) → target ∷ [] ≡ in_hand (told_at (places.Accepting offered target format) (replies.Order r) rest).place
       hand (Ok done) = refl
       hand (Err error) = refl
   place_fits book legs (places.OpenOut offered target) rest choice h = open_out_fits book legs (places.OpenOut offered target) rest target false choice h refl (λ _. refl)
@@ -301,7 +303,7 @@ module _ (others : LegName → ℕ) where
       checked None = record { held = h; leases = refl }
       checked (Some partner) = record { held = h; leases = sym (go_on_hand rest) }
   place_fits book legs (places.Undoing offered target) rest choice h = release_fits book legs (places.Undoing offered target) rest target h (λ _. refl)
-  place_fits book legs (places.Dooming name) rest choice h = order_fits book legs (places.Dooming name) rest [] kinds.Doom h (λ _. sym (go_on_hand rest)) name choice
+  place_fits book legs (places.Dooming name cause) rest choice h = order_fits book legs (places.Dooming name cause) rest [] (kinds.Doom cause) h (λ _. sym (go_on_hand rest)) name choice
   place_fits book legs (places.Finding name act) rest choice h = found (partner_of book name)
     where
       found : (o : Option LegName) → Fits (places.Finding name act) rest (answer (scene book legs []) (replies.Partner o))
@@ -318,45 +320,45 @@ module _ (others : LegName → ℕ) where
       hand : (r : Result (Unit {0}) OrderError) → [] ≡ in_hand (told_at (places.Passing partner act) (replies.Order r) rest).place
       hand (Ok done) = sym (go_on_hand rest)
       hand (Err error) = when_refused error
-  place_fits book legs (places.Looking name) rest choice h = looked (status_of (leg_at legs name.peer name.number))
+  place_fits book legs (places.Looking name) rest choice h = looked (status_of (told_cause choice) (leg_at legs name.peer name.number))
     where
       looked : (o : Option Status) → Fits (places.Looking name) rest (answer (scene book legs []) (replies.Look o))
       looked None = record { held = h; leases = sym (go_on_hand rest) }
       looked (Some status) =
           record {
             held = h;
-            leases = cond_both (is_same status.name name) (after_status status.name status.owes rest) (go_on rest) (λ w. [] ≡ in_hand w.place)
-                (λ _. sym (status_hand status.name status.owes rest)) (λ _. sym (go_on_hand rest));
+            leases = cond_both (is_same status.name name) (after_status status.name status.owes status.cause rest) (go_on rest) (λ w. [] ≡ in_hand w.place)
+                (λ _. sym (status_hand status.name status.owes status.cause rest)) (λ _. sym (go_on_hand rest));
           }
-  place_fits book legs (places.LookingAt peer number) rest choice h = looked (status_of (leg_at legs peer number))
+  place_fits book legs (places.LookingAt peer number) rest choice h = looked (status_of (told_cause choice) (leg_at legs peer number))
     where
       looked : (o : Option Status) → Fits (places.LookingAt peer number) rest (answer (scene book legs []) (replies.Look o))
       looked None = record { held = h; leases = sym (go_on_hand rest) }
-      looked (Some status) = record { held = h; leases = sym (status_hand status.name status.owes rest) }
-  place_fits book legs (places.FindingPartner name) rest choice h = found (partner_of book name)
+      looked (Some status) = record { held = h; leases = sym (status_hand status.name status.owes status.cause rest) }
+  place_fits book legs (places.FindingPartner name cause) rest choice h = found (partner_of book name)
     where
-      found : (o : Option LegName) → Fits (places.FindingPartner name) rest (answer (scene book legs []) (replies.Partner o))
+      found : (o : Option LegName) → Fits (places.FindingPartner name cause) rest (answer (scene book legs []) (replies.Partner o))
       found None = record { held = h; leases = refl }
       found (Some partner) = record { held = h; leases = refl }
-  place_fits book legs (places.HangingUp name partner) rest choice h = order_fits book legs (places.HangingUp name partner) rest [] kinds.Hangup h hand partner choice
+  place_fits book legs (places.HangingUp name partner cause) rest choice h = order_fits book legs (places.HangingUp name partner cause) rest [] (kinds.Hangup cause) h hand partner choice
     where
-      when_refused : (error : OrderError) → [] ≡ in_hand (told_at (places.HangingUp name partner) (replies.Order (Err error)) rest).place
+      when_refused : (error : OrderError) → [] ≡ in_hand (told_at (places.HangingUp name partner cause) (replies.Order (Err error)) rest).place
       when_refused order_errors.Gone = refl
       when_refused order_errors.WrongStage = refl
       when_refused error = refl
 
-      hand : (r : Result (Unit {0}) OrderError) → [] ≡ in_hand (told_at (places.HangingUp name partner) (replies.Order r) rest).place
+      hand : (r : Result (Unit {0}) OrderError) → [] ≡ in_hand (told_at (places.HangingUp name partner cause) (replies.Order r) rest).place
       hand (Ok done) = refl
       hand (Err error) = when_refused error
-  place_fits book legs (places.Paying name) rest choice h = order_fits book legs (places.Paying name) rest [] kinds.Paid h (λ _. refl) name choice
-  place_fits book legs (places.Retiring name) rest choice h = retire_fits book legs name rest choice h
-  place_fits book legs (places.Freeing name) rest choice h = release_fits book legs (places.Freeing name) rest name h hand
+  place_fits book legs (places.Paying name cause) rest choice h = order_fits book legs (places.Paying name cause) rest [] kinds.Paid h (λ _. refl) name choice
+  place_fits book legs (places.Retiring name cause) rest choice h = retire_fits book legs name cause rest choice h
+  place_fits book legs (places.Freeing name cause) rest choice h = release_fits book legs (places.Freeing name cause) rest name h hand
     where
-      hand : (former : Option LegName) → [] ≡ in_hand (told_at (places.Freeing name) (replies.Release (Ok former)) rest).place
+      hand : (former : Option LegName) → [] ≡ in_hand (told_at (places.Freeing name cause) (replies.Release (Ok former)) rest).place
       hand None = sym (go_on_hand rest)
       hand (Some partner) = refl
   place_fits book legs (places.Tick peer) rest choice h = tick_fits book legs peer rest choice h
-  place_fits book legs (places.HangUp name) rest choice h = order_fits book legs (places.HangUp name) rest [] kinds.Hangup h hand name choice
+  place_fits book legs (places.HangUp name) rest choice h = order_fits book legs (places.HangUp name) rest [] (kinds.Hangup NormalClearing) h hand name choice
     where
       hand : (r : Result (Unit {0}) OrderError) → [] ≡ in_hand (told_at (places.HangUp name) (replies.Order r) rest).place
       hand (Ok done) = sym (go_on_hand rest)

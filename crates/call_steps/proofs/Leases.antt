@@ -27,8 +27,8 @@ goes rest = none (go_on rest).place (go_on_hand rest)
 
 looked : (reply : Reply) (name : LegName) (rest : Rest) → lease_in (after_look reply name rest) ≡ None
 looked (replies.Look (Some status)) name rest =
-    cond_both (is_same status.name name) (after_status status.name status.owes rest) (go_on rest) (λ (w : Work). lease_in w ≡ None)
-    (λ _. none (after_status status.name status.owes rest).place (status_hand status.name status.owes rest)) (λ _. goes rest)
+    cond_both (is_same status.name name) (after_status status.name status.owes status.cause rest) (go_on rest) (λ (w : Work). lease_in w ≡ None)
+    (λ _. none (after_status status.name status.owes status.cause rest).place (status_hand status.name status.owes status.cause rest)) (λ _. goes rest)
 looked reply name rest = goes rest
 
 passed : (reply : Reply) (partner : LegName) (act : Act) (rest : Rest) → lease_in (told_at (places.Passing partner act) reply rest) ≡ None
@@ -48,40 +48,40 @@ told_after (places.ReserveIn peer) reply rest = refl
 told_after (places.OpenIn name) (replies.OpenIn (Ok heard)) rest = none _ (heard_hand heard rest)
 told_after (places.OpenIn name) reply rest = refl
 told_after (places.GiveBack name) reply rest = refl
-told_after (places.Routing offered) (replies.Route (routes.To peer)) rest = refl
+told_after (places.Routing offered) (replies.Route (routes.To peer format)) rest = refl
 told_after (places.Routing offered) (replies.Route routes.WithoutFormat) rest = refl
 told_after (places.Routing offered) reply rest = refl
 told_after (places.Rejecting offered cause) (replies.Order (Ok done)) rest = goes rest
 told_after (places.Rejecting offered cause) reply rest = refl
-told_after (places.ReserveOut offered peer) (replies.Reserve (Ok target)) rest = refl
-told_after (places.ReserveOut offered peer) reply rest = refl
-told_after (places.Bridging offered target) (replies.Bridge (Ok done)) rest = refl
-told_after (places.Bridging offered target) reply rest = refl
-told_after (places.Accepting offered target) (replies.Order (Ok done)) rest = refl
-told_after (places.Accepting offered target) reply rest = refl
+told_after (places.ReserveOut offered peer format) (replies.Reserve (Ok target)) rest = refl
+told_after (places.ReserveOut offered peer format) reply rest = refl
+told_after (places.Bridging offered target format) (replies.Bridge (Ok done)) rest = refl
+told_after (places.Bridging offered target format) reply rest = refl
+told_after (places.Accepting offered target format) (replies.Order (Ok done)) rest = refl
+told_after (places.Accepting offered target format) reply rest = refl
 told_after (places.OpenOut offered target) (replies.OpenOut (Ok done)) rest = refl
 told_after (places.OpenOut offered target) reply rest = refl
 told_after (places.Checking target) (replies.Partner (Some partner)) rest = goes rest
 told_after (places.Checking target) reply rest = refl
 told_after (places.Undoing offered target) reply rest = refl
-told_after (places.Dooming name) reply rest = goes rest
+told_after (places.Dooming name cause) reply rest = goes rest
 told_after (places.Finding name act) (replies.Partner (Some partner)) rest = refl
 told_after (places.Finding name act) reply rest = goes rest
 told_after (places.Passing partner act) reply rest = passed reply partner act rest
 told_after (places.Looking name) reply rest = looked reply name rest
-told_after (places.LookingAt peer number) (replies.Look (Some status)) rest = none _ (status_hand status.name status.owes rest)
+told_after (places.LookingAt peer number) (replies.Look (Some status)) rest = none _ (status_hand status.name status.owes status.cause rest)
 told_after (places.LookingAt peer number) reply rest = goes rest
-told_after (places.FindingPartner name) (replies.Partner (Some partner)) rest = refl
-told_after (places.FindingPartner name) reply rest = refl
-told_after (places.HangingUp name partner) (replies.Order (Ok done)) rest = refl
-told_after (places.HangingUp name partner) (replies.Order (Err order_errors.Gone)) rest = refl
-told_after (places.HangingUp name partner) (replies.Order (Err order_errors.WrongStage)) rest = refl
-told_after (places.HangingUp name partner) reply rest = refl
-told_after (places.Paying name) reply rest = refl
-told_after (places.Retiring name) (replies.Retire true) rest = refl
-told_after (places.Retiring name) reply rest = goes rest
-told_after (places.Freeing name) (replies.Release (Ok (Some partner))) rest = refl
-told_after (places.Freeing name) reply rest = goes rest
+told_after (places.FindingPartner name cause) (replies.Partner (Some partner)) rest = refl
+told_after (places.FindingPartner name cause) reply rest = refl
+told_after (places.HangingUp name partner cause) (replies.Order (Ok done)) rest = refl
+told_after (places.HangingUp name partner cause) (replies.Order (Err order_errors.Gone)) rest = refl
+told_after (places.HangingUp name partner cause) (replies.Order (Err order_errors.WrongStage)) rest = refl
+told_after (places.HangingUp name partner cause) reply rest = refl
+told_after (places.Paying name cause) reply rest = refl
+told_after (places.Retiring name cause) (replies.Retire true) rest = refl
+told_after (places.Retiring name cause) reply rest = goes rest
+told_after (places.Freeing name cause) (replies.Release (Ok (Some partner))) rest = refl
+told_after (places.Freeing name cause) reply rest = goes rest
 told_after (places.Tick peer) (replies.Tick (Ok false)) rest = goes rest
 told_after (places.Tick peer) reply rest = refl
 told_after (places.HangUp name) (replies.Order (Ok done)) rest = goes rest
@@ -102,7 +102,7 @@ takes (places.OpenIn own) name is = is
 takes (places.GiveBack own) name is = is
 takes (places.OpenOut offered target) name is = is
 takes (places.Undoing offered target) name is = is
-takes (places.Freeing own) name is = is
+takes (places.Freeing own cause) name is = is
 takes (places.OpenCall own) name is = is
 takes place name is = absurd (cc)
 

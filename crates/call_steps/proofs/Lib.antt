@@ -22,6 +22,7 @@ mod Idle
 mod SeenReplies
 mod WorldLegs
 mod PeerSteps
+mod PeerTicks
 mod Numbers
 mod MediaLeft
 mod Leases

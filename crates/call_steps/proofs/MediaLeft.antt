@@ -5,6 +5,7 @@ use Rattle.std.specs.List.{AllByRecursion}
 use Rattle.std.proofs.lemmas.Bool.{cond_both}
 use Rattle.call_book.specs.Book.{is_same}
 use Rattle.call_book.specs.declared.leg_name.LegName.{LegName}
+use Rattle.call_signals.specs.declared.causes.Cause.{Cause}
 use Rattle.call_signals.specs.declared.signals.Signal.{Signal}
 use Rattle.call_signals.specs.declared.signals.Signal.TheVariants as signals
 use Rattle.peer_lock.specs.CarriedMedia.{LiesWithin, handed_octets}
@@ -60,19 +61,19 @@ ends rest = record { within = λ len all. tt; octets = omega arith }
 
 -- ---- each answer, at a place without media
 
-look_is : (name : LegName) (owes : Bool) (rest : Rest) → IsOf rest.onward (after_status name owes rest)
-look_is name true rest = stays (places.FindingPartner name) rest refl
-look_is name false rest = stays (places.Retiring name) rest refl
+look_is : (name : LegName) (owes : Bool) (cause : Cause) (rest : Rest) → IsOf rest.onward (after_status name owes cause rest)
+look_is name true cause rest = stays (places.FindingPartner name cause) rest refl
+look_is name false cause rest = stays (places.Retiring name cause) rest refl
 
 looked_is : (reply : Reply) (name : LegName) (rest : Rest) → IsOf rest.onward (after_look reply name rest)
 looked_is (replies.Look (Some status)) name rest =
-    cond_both (is_same status.name name) (after_status status.name status.owes rest) (go_on rest) (IsOf rest.onward)
-    (λ _. look_is status.name status.owes rest) (λ _. goes rest)
+    cond_both (is_same status.name name) (after_status status.name status.owes status.cause rest) (go_on rest) (IsOf rest.onward)
+    (λ _. look_is status.name status.owes status.cause rest) (λ _. goes rest)
 looked_is reply name rest = goes rest
 
 no_room_is : (act : Act) (partner : LegName) (rest : Rest) → IsOf rest.onward (after_no_room act partner rest)
 no_room_is (acts.Media span) partner rest = goes rest
-no_room_is act partner rest = stays (places.Dooming partner) rest refl
+no_room_is act partner rest = stays (places.Dooming partner _) rest refl
 
 passed_is : (reply : Reply) (partner : LegName) (act : Act) (rest : Rest) → IsOf rest.onward (told_at (places.Passing partner act) reply rest)
 passed_is (replies.Order (Err order_errors.WindowFull)) partner act rest = no_room_is act partner rest
@@ -126,40 +127,40 @@ told_keeps (places.OpenIn name) (replies.OpenIn (Ok heard)) rest =
     hears (places.OpenIn name) (replies.OpenIn (Ok heard)) rest _ refl (goes (record { onward = heard.onwards.signals; touched = heard.touched; looks = rest.looks }))
 told_keeps (places.OpenIn name) reply rest = plain (places.OpenIn name) reply rest _ refl refl (stays (places.GiveBack name) rest refl)
 told_keeps (places.GiveBack name) reply rest = plain (places.GiveBack name) reply rest _ refl refl (ends rest)
-told_keeps (places.Routing offered) (replies.Route (routes.To peer)) rest = plain (places.Routing offered) _ rest _ refl refl (stays (places.ReserveOut offered peer) rest refl)
+told_keeps (places.Routing offered) (replies.Route (routes.To peer format)) rest = plain (places.Routing offered) _ rest _ refl refl (stays (places.ReserveOut offered peer format) rest refl)
 told_keeps (places.Routing offered) (replies.Route routes.WithoutFormat) rest = plain (places.Routing offered) _ rest _ refl refl (stays (places.Rejecting offered _) rest refl)
 told_keeps (places.Routing offered) reply rest = plain (places.Routing offered) reply rest _ refl refl (stays (places.Rejecting offered _) rest refl)
 told_keeps (places.Rejecting offered cause) (replies.Order (Ok done)) rest = plain (places.Rejecting offered cause) _ rest _ refl refl (goes rest)
-told_keeps (places.Rejecting offered cause) reply rest = plain (places.Rejecting offered cause) reply rest _ refl refl (stays (places.Dooming offered) rest refl)
-told_keeps (places.ReserveOut offered peer) (replies.Reserve (Ok target)) rest = plain (places.ReserveOut offered peer) _ rest _ refl refl (stays (places.Bridging offered target) rest refl)
-told_keeps (places.ReserveOut offered peer) reply rest = plain (places.ReserveOut offered peer) reply rest _ refl refl (stays (places.Rejecting offered _) rest refl)
-told_keeps (places.Bridging offered target) (replies.Bridge (Ok done)) rest = plain (places.Bridging offered target) _ rest _ refl refl (stays (places.Accepting offered target) rest refl)
-told_keeps (places.Bridging offered target) reply rest = plain (places.Bridging offered target) reply rest _ refl refl (stays (places.Undoing offered target) rest refl)
-told_keeps (places.Accepting offered target) (replies.Order (Ok done)) rest = plain (places.Accepting offered target) _ rest _ refl refl (stays (places.OpenOut offered target) rest refl)
-told_keeps (places.Accepting offered target) reply rest = plain (places.Accepting offered target) reply rest _ refl refl (stays (places.Undoing offered target) rest refl)
+told_keeps (places.Rejecting offered cause) reply rest = plain (places.Rejecting offered cause) reply rest _ refl refl (stays (places.Dooming offered _) rest refl)
+told_keeps (places.ReserveOut offered peer format) (replies.Reserve (Ok target)) rest = plain (places.ReserveOut offered peer format) _ rest _ refl refl (stays (places.Bridging offered target format) rest refl)
+told_keeps (places.ReserveOut offered peer format) reply rest = plain (places.ReserveOut offered peer format) reply rest _ refl refl (stays (places.Rejecting offered _) rest refl)
+told_keeps (places.Bridging offered target format) (replies.Bridge (Ok done)) rest = plain (places.Bridging offered target format) _ rest _ refl refl (stays (places.Accepting offered target format) rest refl)
+told_keeps (places.Bridging offered target format) reply rest = plain (places.Bridging offered target format) reply rest _ refl refl (stays (places.Undoing offered target) rest refl)
+told_keeps (places.Accepting offered target format) (replies.Order (Ok done)) rest = plain (places.Accepting offered target format) _ rest _ refl refl (stays (places.OpenOut offered target) rest refl)
+told_keeps (places.Accepting offered target format) reply rest = plain (places.Accepting offered target format) reply rest _ refl refl (stays (places.Undoing offered target) rest refl)
 told_keeps (places.OpenOut offered target) (replies.OpenOut (Ok done)) rest = plain (places.OpenOut offered target) _ rest _ refl refl (stays (places.Checking target) rest refl)
 told_keeps (places.OpenOut offered target) reply rest = plain (places.OpenOut offered target) reply rest _ refl refl (stays (places.Undoing offered target) rest refl)
 told_keeps (places.Checking target) (replies.Partner (Some partner)) rest = plain (places.Checking target) _ rest _ refl refl (goes rest)
-told_keeps (places.Checking target) reply rest = plain (places.Checking target) reply rest _ refl refl (stays (places.Dooming target) rest refl)
-told_keeps (places.Undoing offered target) reply rest = plain (places.Undoing offered target) reply rest _ refl refl (stays (places.Dooming offered) rest refl)
-told_keeps (places.Dooming name) reply rest = plain (places.Dooming name) reply rest _ refl refl (goes rest)
+told_keeps (places.Checking target) reply rest = plain (places.Checking target) reply rest _ refl refl (stays (places.Dooming target _) rest refl)
+told_keeps (places.Undoing offered target) reply rest = plain (places.Undoing offered target) reply rest _ refl refl (stays (places.Dooming offered _) rest refl)
+told_keeps (places.Dooming name cause) reply rest = plain (places.Dooming name cause) reply rest _ refl refl (goes rest)
 told_keeps (places.Finding name act) (replies.Partner (Some partner)) rest = found name partner act _ rest
 told_keeps (places.Finding name act) reply rest = not_found name act reply rest
 told_keeps (places.Passing partner act) reply rest = passing partner act reply rest _ (passed_is reply partner act rest)
 told_keeps (places.Looking name) reply rest = plain (places.Looking name) reply rest _ refl refl (looked_is reply name rest)
-told_keeps (places.LookingAt peer number) (replies.Look (Some status)) rest = plain (places.LookingAt peer number) _ rest _ refl refl (look_is status.name status.owes rest)
+told_keeps (places.LookingAt peer number) (replies.Look (Some status)) rest = plain (places.LookingAt peer number) _ rest _ refl refl (look_is status.name status.owes status.cause rest)
 told_keeps (places.LookingAt peer number) reply rest = plain (places.LookingAt peer number) reply rest _ refl refl (goes rest)
-told_keeps (places.FindingPartner name) (replies.Partner (Some partner)) rest = plain (places.FindingPartner name) _ rest _ refl refl (stays (places.HangingUp name partner) rest refl)
-told_keeps (places.FindingPartner name) reply rest = plain (places.FindingPartner name) reply rest _ refl refl (stays (places.Paying name) rest refl)
-told_keeps (places.HangingUp name partner) (replies.Order (Ok done)) rest = plain (places.HangingUp name partner) _ rest _ refl refl (stays (places.Paying name) rest refl)
-told_keeps (places.HangingUp name partner) (replies.Order (Err order_errors.Gone)) rest = plain (places.HangingUp name partner) _ rest _ refl refl (stays (places.Paying name) rest refl)
-told_keeps (places.HangingUp name partner) (replies.Order (Err order_errors.WrongStage)) rest = plain (places.HangingUp name partner) _ rest _ refl refl (stays (places.Paying name) rest refl)
-told_keeps (places.HangingUp name partner) reply rest = plain (places.HangingUp name partner) reply rest _ refl refl (stays (places.Retiring name) rest refl)
-told_keeps (places.Paying name) reply rest = plain (places.Paying name) reply rest _ refl refl (stays (places.Retiring name) rest refl)
-told_keeps (places.Retiring name) (replies.Retire true) rest = plain (places.Retiring name) _ rest _ refl refl (stays (places.Freeing name) rest refl)
-told_keeps (places.Retiring name) reply rest = plain (places.Retiring name) reply rest _ refl refl (goes rest)
-told_keeps (places.Freeing name) (replies.Release (Ok (Some partner))) rest = plain (places.Freeing name) _ rest _ refl refl (stays (places.Dooming partner) rest refl)
-told_keeps (places.Freeing name) reply rest = plain (places.Freeing name) reply rest _ refl refl (goes rest)
+told_keeps (places.FindingPartner name cause) (replies.Partner (Some partner)) rest = plain (places.FindingPartner name cause) _ rest _ refl refl (stays (places.HangingUp name partner cause) rest refl)
+told_keeps (places.FindingPartner name cause) reply rest = plain (places.FindingPartner name cause) reply rest _ refl refl (stays (places.Paying name cause) rest refl)
+told_keeps (places.HangingUp name partner cause) (replies.Order (Ok done)) rest = plain (places.HangingUp name partner cause) _ rest _ refl refl (stays (places.Paying name cause) rest refl)
+told_keeps (places.HangingUp name partner cause) (replies.Order (Err order_errors.Gone)) rest = plain (places.HangingUp name partner cause) _ rest _ refl refl (stays (places.Paying name cause) rest refl)
+told_keeps (places.HangingUp name partner cause) (replies.Order (Err order_errors.WrongStage)) rest = plain (places.HangingUp name partner cause) _ rest _ refl refl (stays (places.Paying name cause) rest refl)
+told_keeps (places.HangingUp name partner cause) reply rest = plain (places.HangingUp name partner cause) reply rest _ refl refl (stays (places.Retiring name cause) rest refl)
+told_keeps (places.Paying name cause) reply rest = plain (places.Paying name cause) reply rest _ refl refl (stays (places.Retiring name cause) rest refl)
+told_keeps (places.Retiring name cause) (replies.Retire true) rest = plain (places.Retiring name cause) _ rest _ refl refl (stays (places.Freeing name cause) rest refl)
+told_keeps (places.Retiring name cause) reply rest = plain (places.Retiring name cause) reply rest _ refl refl (goes rest)
+told_keeps (places.Freeing name cause) (replies.Release (Ok (Some partner))) rest = plain (places.Freeing name cause) _ rest _ refl refl (stays (places.Dooming partner cause) rest refl)
+told_keeps (places.Freeing name cause) reply rest = plain (places.Freeing name cause) reply rest _ refl refl (goes rest)
 told_keeps (places.Tick peer) (replies.Tick (Ok false)) rest = plain (places.Tick peer) _ rest _ refl refl (goes rest)
 told_keeps (places.Tick peer) (replies.Tick (Ok true)) rest = plain (places.Tick peer) _ rest _ refl refl (ends rest)
 told_keeps (places.Tick peer) reply rest = plain (places.Tick peer) reply rest _ refl refl (ends rest)

@@ -137,7 +137,7 @@ held_once world h x = omega (arith, h.once x, times-append x (names_of world.leg
 next_stale : (place : Place) (name : LegName) → next_at place ≡ Some (needs.Release name) → in_hand place ≡ name ∷ []
 next_stale (places.GiveBack own) name is = let same : own ≡ name = cc in ap (λ n. n ∷ []) same
 next_stale (places.Undoing offered own) name is = let same : own ≡ name = cc in ap (λ n. n ∷ []) same
-next_stale (places.Freeing own) name is = let same : own ≡ name = cc in ap (λ n. n ∷ []) same
+next_stale (places.Freeing own cause) name is = let same : own ≡ name = cc in ap (λ n. n ∷ []) same
 next_stale place name is = absurd (cc)
 
 next_opens : (place : Place) (name : LegName) → (next_at place ≡ Some (needs.OpenIn name)) ⊎ (next_at place ≡ Some (needs.OpenOut name)) → in_hand place ≡ name ∷ []

@@ -49,15 +49,15 @@ pending_before (kinds.Dtmf digit) stages.Linked after ok not_pending = let e : s
 pending_before (kinds.Dtmf digit) stages.Up after ok not_pending = let e : stages.Up ≡ after = cc in ap is_pending (sym e)
 pending_before kinds.Media stages.Linked after ok not_pending = let e : stages.Linked ≡ after = cc in ap is_pending (sym e)
 pending_before kinds.Media stages.Up after ok not_pending = let e : stages.Up ≡ after = cc in ap is_pending (sym e)
-pending_before kinds.Hangup stages.Closing after ok not_pending = absurd (cc)
-pending_before kinds.Hangup stages.Ended after ok not_pending = absurd (cc)
-pending_before kinds.Hangup stage after ok not_pending = let e : stages.Closing ≡ after = cc in ap is_pending (sym e)
-pending_before kinds.Doom stage after ok not_pending = let e : stage ≡ after = cc in ap is_pending (sym e) ∙ not_pending
+pending_before (kinds.Hangup cause) stages.Closing after ok not_pending = absurd (cc)
+pending_before (kinds.Hangup cause) stages.Ended after ok not_pending = absurd (cc)
+pending_before (kinds.Hangup cause) stage after ok not_pending = let e : stages.Closing ≡ after = cc in ap is_pending (sym e)
+pending_before (kinds.Doom cause) stage after ok not_pending = let e : stage ≡ after = cc in ap is_pending (sym e) ∙ not_pending
 pending_before kinds.Paid stage after ok not_pending = let e : stage ≡ after = cc in ap is_pending (sym e) ∙ not_pending
 pending_before kind stage after ok not_pending = absurd (cc)
 
 carried_not_pending : (kind : OrderKind) (leg : Leg) (after : Stage) → stage_after kind leg.seen.stage ≡ Some after → is_pending leg.seen.stage ≡ false → is_pending (carried kind leg after).seen.stage ≡ false
-carried_not_pending kinds.Doom leg after ok not_pending = not_pending
+carried_not_pending (kinds.Doom cause) leg after ok not_pending = not_pending
 carried_not_pending kinds.Paid leg after ok not_pending = not_pending
 carried_not_pending kind leg after ok not_pending = pending_before kind leg.seen.stage after ok not_pending
 

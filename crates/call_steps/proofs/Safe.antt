@@ -8,6 +8,7 @@ use Rattle.call_book.specs.Book.{Book, has_name, is_same, partner_of}
 use Rattle.call_book.specs.declared.leg_name.LegName.{LegName}
 use Rattle.leg_machine.specs.Seen.{SeenFrame, ProvesItself, FailsToProve, HangsUp, AcknowledgesAll, frame_effect, stage_after, moved, Lapse, Ends, ClosesDoomed}
 use Rattle.leg_machine.specs.Stages.{is_over}
+use Rattle.call_signals.specs.declared.causes.Cause.{Cause}
 use Rattle.call_signals.specs.declared.orders.OrderKind.{OrderKind}
 use Rattle.call_signals.specs.declared.orders.OrderKind.TheVariants as kinds
 use Rattle.call_signals.specs.declared.signals.Signal.{Signal}
@@ -141,14 +142,14 @@ heard_before kind stages.Waiting after ok h = refl
 heard_before kind stages.Offered after ok h = refl
 heard_before kind stages.Linked after ok h = refl
 heard_before kind stages.Up after ok h = refl
-heard_before kinds.Hangup stages.Challenged after ok h = let e : stages.Closing ≡ after = cc in absurd (true≢false (sym h ∙ ap is_heard (sym e)))
-heard_before kinds.Doom stages.Challenged after ok h = let e : stages.Challenged ≡ after = cc in absurd (true≢false (sym h ∙ ap is_heard (sym e)))
+heard_before (kinds.Hangup cause) stages.Challenged after ok h = let e : stages.Closing ≡ after = cc in absurd (true≢false (sym h ∙ ap is_heard (sym e)))
+heard_before (kinds.Doom cause) stages.Challenged after ok h = let e : stages.Challenged ≡ after = cc in absurd (true≢false (sym h ∙ ap is_heard (sym e)))
 heard_before kinds.Paid stages.Challenged after ok h = let e : stages.Challenged ≡ after = cc in absurd (true≢false (sym h ∙ ap is_heard (sym e)))
 heard_before kind stages.Challenged after ok h = absurd (cc)
-heard_before kinds.Doom stages.Closing after ok h = let e : stages.Closing ≡ after = cc in absurd (true≢false (sym h ∙ ap is_heard (sym e)))
+heard_before (kinds.Doom cause) stages.Closing after ok h = let e : stages.Closing ≡ after = cc in absurd (true≢false (sym h ∙ ap is_heard (sym e)))
 heard_before kinds.Paid stages.Closing after ok h = let e : stages.Closing ≡ after = cc in absurd (true≢false (sym h ∙ ap is_heard (sym e)))
 heard_before kind stages.Closing after ok h = absurd (cc)
-heard_before kinds.Doom stages.Ended after ok h = let e : stages.Ended ≡ after = cc in absurd (true≢false (sym h ∙ ap is_heard (sym e)))
+heard_before (kinds.Doom cause) stages.Ended after ok h = let e : stages.Ended ≡ after = cc in absurd (true≢false (sym h ∙ ap is_heard (sym e)))
 heard_before kinds.Paid stages.Ended after ok h = let e : stages.Ended ≡ after = cc in absurd (true≢false (sym h ∙ ap is_heard (sym e)))
 heard_before kind stages.Ended after ok h = absurd (cc)
 
@@ -160,7 +161,7 @@ doomed_less true false false c k = k
 
 -- an order makes no leg kept that wasn't
 pub ordered_kept : (kind : OrderKind) (leg : Leg) (after : Stage) → stage_after kind leg.seen.stage ≡ Some after → is_kept (carried kind leg after) ≡ true → is_kept leg ≡ true
-ordered_kept kinds.Doom leg after ok kept = doomed_less (is_heard leg.seen.stage) leg.seen.doomed (not (is_over leg.seen.stage)) leg.called kept
+ordered_kept (kinds.Doom cause) leg after ok kept = doomed_less (is_heard leg.seen.stage) leg.seen.doomed (not (is_over leg.seen.stage)) leg.called kept
 ordered_kept kinds.Paid leg after ok kept = kept
 ordered_kept kind leg after ok kept =
     and_both _ _ (heard_before kind leg.seen.stage after ok (and_first (is_heard after) _ kept)) (and_second (is_heard after) (not (leg.seen.doomed || leg.called)) kept)
@@ -208,8 +209,8 @@ brought_kept frame leg kept =
     ]
 
 -- a doomed leg isn't kept, nor one that closes
-pub doomed_not_kept : (leg : Leg) (stage : Stage) → is_kept (carried kinds.Doom leg stage) ≡ true → ⊥
-doomed_not_kept leg stage kept = go leg.seen.stage leg.seen.doomed leg.called kept
+pub doomed_not_kept : (cause : Cause) (leg : Leg) (stage : Stage) → is_kept (carried (kinds.Doom cause) leg stage) ≡ true → ⊥
+doomed_not_kept cause leg stage kept = go leg.seen.stage leg.seen.doomed leg.called kept
   where
     go : (s : Stage) (d c : Bool) → (is_heard s && not ((d || not (is_over s)) || c)) ≡ true → ⊥
     go s true c kept = heard_and s kept

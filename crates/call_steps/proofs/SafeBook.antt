@@ -8,6 +8,9 @@ use Rattle.call_book.specs.declared.errors.BridgeError.{BridgeError}
 use Rattle.call_book.specs.declared.errors.ReserveError.{ReserveError}
 use Rattle.call_book.specs.declared.leg_name.LegName.{LegName}
 use Rattle.call_book.proofs.Changes.{IsReserved, reserved, IsBridged, bridged_by, partner_has, released_before, released_after, bridged_first, bridged_second, bridged_before, bridged_after, reserved_none, reserved_before, reserved_after}
+use Rattle.call_signals.specs.declared.causes.Cause.{Cause}
+use Rattle.call_signals.specs.declared.causes.Cause.TheVariants.{NormalClearing}
+use Rattle.call_signals.specs.declared.formats.Format.{Format}
 use Rattle.call_steps.specs.declared.places.Place.{Place}
 use Rattle.call_steps.specs.declared.places.Place.TheVariants as places
 use Rattle.call_steps.specs.declared.replies.Reply.TheVariants as replies
@@ -67,16 +70,16 @@ module _ (others_care others_fresh beside : LegName → ℕ) (few : (x : LegName
       go (Ok name) is = let f = ok name in reserved_safe place rest peer name (told_at place (replies.Reserve (Ok name)) rest) b none (reserved book peer name b.held.sound is) f.0 f.1 f.2
 
   -- ---- bridge
-  pub bridging_safe : (offered target : LegName) (rest : Rest) → Known (places.Bridging offered target) rest → SafeAnswer (places.Bridging offered target) rest (bridges (scene book legs (target ∷ [])) offered target (bridge_answer book offered target))
-  bridging_safe offered target rest b = go (bridge_answer book offered target) refl
+  pub bridging_safe : (offered target : LegName) (format : Format) (rest : Rest) → Known (places.Bridging offered target format) rest → SafeAnswer (places.Bridging offered target format) rest (bridges (scene book legs (target ∷ [])) offered target (bridge_answer book offered target))
+  bridging_safe offered target format rest b = go (bridge_answer book offered target) refl
     where
-      did_safe : IsBridged book offered target → Safe (places.Bridging offered target) rest (scene (bridged book offered target) legs (target ∷ [])) (at (places.Accepting offered target) rest)
+      did_safe : IsBridged book offered target → Safe (places.Bridging offered target format) rest (scene (bridged book offered target) legs (target ∷ [])) (at (places.Accepting offered target format) rest)
       did_safe did = record {
         past = λ x some. inl (omega arith);
         fresh = λ x some. inl some;
         next = omega arith;
-        covered = all_map (Covers book (seen others_care others_fresh beside few book legs (at (places.Bridging offered target) rest)))
-            (Covers (bridged book offered target) (seen others_care others_fresh beside few book legs (at (places.Accepting offered target) rest))) legs
+        covered = all_map (Covers book (seen others_care others_fresh beside few book legs (at (places.Bridging offered target format) rest)))
+            (Covers (bridged book offered target) (seen others_care others_fresh beside few book legs (at (places.Accepting offered target format) rest))) legs
             (λ leg c kept. elim (cases_Bool (is_same offered leg.name)) [
               | inl same ↦
                   let e : offered ≡ leg.name = same_name offered leg.name same in
@@ -106,7 +109,7 @@ module _ (others_care others_fresh beside : LegName → ℕ) (few : (x : LegName
             bridged_before book offered target did y p not_first not_second is;
       }
 
-      go : (r : Result (Unit {0}) BridgeError) → bridge_answer book offered target ≡ r → SafeAnswer (places.Bridging offered target) rest (bridges (scene book legs (target ∷ [])) offered target r)
+      go : (r : Result (Unit {0}) BridgeError) → bridge_answer book offered target ≡ r → SafeAnswer (places.Bridging offered target format) rest (bridges (scene book legs (target ∷ [])) offered target r)
       go (Err e) is = record {
         past = λ x some. inl (omega arith);
         fresh = λ x some. inl some;
@@ -188,7 +191,7 @@ module _ (others_care others_fresh beside : LegName → ℕ) (few : (x : LegName
   pub undoing_safe : (offered target : LegName) (rest : Rest) → Known (places.Undoing offered target) rest → SafeAnswer (places.Undoing offered target) rest (at_release (scene book legs (target ∷ [])) target)
   undoing_safe offered target rest b =
       at_release_safe (places.Undoing offered target) rest target b refl
-      (release_safe (places.Undoing offered target) rest target (at (places.Dooming offered) rest) b refl refl (λ x. omega arith) (λ x. omega arith)
+      (release_safe (places.Undoing offered target) rest target (at (places.Dooming offered NormalClearing) rest) b refl refl (λ x. omega arith) (λ x. omega arith)
       (λ x is.
       let own : bit (is_same target target) ≡ 1 = ap bit (is_same_itself target) in
       let only : Some offered ≡ Some x = b.lone target x (omega arith) is in
@@ -196,15 +199,15 @@ module _ (others_care others_fresh beside : LegName → ℕ) (few : (x : LegName
       let one : bit (is_same offered x) ≡ 1 = ap bit (ap (is_same offered) (sym e) ∙ is_same_itself offered) in
       omega arith))
 
-  pub freeing_safe : (name : LegName) (rest : Rest) → Known (places.Freeing name) rest → SafeAnswer (places.Freeing name) rest (at_release (scene book legs (name ∷ [])) name)
-  freeing_safe name rest b = at_release_safe (places.Freeing name) rest name b refl (go (partner_of book name) refl)
+  pub freeing_safe : (name : LegName) (cause : Cause) (rest : Rest) → Known (places.Freeing name cause) rest → SafeAnswer (places.Freeing name cause) rest (at_release (scene book legs (name ∷ [])) name)
+  freeing_safe name cause rest b = at_release_safe (places.Freeing name cause) rest name b refl (go (partner_of book name) refl)
     where
-      go : (o : Option LegName) → partner_of book name ≡ o → Safe (places.Freeing name) rest (scene (released book name) legs []) (told_at (places.Freeing name) (replies.Release (Ok o)) rest)
+      go : (o : Option LegName) → partner_of book name ≡ o → Safe (places.Freeing name cause) rest (scene (released book name) legs []) (told_at (places.Freeing name cause) (replies.Release (Ok o)) rest)
       go None is =
-          release_safe (places.Freeing name) rest name (go_on rest) b refl (go_on_hand rest) (λ x. omega (arith, go_on_past rest x)) (λ x. omega (arith, go_on_care rest x))
+          release_safe (places.Freeing name cause) rest name (go_on rest) b refl (go_on_hand rest) (λ x. omega (arith, go_on_past rest x)) (λ x. omega (arith, go_on_care rest x))
           (λ x some. let never : None ≡ Some x = sym is ∙ some in absurd (cc))
       go (Some former) is =
-          release_safe (places.Freeing name) rest name (at (places.Dooming former) rest) b refl refl (λ x. omega arith) (λ x. omega arith)
+          release_safe (places.Freeing name cause) rest name (at (places.Dooming former cause) rest) b refl refl (λ x. omega arith) (λ x. omega arith)
           (λ x some.
           let only : Some former ≡ Some x = sym is ∙ some in
           let e : former ≡ x = cc in

@@ -4,6 +4,8 @@ use Rattle.std.specs.Prelude.{Result, Ok, Err}
 use Rattle.call_book.specs.Book.{Book}
 use Rattle.call_book.specs.declared.leg_name.LegName.{LegName}
 use Rattle.call_signals.specs.declared.causes.Cause.{Cause}
+use Rattle.call_signals.specs.declared.causes.Cause.TheVariants.{NormalClearing}
+use Rattle.call_signals.specs.declared.formats.Format.{Format}
 use Rattle.call_signals.specs.declared.orders.OrderKind.{OrderKind}
 use Rattle.peer_lock.specs.declared.errors.OrderError.{OrderError}
 use Rattle.peer_lock.specs.declared.errors.OrderError.TheVariants as order_errors
@@ -49,7 +51,7 @@ flows_pass partner act rest r = result r
   where
     no_room : (act own : Act) → Flows (places.Passing partner own) rest (after_no_room act partner rest)
     no_room (acts.Media span) own = flows_on (places.Passing partner own) rest (λ x. omega arith)
-    no_room act own = quiet (places.Passing partner own) rest (at (places.Dooming partner) rest) refl (λ x. omega arith) (λ x. omega arith)
+    no_room act own = quiet (places.Passing partner own) rest (at (places.Dooming partner NormalClearing) rest) refl (λ x. omega arith) (λ x. omega arith)
 
     when_refused : (error : OrderError) → Flows (places.Passing partner act) rest (told_at (places.Passing partner act) (replies.Order (Err error)) rest)
     when_refused order_errors.WindowFull = no_room act act
@@ -61,26 +63,26 @@ flows_pass partner act rest r = result r
     result (Ok done) = flows_on (places.Passing partner act) rest (λ x. omega arith)
     result (Err error) = when_refused error
 
-pub flows_hanging_up : (name partner : LegName) (rest : Rest) (r : Result (Unit {0}) OrderError) → Flows (places.HangingUp name partner) rest (told_at (places.HangingUp name partner) (replies.Order r) rest)
-flows_hanging_up name partner rest (Ok done) = quiet (places.HangingUp name partner) rest (at (places.Paying name) rest) refl (λ x. omega arith) (λ x. omega arith)
-flows_hanging_up name partner rest (Err order_errors.Gone) = quiet (places.HangingUp name partner) rest (at (places.Paying name) rest) refl (λ x. omega arith) (λ x. omega arith)
-flows_hanging_up name partner rest (Err order_errors.WrongStage) = quiet (places.HangingUp name partner) rest (at (places.Paying name) rest) refl (λ x. omega arith) (λ x. omega arith)
-flows_hanging_up name partner rest (Err error) = quiet (places.HangingUp name partner) rest (at (places.Retiring name) rest) refl (λ x. omega arith) (λ x. omega arith)
+pub flows_hanging_up : (name partner : LegName) (cause : Cause) (rest : Rest) (r : Result (Unit {0}) OrderError) → Flows (places.HangingUp name partner cause) rest (told_at (places.HangingUp name partner cause) (replies.Order r) rest)
+flows_hanging_up name partner cause rest (Ok done) = quiet (places.HangingUp name partner cause) rest (at (places.Paying name cause) rest) refl (λ x. omega arith) (λ x. omega arith)
+flows_hanging_up name partner cause rest (Err order_errors.Gone) = quiet (places.HangingUp name partner cause) rest (at (places.Paying name cause) rest) refl (λ x. omega arith) (λ x. omega arith)
+flows_hanging_up name partner cause rest (Err order_errors.WrongStage) = quiet (places.HangingUp name partner cause) rest (at (places.Paying name cause) rest) refl (λ x. omega arith) (λ x. omega arith)
+flows_hanging_up name partner cause rest (Err error) = quiet (places.HangingUp name partner cause) rest (at (places.Retiring name cause) rest) refl (λ x. omega arith) (λ x. omega arith)
 
-pub flows_paying : (name : LegName) (rest : Rest) (r : Result (Unit {0}) OrderError) → Flows (places.Paying name) rest (told_at (places.Paying name) (replies.Order r) rest)
-flows_paying name rest r = quiet (places.Paying name) rest (at (places.Retiring name) rest) refl (λ x. omega arith) (λ x. omega arith)
+pub flows_paying : (name : LegName) (cause : Cause) (rest : Rest) (r : Result (Unit {0}) OrderError) → Flows (places.Paying name cause) rest (told_at (places.Paying name cause) (replies.Order r) rest)
+flows_paying name cause rest r = quiet (places.Paying name cause) rest (at (places.Retiring name cause) rest) refl (λ x. omega arith) (λ x. omega arith)
 
 pub flows_hang_up : (name : LegName) (rest : Rest) (r : Result (Unit {0}) OrderError) → Flows (places.HangUp name) rest (told_at (places.HangUp name) (replies.Order r) rest)
 flows_hang_up name rest (Ok done) = flows_on (places.HangUp name) rest (λ x. omega arith)
 flows_hang_up name rest (Err error) = quiet (places.HangUp name) rest ended refl (λ x. omega arith) (λ x. omega arith)
 
-pub flows_accepting : (offered target : LegName) (rest : Rest) (r : Result (Unit {0}) OrderError) → Flows (places.Accepting offered target) rest (told_at (places.Accepting offered target) (replies.Order r) rest)
-flows_accepting offered target rest (Ok done) = record { goes = record { past = λ x. omega arith; fresh = λ x some. (some, refl) }; care = λ x. omega arith }
-flows_accepting offered target rest (Err error) = record { goes = record { past = λ x. omega arith; fresh = λ x some. (some, refl) }; care = λ x. omega arith }
+pub flows_accepting : (offered target : LegName) (format : Format) (rest : Rest) (r : Result (Unit {0}) OrderError) → Flows (places.Accepting offered target format) rest (told_at (places.Accepting offered target format) (replies.Order r) rest)
+flows_accepting offered target format rest (Ok done) = record { goes = record { past = λ x. omega arith; fresh = λ x some. (some, refl) }; care = λ x. omega arith }
+flows_accepting offered target format rest (Err error) = record { goes = record { past = λ x. omega arith; fresh = λ x some. (some, refl) }; care = λ x. omega arith }
 
 pub flows_rejecting : (offered : LegName) (cause : Cause) (rest : Rest) (r : Result (Unit {0}) OrderError) → Moves (places.Rejecting offered cause) rest (told_at (places.Rejecting offered cause) (replies.Order r) rest)
 flows_rejecting offered cause rest (Ok done) = go_on_moves (places.Rejecting offered cause) rest
-flows_rejecting offered cause rest (Err error) = (quiet (places.Rejecting offered cause) rest (at (places.Dooming offered) rest) refl (λ x. omega arith) (λ x. omega arith)).goes
+flows_rejecting offered cause rest (Err error) = (quiet (places.Rejecting offered cause) rest (at (places.Dooming offered NormalClearing) rest) refl (λ x. omega arith) (λ x. omega arith)).goes
 
 module _ (others_care others_fresh beside : LegName → ℕ) (few : (x : LegName) → others_fresh x ≤ beside x) (book : Book) (legs : List Leg) where
   abbrev Known : Place → Rest → Type 0

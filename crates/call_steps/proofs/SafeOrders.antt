@@ -52,30 +52,30 @@ module _ (others_care others_fresh beside : LegName → ℕ) (few : (x : LegName
       closes before after ok d c kept = absurd (cc)
 
   -- Doom: the leg is doomed, closed or gone
-  module _ (name : LegName) (rest : Rest) (b : Known (places.Dooming name) rest) where
-    apart_care : (x : LegName) → is_same name x ≡ false → care (at (places.Dooming name) rest) x ≤ care (go_on rest) x
+  module _ (name : LegName) (cause : Cause) (rest : Rest) (b : Known (places.Dooming name cause) rest) where
+    apart_care : (x : LegName) → is_same name x ≡ false → care (at (places.Dooming name cause) rest) x ≤ care (go_on rest) x
     apart_care x other = let none : bit (is_same name x) ≡ 0 = ap bit other in omega (arith, go_on_care rest x)
 
-    gone : leg_named legs name ≡ None → Safe (places.Dooming name) rest (scene book legs []) (go_on rest)
+    gone : leg_named legs name ≡ None → Safe (places.Dooming name cause) rest (scene book legs []) (go_on rest)
     gone none =
-        unchanged others_care others_fresh beside few book legs (places.Dooming name) rest legs [] (go_on rest) b (go_on_moves (places.Dooming name) rest)
-        (none_apart others_care others_fresh beside few book legs (places.Dooming name) rest name kinds.Doom b (λ r. go_on_moves (places.Dooming name) rest) (go_on rest) apart_care none)
+        unchanged others_care others_fresh beside few book legs (places.Dooming name cause) rest legs [] (go_on rest) b (go_on_moves (places.Dooming name cause) rest)
+        (none_apart others_care others_fresh beside few book legs (places.Dooming name cause) rest name (kinds.Doom cause) b (λ r. go_on_moves (places.Dooming name cause) rest) (go_on rest) apart_care none)
 
-    doomed : (leg : Leg) → leg_named legs name ≡ Some leg → Safe (places.Dooming name) rest (scene book (replaced legs (carried kinds.Doom leg leg.seen.stage)) []) (go_on rest)
+    doomed : (leg : Leg) → leg_named legs name ≡ Some leg → Safe (places.Dooming name cause) rest (scene book (replaced legs (carried (kinds.Doom cause) leg leg.seen.stage)) []) (go_on rest)
     doomed leg found =
-        unchanged others_care others_fresh beside few book legs (places.Dooming name) rest (replaced legs (carried kinds.Doom leg leg.seen.stage)) [] (go_on rest) b (go_on_moves (places.Dooming name) rest)
-        (obeyed others_care others_fresh beside few book legs (places.Dooming name) rest name kinds.Doom b (λ r. go_on_moves (places.Dooming name) rest) leg leg.seen.stage found apart_care
-        (λ c kept. absurd (doomed_not_kept leg leg.seen.stage kept)))
+        unchanged others_care others_fresh beside few book legs (places.Dooming name cause) rest (replaced legs (carried (kinds.Doom cause) leg leg.seen.stage)) [] (go_on rest) b (go_on_moves (places.Dooming name cause) rest)
+        (obeyed others_care others_fresh beside few book legs (places.Dooming name cause) rest name (kinds.Doom cause) b (λ r. go_on_moves (places.Dooming name cause) rest) leg leg.seen.stage found apart_care
+        (λ c kept. absurd (doomed_not_kept cause leg leg.seen.stage kept)))
 
-    doom : (o : Option Leg) (choice : Choice) → leg_named legs name ≡ o → SafeAnswer (places.Dooming name) rest (at_leg (scene book legs []) kinds.Doom o choice)
+    doom : (o : Option Leg) (choice : Choice) → leg_named legs name ≡ o → SafeAnswer (places.Dooming name cause) rest (at_leg (scene book legs []) (kinds.Doom cause) o choice)
     doom None choice found = gone found
     doom (Some leg) (RefusesOrder error) found = doomed leg found
     doom (Some leg) choice found = doomed leg found
 
-    pub dooming_safe : (choice : Choice) → IsSeenTo others_care choice → SafeAnswer (places.Dooming name) rest (at_order (scene book legs []) name kinds.Doom choice)
+    pub dooming_safe : (choice : Choice) → IsSeenTo others_care choice → SafeAnswer (places.Dooming name cause) rest (at_order (scene book legs []) name (kinds.Doom cause) choice)
     dooming_safe (RefusesOrder order_errors.StepsSpent) (inl paid) = absurd (cc)
     dooming_safe (RefusesOrder order_errors.StepsSpent) (inr seen_to) =
-        unchanged others_care others_fresh beside few book legs (places.Dooming name) rest legs [] (go_on rest) b (go_on_moves (places.Dooming name) rest)
-        (all_map (Covers book (seen others_care others_fresh beside few book legs (at (places.Dooming name) rest))) (Covers book (seen others_care others_fresh beside few book legs (go_on rest))) legs
+        unchanged others_care others_fresh beside few book legs (places.Dooming name cause) rest legs [] (go_on rest) b (go_on_moves (places.Dooming name cause) rest)
+        (all_map (Covers book (seen others_care others_fresh beside few book legs (at (places.Dooming name cause) rest))) (Covers book (seen others_care others_fresh beside few book legs (go_on rest))) legs
         (λ leg c kept. omega (arith, seen_to leg.name)) b.covered)
     dooming_safe choice seen_to = doom (leg_named legs name) choice refl

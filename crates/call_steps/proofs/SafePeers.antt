@@ -5,6 +5,7 @@ use Rattle.std.specs.List.{AllByRecursion}
 use Rattle.std.proofs.lemmas.Bool.{cond_both}
 use Rattle.call_book.specs.Book.{Book, is_same, partner_of}
 use Rattle.call_book.specs.declared.leg_name.LegName.{LegName}
+use Rattle.call_signals.specs.declared.causes.Cause.{Cause}
 use Rattle.leg_machine.specs.Seen.{SeenFrame, Speaks, frame_effect, opening_effect, fresh_leg, Lapse}
 use Rattle.call_signals.specs.declared.openings.Opening.{Opening}
 use Rattle.call_signals.specs.declared.openings.Opening.TheVariants.{Refused, Challenges, Offers}
@@ -134,24 +135,24 @@ module _ (others_care others_fresh beside : LegName → ℕ) (few : (x : LegName
       ended b refl refl (λ x some. absurd (omega arith)) (λ x. omega arith) (λ kept. absurd (cc)))
 
   -- ---- retiring
-  pub retiring_safe : (name : LegName) (rest : Rest) (choice : Choice) → Known (places.Retiring name) rest → SafeAnswer (places.Retiring name) rest (at_retire (scene book legs []) name choice)
-  retiring_safe name rest choice b = go choice
+  pub retiring_safe : (name : LegName) (cause : Cause) (rest : Rest) (choice : Choice) → Known (places.Retiring name cause) rest → SafeAnswer (places.Retiring name cause) rest (at_retire (scene book legs []) name choice)
+  retiring_safe name cause rest choice b = go choice
     where
-      stays_so : Flows (places.Retiring name) rest (go_on rest)
-      stays_so = flows_on (places.Retiring name) rest (λ x. omega arith)
+      stays_so : Flows (places.Retiring name cause) rest (go_on rest)
+      stays_so = flows_on (places.Retiring name cause) rest (λ x. omega arith)
 
-      taken_out : SafeAnswer (places.Retiring name) rest (cond (is_done (leg_named legs name)) (retires (scene book legs []) name) (keeps (scene book legs [])))
+      taken_out : SafeAnswer (places.Retiring name cause) rest (cond (is_done (leg_named legs name)) (retires (scene book legs []) name) (keeps (scene book legs [])))
       taken_out =
           cond_both (is_done (leg_named legs name)) (retires (scene book legs []) name) (keeps (scene book legs []))
-          (λ (a : Answer). SafeAnswer (places.Retiring name) rest a)
-          (λ _. unchanged others_care others_fresh beside few book legs (places.Retiring name) rest (without legs name) (name ∷ []) (at (places.Freeing name) rest) b
+          (λ (a : Answer). SafeAnswer (places.Retiring name cause) rest a)
+          (λ _. unchanged others_care others_fresh beside few book legs (places.Retiring name cause) rest (without legs name) (name ∷ []) (at (places.Freeing name cause) rest) b
           (record { past = λ x. omega arith; fresh = λ x some. absurd (omega arith) })
-          (all_without (Covers book (seen others_care others_fresh beside few book legs (at (places.Freeing name) rest))) legs name
-          (more_care others_care others_fresh beside few book legs (at (places.Retiring name) rest) (at (places.Freeing name) rest) (λ x. omega arith) b.covered)))
-          (λ _. flows_safe others_care others_fresh beside few book legs (places.Retiring name) rest [] (go_on rest) b stays_so)
+          (all_without (Covers book (seen others_care others_fresh beside few book legs (at (places.Freeing name cause) rest))) legs name
+          (more_care others_care others_fresh beside few book legs (at (places.Retiring name cause) rest) (at (places.Freeing name cause) rest) (λ x. omega arith) b.covered)))
+          (λ _. flows_safe others_care others_fresh beside few book legs (places.Retiring name cause) rest [] (go_on rest) b stays_so)
 
-      go : (choice : Choice) → SafeAnswer (places.Retiring name) rest (at_retire (scene book legs []) name choice)
-      go KeepsLeg = flows_safe others_care others_fresh beside few book legs (places.Retiring name) rest [] (go_on rest) b stays_so
+      go : (choice : Choice) → SafeAnswer (places.Retiring name cause) rest (at_retire (scene book legs []) name choice)
+      go KeepsLeg = flows_safe others_care others_fresh beside few book legs (places.Retiring name cause) rest [] (go_on rest) b stays_so
       go choice = taken_out
 
   -- ---- datagrams

@@ -5,6 +5,7 @@ use Rattle.std.proofs.lemmas.Bool.{true≢false}
 use Rattle.call_book.specs.Book.{is_same, partner_of}
 use Rattle.call_book.specs.declared.leg_name.LegName.{LegName}
 use Rattle.call_book.proofs.Changes.{no_partner, partner_at}
+use Rattle.call_signals.specs.declared.causes.Cause.TheVariants.{NormalClearing}
 use Rattle.call_steps.specs.declared.acts.Act.{Act}
 use Rattle.call_steps.specs.declared.acts.Act.TheVariants as acts
 use Rattle.call_steps.specs.declared.needs.Need.{Need}
@@ -195,11 +196,11 @@ module _ (world : World) where
   settled_for : (place : Place) (name : LegName) (act : Act) → next_at place ≡ Some (needs.Order name act) → is_talk act ≡ true → Asks (SettledIn world) place → SettledIn world name
   settled_for (places.Passing partner own) name act is talk h = let e : partner ≡ name = cc in subst (SettledIn world) e h
   settled_for (places.Rejecting offered cause) name act is talk h = not_talk (acts.Reject cause) act (cc) refl talk
-  settled_for (places.Accepting offered target) name act is talk h = not_talk acts.Accept act (cc) refl talk
-  settled_for (places.Dooming own) name act is talk h = not_talk acts.Doom act (cc) refl talk
-  settled_for (places.HangingUp own partner) name act is talk h = not_talk acts.Hangup act (cc) refl talk
-  settled_for (places.Paying own) name act is talk h = not_talk acts.Paid act (cc) refl talk
-  settled_for (places.HangUp own) name act is talk h = not_talk acts.Hangup act (cc) refl talk
+  settled_for (places.Accepting offered target format) name act is talk h = not_talk (acts.Accept format) act (cc) refl talk
+  settled_for (places.Dooming own cause) name act is talk h = not_talk (acts.Doom cause) act (cc) refl talk
+  settled_for (places.HangingUp own partner cause) name act is talk h = not_talk (acts.Hangup cause) act (cc) refl talk
+  settled_for (places.Paying own cause) name act is talk h = not_talk acts.Paid act (cc) refl talk
+  settled_for (places.HangUp own) name act is talk h = not_talk (acts.Hangup NormalClearing) act (cc) refl talk
   settled_for place name act is talk h = absurd (cc)
 
   pub none_meets_offered : IsTalkSafe world → NoneMeetsOffered world

@@ -4,6 +4,8 @@ use Rattle.std.specs.Prelude.{Ok, Err}
 use Rattle.std.proofs.lemmas.Bool.{cond_both, true≢false}
 use Rattle.call_book.specs.Book.{is_same}
 use Rattle.call_book.specs.declared.leg_name.LegName.{LegName}
+use Rattle.call_signals.specs.declared.causes.Cause.{Cause}
+use Rattle.call_signals.specs.declared.formats.Format.{Format}
 use Rattle.call_signals.specs.declared.signals.Signal.{Signal}
 use Rattle.call_signals.specs.declared.signals.Signal.TheVariants as signals
 use Rattle.peer_lock.specs.declared.errors.OrderError.TheVariants as order_errors
@@ -95,7 +97,7 @@ open_in_plain reply name rest = refl
 route_plain : (reply : Reply) (offered : LegName) (rest : Rest) → is_plain (after_route reply offered rest).place ≡ true
 route_plain (replies.Route routes.Nowhere) offered rest = refl
 route_plain (replies.Route routes.WithoutFormat) offered rest = refl
-route_plain (replies.Route (routes.To peer)) offered rest = refl
+route_plain (replies.Route (routes.To peer format)) offered rest = refl
 route_plain reply offered rest = refl
 
 reject_plain : (reply : Reply) (offered : LegName) (rest : Rest) → is_plain (after_reject reply offered rest).place ≡ true
@@ -103,15 +105,15 @@ reject_plain (replies.Order (Ok done)) offered rest = go_on_plain rest
 reject_plain (replies.Order (Err error)) offered rest = refl
 reject_plain reply offered rest = refl
 
-reserve_out_plain : (reply : Reply) (offered : LegName) (rest : Rest) → is_plain (after_reserve_out reply offered rest).place ≡ true
-reserve_out_plain (replies.Reserve (Ok target)) offered rest = refl
-reserve_out_plain (replies.Reserve (Err error)) offered rest = refl
-reserve_out_plain reply offered rest = refl
+reserve_out_plain : (reply : Reply) (offered : LegName) (format : Format) (rest : Rest) → is_plain (after_reserve_out reply offered format rest).place ≡ true
+reserve_out_plain (replies.Reserve (Ok target)) offered format rest = refl
+reserve_out_plain (replies.Reserve (Err error)) offered format rest = refl
+reserve_out_plain reply offered format rest = refl
 
-bridge_plain : (reply : Reply) (offered target : LegName) (rest : Rest) → is_plain (after_bridge reply offered target rest).place ≡ true
-bridge_plain (replies.Bridge (Ok done)) offered target rest = refl
-bridge_plain (replies.Bridge (Err error)) offered target rest = refl
-bridge_plain reply offered target rest = refl
+bridge_plain : (reply : Reply) (offered target : LegName) (format : Format) (rest : Rest) → is_plain (after_bridge reply offered target format rest).place ≡ true
+bridge_plain (replies.Bridge (Ok done)) offered target format rest = refl
+bridge_plain (replies.Bridge (Err error)) offered target format rest = refl
+bridge_plain reply offered target format rest = refl
 
 open_out_plain : (reply : Reply) (offered target : LegName) (rest : Rest) → is_plain (after_open_out reply offered target rest).place ≡ true
 open_out_plain (replies.OpenOut (Ok done)) offered target rest = refl
@@ -135,44 +137,44 @@ pass_plain (replies.Order (Err error)) partner act rest = go_on_plain rest
 pass_plain (replies.Order (Ok done)) partner act rest = go_on_plain rest
 pass_plain reply partner act rest = go_on_plain rest
 
-status_plain : (name : LegName) (owes : Bool) (rest : Rest) → is_plain (after_status name owes rest).place ≡ true
-status_plain name true rest = refl
-status_plain name false rest = refl
+status_plain : (name : LegName) (owes : Bool) (cause : Cause) (rest : Rest) → is_plain (after_status name owes cause rest).place ≡ true
+status_plain name true cause rest = refl
+status_plain name false cause rest = refl
 
 look_for_plain : (reply : Reply) (name : LegName) (rest : Rest) → is_plain (after_look reply name rest).place ≡ true
 look_for_plain (replies.Look (Some status)) name rest =
-    cond_both (is_same status.name name) (after_status status.name status.owes rest) (go_on rest) (λ w. is_plain w.place ≡ true)
-    (λ _. status_plain status.name status.owes rest) (λ _. go_on_plain rest)
+    cond_both (is_same status.name name) (after_status status.name status.owes status.cause rest) (go_on rest) (λ w. is_plain w.place ≡ true)
+    (λ _. status_plain status.name status.owes status.cause rest) (λ _. go_on_plain rest)
 look_for_plain (replies.Look None) name rest = go_on_plain rest
 look_for_plain reply name rest = go_on_plain rest
 
 look_at_plain : (reply : Reply) (rest : Rest) → is_plain (after_look_at reply rest).place ≡ true
-look_at_plain (replies.Look (Some status)) rest = status_plain status.name status.owes rest
+look_at_plain (replies.Look (Some status)) rest = status_plain status.name status.owes status.cause rest
 look_at_plain (replies.Look None) rest = go_on_plain rest
 look_at_plain reply rest = go_on_plain rest
 
-find_partner_plain : (reply : Reply) (name : LegName) (rest : Rest) → is_plain (after_find_partner reply name rest).place ≡ true
-find_partner_plain (replies.Partner (Some partner)) name rest = refl
-find_partner_plain (replies.Partner None) name rest = refl
-find_partner_plain reply name rest = refl
+find_partner_plain : (reply : Reply) (name : LegName) (cause : Cause) (rest : Rest) → is_plain (after_find_partner reply name cause rest).place ≡ true
+find_partner_plain (replies.Partner (Some partner)) name cause rest = refl
+find_partner_plain (replies.Partner None) name cause rest = refl
+find_partner_plain reply name cause rest = refl
 
-hung_up_plain : (reply : Reply) (name : LegName) (rest : Rest) → is_plain (after_partner_hangup reply name rest).place ≡ true
-hung_up_plain (replies.Order (Ok done)) name rest = refl
-hung_up_plain (replies.Order (Err order_errors.Gone)) name rest = refl
-hung_up_plain (replies.Order (Err order_errors.WrongStage)) name rest = refl
-hung_up_plain (replies.Order (Err error)) name rest = refl
-hung_up_plain reply name rest = refl
+hung_up_plain : (reply : Reply) (name : LegName) (cause : Cause) (rest : Rest) → is_plain (after_partner_hangup reply name cause rest).place ≡ true
+hung_up_plain (replies.Order (Ok done)) name cause rest = refl
+hung_up_plain (replies.Order (Err order_errors.Gone)) name cause rest = refl
+hung_up_plain (replies.Order (Err order_errors.WrongStage)) name cause rest = refl
+hung_up_plain (replies.Order (Err error)) name cause rest = refl
+hung_up_plain reply name cause rest = refl
 
-retire_plain : (reply : Reply) (name : LegName) (rest : Rest) → is_plain (after_retire reply name rest).place ≡ true
-retire_plain (replies.Retire true) name rest = refl
-retire_plain (replies.Retire false) name rest = go_on_plain rest
-retire_plain reply name rest = go_on_plain rest
+retire_plain : (reply : Reply) (name : LegName) (cause : Cause) (rest : Rest) → is_plain (after_retire reply name cause rest).place ≡ true
+retire_plain (replies.Retire true) name cause rest = refl
+retire_plain (replies.Retire false) name cause rest = go_on_plain rest
+retire_plain reply name cause rest = go_on_plain rest
 
-free_plain : (reply : Reply) (rest : Rest) → is_plain (after_free reply rest).place ≡ true
-free_plain (replies.Release (Ok (Some partner))) rest = refl
-free_plain (replies.Release (Ok None)) rest = go_on_plain rest
-free_plain (replies.Release (Err stale)) rest = go_on_plain rest
-free_plain reply rest = go_on_plain rest
+free_plain : (reply : Reply) (cause : Cause) (rest : Rest) → is_plain (after_free reply cause rest).place ≡ true
+free_plain (replies.Release (Ok (Some partner))) cause rest = refl
+free_plain (replies.Release (Ok None)) cause rest = go_on_plain rest
+free_plain (replies.Release (Err stale)) cause rest = go_on_plain rest
+free_plain reply cause rest = go_on_plain rest
 
 tick_plain : (reply : Reply) (rest : Rest) → is_plain (after_tick reply rest).place ≡ true
 tick_plain (replies.Tick (Ok false)) rest = go_on_plain rest
@@ -198,7 +200,7 @@ open_call_plain reply name rest = refl
 -- all places lead to plain ones but these three
 abbrev pub LeadsOn : Place → Reply → Rest → Type 0
 LeadsOn (places.ReserveIn peer) reply rest = Unit {0}
-LeadsOn (places.Accepting offered target) reply rest = Unit {0}
+LeadsOn (places.Accepting offered target format) reply rest = Unit {0}
 LeadsOn (places.Finding name act) reply rest = Unit {0}
 LeadsOn place reply rest = is_plain (told_at place reply rest).place ≡ true
 
@@ -209,43 +211,43 @@ leads_on (places.OpenIn name) reply rest = open_in_plain reply name rest
 leads_on (places.GiveBack name) reply rest = refl
 leads_on (places.Routing offered) reply rest = route_plain reply offered rest
 leads_on (places.Rejecting offered cause) reply rest = reject_plain reply offered rest
-leads_on (places.ReserveOut offered peer) reply rest = reserve_out_plain reply offered rest
-leads_on (places.Bridging offered target) reply rest = bridge_plain reply offered target rest
-leads_on (places.Accepting offered target) reply rest = tt
+leads_on (places.ReserveOut offered peer format) reply rest = reserve_out_plain reply offered format rest
+leads_on (places.Bridging offered target format) reply rest = bridge_plain reply offered target format rest
+leads_on (places.Accepting offered target format) reply rest = tt
 leads_on (places.OpenOut offered target) reply rest = open_out_plain reply offered target rest
 leads_on (places.Checking target) reply rest = check_plain reply target rest
 leads_on (places.Undoing offered target) reply rest = refl
-leads_on (places.Dooming name) reply rest = go_on_plain rest
+leads_on (places.Dooming name cause) reply rest = go_on_plain rest
 leads_on (places.Finding name act) reply rest = tt
 leads_on (places.Passing partner act) reply rest = pass_plain reply partner act rest
 leads_on (places.Looking name) reply rest = look_for_plain reply name rest
 leads_on (places.LookingAt peer number) reply rest = look_at_plain reply rest
-leads_on (places.FindingPartner name) reply rest = find_partner_plain reply name rest
-leads_on (places.HangingUp name partner) reply rest = hung_up_plain reply name rest
-leads_on (places.Paying name) reply rest = refl
-leads_on (places.Retiring name) reply rest = retire_plain reply name rest
-leads_on (places.Freeing name) reply rest = free_plain reply rest
+leads_on (places.FindingPartner name cause) reply rest = find_partner_plain reply name cause rest
+leads_on (places.HangingUp name partner cause) reply rest = hung_up_plain reply name cause rest
+leads_on (places.Paying name cause) reply rest = refl
+leads_on (places.Retiring name cause) reply rest = retire_plain reply name cause rest
+leads_on (places.Freeing name cause) reply rest = free_plain reply cause rest
 leads_on (places.Tick peer) reply rest = tick_plain reply rest
 leads_on (places.HangUp name) reply rest = hang_up_plain reply rest
 leads_on (places.ReserveCall peer) reply rest = reserve_call_plain reply rest
 leads_on (places.OpenCall name) reply rest = open_call_plain reply name rest
 leads_on places.End reply rest = refl
 
-accept_unopened : (reply : Reply) (offered target : LegName) (rest : Rest) → is_open_in (after_accept reply offered target rest).place ≡ false
-accept_unopened (replies.Order (Ok done)) offered target rest = refl
-accept_unopened (replies.Order (Err error)) offered target rest = refl
-accept_unopened reply offered target rest = refl
+accept_unopened : (reply : Reply) (offered target : LegName) (format : Format) (rest : Rest) → is_open_in (after_accept reply offered target format rest).place ≡ false
+accept_unopened (replies.Order (Ok done)) offered target format rest = refl
+accept_unopened (replies.Order (Err error)) offered target format rest = refl
+accept_unopened reply offered target format rest = refl
 
 -- an incoming leg is opened with a lease that was just taken
 pub opened_from : (place : Place) (reply : Reply) (rest : Rest) → is_open_in (told_at place reply rest).place ≡ true → in_hand place ≡ []
 opened_from (places.ReserveIn peer) reply rest is = refl
 opened_from (places.Finding name act) reply rest is = refl
-opened_from (places.Accepting offered target) reply rest is = absurd (true≢false (sym is ∙ accept_unopened reply offered target rest))
+opened_from (places.Accepting offered target format) reply rest is = absurd (true≢false (sym is ∙ accept_unopened reply offered target format rest))
 opened_from place reply rest is = absurd (true≢false (sym is ∙ plain_unopened (told_at place reply rest).place (leads_on place reply rest)))
 
 -- a lease for an outgoing leg is still in hand where its offered leg was accepted, or wasn't
-pub accept_fresh : (reply : Reply) (offered target : LegName) (rest : Rest) (x : LegName) → 1 ≤ times x (target ∷ [])
-    → 1 ≤ fresh_at (after_accept reply offered target rest).place (in_hand (after_accept reply offered target rest).place) x
-accept_fresh (replies.Order (Ok done)) offered target rest x some = some
-accept_fresh (replies.Order (Err error)) offered target rest x some = some
-accept_fresh reply offered target rest x some = some
+pub accept_fresh : (reply : Reply) (offered target : LegName) (format : Format) (rest : Rest) (x : LegName) → 1 ≤ times x (target ∷ [])
+    → 1 ≤ fresh_at (after_accept reply offered target format rest).place (in_hand (after_accept reply offered target format rest).place) x
+accept_fresh (replies.Order (Ok done)) offered target format rest x some = some
+accept_fresh (replies.Order (Err error)) offered target format rest x some = some
+accept_fresh reply offered target format rest x some = some

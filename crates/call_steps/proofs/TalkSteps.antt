@@ -7,6 +7,7 @@ use Rattle.call_book.specs.Book.{Book, has_name, is_same, bridge_answer, bridged
 use Rattle.call_book.specs.declared.errors.BridgeError.{BridgeError}
 use Rattle.call_book.specs.declared.leg_name.LegName.{LegName}
 use Rattle.call_book.proofs.Changes.{IsBridged, bridged_by, partner_has, bridged_first, bridged_before, released_gone}
+use Rattle.call_signals.specs.declared.formats.Format.{Format}
 use Rattle.leg_machine.specs.Seen.{stage_after}
 use Rattle.call_signals.specs.declared.orders.OrderKind.TheVariants as kinds
 use Rattle.call_signals.specs.declared.stages.Stage.{Stage}
@@ -122,15 +123,15 @@ module _ (others_care others_opening others_fresh beside : LegName → ℕ) (few
           ]
 
   -- the legs with the offered one once it is accepted
-  accepted : (offered target : LegName) (rest : Rest) → Talks (places.Accepting offered target) rest → (leg : Leg) (stage : Stage) → leg_named legs offered ≡ Some leg → stage_after kinds.Accept leg.seen.stage ≡ Some stage
-      → SettledAt others_opening book (replaced legs (carried kinds.Accept leg stage)) (places.OpenOut offered target) offered
-  accepted offered target rest b leg stage found ok =
+  accepted : (offered target : LegName) (format : Format) (rest : Rest) → Talks (places.Accepting offered target format) rest → (leg : Leg) (stage : Stage) → leg_named legs offered ≡ Some leg → stage_after (kinds.Accept format) leg.seen.stage ≡ Some stage
+      → SettledAt others_opening book (replaced legs (carried (kinds.Accept format) leg stage)) (places.OpenOut offered target) offered
+  accepted offered target format rest b leg stage found ok =
       let there = found_named legs offered leg found in
       let has : has_name book offered ≡ true = some_bit (has_name book offered) (omega (arith, b.safe.held.once offered, there.1)) in
       let most : bit (has_name book offered) ≤ 1 = bit_most (has_name book offered) in
       record {
         known = (b.safe.held.sound.placed offered.number offered (has_name_is book offered has)).2;
-        not_pending = all_replaced (λ other. Unit {0}) (NotPending offered) legs (carried kinds.Accept leg stage)
+        not_pending = all_replaced (λ other. Unit {0}) (NotPending offered) legs (carried (kinds.Accept format) leg stage)
             (λ same. linked leg.seen.stage stage ok)
             (λ other differs _. λ same. absurd (true≢false (sym same ∙ ap (is_same other.name) (sym there.0) ∙ differs)))
             (any legs);
@@ -141,33 +142,33 @@ module _ (others_care others_opening others_fresh beside : LegName → ℕ) (few
       any [] = tt
       any (other ∷ ls) = (tt, any ls)
 
-      linked : (before after : Stage) → stage_after kinds.Accept before ≡ Some after → is_pending after ≡ false
+      linked : (before after : Stage) → stage_after (kinds.Accept format) before ≡ Some after → is_pending after ≡ false
       linked stages.Offered after ok = let e : stages.Linked ≡ after = cc in ap is_pending (sym e)
       linked before after ok = absurd (cc)
 
-  accepting_asks : (offered target : LegName) (rest : Rest) (choice : Choice) → Talks (places.Accepting offered target) rest
-      → Asks (SettledAfter (places.Accepting offered target) rest (needs.Order offered acts.Accept) choice) (to (places.Accepting offered target) rest (needs.Order offered acts.Accept) choice)
-  accepting_asks offered target rest choice b = go choice
+  accepting_asks : (offered target : LegName) (format : Format) (rest : Rest) (choice : Choice) → Talks (places.Accepting offered target format) rest
+      → Asks (SettledAfter (places.Accepting offered target format) rest (needs.Order offered (acts.Accept format)) choice) (to (places.Accepting offered target format) rest (needs.Order offered (acts.Accept format)) choice)
+  accepting_asks offered target format rest choice b = go choice
     where
       s : Scene
       s = scene book legs (target ∷ [])
 
       AfterAnswer : Answer → Type 0
       AfterAnswer a =
-          Asks (SettledAt others_opening a.scene.book a.scene.legs (told_at (places.Accepting offered target) a.reply rest).place) (told_at (places.Accepting offered target) a.reply rest).place
+          Asks (SettledAt others_opening a.scene.book a.scene.legs (told_at (places.Accepting offered target format) a.reply rest).place) (told_at (places.Accepting offered target format) a.reply rest).place
 
-      obeyed : (leg : Leg) (after : Option Stage) → leg_named legs offered ≡ Some leg → stage_after kinds.Accept leg.seen.stage ≡ after → AfterAnswer (obeys s kinds.Accept leg after)
+      obeyed : (leg : Leg) (after : Option Stage) → leg_named legs offered ≡ Some leg → stage_after (kinds.Accept format) leg.seen.stage ≡ after → AfterAnswer (obeys s (kinds.Accept format) leg after)
       obeyed leg None found ok = tt
-      obeyed leg (Some stage) found ok = accepted offered target rest b leg stage found ok
+      obeyed leg (Some stage) found ok = accepted offered target format rest b leg stage found ok
 
-      at_leg_asks : (o : Option Leg) (choice : Choice) → leg_named legs offered ≡ o → AfterAnswer (at_leg s kinds.Accept o choice)
+      at_leg_asks : (o : Option Leg) (choice : Choice) → leg_named legs offered ≡ o → AfterAnswer (at_leg s (kinds.Accept format) o choice)
       at_leg_asks None choice found = tt
       at_leg_asks (Some leg) (RefusesOrder error) found =
-          cond_both (refuses_order kinds.Accept error && is_some (stage_after kinds.Accept leg.seen.stage)) (refused s error) (obeys s kinds.Accept leg (stage_after kinds.Accept leg.seen.stage)) AfterAnswer
-          (λ _. tt) (λ _. obeyed leg (stage_after kinds.Accept leg.seen.stage) found refl)
-      at_leg_asks (Some leg) choice found = obeyed leg (stage_after kinds.Accept leg.seen.stage) found refl
+          cond_both (refuses_order (kinds.Accept format) error && is_some (stage_after (kinds.Accept format) leg.seen.stage)) (refused s error) (obeys s (kinds.Accept format) leg (stage_after (kinds.Accept format) leg.seen.stage)) AfterAnswer
+          (λ _. tt) (λ _. obeyed leg (stage_after (kinds.Accept format) leg.seen.stage) found refl)
+      at_leg_asks (Some leg) choice found = obeyed leg (stage_after (kinds.Accept format) leg.seen.stage) found refl
 
-      go : (choice : Choice) → AfterAnswer (at_order s offered kinds.Accept choice)
+      go : (choice : Choice) → AfterAnswer (at_order s offered (kinds.Accept format) choice)
       go (RefusesOrder order_errors.StepsSpent) = tt
       go choice = at_leg_asks (leg_named legs offered) choice refl
 
@@ -181,9 +182,9 @@ module _ (others_care others_opening others_fresh beside : LegName → ℕ) (few
   after_asks (places.Finding name act) rest need choice is b =
       let e : needs.Partner name ≡ need = cc in
       subst (λ n. Asks (SettledAfter (places.Finding name act) rest n choice) (to (places.Finding name act) rest n choice)) e (finding_asks name act rest choice b)
-  after_asks (places.Accepting offered target) rest need choice is b =
-      let e : needs.Order offered acts.Accept ≡ need = cc in
-      subst (λ n. Asks (SettledAfter (places.Accepting offered target) rest n choice) (to (places.Accepting offered target) rest n choice)) e (accepting_asks offered target rest choice b)
+  after_asks (places.Accepting offered target format) rest need choice is b =
+      let e : needs.Order offered (acts.Accept format) ≡ need = cc in
+      subst (λ n. Asks (SettledAfter (places.Accepting offered target format) rest n choice) (to (places.Accepting offered target format) rest n choice)) e (accepting_asks offered target format rest choice b)
   after_asks place rest need choice is b = asks_plain (SettledAfter place rest need choice) (to place rest need choice) (leads_on place (made place need choice).reply rest)
 
   -- ---- partners
@@ -191,17 +192,17 @@ module _ (others_care others_opening others_fresh beside : LegName → ℕ) (few
   abbrev PartnersAfter : Place → Rest → Need → Choice → Type 0
   PartnersAfter place rest need choice = PartnersAt others_opening others_fresh (made place need choice).scene.book (made place need choice).scene.legs (to place rest need choice)
 
-  bridging_partners : (offered target : LegName) (rest : Rest) (choice : Choice) → Talks (places.Bridging offered target) rest → PartnersAfter (places.Bridging offered target) rest (needs.Bridge offered target) choice
-  bridging_partners offered target rest choice b = go (bridge_answer book offered target) refl
+  bridging_partners : (offered target : LegName) (format : Format) (rest : Rest) (choice : Choice) → Talks (places.Bridging offered target format) rest → PartnersAfter (places.Bridging offered target format) rest (needs.Bridge offered target) choice
+  bridging_partners offered target format rest choice b = go (bridge_answer book offered target) refl
     where
       s : Scene
       s = scene book legs (target ∷ [])
 
       After : Answer → Type 0
-      After a = PartnersAt others_opening others_fresh a.scene.book a.scene.legs (told_at (places.Bridging offered target) a.reply rest).place
+      After a = PartnersAt others_opening others_fresh a.scene.book a.scene.legs (told_at (places.Bridging offered target format) a.reply rest).place
 
       -- the far leg isn't opened yet
-      unopened : IsBridged book offered target → SettledAt others_opening (bridged book offered target) legs (places.Accepting offered target) target
+      unopened : IsBridged book offered target → SettledAt others_opening (bridged book offered target) legs (places.Accepting offered target format) target
       unopened did =
           let own : bit (is_same target target) ≡ 1 = ap bit (is_same_itself target) in
           let most : bit (has_name book target) ≤ 1 = bit_most (has_name book target) in
@@ -211,14 +212,14 @@ module _ (others_care others_opening others_fresh beside : LegName → ℕ) (few
             unopened = omega (arith, few_opening target, b.safe.held.once target);
           }
 
-      did_partners : IsBridged book offered target → PartnersAt others_opening others_fresh (bridged book offered target) legs (places.Accepting offered target)
+      did_partners : IsBridged book offered target → PartnersAt others_opening others_fresh (bridged book offered target) legs (places.Accepting offered target format)
       did_partners did x p has =
           let known : has_name book x ≡ true = partner_has (bridged book offered target) x p has in
           elim (cases_Bool (is_same offered x)) [
             | inl first ↦
                 let both : Some target ≡ Some p = sym (bridged_first book offered target did) ∙ ap (partner_of (bridged book offered target)) (same_name offered x first) ∙ has in
                 let e : target ≡ p = cc in
-                inr (subst (SettledAt others_opening (bridged book offered target) legs (places.Accepting offered target)) e (unopened did))
+                inr (subst (SettledAt others_opening (bridged book offered target) legs (places.Accepting offered target format)) e (unopened did))
             | inr not_first ↦
                 elim (cases_Bool (is_same target x)) [
                   | inl second ↦ let one : bit (is_same target x) ≡ 1 = ap bit second in inl (omega arith)
@@ -250,8 +251,8 @@ module _ (others_care others_opening others_fresh beside : LegName → ℕ) (few
   lease_partner : (place : Place) (rest : Rest) (need : Need) (choice : Choice) → next_at place ≡ Some need → Talks place rest → SafeAfter place rest need choice
       → (x p : LegName) → 1 ≤ fresh_at place (in_hand place) x → offered_of place ≡ Some p → partner_of (made place need choice).scene.book x ≡ Some p
       → (1 ≤ fresh_at (to place rest need choice) (in_hand (to place rest need choice)) x + others_fresh x) ⊎ SettledAfter place rest need choice p
-  lease_partner (places.Accepting offered target) rest need choice is b safe x p own lone has =
-      inl (omega (arith, accept_fresh (made (places.Accepting offered target) need choice).reply offered target rest x own))
+  lease_partner (places.Accepting offered target format) rest need choice is b safe x p own lone has =
+      inl (omega (arith, accept_fresh (made (places.Accepting offered target format) need choice).reply offered target format rest x own))
   lease_partner (places.OpenOut offered target) rest need choice is b safe x p own lone has =
       let e : offered ≡ p = cc in
       inr (stays_settled (places.OpenOut offered target) rest need choice is b.safe safe p (subst (Settled (places.OpenOut offered target)) e b.asks))
@@ -274,9 +275,9 @@ module _ (others_care others_opening others_fresh beside : LegName → ℕ) (few
       ]
 
   after_partners : (place : Place) (rest : Rest) (need : Need) (choice : Choice) → next_at place ≡ Some need → Talks place rest → SafeAfter place rest need choice → PartnersAfter place rest need choice
-  after_partners (places.Bridging offered target) rest need choice is b safe =
+  after_partners (places.Bridging offered target format) rest need choice is b safe =
       let e : needs.Bridge offered target ≡ need = cc in
-      subst (λ n. PartnersAfter (places.Bridging offered target) rest n choice) e (bridging_partners offered target rest choice b)
+      subst (λ n. PartnersAfter (places.Bridging offered target format) rest n choice) e (bridging_partners offered target format rest choice b)
   after_partners place rest (needs.Bridge first second) choice is b safe = absurd (cc)
   after_partners place rest need choice is b safe = most_partners place rest need choice is refl b safe
 

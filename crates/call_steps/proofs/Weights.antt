@@ -24,10 +24,10 @@ offers x (up ∷ onward) = offer up.1 up.0 x + offers x onward
 abbrev pub care_at : Place → Rest → LegName → ℕ
 care_at (places.Routing offered) rest x = bit (is_same offered x) + offers x rest.onward
 care_at (places.Rejecting offered cause) rest x = bit (is_same offered x) + offers x rest.onward
-care_at (places.ReserveOut offered peer) rest x = bit (is_same offered x) + offers x rest.onward
-care_at (places.Bridging offered target) rest x = bit (is_same offered x) + offers x rest.onward
+care_at (places.ReserveOut offered peer format) rest x = bit (is_same offered x) + offers x rest.onward
+care_at (places.Bridging offered target format) rest x = bit (is_same offered x) + offers x rest.onward
 care_at (places.Undoing offered target) rest x = bit (is_same offered x) + offers x rest.onward
-care_at (places.Dooming name) rest x = bit (is_same name x) + offers x rest.onward
+care_at (places.Dooming name cause) rest x = bit (is_same name x) + offers x rest.onward
 care_at (places.Checking target) rest x = bit (is_same target x) + offers x rest.onward
 care_at (places.Datagram peer) rest x = 0
 care_at (places.ReserveIn peer) rest x = 0
@@ -47,8 +47,8 @@ care work x = care_at work.place work.rest x
 abbrev pub place_past : Place → LegName → ℕ
 place_past (places.Routing offered) x = bit (is_same offered x)
 place_past (places.Rejecting offered cause) x = bit (is_same offered x)
-place_past (places.ReserveOut offered peer) x = bit (is_same offered x)
-place_past (places.Bridging offered target) x = bit (is_same offered x)
+place_past (places.ReserveOut offered peer format) x = bit (is_same offered x)
+place_past (places.Bridging offered target format) x = bit (is_same offered x)
 place_past (places.Finding name act) x = bit (is_same name x)
 place_past place x = 0
 
@@ -59,8 +59,8 @@ past work x = place_past work.place x + times x (words work.rest.onward)
 abbrev pub is_fresh : Place → Bool
 is_fresh (places.OpenIn name) = true
 is_fresh (places.GiveBack name) = true
-is_fresh (places.Bridging offered target) = true
-is_fresh (places.Accepting offered target) = true
+is_fresh (places.Bridging offered target format) = true
+is_fresh (places.Accepting offered target format) = true
 is_fresh (places.OpenOut offered target) = true
 is_fresh (places.Undoing offered target) = true
 is_fresh (places.OpenCall name) = true
@@ -68,7 +68,7 @@ is_fresh place = false
 
 -- the partner that the name of such a lease may have
 abbrev pub offered_of : Place → Option LegName
-offered_of (places.Accepting offered target) = Some offered
+offered_of (places.Accepting offered target format) = Some offered
 offered_of (places.OpenOut offered target) = Some offered
 offered_of (places.Undoing offered target) = Some offered
 offered_of place = None
@@ -133,10 +133,10 @@ offers_named x (up ∷ onward) = offered up.1 (offers_named x onward)
 care_named_at : (place : Place) (rest : Rest) (x : LegName) → care_at place rest x ≤ times x (names_at place) + times x (words rest.onward)
 care_named_at (places.Routing offered) rest x = omega (arith, offers_named x rest.onward)
 care_named_at (places.Rejecting offered cause) rest x = omega (arith, offers_named x rest.onward)
-care_named_at (places.ReserveOut offered peer) rest x = omega (arith, offers_named x rest.onward)
-care_named_at (places.Bridging offered target) rest x = omega (arith, offers_named x rest.onward)
+care_named_at (places.ReserveOut offered peer format) rest x = omega (arith, offers_named x rest.onward)
+care_named_at (places.Bridging offered target format) rest x = omega (arith, offers_named x rest.onward)
 care_named_at (places.Undoing offered target) rest x = omega (arith, offers_named x rest.onward)
-care_named_at (places.Dooming name) rest x = omega (arith, offers_named x rest.onward)
+care_named_at (places.Dooming name cause) rest x = omega (arith, offers_named x rest.onward)
 care_named_at (places.Checking target) rest x = omega (arith, offers_named x rest.onward)
 care_named_at place rest x = omega (arith, offers_named x rest.onward)
 

@@ -9,14 +9,14 @@ use Rattle.call_steps.specs.declared.acts.Act.TheVariants as acts
 
 -- an order without the octets of its media
 abbrev pub act_kind : Act → OrderKind
-act_kind acts.Accept = kinds.Accept
+act_kind (acts.Accept format) = kinds.Accept format
 act_kind (acts.Reject cause) = kinds.Reject cause
 act_kind (acts.Indicate indication) = kinds.Indicate indication
 act_kind acts.Answer = kinds.Answer
 act_kind (acts.Dtmf digit) = kinds.Dtmf digit
 act_kind (acts.Media span) = kinds.Media
-act_kind acts.Hangup = kinds.Hangup
-act_kind acts.Doom = kinds.Doom
+act_kind (acts.Hangup cause) = kinds.Hangup cause
+act_kind (acts.Doom cause) = kinds.Doom cause
 act_kind acts.Paid = kinds.Paid
 
 -- media is a part of a datagram of so many octets

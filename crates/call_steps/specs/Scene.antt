@@ -6,6 +6,8 @@ use Rattle.call_book.specs.declared.errors.ReserveError.{ReserveError}
 use Rattle.call_book.specs.declared.leg_name.LegName.{LegName}
 use Rattle.leg_machine.specs.Seen.{SeenLeg, SeenFrame, Speaks, frame_effect, opening_effect, fresh_leg, stage_after, ordered, moved, Lapse, lapsed}
 use Rattle.leg_machine.specs.Stages.{is_ended}
+use Rattle.call_signals.specs.declared.causes.Cause.{Cause}
+use Rattle.call_signals.specs.declared.causes.Cause.TheVariants.{NormalClearing}
 use Rattle.call_signals.specs.declared.openings.Opening.{Opening}
 use Rattle.call_signals.specs.declared.openings.Opening.TheVariants.{Offers}
 use Rattle.call_signals.specs.declared.orders.OrderKind.{OrderKind}
@@ -64,6 +66,8 @@ pub data Choice : Type 0 where
   Lapses : (lapses : List (ℕ × Lapse)) (quiet : Bool) → Choice
   Opens : (opening : Opening) → Choice
   LeadsTo : (route : Route) → Choice
+  -- a look: why the leg ends
+  TellsCause : (cause : Cause) → Choice
 
 -- ---- legs
 
@@ -231,10 +235,14 @@ at_order scene name kind choice = at_leg scene kind (leg_named scene.legs name) 
 
 -- ---- looking at a leg, and taking it out
 
-abbrev pub status_of : Option Leg → Option Status
-status_of None = None
-status_of (Some leg) =
-    Some (record { name = leg.name; stage = leg.seen.stage; owes = leg.seen.owes; held = 0; entries = 0 })
+abbrev pub status_of : Cause → Option Leg → Option Status
+status_of cause None = None
+status_of cause (Some leg) =
+    Some (record { name = leg.name; stage = leg.seen.stage; owes = leg.seen.owes; cause = cause; held = 0; entries = 0 })
+
+abbrev pub told_cause : Choice → Cause
+told_cause (TellsCause cause) = cause
+told_cause choice = NormalClearing
 
 -- a leg that has ended and owes nothing
 abbrev pub is_done : Option Leg → Bool
@@ -290,7 +298,7 @@ answered scene (needs.OpenIn name) called choice = at_open_in scene name choice
 answered scene (needs.OpenOut name) called choice = at_open_out scene name called choice
 answered scene (needs.Order name act) called choice = at_order scene name (act_kind act) choice
 answered scene (needs.Tick peer) called choice = at_tick scene peer choice
-answered scene (needs.Look peer number) called choice = answer scene (replies.Look (status_of (leg_at scene.legs peer number)))
+answered scene (needs.Look peer number) called choice = answer scene (replies.Look (status_of (told_cause choice) (leg_at scene.legs peer number)))
 answered scene (needs.Retire name) called choice = at_retire scene name choice
 answered scene (needs.Reserve peer) called choice = reserves scene peer (reserve_answer scene.book peer)
 answered scene (needs.Bridge a b) called choice = bridges scene a b (bridge_answer scene.book a b)

@@ -2,7 +2,9 @@
 use Rattle.std.specs.Prelude.{ℕ, suc, zero, ◌+◌, Bool, true, false, List, [], ◌∷◌, Option, None, Some, Ok, Err, if◌then◌else◌}
 use Rattle.call_book.specs.Book.{is_same}
 use Rattle.call_book.specs.declared.leg_name.LegName.{LegName}
-use Rattle.call_signals.specs.declared.causes.Cause.TheVariants.{UnallocatedNumber, CallRejected, NoChannelAvailable}
+use Rattle.call_signals.specs.declared.causes.Cause.{Cause}
+use Rattle.call_signals.specs.declared.causes.Cause.TheVariants.{UnallocatedNumber, NormalClearing, CallRejected, NoChannelAvailable}
+use Rattle.call_signals.specs.declared.formats.Format.{Format}
 use Rattle.call_signals.specs.declared.signals.Signal.{Signal}
 use Rattle.call_signals.specs.declared.signals.Signal.TheVariants as signals
 use Rattle.peer_lock.specs.declared.errors.OrderError.TheVariants as order_errors
@@ -69,24 +71,24 @@ next_at (places.OpenIn name) = Some (needs.OpenIn name)
 next_at (places.GiveBack name) = Some (needs.Release name)
 next_at (places.Routing offered) = Some (needs.Route offered)
 next_at (places.Rejecting offered cause) = Some (needs.Order offered (acts.Reject cause))
-next_at (places.ReserveOut offered peer) = Some (needs.Reserve peer)
-next_at (places.Bridging offered target) = Some (needs.Bridge offered target)
-next_at (places.Accepting offered target) = Some (needs.Order offered acts.Accept)
+next_at (places.ReserveOut offered peer format) = Some (needs.Reserve peer)
+next_at (places.Bridging offered target format) = Some (needs.Bridge offered target)
+next_at (places.Accepting offered target format) = Some (needs.Order offered (acts.Accept format))
 next_at (places.OpenOut offered target) = Some (needs.OpenOut target)
 next_at (places.Checking target) = Some (needs.Partner target)
 next_at (places.Undoing offered target) = Some (needs.Release target)
-next_at (places.Dooming name) = Some (needs.Order name acts.Doom)
+next_at (places.Dooming name cause) = Some (needs.Order name (acts.Doom cause))
 next_at (places.Finding name act) = Some (needs.Partner name)
 next_at (places.Passing partner act) = Some (needs.Order partner act)
 next_at (places.Looking name) = Some (needs.Look name.peer name.number)
 next_at (places.LookingAt peer number) = Some (needs.Look peer number)
-next_at (places.FindingPartner name) = Some (needs.Partner name)
-next_at (places.HangingUp name partner) = Some (needs.Order partner acts.Hangup)
-next_at (places.Paying name) = Some (needs.Order name acts.Paid)
-next_at (places.Retiring name) = Some (needs.Retire name)
-next_at (places.Freeing name) = Some (needs.Release name)
+next_at (places.FindingPartner name cause) = Some (needs.Partner name)
+next_at (places.HangingUp name partner cause) = Some (needs.Order partner (acts.Hangup cause))
+next_at (places.Paying name cause) = Some (needs.Order name acts.Paid)
+next_at (places.Retiring name cause) = Some (needs.Retire name)
+next_at (places.Freeing name cause) = Some (needs.Release name)
 next_at (places.Tick peer) = Some (needs.Tick peer)
-next_at (places.HangUp name) = Some (needs.Order name acts.Hangup)
+next_at (places.HangUp name) = Some (needs.Order name (acts.Hangup NormalClearing))
 next_at (places.ReserveCall peer) = Some (needs.Reserve peer)
 next_at (places.OpenCall name) = Some (needs.OpenOut name)
 next_at places.End = None
@@ -150,24 +152,24 @@ after_open_in reply name rest = at (places.GiveBack name) rest
 
 abbrev pub after_route : Reply → LegName → Rest → Work
 after_route (replies.Route routes.WithoutFormat) offered rest = at (places.Rejecting offered CallRejected) rest
-after_route (replies.Route (routes.To peer)) offered rest = at (places.ReserveOut offered peer) rest
+after_route (replies.Route (routes.To peer format)) offered rest = at (places.ReserveOut offered peer format) rest
 after_route reply offered rest = at (places.Rejecting offered UnallocatedNumber) rest
 
 abbrev pub after_reject : Reply → LegName → Rest → Work
 after_reject (replies.Order (Ok done)) offered rest = go_on rest
-after_reject reply offered rest = at (places.Dooming offered) rest
+after_reject reply offered rest = at (places.Dooming offered NormalClearing) rest
 
-abbrev pub after_reserve_out : Reply → LegName → Rest → Work
-after_reserve_out (replies.Reserve (Ok target)) offered rest = at (places.Bridging offered target) rest
-after_reserve_out reply offered rest = at (places.Rejecting offered NoChannelAvailable) rest
+abbrev pub after_reserve_out : Reply → LegName → Format → Rest → Work
+after_reserve_out (replies.Reserve (Ok target)) offered format rest = at (places.Bridging offered target format) rest
+after_reserve_out reply offered format rest = at (places.Rejecting offered NoChannelAvailable) rest
 
-abbrev pub after_bridge : Reply → LegName → LegName → Rest → Work
-after_bridge (replies.Bridge (Ok done)) offered target rest = at (places.Accepting offered target) rest
-after_bridge reply offered target rest = at (places.Undoing offered target) rest
+abbrev pub after_bridge : Reply → LegName → LegName → Format → Rest → Work
+after_bridge (replies.Bridge (Ok done)) offered target format rest = at (places.Accepting offered target format) rest
+after_bridge reply offered target format rest = at (places.Undoing offered target) rest
 
-abbrev pub after_accept : Reply → LegName → LegName → Rest → Work
-after_accept (replies.Order (Ok done)) offered target rest = at (places.OpenOut offered target) rest
-after_accept reply offered target rest = at (places.Undoing offered target) rest
+abbrev pub after_accept : Reply → LegName → LegName → Format → Rest → Work
+after_accept (replies.Order (Ok done)) offered target format rest = at (places.OpenOut offered target) rest
+after_accept reply offered target format rest = at (places.Undoing offered target) rest
 
 abbrev pub after_open_out : Reply → LegName → LegName → Rest → Work
 after_open_out (replies.OpenOut (Ok done)) offered target rest = at (places.Checking target) rest
@@ -175,7 +177,7 @@ after_open_out reply offered target rest = at (places.Undoing offered target) re
 
 abbrev pub after_check : Reply → LegName → Rest → Work
 after_check (replies.Partner (Some partner)) target rest = go_on rest
-after_check reply target rest = at (places.Dooming target) rest
+after_check reply target rest = at (places.Dooming target NormalClearing) rest
 
 abbrev pub after_find : Reply → Act → Rest → Work
 after_find (replies.Partner (Some partner)) act rest = at (places.Passing partner act) rest
@@ -184,7 +186,7 @@ after_find reply act rest = go_on rest
 -- refused for want of room: the partner is doomed, unless it was media
 abbrev pub after_no_room : Act → LegName → Rest → Work
 after_no_room (acts.Media span) partner rest = go_on rest
-after_no_room act partner rest = at (places.Dooming partner) rest
+after_no_room act partner rest = at (places.Dooming partner NormalClearing) rest
 
 abbrev pub after_pass : Reply → LegName → Act → Rest → Work
 after_pass (replies.Order (Err order_errors.WindowFull)) partner act rest = after_no_room act partner rest
@@ -192,39 +194,39 @@ after_pass (replies.Order (Err order_errors.RecordFull)) partner act rest = afte
 after_pass (replies.Order (Err order_errors.Memory)) partner act rest = after_no_room act partner rest
 after_pass reply partner act rest = go_on rest
 
--- a leg that owes is settled with its partner before it is taken out
-abbrev pub after_status : LegName → Bool → Rest → Work
-after_status name true rest = at (places.FindingPartner name) rest
-after_status name false rest = at (places.Retiring name) rest
+-- a leg that owes is settled with its partner before it is taken out; the partner is hung up for the cause of its end
+abbrev pub after_status : LegName → Bool → Cause → Rest → Work
+after_status name true cause rest = at (places.FindingPartner name cause) rest
+after_status name false cause rest = at (places.Retiring name cause) rest
 
 abbrev pub after_look : Reply → LegName → Rest → Work
 after_look (replies.Look (Some status)) name rest =
-    if is_same status.name name then after_status status.name status.owes rest else go_on rest
+    if is_same status.name name then after_status status.name status.owes status.cause rest else go_on rest
 after_look reply name rest = go_on rest
 
 abbrev pub after_look_at : Reply → Rest → Work
-after_look_at (replies.Look (Some status)) rest = after_status status.name status.owes rest
+after_look_at (replies.Look (Some status)) rest = after_status status.name status.owes status.cause rest
 after_look_at reply rest = go_on rest
 
-abbrev pub after_find_partner : Reply → LegName → Rest → Work
-after_find_partner (replies.Partner (Some partner)) name rest = at (places.HangingUp name partner) rest
-after_find_partner reply name rest = at (places.Paying name) rest
+abbrev pub after_find_partner : Reply → LegName → Cause → Rest → Work
+after_find_partner (replies.Partner (Some partner)) name cause rest = at (places.HangingUp name partner cause) rest
+after_find_partner reply name cause rest = at (places.Paying name cause) rest
 
 -- it has paid where the partner is hung up, or was before
-abbrev pub after_partner_hangup : Reply → LegName → Rest → Work
-after_partner_hangup (replies.Order (Ok done)) name rest = at (places.Paying name) rest
-after_partner_hangup (replies.Order (Err order_errors.Gone)) name rest = at (places.Paying name) rest
-after_partner_hangup (replies.Order (Err order_errors.WrongStage)) name rest = at (places.Paying name) rest
-after_partner_hangup reply name rest = at (places.Retiring name) rest
+abbrev pub after_partner_hangup : Reply → LegName → Cause → Rest → Work
+after_partner_hangup (replies.Order (Ok done)) name cause rest = at (places.Paying name cause) rest
+after_partner_hangup (replies.Order (Err order_errors.Gone)) name cause rest = at (places.Paying name cause) rest
+after_partner_hangup (replies.Order (Err order_errors.WrongStage)) name cause rest = at (places.Paying name cause) rest
+after_partner_hangup reply name cause rest = at (places.Retiring name cause) rest
 
-abbrev pub after_retire : Reply → LegName → Rest → Work
-after_retire (replies.Retire true) name rest = at (places.Freeing name) rest
-after_retire reply name rest = go_on rest
+abbrev pub after_retire : Reply → LegName → Cause → Rest → Work
+after_retire (replies.Retire true) name cause rest = at (places.Freeing name cause) rest
+after_retire reply name cause rest = go_on rest
 
 -- the former partner is doomed
-abbrev pub after_free : Reply → Rest → Work
-after_free (replies.Release (Ok (Some partner))) rest = at (places.Dooming partner) rest
-after_free reply rest = go_on rest
+abbrev pub after_free : Reply → Cause → Rest → Work
+after_free (replies.Release (Ok (Some partner))) cause rest = at (places.Dooming partner cause) rest
+after_free reply cause rest = go_on rest
 
 -- where no leg has ended and none owes, there is none to be finished
 abbrev pub after_tick : Reply → Rest → Work
@@ -250,22 +252,22 @@ told_at (places.OpenIn name) reply rest = after_open_in reply name rest
 told_at (places.GiveBack name) reply rest = ended
 told_at (places.Routing offered) reply rest = after_route reply offered rest
 told_at (places.Rejecting offered cause) reply rest = after_reject reply offered rest
-told_at (places.ReserveOut offered peer) reply rest = after_reserve_out reply offered rest
-told_at (places.Bridging offered target) reply rest = after_bridge reply offered target rest
-told_at (places.Accepting offered target) reply rest = after_accept reply offered target rest
+told_at (places.ReserveOut offered peer format) reply rest = after_reserve_out reply offered format rest
+told_at (places.Bridging offered target format) reply rest = after_bridge reply offered target format rest
+told_at (places.Accepting offered target format) reply rest = after_accept reply offered target format rest
 told_at (places.OpenOut offered target) reply rest = after_open_out reply offered target rest
 told_at (places.Checking target) reply rest = after_check reply target rest
-told_at (places.Undoing offered target) reply rest = at (places.Dooming offered) rest
-told_at (places.Dooming name) reply rest = go_on rest
+told_at (places.Undoing offered target) reply rest = at (places.Dooming offered NormalClearing) rest
+told_at (places.Dooming name cause) reply rest = go_on rest
 told_at (places.Finding name act) reply rest = after_find reply act rest
 told_at (places.Passing partner act) reply rest = after_pass reply partner act rest
 told_at (places.Looking name) reply rest = after_look reply name rest
 told_at (places.LookingAt peer number) reply rest = after_look_at reply rest
-told_at (places.FindingPartner name) reply rest = after_find_partner reply name rest
-told_at (places.HangingUp name partner) reply rest = after_partner_hangup reply name rest
-told_at (places.Paying name) reply rest = at (places.Retiring name) rest
-told_at (places.Retiring name) reply rest = after_retire reply name rest
-told_at (places.Freeing name) reply rest = after_free reply rest
+told_at (places.FindingPartner name cause) reply rest = after_find_partner reply name cause rest
+told_at (places.HangingUp name partner cause) reply rest = after_partner_hangup reply name cause rest
+told_at (places.Paying name cause) reply rest = at (places.Retiring name cause) rest
+told_at (places.Retiring name cause) reply rest = after_retire reply name cause rest
+told_at (places.Freeing name cause) reply rest = after_free reply cause rest
 told_at (places.Tick peer) reply rest = after_tick reply rest
 told_at (places.HangUp name) reply rest = after_hang_up reply rest
 told_at (places.ReserveCall peer) reply rest = after_reserve_call reply rest
@@ -281,10 +283,10 @@ after_told work reply = told_at work.place reply work.rest
 abbrev pub in_hand : Place → List LegName
 in_hand (places.OpenIn name) = name ∷ []
 in_hand (places.GiveBack name) = name ∷ []
-in_hand (places.Bridging offered target) = target ∷ []
-in_hand (places.Accepting offered target) = target ∷ []
+in_hand (places.Bridging offered target format) = target ∷ []
+in_hand (places.Accepting offered target format) = target ∷ []
 in_hand (places.OpenOut offered target) = target ∷ []
 in_hand (places.Undoing offered target) = target ∷ []
-in_hand (places.Freeing name) = name ∷ []
+in_hand (places.Freeing name cause) = name ∷ []
 in_hand (places.OpenCall name) = name ∷ []
 in_hand place = []

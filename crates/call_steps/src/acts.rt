@@ -1,13 +1,13 @@
 //! What one leg is ordered when another hands something up.
 ghost use Rattle.std.specs.Prelude.{◌≡◌, length};
 
-use leg_machine::{Cause, Digit, Indication, MediaSpan, Order, OrderKind};
+use leg_machine::{Cause, Digit, Format, Indication, MediaSpan, Order, OrderKind};
 
 /// An order to a leg, in which media is a place in the datagram that brought it.
 #[derive(Clone, Copy, Debug, PartialEq, Eq)]
 pub enum Act {
-    /// Accepts the offered call.
-    Accept,
+    /// Accepts the offered call, in this format.
+    Accept(Format),
     /// Rejects the offered call.
     Reject(Cause),
     /// Tells how the call goes on.
@@ -18,10 +18,10 @@ pub enum Act {
     Dtmf(Digit),
     /// Sends these octets of the datagram as media.
     Media(MediaSpan),
-    /// Hangs up.
-    Hangup,
-    /// Hangs up as soon as a tick can.
-    Doom,
+    /// Hangs up, for this cause.
+    Hangup(Cause),
+    /// Hangs up as soon as a tick can, for this cause.
+    Doom(Cause),
     /// The exchange is done with the end of the call.
     Paid,
 }
@@ -35,14 +35,14 @@ impl Act {
         ensures { result ≡ act_kind self.now }
     {
         match self {
-            Act::Accept => OrderKind::Accept,
+            Act::Accept(format) => OrderKind::Accept(*format),
             Act::Reject(cause) => OrderKind::Reject(*cause),
             Act::Indicate(indication) => OrderKind::Indicate(*indication),
             Act::Answer => OrderKind::Answer,
             Act::Dtmf(digit) => OrderKind::Dtmf(*digit),
             Act::Media(_) => OrderKind::Media,
-            Act::Hangup => OrderKind::Hangup,
-            Act::Doom => OrderKind::Doom,
+            Act::Hangup(cause) => OrderKind::Hangup(*cause),
+            Act::Doom(cause) => OrderKind::Doom(*cause),
             Act::Paid => OrderKind::Paid,
         }
     }
@@ -54,14 +54,14 @@ impl Act {
         ensures media { order_media result ≡ act_media self.now octets.now }
     {
         match self {
-            Act::Accept => Order::Accept,
+            Act::Accept(format) => Order::Accept(*format),
             Act::Reject(cause) => Order::Reject(*cause),
             Act::Indicate(indication) => Order::Indicate(*indication),
             Act::Answer => Order::Answer,
             Act::Dtmf(digit) => Order::Dtmf(*digit),
             Act::Media(span) => Order::Media(&octets[span.start..span.end]),
-            Act::Hangup => Order::Hangup,
-            Act::Doom => Order::Doom,
+            Act::Hangup(cause) => Order::Hangup(*cause),
+            Act::Doom(cause) => Order::Doom(*cause),
             Act::Paid => Order::Paid,
         }
     }

@@ -10,7 +10,7 @@ use crate::places::Place;
 use crate::replies::Reply;
 use crate::work::Work;
 use call_book::LegName;
-use leg_machine::Cause;
+use leg_machine::{Cause, Format};
 use peer_lock::{OrderError, PeerError, Status};
 
 impl Work {
@@ -41,22 +41,29 @@ impl Work {
             Place::GiveBack(_) => self.end(),
             Place::Routing(offered) => self.after_route(reply, offered),
             Place::Rejecting(offered, _) => self.after_reject(reply, offered),
-            Place::ReserveOut(offered, _) => self.after_reserve_out(reply, offered),
-            Place::Bridging(offered, target) => self.after_bridge(reply, offered, target),
-            Place::Accepting(offered, target) => self.after_accept(reply, offered, target),
+            Place::ReserveOut(offered, _, format) => self.after_reserve_out(reply, offered, format),
+            Place::Bridging(offered, target, format) => {
+                self.after_bridge(reply, offered, target, format)
+            }
+            Place::Accepting(offered, target, format) => {
+                self.after_accept(reply, offered, target, format)
+            }
             Place::OpenOut(offered, target) => self.after_open_out(reply, offered, target),
             Place::Checking(target) => self.after_check(reply, target),
-            Place::Undoing(offered, _) => self.go_to(Place::Dooming(offered)),
-            Place::Dooming(_) => self.go_on(),
+            Place::Undoing(offered, _) => self.go_to(Place::Dooming(
+                offered,
+                Cause::NormalClearing,
+            )),
+            Place::Dooming(_, _) => self.go_on(),
             Place::Finding(_, act) => self.after_find(reply, act),
             Place::Passing(partner, act) => self.after_pass(reply, partner, act),
             Place::Looking(name) => self.after_look(reply, name),
             Place::LookingAt(_, _) => self.after_look_at(reply),
-            Place::FindingPartner(name) => self.after_find_partner(reply, name),
-            Place::HangingUp(name, _) => self.after_partner_hangup(reply, name),
-            Place::Paying(name) => self.go_to(Place::Retiring(name)),
-            Place::Retiring(name) => self.after_retire(reply, name),
-            Place::Freeing(_) => self.after_free(reply),
+            Place::FindingPartner(name, cause) => self.after_find_partner(reply, name, cause),
+            Place::HangingUp(name, _, cause) => self.after_partner_hangup(reply, name, cause),
+            Place::Paying(name, cause) => self.go_to(Place::Retiring(name, cause)),
+            Place::Retiring(name, cause) => self.after_retire(reply, name, cause),
+            Place::Freeing(_, cause) => self.after_free(reply, cause),
             Place::Tick(_) => self.after_tick(reply),
             Place::HangUp(_) => self.after_hang_up(reply),
             Place::ReserveCall(_) => self.after_reserve_call(reply),
@@ -99,7 +106,9 @@ impl Work {
         ensures { self.new ≡ record self.old { work = work.after_route reply.now offered self.old.work.rest } }
     {
         match reply {
-            Reply::Route(Route::To(peer)) => self.go_to(Place::ReserveOut(offered, *peer)),
+            Reply::Route(Route::To(peer, format)) => {
+                self.go_to(Place::ReserveOut(offered, *peer, *format))
+            }
             Reply::Route(Route::WithoutFormat) => {
                 self.go_to(Place::Rejecting(offered, Cause::CallRejected))
             }
@@ -112,30 +121,30 @@ impl Work {
     {
         match reply {
             Reply::Order(Ok(())) => self.go_on(),
-            _ => self.go_to(Place::Dooming(offered)),
+            _ => self.go_to(Place::Dooming(offered, Cause::NormalClearing)),
         }
     }
 
-    fn after_reserve_out(&mut self, reply: &Reply, offered: LegName)
-        ensures { self.new ≡ record self.old { work = work.after_reserve_out reply.now offered self.old.work.rest } }
+    fn after_reserve_out(&mut self, reply: &Reply, offered: LegName, format: Format)
+        ensures { self.new ≡ record self.old { work = work.after_reserve_out reply.now offered format self.old.work.rest } }
     {
         match reply {
-            Reply::Reserve(Ok(target)) => self.go_to(Place::Bridging(offered, *target)),
+            Reply::Reserve(Ok(target)) => self.go_to(Place::Bridging(offered, *target, format)),
             _ => self.go_to(Place::Rejecting(offered, Cause::NoChannelAvailable)),
         }
     }
 
-    fn after_bridge(&mut self, reply: &Reply, offered: LegName, target: LegName)
-        ensures { self.new ≡ record self.old { work = work.after_bridge reply.now offered target self.old.work.rest } }
+    fn after_bridge(&mut self, reply: &Reply, offered: LegName, target: LegName, format: Format)
+        ensures { self.new ≡ record self.old { work = work.after_bridge reply.now offered target format self.old.work.rest } }
     {
         match reply {
-            Reply::Bridge(Ok(())) => self.go_to(Place::Accepting(offered, target)),
+            Reply::Bridge(Ok(())) => self.go_to(Place::Accepting(offered, target, format)),
             _ => self.go_to(Place::Undoing(offered, target)),
         }
     }
 
-    fn after_accept(&mut self, reply: &Reply, offered: LegName, target: LegName)
-        ensures { self.new ≡ record self.old { work = work.after_accept reply.now offered target self.old.work.rest } }
+    fn after_accept(&mut self, reply: &Reply, offered: LegName, target: LegName, format: Format)
+        ensures { self.new ≡ record self.old { work = work.after_accept reply.now offered target format self.old.work.rest } }
     {
         match reply {
             Reply::Order(Ok(())) => self.go_to(Place::OpenOut(offered, target)),
@@ -157,7 +166,7 @@ impl Work {
     {
         match reply {
             Reply::Partner(Some(_)) => self.go_on(),
-            _ => self.go_to(Place::Dooming(target)),
+            _ => self.go_to(Place::Dooming(target, Cause::NormalClearing)),
         }
     }
 
@@ -187,7 +196,7 @@ impl Work {
     {
         match act {
             Act::Media(_) => self.go_on(),
-            _ => self.go_to(Place::Dooming(partner)),
+            _ => self.go_to(Place::Dooming(partner, Cause::NormalClearing)),
         }
     }
 
@@ -217,49 +226,49 @@ impl Work {
 
     // A leg that owes is settled with its partner before it is taken out.
     fn after_status(&mut self, status: &Status)
-        ensures { self.new ≡ record self.old { work = work.after_status status.now.name status.now.owes self.old.work.rest } }
+        ensures { self.new ≡ record self.old { work = work.after_status status.now.name status.now.owes status.now.cause self.old.work.rest } }
     {
         if status.owes {
-            self.go_to(Place::FindingPartner(status.name))
+            self.go_to(Place::FindingPartner(status.name, status.cause))
         } else {
-            self.go_to(Place::Retiring(status.name))
+            self.go_to(Place::Retiring(status.name, status.cause))
         }
     }
 
-    fn after_find_partner(&mut self, reply: &Reply, name: LegName)
-        ensures { self.new ≡ record self.old { work = work.after_find_partner reply.now name self.old.work.rest } }
+    fn after_find_partner(&mut self, reply: &Reply, name: LegName, cause: Cause)
+        ensures { self.new ≡ record self.old { work = work.after_find_partner reply.now name cause self.old.work.rest } }
     {
         match reply {
-            Reply::Partner(Some(partner)) => self.go_to(Place::HangingUp(name, *partner)),
-            _ => self.go_to(Place::Paying(name)),
+            Reply::Partner(Some(partner)) => self.go_to(Place::HangingUp(name, *partner, cause)),
+            _ => self.go_to(Place::Paying(name, cause)),
         }
     }
 
-    fn after_partner_hangup(&mut self, reply: &Reply, name: LegName)
-        ensures { self.new ≡ record self.old { work = work.after_partner_hangup reply.now name self.old.work.rest } }
+    fn after_partner_hangup(&mut self, reply: &Reply, name: LegName, cause: Cause)
+        ensures { self.new ≡ record self.old { work = work.after_partner_hangup reply.now name cause self.old.work.rest } }
     {
         match reply {
             Reply::Order(Ok(()) | Err(OrderError::Gone | OrderError::WrongStage)) => {
-                self.go_to(Place::Paying(name))
+                self.go_to(Place::Paying(name, cause))
             }
-            _ => self.go_to(Place::Retiring(name)),
+            _ => self.go_to(Place::Retiring(name, cause)),
         }
     }
 
-    fn after_retire(&mut self, reply: &Reply, name: LegName)
-        ensures { self.new ≡ record self.old { work = work.after_retire reply.now name self.old.work.rest } }
+    fn after_retire(&mut self, reply: &Reply, name: LegName, cause: Cause)
+        ensures { self.new ≡ record self.old { work = work.after_retire reply.now name cause self.old.work.rest } }
     {
         match reply {
-            Reply::Retire(true) => self.go_to(Place::Freeing(name)),
+            Reply::Retire(true) => self.go_to(Place::Freeing(name, cause)),
             _ => self.go_on(),
         }
     }
 
-    fn after_free(&mut self, reply: &Reply)
-        ensures { self.new ≡ record self.old { work = work.after_free reply.now self.old.work.rest } }
+    fn after_free(&mut self, reply: &Reply, cause: Cause)
+        ensures { self.new ≡ record self.old { work = work.after_free reply.now cause self.old.work.rest } }
     {
         match reply {
-            Reply::Release(Ok(Some(partner))) => self.go_to(Place::Dooming(*partner)),
+            Reply::Release(Ok(Some(partner))) => self.go_to(Place::Dooming(*partner, cause)),
             _ => self.go_on(),
         }
     }

@@ -2,16 +2,17 @@
 
 use crate::acts::Act;
 use call_book::LegName;
+use leg_machine::Format;
 
 /// What the route of an offered call leads to.
 #[derive(Clone, Copy, Debug, PartialEq, Eq)]
 pub enum Route {
     /// No route leads to the number that is called.
     Nowhere,
-    /// The peer hasn't the format of the call.
+    /// The peer has no format of the call.
     WithoutFormat,
-    /// The peer at this place in the plan.
-    To(u16),
+    /// The peer at this place in the plan, in this format.
+    To(u16, Format),
 }
 
 /// A step that a call has to make next. A peer is its place in the plan.

@@ -4,7 +4,7 @@ ghost use Rattle.std.specs.Prelude.{◌≡◌};
 use crate::acts::Act;
 use crate::needs::Need;
 use call_book::LegName;
-use leg_machine::{Cause, Signal};
+use leg_machine::{Cause, Format, Signal};
 
 /// Where a call stands. A peer is its place in the plan.
 #[derive(Clone, Copy, Debug, PartialEq, Eq)]
@@ -21,20 +21,20 @@ pub enum Place {
     Routing(LegName),
     /// The offered leg is rejected.
     Rejecting(LegName, Cause),
-    /// The call of the offered leg leads to this peer.
-    ReserveOut(LegName, u16),
+    /// The call of the offered leg leads to this peer, in this format.
+    ReserveOut(LegName, u16, Format),
     /// The offered leg, and the name of its far leg.
-    Bridging(LegName, LegName),
+    Bridging(LegName, LegName, Format),
     /// The offered leg is accepted, before its far leg is opened.
-    Accepting(LegName, LegName),
+    Accepting(LegName, LegName, Format),
     /// The far leg of the offered one is opened.
     OpenOut(LegName, LegName),
     /// This far leg is new: has it still a partner?
     Checking(LegName),
     /// What the offered leg asks for was refused: the name of its far leg goes back, then the offered leg is doomed.
     Undoing(LegName, LegName),
-    /// This leg is doomed.
-    Dooming(LegName),
+    /// This leg is doomed, for this cause.
+    Dooming(LegName, Cause),
     /// What this leg handed up goes to its partner.
     Finding(LegName, Act),
     /// The partner gets the order.
@@ -43,16 +43,16 @@ pub enum Place {
     Looking(LegName),
     /// The leg of this peer and number, if there is one, is finished.
     LookingAt(u16, u16),
-    /// This leg owes: its partner is hung up.
-    FindingPartner(LegName),
+    /// This leg owes: its partner is hung up, for the cause of the leg's end.
+    FindingPartner(LegName, Cause),
     /// The leg that owes, and its partner.
-    HangingUp(LegName, LegName),
+    HangingUp(LegName, LegName, Cause),
     /// The partner of this leg is hung up, or there is none.
-    Paying(LegName),
+    Paying(LegName, Cause),
     /// This leg is taken out, if it can be.
-    Retiring(LegName),
+    Retiring(LegName, Cause),
     /// This leg was taken out.
-    Freeing(LegName),
+    Freeing(LegName, Cause),
     /// Time goes on at this peer.
     Tick(u16),
     /// This leg is hung up from outside.
@@ -74,30 +74,32 @@ impl Place {
     {
         match *self {
             Place::Datagram(peer) => Some(Need::Datagram(peer)),
-            Place::ReserveIn(peer) | Place::ReserveOut(_, peer) | Place::ReserveCall(peer) => {
+            Place::ReserveIn(peer) | Place::ReserveOut(_, peer, _) | Place::ReserveCall(peer) => {
                 Some(Need::Reserve(peer))
             }
             Place::OpenIn(name) => Some(Need::OpenIn(name)),
             Place::OpenOut(_, name) | Place::OpenCall(name) => Some(Need::OpenOut(name)),
-            Place::GiveBack(name) | Place::Undoing(_, name) | Place::Freeing(name) => {
+            Place::GiveBack(name) | Place::Undoing(_, name) | Place::Freeing(name, _) => {
                 Some(Need::Release(name))
             }
             Place::Routing(offered) => Some(Need::Route(offered)),
             Place::Rejecting(offered, cause) => Some(Need::Order(offered, Act::Reject(cause))),
-            Place::Bridging(offered, target) => Some(Need::Bridge(offered, target)),
-            Place::Accepting(offered, _) => Some(Need::Order(offered, Act::Accept)),
-            Place::Checking(name) | Place::Finding(name, _) | Place::FindingPartner(name) => {
+            Place::Bridging(offered, target, _) => Some(Need::Bridge(offered, target)),
+            Place::Accepting(offered, _, format) => Some(Need::Order(offered, Act::Accept(format))),
+            Place::Checking(name) | Place::Finding(name, _) | Place::FindingPartner(name, _) => {
                 Some(Need::Partner(name))
             }
-            Place::Dooming(name) => Some(Need::Order(name, Act::Doom)),
+            Place::Dooming(name, cause) => Some(Need::Order(name, Act::Doom(cause))),
             Place::Passing(partner, act) => Some(Need::Order(partner, act)),
             Place::Looking(name) => Some(Need::Look(name.peer, name.number)),
             Place::LookingAt(peer, number) => Some(Need::Look(peer, number)),
-            Place::HangingUp(_, partner) => Some(Need::Order(partner, Act::Hangup)),
-            Place::Paying(name) => Some(Need::Order(name, Act::Paid)),
-            Place::Retiring(name) => Some(Need::Retire(name)),
+            Place::HangingUp(_, partner, cause) => {
+                Some(Need::Order(partner, Act::Hangup(cause)))
+            }
+            Place::Paying(name, _) => Some(Need::Order(name, Act::Paid)),
+            Place::Retiring(name, _) => Some(Need::Retire(name)),
             Place::Tick(peer) => Some(Need::Tick(peer)),
-            Place::HangUp(name) => Some(Need::Order(name, Act::Hangup)),
+            Place::HangUp(name) => { Some(Need::Order(name, Act::Hangup(Cause::NormalClearing))) }
             Place::End => None,
         }
     }

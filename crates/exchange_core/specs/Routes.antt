@@ -1,6 +1,8 @@
 -- Where offered calls lead.
 use Rattle.std.specs.Prelude.{◌≡◌, ℕ, ◌<◌, Bool, true, false, Option, None, Some, All, option_map, slice_get}
-use Rattle.leg_machine.specs.Formats.{has_format}
+use Rattle.leg_machine.specs.Formats.{formats_of_both, format_among}
+use Rattle.call_signals.specs.declared.formats.Format.{Format}
+use Rattle.call_signals.specs.declared.formats.Formats.{Formats}
 use Rattle.call_signals.specs.declared.rules.PeerRules.{PeerRules}
 use Rattle.peer_accounts.specs.declared.onwards.Offer.{Offer}
 use Rattle.peer_plan.specs.Plan.{PlanView, fits, IsNearest}
@@ -10,21 +12,26 @@ use Rattle.call_steps.specs.declared.needs.Route.TheVariants as routes
 
 -- a peer that it leads to is one of so many
 abbrev pub LeadsInside : Route → ℕ → Type 0
-LeadsInside (routes.To peer) peers = peer < peers
+LeadsInside (routes.To peer format) peers = peer < peers
 LeadsInside route peers = Unit {0}
 
--- the nearest route of a peer's call to the number leads to this peer, which has the call's format or hasn't
-pub record LeadsTo (plan : PlanView) (caller : ℕ) (offer : Offer) (peer : ℕ) (has_it : Bool) : Type 0 where
+-- the format of an offered call at a target with these formats: the one chosen by its NEW, where the target has that, else the lowest
+-- that the call may have and the target has; none: they have none in common
+abbrev pub format_for : Offer → Formats → Option Format
+format_for offer formats = format_among (formats_of_both offer.formats formats) offer.format
+
+-- the nearest route of a peer's call to the number leads to this peer, where the call has this format, or none
+pub record LeadsTo (plan : PlanView) (caller : ℕ) (offer : Offer) (peer : ℕ) (agreed : Option Format) : Type 0 where
   pub way : Way
   pub nearest : IsNearest plan.routes caller offer.called way
   pub owner : way.peer ≡ peer
   pub rules : PeerRules
   pub are_its : option_map (λ peer. peer.rules) (slice_get plan.peers peer) ≡ Some rules
-  pub format : has_format rules.formats offer.format ≡ has_it
+  pub format : format_for offer rules.formats ≡ agreed
 
 -- where the call leads that a peer offers, if it offers one
 abbrev pub IsRoute : PlanView → ℕ → Option Offer → Route → Type 0
 IsRoute plan caller None route = route ≡ routes.Nowhere
 IsRoute plan caller (Some offer) routes.Nowhere = All (λ way. fits caller offer.called way ≡ false) plan.routes
-IsRoute plan caller (Some offer) (routes.To peer) = LeadsTo plan caller offer peer true
-IsRoute plan caller (Some offer) routes.WithoutFormat = (peer : ℕ) × LeadsTo plan caller offer peer false
+IsRoute plan caller (Some offer) (routes.To peer format) = LeadsTo plan caller offer peer (Some format)
+IsRoute plan caller (Some offer) routes.WithoutFormat = (peer : ℕ) × LeadsTo plan caller offer peer None

@@ -27,7 +27,7 @@ use Rattle.peer_lock.specs.declared.steps.Step.{Step}
 use Rattle.peer_lock.specs.declared.steps.TickReport.{TickReport}
 use Rattle.peer_plan.specs.Plan.{PlanView}
 use Rattle.peer_plan.specs.declared.endpoint.Endpoint.{Endpoint}
-use Rattle.exchange_core.specs.Routes.{IsRoute}
+use Rattle.exchange_core.specs.Routes.{IsRoute, format_for}
 use Rattle.exchange_core.specs.declared.hands.Given.{Given}
 
 -- what a call is made with
@@ -69,20 +69,27 @@ abbrev pub octets_of : Option (List ℕ) → List ℕ
 octets_of None = []
 octets_of (Some media) = media
 
--- a leg of this peer is opened for the number that is called from outside, in the lowest format of the peer; else for what is offered
+-- a leg of this peer is opened for the number that is called from outside, in the lowest format of the peer; else for what is offered, in the
+-- format of that call at this peer
 abbrev pub IsCallFor : PlanView → Option (List ℕ) → Option Offer → ℕ → List ℕ → List ℕ → Format → Type 0
 IsCallFor plan (Some text) offer peer called caller format =
     (called ≡ text) × (caller ≡ numbered None) × (option_map (λ peer. lowest_format peer.rules.formats) (slice_get plan.peers peer) ≡ Some (Some format))
-IsCallFor plan None (Some offer) peer called caller format = (called ≡ offer.called) × (caller ≡ offer.caller) × (format ≡ offer.format)
+IsCallFor plan None (Some offer) peer called caller format =
+    (called ≡ offer.called) × (caller ≡ offer.caller) × (option_map (λ peer. format_for offer peer.rules.formats) (slice_get plan.peers peer) ≡ Some (Some format))
 IsCallFor plan None None peer called caller format = ⊥
 
 -- ---- one step
 
+-- nothing is offered, or the peer has no format of the call
+abbrev pub LacksFormat : PlanView → Option Offer → ℕ → Type 0
+LacksFormat plan None peer = Unit {0}
+LacksFormat plan (Some offer) peer = option_map (λ peer. format_for offer peer.rules.formats) (slice_get plan.peers peer) ≡ Some None
+
 -- what is answered without asking a locked state: where no peer of the plan is meant, where memory was refused for a leg that is to be
--- taken out, where nothing is offered, and where a call leads
+-- taken out, where nothing is offered or the peer lacks the format, and where a call leads
 abbrev pub IsUnasked : Call → Option Offer → Need → Reply → Type 0
 IsUnasked call offer (needs.OpenOut name) reply =
-    (reply ≡ replies.OpenOut (Err open_errors.NumberBusy)) × ((length call.plan.peers ≤ name.peer) ⊎ ((call.called ≡ None) × (offer ≡ None)))
+    (reply ≡ replies.OpenOut (Err open_errors.NumberBusy)) × ((length call.plan.peers ≤ name.peer) ⊎ ((call.called ≡ None) × LacksFormat call.plan offer name.peer))
 IsUnasked call offer (needs.Order name act) reply = (reply ≡ replies.Order (Err order_errors.Gone)) × (length call.plan.peers ≤ name.peer)
 IsUnasked call offer (needs.Look peer number) reply = (reply ≡ replies.Look None) × (length call.plan.peers ≤ peer)
 IsUnasked call offer (needs.Retire name) reply = reply ≡ replies.Retire false

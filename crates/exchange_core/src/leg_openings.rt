@@ -7,6 +7,8 @@ ghost use Rattle.exchange_core.specs.Newcomers.{SpellsOpening};
 ghost use Rattle.call_steps.specs.declared.needs.Need.TheVariants as needs;
 ghost use Rattle.call_steps.specs.declared.replies.Reply.TheVariants as replies;
 ghost use Rattle.exchange_core.specs.Numbers.{IsCalled};
+ghost use Rattle.exchange_core.specs.Routes.{format_for};
+ghost use Rattle.exchange_core.specs.declared.hands.Given.{Given as GivenValue};
 ghost use Rattle.exchange_core.specs.Traces.{Makes, OpensOut, call_of, done_of};
 ghost use Rattle.iax_frames.specs.FullFrame.{SpellsFull};
 ghost use Rattle.noted_steps.specs.Notes.{without_lease};
@@ -17,6 +19,7 @@ ghost use Rattle.peer_lock.specs.Openings.{IsOpening};
 use crate::exchange::Exchange;
 use crate::gates::Gate;
 use crate::hands::{Given, Hands};
+use crate::routing::format_for;
 use call_book::{Lease, LegName};
 use call_steps::Heard;
 use iax_frames::Full;
@@ -68,16 +71,18 @@ impl<G: Gate, J: Naming> Exchange<G, J> {
         self.open_out(rt, pass, lease, called, &nobody, format, now)
     }
 
-    // The far leg of an offered call is opened under a lease, with what is offered.
+    // The far leg of an offered call is opened under a lease, with what is offered, in this format.
     fn open_far<R: Wait>(
         &self,
         rt: &R,
         pass: &mut Pass<J>,
         lease: Lease,
         offer: &Offer,
+        format: Format,
         now: u64,
     ) -> Result<Step, (Lease, OpenError)>
         requires peer { lease.peer < length self.now.peers }
+        requires format { option_map (λ peer. format_for offer.now peer.rules.formats) (slice_get self.now.peers lease.peer) ≡ Some (Some format) }
         ensures noted { OpensOut self.now None (Some offer.now) lease now (without_lease result) pass.old pass.new }
         ensures credit { OnOk result (pass.new.credit ≡ with_step pass.old.credit 0) }
         ensures refused { OnErr result (pass.new.credit ≡ pass.old.credit) }
@@ -85,7 +90,40 @@ impl<G: Gate, J: Naming> Exchange<G, J> {
         ensures no_remote { IfErr result (λ back. back.1 ≢ OpenError.RemoteBusy) }
     {
         let called = offer.called.as_slice();
-        self.open_out(rt, pass, lease, called, &offer.caller, offer.format, now)
+        self.open_out(rt, pass, lease, called, &offer.caller, format, now)
+    }
+
+    // The format of what is offered, if anything is, at a peer.
+    fn offered_format(&self, peer: u16, offer: &Offer) -> Option<Format>
+        requires { peer < length self.now.peers }
+        ensures { option_map (λ peer. format_for offer.now peer.rules.formats) (slice_get self.now.peers peer) ≡ Some result }
+    {
+        format_for(offer, self.plan.rules(peer).formats)
+    }
+
+    // The far leg of what is offered is opened under a lease, if anything is, and the peer has a format of it.
+    fn open_offered<R: Wait>(
+        &self,
+        rt: &R,
+        pass: &mut Pass<J>,
+        lease: Lease,
+        offer: Option<&Offer>,
+        now: u64,
+    ) -> Result<Step, (Lease, OpenError)>
+        requires peer { lease.peer < length self.now.peers }
+        ensures noted { (given : GivenValue) → option_copied given.called ≡ None → given.now ≡ now → Makes (call_of self.now given) (option_copied offer.entry) (needs.OpenOut lease) (replies.OpenOut (done_of (without_lease result))) pass.old pass.new }
+        ensures credit { OnOk result (pass.new.credit ≡ with_step pass.old.credit 0) }
+        ensures refused { OnErr result (pass.new.credit ≡ pass.old.credit) }
+        ensures lease { IfErr result (λ back. back.0 ≡ lease) }
+        ensures no_remote { IfErr result (λ back. back.1 ≢ OpenError.RemoteBusy) }
+    {
+        if let Some(offer) = offer {
+            if let Some(format) = self.offered_format(lease.name().peer, offer) {
+                return self.open_far(rt, pass, lease, offer, format, now);
+            }
+        }
+        pass.note_unasked();
+        Err((lease, OpenError::NumberBusy))
     }
 
     // A leg is opened under a lease: that of a call from outside, where there is one, else the far leg of what is offered.
@@ -110,13 +148,7 @@ impl<G: Gate, J: Naming> Exchange<G, J> {
         }
         match given.called {
             Some(called) => self.open_called(rt, pass, lease, called, given.now),
-            None => match offer {
-                Some(offer) => self.open_far(rt, pass, lease, offer, given.now),
-                None => {
-                    pass.note_unasked();
-                    Err((lease, OpenError::NumberBusy))
-                }
-            },
+            None => self.open_offered(rt, pass, lease, offer, given.now),
         }
     }
 

@@ -2,7 +2,7 @@
 ghost use Rattle.std.specs.Prelude.{◌≡◌, length, Some, option_copied};
 ghost use Rattle.call_steps.specs.declared.needs.Need.TheVariants as needs;
 ghost use Rattle.call_steps.specs.declared.replies.Reply.TheVariants as replies;
-ghost use Rattle.exchange_core.specs.Routes.{IsRoute, LeadsInside};
+ghost use Rattle.exchange_core.specs.Routes.{IsRoute, LeadsInside, format_for};
 ghost use Rattle.exchange_core.specs.Traces.{Makes, call_of};
 ghost use Rattle.exchange_core.specs.declared.hands.Given.{Given as GivenValue};
 
@@ -10,8 +10,16 @@ use crate::exchange::Exchange;
 use crate::gates::Gate;
 use call_book::LegName;
 use call_steps::Route;
+use leg_machine::{Format, Formats};
 use noted_steps::Pass;
 use peer_lock::{Naming, Offer};
+
+// The format of an offered call at a target with these formats.
+pub(crate) fn format_for(offer: &Offer, formats: Formats) -> Option<Format>
+    ensures { result ≡ format_for offer.now formats }
+{
+    offer.formats.of_both(formats).among(offer.format)
+}
 
 impl<G: Gate, J: Naming> Exchange<G, J> {
     // Where the call leads that a leg of a peer offers.
@@ -48,10 +56,9 @@ impl<G: Gate, J: Naming> Exchange<G, J> {
         let Some(peer) = self.plan.route(caller, offer.called.as_slice()) else {
             return Route::Nowhere;
         };
-        if self.plan.rules(peer).formats.contains(offer.format) {
-            Route::To(peer)
-        } else {
-            Route::WithoutFormat
+        match format_for(offer, self.plan.rules(peer).formats) {
+            Some(format) => Route::To(peer, format),
+            None => Route::WithoutFormat,
         }
     }
 }

@@ -268,13 +268,16 @@ impl Tested {
     /// Something is asked of the leg.
     pub fn grants(&mut self, at: u64, wish: &Wish) -> Result<(), OrderError> {
         match wish {
-            Wish::Accept => self.obeys(at, &Order::Accept),
+            Wish::Accept => {
+                let format = self.leg.format();
+                self.obeys(at, &Order::Accept(format))
+            }
             Wish::Reject(cause) => self.obeys(at, &Order::Reject(*cause)),
             Wish::Answer => self.obeys(at, &Order::Answer),
             Wish::Digit => self.obeys(at, &Order::Dtmf(Digit::new(0x35))),
             Wish::Media(media) => self.sends(at, media),
-            Wish::Hangup => self.obeys(at, &Order::Hangup),
-            Wish::Doom => self.obeys(at, &Order::Doom),
+            Wish::Hangup => self.obeys(at, &Order::Hangup(Cause::NormalClearing)),
+            Wish::Doom => self.obeys(at, &Order::Doom(Cause::NormalClearing)),
         }
     }
 

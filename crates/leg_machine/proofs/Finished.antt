@@ -12,7 +12,6 @@ use Rattle.leg_machine.specs.Legs.{LegState, entered, failed, is_short_of_entrie
 use Rattle.call_signals.specs.Stages.{is_ended}
 use Rattle.leg_machine.specs.Ticks.{Tick, quiet, sends_if, must_hang_up, hang_up_step, must_ping, pinged, last_step, due_frames, tick_step}
 use Rattle.leg_machine.specs.Tries.{Tried, tries, one_try, after_try, NoneDue, IsFinished}
-use Rattle.call_signals.specs.declared.causes.Cause.TheVariants.{NormalClearing}
 use Rattle.call_signals.specs.declared.failure.Failure.TheVariants as failures
 use Rattle.call_signals.specs.declared.replies.Reply.TheVariants as replies
 use Rattle.call_signals.specs.declared.rules.PeerRules.{PeerRules}
@@ -109,9 +108,9 @@ tries-finish leg now some = finishes (held_count leg.window) leg now some (due-l
 -- ---- a tick
 
 hung-finish : (grown : Bool) (leg : LegState) (now : ℕ) → 1 ≤ leg.rules.retry_ms
-    → IsFinished (tries (held_count leg.window) (sends_if grown leg (entered leg stages.Closing) now (replies.Hangup NormalClearing)).leg now) now
+    → IsFinished (tries (held_count leg.window) (sends_if grown leg (entered leg stages.Closing) now (replies.Hangup leg.cause)).leg now) now
 hung-finish true leg now some =
-    let hung = sends_if true leg (entered leg stages.Closing) now (replies.Hangup NormalClearing) in
+    let hung = sends_if true leg (entered leg stages.Closing) now (replies.Hangup leg.cause) in
     finishes (held_count leg.window) hung.leg now some
     (omega (arith, due-push now leg.rules.retry_ms 0 leg.window.sendings some, due-length now leg.rules.retry_ms leg.window.sendings))
 hung-finish false leg now some = tries-finish leg now some
@@ -120,7 +119,7 @@ pub tick-tries-finish : (grown : Bool) (leg : LegState) (now : ℕ) → 1 ≤ le
     → IsFinished (tries (held_count leg.window) (hang_up_step grown leg now).leg now) now
 tick-tries-finish grown leg now some =
     either (λ (hung : Tick). IsFinished (tries (held_count leg.window) hung.leg now) now) (must_hang_up leg)
-    (sends_if grown leg (entered leg stages.Closing) now (replies.Hangup NormalClearing)) (quiet leg)
+    (sends_if grown leg (entered leg stages.Closing) now (replies.Hangup leg.cause)) (quiet leg)
     (hung-finish grown leg now some) (tries-finish leg now some)
 
 -- ended, or holding nothing that is due
@@ -141,9 +140,9 @@ rules-tries (suc turns) leg now =
 rules-hung : (grown : Bool) (leg : LegState) (now : ℕ) → (hang_up_step grown leg now).leg.rules ≡ leg.rules
 rules-hung grown leg now =
     either (λ (hung : Tick). hung.leg.rules ≡ leg.rules) (must_hang_up leg)
-    (sends_if grown leg (entered leg stages.Closing) now (replies.Hangup NormalClearing)) (quiet leg) (sent grown) refl
+    (sends_if grown leg (entered leg stages.Closing) now (replies.Hangup leg.cause)) (quiet leg) (sent grown) refl
   where
-    sent : (g : Bool) → (sends_if g leg (entered leg stages.Closing) now (replies.Hangup NormalClearing)).leg.rules ≡ leg.rules
+    sent : (g : Bool) → (sends_if g leg (entered leg stages.Closing) now (replies.Hangup leg.cause)).leg.rules ≡ leg.rules
     sent true = refl
     sent false = refl
 

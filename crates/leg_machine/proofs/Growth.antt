@@ -11,7 +11,6 @@ use Rattle.leg_machine.specs.Seen.{seen as seen_leg, IsSeenTick}
 use Rattle.call_signals.specs.Stages.{is_ended, is_talking}
 use Rattle.leg_machine.specs.Ticks.{Tick, quiet, sends_if, must_hang_up, must_ping, pinged, is_ping_time, last_step, due_frames, tick_step}
 use Rattle.leg_machine.specs.Tries.{Tried, tries, one_try, after_try}
-use Rattle.call_signals.specs.declared.causes.Cause.TheVariants.{NormalClearing}
 use Rattle.call_signals.specs.declared.failure.Failure.TheVariants as failures
 use Rattle.call_signals.specs.declared.replies.Reply.TheVariants as replies
 use Rattle.call_signals.specs.declared.stages.Stage.TheVariants as stages
@@ -67,7 +66,7 @@ finish grown leg now hung =
 due-tells : (leg : LegState) (now : ℕ) → Tells (due_frames true leg now) (due_frames false leg now)
 due-tells leg now =
     let closing = entered leg stages.Closing in
-    let bye = replies.Hangup NormalClearing in
+    let bye = replies.Hangup leg.cause in
     let after_hung = tries (held_count leg.window) (sends_if true leg closing now bye).leg now in
     let after = tries (held_count leg.window) leg now in
     both (λ (a b : Tick). Tells (finish true leg now a) (finish false leg now b)) (must_hang_up leg)
@@ -115,7 +114,7 @@ due-silent : (leg : LegState) (now : ℕ) → must_hang_up leg ≡ false → mus
 due-silent leg now stays silent =
     let tried = tries (held_count leg.window) leg now in
     let last = last-silent tried.spent tried.leg now (ping-tries (held_count leg.window) leg now ∙ silent) in
-    ap (λ (b : Bool). (finish false leg now (cond b (sends_if false leg (entered leg stages.Closing) now (replies.Hangup NormalClearing)) (quiet leg))).skipped) stays
+    ap (λ (b : Bool). (finish false leg now (cond b (sends_if false leg (entered leg stages.Closing) now (replies.Hangup leg.cause)) (quiet leg))).skipped) stays
     ∙ omega (arith, last)
 
 -- nothing is skipped where there was memory, or no need of it

@@ -12,7 +12,6 @@ use Rattle.leg_machine.specs.Legs.{LegState, entered, failed, is_short_of_entrie
 use Rattle.call_signals.specs.Stages.{is_ended}
 use Rattle.leg_machine.specs.Ticks.{Tick, quiet, sends_if, must_hang_up, must_ping, pinged, last_step, due_frames, tick_step, is_none_due, is_idle}
 use Rattle.leg_machine.specs.Tries.{Tried, tried, tries, one_try}
-use Rattle.call_signals.specs.declared.causes.Cause.TheVariants.{NormalClearing}
 use Rattle.call_signals.specs.declared.failure.Failure.TheVariants as failures
 use Rattle.call_signals.specs.declared.replies.Reply.TheVariants as replies
 use Rattle.call_signals.specs.declared.stages.Stage.TheVariants as stages
@@ -46,7 +45,7 @@ no-tries (suc turns) leg now none =
 no-frames : (grown : Bool) (leg : LegState) (now : ℕ) → must_hang_up leg ≡ false → first_due now leg.rules.retry_ms leg.window.sendings ≡ None
     → must_ping leg now ≡ false → due_frames grown leg now ≡ quiet leg
 no-frames grown leg now stays none silent =
-    ap (λ (b : Bool). after (cond b (sends_if grown leg (entered leg stages.Closing) now (replies.Hangup NormalClearing)) (quiet leg))) stays
+    ap (λ (b : Bool). after (cond b (sends_if grown leg (entered leg stages.Closing) now (replies.Hangup leg.cause)) (quiet leg))) stays
     ∙ ap at_last (no-tries (held_count leg.window) leg now none)
     ∙ ap (λ (b : Bool). alone (cond b (sends_if grown leg (pinged leg now) now replies.Ping) (quiet leg))) silent
   where

@@ -16,7 +16,7 @@ use Rattle.call_signals.specs.Messages.{message_of, is_numbered, is_inval, is_vn
 use Rattle.leg_machine.specs.Seen.{SeenLeg, SeenEffect, seen, moved, SeenFrame, Plain, ProvesItself, FailsToProve, AcceptsCall, RejectsCall, BreaksOff, Indicates, AnswersCall, Dials, Speaks, HangsUp, AcknowledgesAll, seen_effect, frame_effect, IsSeenFrame}
 use Rattle.call_signals.specs.Stages.{is_over, is_closing}
 use Rattle.leg_machine.specs.Steps.{Step, heard_of, full_step, inval_step, vnak_step, resend_step, nothing_sent, asking, not_asking, numbered_step, judged_step, taken_step, taken, replied, answered, no_room, prepared}
-use Rattle.leg_machine.specs.Working.{learnt, acknowledged, counts, wants_vnak}
+use Rattle.leg_machine.specs.Working.{learnt, acknowledged, counts, wants_vnak, end_noted}
 use Rattle.call_signals.specs.declared.causes.Cause.TheVariants.{CallRejected}
 use Rattle.call_signals.specs.declared.effects.Answering.{Answering}
 use Rattle.call_signals.specs.declared.effects.Answering.TheVariants.{Acknowledged, Answered, Silent}
@@ -134,7 +134,7 @@ seen-replied leg now Silent = refl
 pub seen-taken : (effect : Effect) (leg : LegState) (frame : FullFrame) (message : Message) (now : ℕ)
     → seen (replied (taken effect leg frame message) now effect.answer) ≡ moved (seen leg) effect.stage
 seen-taken effect leg frame message now =
-    seen-replied (taken effect leg frame message) now effect.answer ∙ seen-marked (entered leg effect.stage) effect.mark
+    seen-replied (taken effect leg frame message) now effect.answer ∙ seen-marked (entered (end_noted leg effect.stage frame message) effect.stage) effect.mark
 
 -- ---- what changes nothing
 

@@ -8,6 +8,7 @@ use Rattle.leg_machine.specs.OrderTable.{when, row_refused, row_carried, order_r
 use Rattle.leg_machine.specs.Seen.{seen, moved, ordered, kind_of, stage_after, IsSeenOrder}
 use Rattle.call_signals.specs.Stages.{is_offered, is_linked, is_talking, is_over}
 use Rattle.call_signals.specs.declared.causes.Cause.{Cause}
+use Rattle.call_signals.specs.declared.formats.Format.{Format}
 use Rattle.leg_machine.specs.declared.media.MediaSent.{MediaSent}
 use Rattle.leg_machine.specs.declared.media.MediaSent.TheVariants as media
 use Rattle.call_signals.specs.declared.orders.Order.{Order}
@@ -29,9 +30,9 @@ use Rattle.leg_machine.proofs.Tied.{either, either_by}
 abbrev LeadsTo : OrderKind → Stage → Bool → Stage → Type 0
 LeadsTo kind stage right there = stage_after kind stage ≡ cond right (Some there) None
 
-accept : (s : Stage) → LeadsTo kinds.Accept s (is_offered s) stages.Linked
-accept stages.Offered = refl
-accept _ = refl
+accept : (format : Format) (s : Stage) → LeadsTo (kinds.Accept format) s (is_offered s) stages.Linked
+accept format stages.Offered = refl
+accept format _ = refl
 
 reject : (cause : Cause) (s : Stage) → LeadsTo (kinds.Reject cause) s (is_offered s) stages.Closing
 reject cause stages.Offered = refl
@@ -55,10 +56,10 @@ media-stage stages.Linked = refl
 media-stage stages.Up = refl
 media-stage _ = refl
 
-hangup : (s : Stage) → LeadsTo kinds.Hangup s (not (is_over s)) stages.Closing
-hangup stages.Closing = refl
-hangup stages.Ended = refl
-hangup _ = refl
+hangup : (cause : Cause) (s : Stage) → LeadsTo (kinds.Hangup cause) s (not (is_over s)) stages.Closing
+hangup cause stages.Closing = refl
+hangup cause stages.Ended = refl
+hangup cause _ = refl
 
 -- ---- the leg after an order
 
@@ -92,14 +93,14 @@ media-seen leg octets now =
 
 pub order-seen : (leg : LegState) (order : Order) (now : ℕ) → order_refused leg order now ≡ None
     → IsSeenOrder (kind_of order) (seen leg) (seen (order_carried leg order now).leg)
-order-seen leg orders.Accept now unrefused = row-seen leg kinds.Accept (is_offered leg.stage) _ now (accept leg.stage) refl unrefused
+order-seen leg (orders.Accept format) now unrefused = row-seen leg (kinds.Accept format) (is_offered leg.stage) _ now (accept format leg.stage) refl unrefused
 order-seen leg (orders.Reject cause) now unrefused = row-seen leg (kinds.Reject cause) (is_offered leg.stage) _ now (reject cause leg.stage) refl unrefused
 order-seen leg (orders.Indicate i) now unrefused = row-seen leg (kinds.Indicate i) (is_linked leg.stage) _ now (indicate i leg.stage) refl unrefused
 order-seen leg orders.Answer now unrefused = row-seen leg kinds.Answer (is_linked leg.stage) _ now (answer leg.stage) refl unrefused
 order-seen leg (orders.Dtmf digit) now unrefused = row-seen leg (kinds.Dtmf digit) (is_talking leg.stage) _ now (dtmf digit leg.stage) refl unrefused
 order-seen leg (orders.Media octets) now unrefused = media-seen leg octets.now now unrefused
-order-seen leg orders.Hangup now unrefused = row-seen leg kinds.Hangup (not (is_over leg.stage)) _ now (hangup leg.stage) refl unrefused
-order-seen leg orders.Doom now unrefused = (leg.stage, refl, refl)
+order-seen leg (orders.Hangup cause) now unrefused = row-seen leg (kinds.Hangup cause) (not (is_over leg.stage)) _ now (hangup cause leg.stage) refl unrefused
+order-seen leg (orders.Doom cause) now unrefused = (leg.stage, refl, refl)
 order-seen leg orders.Paid now unrefused = (leg.stage, refl, refl)
 
 -- ---- the wrong stage
@@ -134,14 +135,14 @@ media-wrong leg now =
     (λ talks. (λ e. media-stage leg.stage ∙ ap (λ (b : Bool). cond b (Some leg.stage) None) talks, λ e. refl))
 
 pub order-wrong : (leg : LegState) (order : Order) (now : ℕ) → WrongTogether (order_refused leg order now) (stage_after (kind_of order) leg.stage)
-order-wrong leg orders.Accept now = row-wrong leg kinds.Accept (is_offered leg.stage) _ (accept leg.stage)
+order-wrong leg (orders.Accept format) now = row-wrong leg (kinds.Accept format) (is_offered leg.stage) _ (accept format leg.stage)
 order-wrong leg (orders.Reject cause) now = row-wrong leg (kinds.Reject cause) (is_offered leg.stage) _ (reject cause leg.stage)
 order-wrong leg (orders.Indicate i) now = row-wrong leg (kinds.Indicate i) (is_linked leg.stage) _ (indicate i leg.stage)
 order-wrong leg orders.Answer now = row-wrong leg kinds.Answer (is_linked leg.stage) _ (answer leg.stage)
 order-wrong leg (orders.Dtmf digit) now = row-wrong leg (kinds.Dtmf digit) (is_talking leg.stage) _ (dtmf digit leg.stage)
 order-wrong leg (orders.Media octets) now = media-wrong leg now
-order-wrong leg orders.Hangup now = row-wrong leg kinds.Hangup (not (is_over leg.stage)) _ (hangup leg.stage)
-order-wrong leg orders.Doom now = (λ e. cc, λ e. cc)
+order-wrong leg (orders.Hangup cause) now = row-wrong leg (kinds.Hangup cause) (not (is_over leg.stage)) _ (hangup cause leg.stage)
+order-wrong leg (orders.Doom cause) now = (λ e. cc, λ e. cc)
 order-wrong leg orders.Paid now = (λ e. cc, λ e. cc)
 
 -- ---- what the calls answer

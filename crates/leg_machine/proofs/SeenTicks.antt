@@ -14,7 +14,6 @@ use Rattle.call_signals.specs.Stages.{is_over, is_ended}
 use Rattle.leg_machine.specs.Steps.{Step, heard_of, taken_step, taken, answered, no_room}
 use Rattle.leg_machine.specs.Ticks.{Tick, quiet, sends_if, must_hang_up, must_ping, pinged, last_step, due_frames, tick_step}
 use Rattle.leg_machine.specs.Tries.{Tried, tries, one_try, after_try}
-use Rattle.call_signals.specs.declared.causes.Cause.TheVariants.{NormalClearing}
 use Rattle.call_signals.specs.declared.failure.Failure.TheVariants as failures
 use Rattle.call_signals.specs.declared.effects.Effect.{Effect}
 use Rattle.call_signals.specs.declared.messages.Message.TheVariants.{New}
@@ -125,9 +124,9 @@ finished grown leg now hung =
     (last_step grown tried.spent tried.leg now).leg
 
 hung-seen : (grown : Bool) (leg : LegState) (now : ℕ) → must_hang_up leg ≡ true
-    → IsSeenTick (seen leg) (seen (finished grown leg now (sends_if grown leg (entered leg stages.Closing) now (replies.Hangup NormalClearing))))
+    → IsSeenTick (seen leg) (seen (finished grown leg now (sends_if grown leg (entered leg stages.Closing) now (replies.Hangup leg.cause))))
 hung-seen true leg now must =
-    let hung = sends_if true leg (entered leg stages.Closing) now (replies.Hangup NormalClearing) in
+    let hung = sends_if true leg (entered leg stages.Closing) now (replies.Hangup leg.cause) in
     closes (seen leg) (seen (finished true leg now hung)) (and-left (leg.doomed && not (is_over leg.stage)) (not (is_full leg.window)) must)
     (tried-seen (held_count leg.window) true hung.leg now)
 hung-seen false leg now must = lives-on (seen leg) (seen (finished false leg now (quiet leg))) (tried-seen (held_count leg.window) false leg now)
@@ -135,7 +134,7 @@ hung-seen false leg now must = lives-on (seen leg) (seen (finished false leg now
 due-seen : (grown : Bool) (leg : LegState) (now : ℕ) → IsSeenTick (seen leg) (seen (due_frames grown leg now).leg)
 due-seen grown leg now =
     either_by (λ (hung : Tick). IsSeenTick (seen leg) (seen (finished grown leg now hung))) (must_hang_up leg)
-    (sends_if grown leg (entered leg stages.Closing) now (replies.Hangup NormalClearing)) (quiet leg)
+    (sends_if grown leg (entered leg stages.Closing) now (replies.Hangup leg.cause)) (quiet leg)
     (hung-seen grown leg now)
     (λ _. lives-on (seen leg) (seen (finished grown leg now (quiet leg))) (tried-seen (held_count leg.window) grown leg now))
 

@@ -26,8 +26,7 @@ use Rattle.leg_machine.specs.Steps.{Step, full_step, inval_step, resend_step, no
 use Rattle.leg_machine.specs.Ticks.{Tick, quiet, sends_if, must_hang_up, must_ping, pinged, last_step, due_frames, tick_step}
 use Rattle.leg_machine.specs.Tie.{IsNumberedFrame, SendsNumbered, IsSendingOf, IsSending, IsSendingOrMini, HasSent, HasSentOrMini}
 use Rattle.leg_machine.specs.Tries.{Tried, tries, one_try, after_try, frames_again}
-use Rattle.leg_machine.specs.Working.{stored, counts, wants_vnak, asked}
-use Rattle.call_signals.specs.declared.causes.Cause.TheVariants.{NormalClearing}
+use Rattle.leg_machine.specs.Working.{stored, counts, wants_vnak, asked, agreed}
 use Rattle.call_signals.specs.declared.failure.Failure.TheVariants as failures
 use Rattle.call_signals.specs.declared.effects.Answering.{Answering}
 use Rattle.call_signals.specs.declared.effects.Answering.TheVariants.{Acknowledged, Answered, Silent}
@@ -153,7 +152,7 @@ pub row-sent : (leg : LegState) (row : Option Ordered) (now : ℕ) → SendsNumb
     → HasSentOrMini (row_carried leg row now).leg (row_carried leg row now).datagrams
 row-sent leg None now all = record { numbered = all; sendings = All-nil (IsSendingOrMini leg) }
 row-sent leg (Some row) now all =
-    let leg_in = entered leg row.stage in
+    let leg_in = agreed (entered leg row.stage) row.reply in
     let new = (row_carried leg (Some row) now).leg in
     let frame = reply_frame leg_in now row.reply in
     let one = one-sent leg_in new frame refl all (reply-numbered leg_in now row.reply) in
@@ -270,9 +269,9 @@ Finishes grown leg now hung =
     AllSent last.leg (hung.replies ++ tried.replies ++ last.replies)
 
 hung-sent : (grown : Bool) (leg : LegState) (now : ℕ) → SendsNumbered leg
-    → Finishes grown leg now (sends_if grown leg (entered leg stages.Closing) now (replies.Hangup NormalClearing))
+    → Finishes grown leg now (sends_if grown leg (entered leg stages.Closing) now (replies.Hangup leg.cause))
 hung-sent true leg now all =
-    let bye = replies.Hangup NormalClearing in
+    let bye = replies.Hangup leg.cause in
     let closing = entered leg stages.Closing in
     let frame = reply_frame closing now bye in
     let hung = sends_if true leg closing now bye in
@@ -298,5 +297,5 @@ tick-sent grown leg now all =
     either Sends (is_ended leg.stage) (quiet leg) _ (stays leg all)
     (either Sends (is_short_of_entries leg) (quiet (failed leg failures.RecordFull)) (due_frames grown leg now)
     (none-sent leg (failed leg failures.RecordFull) refl all)
-    (either (Finishes grown leg now) (must_hang_up leg) (sends_if grown leg (entered leg stages.Closing) now (replies.Hangup NormalClearing)) (quiet leg)
+    (either (Finishes grown leg now) (must_hang_up leg) (sends_if grown leg (entered leg stages.Closing) now (replies.Hangup leg.cause)) (quiet leg)
     (hung-sent grown leg now all) (tail-sent (held_count leg.window) grown leg now all)))

@@ -71,14 +71,14 @@ media-out leg octets now some few all =
 pub order-sent : (leg : LegState) (order : Order) (now : ℕ) → 0 < leg.number → leg.number < 2 ^ 15 → SendsNumbered leg
     → HasSentOrMini (order_carried leg order now).leg (order_carried leg order now).datagrams
 order-sent leg (Media octets) now some few all = media-out leg octets.now now some few all
-order-sent leg Doom now some few all = none-out (doomed leg) all
+order-sent leg (Doom cause) now some few all = none-out (doomed leg cause) all
 order-sent leg Paid now some few all = none-out (paid leg) all
-order-sent leg Accept now some few all = row-sent leg (order_row leg Accept) now all
+order-sent leg (Accept format) now some few all = row-sent leg (order_row leg (Accept format)) now all
 order-sent leg (Reject cause) now some few all = row-sent leg (order_row leg (Reject cause)) now all
 order-sent leg (Indicate i) now some few all = row-sent leg (order_row leg (Indicate i)) now all
 order-sent leg Answer now some few all = row-sent leg (order_row leg Answer) now all
 order-sent leg (Dtmf digit) now some few all = row-sent leg (order_row leg (Dtmf digit)) now all
-order-sent leg Hangup now some few all = row-sent leg (order_row leg Hangup) now all
+order-sent leg (Hangup cause) now some few all = row-sent leg (order_row leg (Hangup cause)) now all
 
 -- ---- openings
 

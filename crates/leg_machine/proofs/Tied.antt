@@ -18,7 +18,7 @@ use Rattle.call_signals.specs.Messages.{message_of, is_numbered, is_inval, is_vn
 use Rattle.leg_machine.specs.Replies.{reply_frame}
 use Rattle.leg_machine.specs.Steps.{Step, full_step, inval_step, vnak_step, resend_step, nothing_sent, asking, not_asking, numbered_step, judged_step, taken_step, taken as taken_leg, replied, answered, no_room, prepared}
 use Rattle.leg_machine.specs.Tie.{TakesTurn, numbered_frame}
-use Rattle.leg_machine.specs.Working.{stored, settled, acknowledged, learnt, counts, wants_vnak, asked}
+use Rattle.leg_machine.specs.Working.{stored, settled, acknowledged, learnt, counts, wants_vnak, asked, end_noted}
 use Rattle.call_signals.specs.declared.effects.Answering.{Answering}
 use Rattle.call_signals.specs.declared.effects.Answering.TheVariants.{Acknowledged, Answered, Silent}
 use Rattle.call_signals.specs.declared.effects.Effect.{Effect}
@@ -53,7 +53,7 @@ marked-window leg marks.Authenticates = refl
 -- the record with a frame taken
 pub taken-history : (effect : Effect) (leg : LegState) (frame : FullFrame) (message : Message) → (taken_leg effect leg frame message).window.history ≡ leg.window.history ++ entries_for_number (judged_number leg.window.history frame.head.oseqno) (stored frame)
 taken-history effect leg frame message =
-    ap (λ (w : WindowState). (after_receiving w frame.head.oseqno (stored frame)).history) (marked-window (entered leg effect.stage) effect.mark)
+    ap (λ (w : WindowState). (after_receiving w frame.head.oseqno (stored frame)).history) (marked-window (entered (end_noted leg effect.stage frame message) effect.stage) effect.mark)
 
 pub replied-adds : (leg : LegState) (now : ℕ) (answer : Answering) → (reply : Option Frame) × ((replied leg now answer).window.history ≡ leg.window.history ++ entries_for_reply reply)
 replied-adds leg now (Answered reply) = (Some (reply_frame leg now reply), refl)

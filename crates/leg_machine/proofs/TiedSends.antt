@@ -15,7 +15,7 @@ use Rattle.call_signals.specs.Stages.{is_talking, is_ended}
 use Rattle.leg_machine.specs.Tie.{SendsAtMostOne}
 use Rattle.leg_machine.specs.Ticks.{Tick, quiet, sends_if, must_hang_up, must_ping, pinged, last_step, due_frames, tick_step, is_ping_time}
 use Rattle.leg_machine.specs.Tries.{Tried, tries, one_try, after_try}
-use Rattle.call_signals.specs.declared.causes.Cause.TheVariants.{NormalClearing}
+use Rattle.leg_machine.specs.Working.{agreed}
 use Rattle.call_signals.specs.declared.failure.Failure.TheVariants as failures
 use Rattle.leg_machine.specs.declared.media.MediaSent.{MediaSent}
 use Rattle.leg_machine.specs.declared.media.MediaSent.TheVariants as media
@@ -34,7 +34,7 @@ none old new e = (None, e ∙ sym (append-nil old.window.history))
 
 pub row-sends : (leg : LegState) (row : Option Ordered) (now : ℕ) → SendsAtMostOne leg (row_carried leg row now).leg
 row-sends leg None now = none leg leg refl
-row-sends leg (Some row) now = (Some (reply_frame (entered leg row.stage) now row.reply), refl)
+row-sends leg (Some row) now = (Some (reply_frame (agreed (entered leg row.stage) row.reply) now row.reply), refl)
 
 pub media-sends : (sent : MediaSent) (leg : LegState) (octets : List ℕ) (now : ℕ) → SendsAtMostOne leg (after_media sent leg octets now)
 media-sends media.Quelched leg octets now = none leg leg refl
@@ -43,14 +43,14 @@ media-sends (media.Mini timestamp) leg octets now = none leg leg refl
 
 pub order-sends : (leg : LegState) (order : Order) (now : ℕ) → SendsAtMostOne leg (order_carried leg order now).leg
 order-sends leg (Media octets) now = media-sends (media_sent leg now) leg octets.now now
-order-sends leg Doom now = none leg (doomed leg) refl
+order-sends leg (Doom cause) now = none leg (doomed leg cause) refl
 order-sends leg Paid now = none leg (paid leg) refl
-order-sends leg Accept now = row-sends leg (order_row leg Accept) now
+order-sends leg (Accept format) now = row-sends leg (order_row leg (Accept format)) now
 order-sends leg (Reject cause) now = row-sends leg (order_row leg (Reject cause)) now
 order-sends leg (Indicate i) now = row-sends leg (order_row leg (Indicate i)) now
 order-sends leg Answer now = row-sends leg (order_row leg Answer) now
 order-sends leg (Dtmf digit) now = row-sends leg (order_row leg (Dtmf digit)) now
-order-sends leg Hangup now = row-sends leg (order_row leg Hangup) now
+order-sends leg (Hangup cause) now = row-sends leg (order_row leg (Hangup cause)) now
 
 -- ---- a tick
 
@@ -97,14 +97,14 @@ last-sends grown false leg now =
 
 -- a tick whose doomed leg had memory, and one whose hadn't
 hung-sends : (grown : Bool) (leg : LegState) (now : ℕ)
-    → let hung = sends_if grown leg (entered leg stages.Closing) now (replies.Hangup NormalClearing) in
+    → let hung = sends_if grown leg (entered leg stages.Closing) now (replies.Hangup leg.cause) in
     let tried = tries (held_count leg.window) hung.leg now in
     SendsAtMostOne leg (last_step grown tried.spent tried.leg now).leg
 hung-sends true leg now =
-    let hung = sends_if true leg (entered leg stages.Closing) now (replies.Hangup NormalClearing) in
+    let hung = sends_if true leg (entered leg stages.Closing) now (replies.Hangup leg.cause) in
     let tried = tries (held_count leg.window) hung.leg now in
     let kept = kept-tries (held_count leg.window) hung.leg now in
-    (Some (reply_frame (entered leg stages.Closing) now (replies.Hangup NormalClearing)), last-none true tried.spent tried.leg now kept.stage ∙ kept.history)
+    (Some (reply_frame (entered leg stages.Closing) now (replies.Hangup leg.cause)), last-none true tried.spent tried.leg now kept.stage ∙ kept.history)
 hung-sends false leg now =
     let tried = tries (held_count leg.window) leg now in
     let kept = kept-tries (held_count leg.window) leg now in
@@ -115,7 +115,7 @@ due-sends grown leg now =
     let tried = tries (held_count leg.window) leg now in
     let kept = kept-tries (held_count leg.window) leg now in
     either (λ (hung : Tick). let after = tries (held_count leg.window) hung.leg now in SendsAtMostOne leg (last_step grown after.spent after.leg now).leg)
-    (must_hang_up leg) (sends_if grown leg (entered leg stages.Closing) now (replies.Hangup NormalClearing)) (quiet leg)
+    (must_hang_up leg) (sends_if grown leg (entered leg stages.Closing) now (replies.Hangup leg.cause)) (quiet leg)
     (hung-sends grown leg now) (later leg tried.leg (last_step grown tried.spent tried.leg now).leg kept.history (last-sends grown tried.spent tried.leg now))
 
 pub tick-sends : (grown : Bool) (leg : LegState) (now : ℕ) → SendsAtMostOne leg (tick_step grown leg now).leg

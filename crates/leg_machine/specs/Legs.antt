@@ -1,6 +1,8 @@
 -- A leg of a call, as its steps see it ("IAX Frames", "Message Transport").
 use Rattle.std.specs.Prelude.{ℕ, ◌+◌, ◌-◌, ◌/◌, ◌%◌, ◌^◌, ◌≤◌, Bool, ◌||◌, ◌&&◌, not, nat_lt, List, Option, Some, if◌then◌else◌}
 use Rattle.seq_window.specs.Window.{WindowState, entry_count}
+use Rattle.call_signals.specs.declared.causes.Cause.{Cause}
+use Rattle.call_signals.specs.Endings.{failure_cause}
 use Rattle.call_signals.specs.declared.failure.Failure.{Failure}
 use Rattle.call_signals.specs.declared.formats.Format.{Format}
 use Rattle.call_signals.specs.declared.rules.PeerRules.{PeerRules}
@@ -22,6 +24,8 @@ pub record LegState : Type 0 where
   pub owes : Bool
   -- to be hung up by a tick
   pub doomed : Bool
+  -- why it ends, or for what it is to be hung up
+  pub cause : Cause
   -- the other side wants no media
   pub quelched : Bool
   -- the challenge that was sent
@@ -59,6 +63,7 @@ leg_of m = record {
   remote = m.remote;
   owes = m.owes;
   doomed = m.doomed;
+  cause = m.cause;
   quelched = m.quelched;
   challenge = m.challenge;
   authenticated = m.authenticated;
@@ -87,7 +92,10 @@ entered leg stage = record leg {
 
 -- The leg ends since it can't go on. What ended before stays as it ended.
 abbrev pub failed : LegState → Failure → LegState
-failed leg why = record (entered leg Ended) { failure = if is_ended leg.stage then leg.failure else Some why }
+failed leg why = record (entered leg Ended) {
+  failure = if is_ended leg.stage then leg.failure else Some why;
+  cause = if leg.rules.carries_cause && not (is_over leg.stage) then failure_cause why else leg.cause;
+}
 
 -- so many full frames more went out again
 abbrev pub resent_by : LegState → ℕ → LegState

@@ -1,5 +1,5 @@
 -- How a leg begins: the rows of a NEW that comes, and a NEW that goes out ("Call Setup").
-pub use Rattle.call_signals.specs.Openings.{bits_in, has_bit, is_common, common_formats, chosen_format, call_format, is_version_2, opening_of, opening_effect, challenge_sent}
+pub use Rattle.call_signals.specs.Openings.{bits_in, has_bit, is_common, common_formats, chosen_format, call_format, offered_formats, is_version_2, opening_of, opening_effect, challenge_sent}
 use Rattle.std.specs.Prelude.{ℕ, false, List, [], ◌∷◌, Option, None, Some, unwrap_or}
 use Rattle.iax_frames.specs.FullFrame.{FullFrame}
 use Rattle.info_elements.specs.Element.{elements_of, last_of}
@@ -11,7 +11,9 @@ use Rattle.leg_machine.specs.Steps.{Step, taken_step}
 use Rattle.leg_machine.specs.Working.{sent}
 use Rattle.call_signals.specs.Caller.{caller_by}
 use Rattle.call_signals.specs.NewElements.{new_elements}
+use Rattle.call_signals.specs.declared.causes.Cause.TheVariants.{NormalClearing}
 use Rattle.call_signals.specs.declared.formats.Format.{Format}
+use Rattle.call_signals.specs.declared.formats.Formats.{Formats}
 use Rattle.call_signals.specs.declared.formats.Format.TheVariants.{Gsm}
 use Rattle.call_signals.specs.declared.messages.Message.TheVariants.{New}
 use Rattle.call_signals.specs.declared.outcomes.Judged.TheVariants.{Unnumbered}
@@ -30,6 +32,7 @@ leg_for_new rules number frame now challenge = record {
   remote = Some frame.head.source;
   owes = false;
   doomed = false;
+  cause = NormalClearing;
   quelched = false;
   challenge = challenge_sent (opening_of rules frame) challenge;
   authenticated = false;
@@ -57,6 +60,7 @@ leg_for_call rules number format now = record {
   remote = None;
   owes = false;
   doomed = false;
+  cause = NormalClearing;
   quelched = false;
   challenge = None;
   authenticated = false;
@@ -108,3 +112,7 @@ calling_of leg = last_of CALLING_NUMBER (elements_of (opening_data leg.window.hi
 -- .. and what more is carried on of who calls
 abbrev pub caller_of : LegState → List ℕ
 caller_of leg = caller_by leg.rules.carries_caller (new_elements (opening_data leg.window.history))
+
+-- .. and the formats that it may have
+abbrev pub formats_of : LegState → Formats
+formats_of leg = offered_formats leg.rules (new_elements (opening_data leg.window.history)) leg.format

@@ -7,8 +7,8 @@ use Rattle.leg_machine.specs.Legs.{LegState, entered, local_room, is_short_of_en
 use Rattle.leg_machine.specs.Media.{media_sent, after_media, media_frames}
 use Rattle.leg_machine.specs.Replies.{reply_frame, outgoing, next_byte}
 use Rattle.call_signals.specs.Stages.{is_offered, is_linked, is_talking, is_over}
-use Rattle.leg_machine.specs.Working.{sent}
-use Rattle.call_signals.specs.declared.causes.Cause.TheVariants.{NormalClearing}
+use Rattle.leg_machine.specs.Working.{sent, agreed}
+use Rattle.call_signals.specs.declared.causes.Cause.{Cause}
 use Rattle.leg_machine.specs.declared.media.MediaSent.{MediaSent}
 use Rattle.leg_machine.specs.declared.media.MediaSent.TheVariants.{Quelched, Voice, Mini}
 use Rattle.call_signals.specs.declared.orders.Order.{Order}
@@ -30,14 +30,14 @@ when holds row = if holds then Some row else None
 
 -- The rows in which a numbered frame goes out; none: the stage is a wrong one.
 abbrev pub order_row : LegState → Order → Option Ordered
-order_row leg Accept = when (is_offered leg.stage) (ordered (replies.Accept leg.format) stages.Linked leg.window.width)
+order_row leg (Accept format) = when (is_offered leg.stage) (ordered (replies.Accept format) stages.Linked leg.window.width)
 order_row leg (Reject cause) = when (is_offered leg.stage) (ordered (replies.Reject cause) stages.Closing leg.window.width)
 order_row leg (Indicate i) = when (is_linked leg.stage) (ordered (replies.Indicate i) stages.Linked (local_room leg.window.width))
 order_row leg Answer = when (is_linked leg.stage) (ordered replies.Answer stages.Up (local_room leg.window.width))
 order_row leg (Dtmf digit) = when (is_talking leg.stage) (ordered (replies.Dtmf digit) leg.stage (local_room leg.window.width))
-order_row leg Hangup = when (not (is_over leg.stage)) (ordered (replies.Hangup NormalClearing) stages.Closing leg.window.width)
+order_row leg (Hangup cause) = when (not (is_over leg.stage)) (ordered (replies.Hangup cause) stages.Closing leg.window.width)
 order_row leg (Media media) = None
-order_row leg Doom = None
+order_row leg (Doom cause) = None
 order_row leg Paid = None
 
 -- ---- refusals
@@ -66,14 +66,14 @@ media_refused leg now =
 -- why an order is refused, memory aside
 abbrev pub order_refused : LegState → Order → ℕ → Option OrderError
 order_refused leg (Media media) now = media_refused leg now
-order_refused leg Doom now = None
+order_refused leg (Doom cause) now = None
 order_refused leg Paid now = None
-order_refused leg Accept now = row_refused leg (order_row leg Accept)
+order_refused leg (Accept format) now = row_refused leg (order_row leg (Accept format))
 order_refused leg (Reject cause) now = row_refused leg (order_row leg (Reject cause))
 order_refused leg (Indicate i) now = row_refused leg (order_row leg (Indicate i))
 order_refused leg Answer now = row_refused leg (order_row leg Answer)
 order_refused leg (Dtmf digit) now = row_refused leg (order_row leg (Dtmf digit))
-order_refused leg Hangup now = row_refused leg (order_row leg Hangup)
+order_refused leg (Hangup cause) now = row_refused leg (order_row leg (Hangup cause))
 
 -- a refusal is the one that is due; where none is, memory was refused
 abbrev pub IsRefusal : Option OrderError → OrderError → Type 0
@@ -87,7 +87,7 @@ is_voice sent = false
 -- only an order that sends a full frame wants memory
 abbrev pub wants_memory : LegState → Order → ℕ → Bool
 wants_memory leg (Media media) now = is_voice (media_sent leg now)
-wants_memory leg Doom now = false
+wants_memory leg (Doom cause) now = false
 wants_memory leg Paid now = false
 wants_memory leg order now = true
 
@@ -106,7 +106,7 @@ pub record Carried : Type 0 where
 abbrev pub row_carried : LegState → Option Ordered → ℕ → Carried
 row_carried leg None now = record { leg = leg; datagrams = [] }
 row_carried leg (Some row) now =
-    let leg_in = entered leg row.stage in
+    let leg_in = agreed (entered leg row.stage) row.reply in
     let frame = reply_frame leg_in now row.reply in
     record { leg = sent leg_in frame now; datagrams = spelling (outgoing leg_in false (next_byte leg_in) frame) ∷ [] }
 
@@ -118,8 +118,11 @@ media_datagrams (Mini timestamp) leg media now =
     mini_spelling (record { source = leg.number; timestamp = timestamp; media = media }) ∷ []
 
 -- the leg is doomed, unless it is over
-abbrev pub doomed : LegState → LegState
-doomed leg = record leg { doomed = leg.doomed || not (is_over leg.stage) }
+abbrev pub doomed : LegState → Cause → LegState
+doomed leg cause = record leg {
+  doomed = leg.doomed || not (is_over leg.stage);
+  cause = if is_over leg.stage then leg.cause else cause;
+}
 
 -- a leg that is over owes nothing any more
 abbrev pub paid : LegState → LegState
@@ -128,11 +131,11 @@ paid leg = record leg { owes = leg.owes && not (is_over leg.stage) }
 abbrev pub order_carried : LegState → Order → ℕ → Carried
 order_carried leg (Media media) now =
     record { leg = after_media (media_sent leg now) leg media.now now; datagrams = media_datagrams (media_sent leg now) leg media.now now }
-order_carried leg Doom now = record { leg = doomed leg; datagrams = [] }
+order_carried leg (Doom cause) now = record { leg = doomed leg cause; datagrams = [] }
 order_carried leg Paid now = record { leg = paid leg; datagrams = [] }
-order_carried leg Accept now = row_carried leg (order_row leg Accept) now
+order_carried leg (Accept format) now = row_carried leg (order_row leg (Accept format)) now
 order_carried leg (Reject cause) now = row_carried leg (order_row leg (Reject cause)) now
 order_carried leg (Indicate i) now = row_carried leg (order_row leg (Indicate i)) now
 order_carried leg Answer now = row_carried leg (order_row leg Answer) now
 order_carried leg (Dtmf digit) now = row_carried leg (order_row leg (Dtmf digit)) now
-order_carried leg Hangup now = row_carried leg (order_row leg Hangup) now
+order_carried leg (Hangup cause) now = row_carried leg (order_row leg (Hangup cause)) now

@@ -101,7 +101,7 @@ IsSeenOpening new signal =
 
 -- the stage after an order; none: the stage is a wrong one
 abbrev pub stage_after : OrderKind → Stage → Option Stage
-stage_after kinds.Accept stages.Offered = Some stages.Linked
+stage_after (kinds.Accept format) stages.Offered = Some stages.Linked
 stage_after (kinds.Reject cause) stages.Offered = Some stages.Closing
 stage_after (kinds.Indicate indication) stages.Linked = Some stages.Linked
 stage_after kinds.Answer stages.Linked = Some stages.Up
@@ -109,16 +109,16 @@ stage_after (kinds.Dtmf digit) stages.Linked = Some stages.Linked
 stage_after (kinds.Dtmf digit) stages.Up = Some stages.Up
 stage_after kinds.Media stages.Linked = Some stages.Linked
 stage_after kinds.Media stages.Up = Some stages.Up
-stage_after kinds.Hangup stages.Closing = None
-stage_after kinds.Hangup stages.Ended = None
-stage_after kinds.Hangup stage = Some stages.Closing
-stage_after kinds.Doom stage = Some stage
+stage_after (kinds.Hangup cause) stages.Closing = None
+stage_after (kinds.Hangup cause) stages.Ended = None
+stage_after (kinds.Hangup cause) stage = Some stages.Closing
+stage_after (kinds.Doom cause) stage = Some stage
 stage_after kinds.Paid stage = Some stage
 stage_after kind stage = None
 
 -- a leg that is carried to this stage by an order
 abbrev pub ordered : OrderKind → SeenLeg → Stage → SeenLeg
-ordered kinds.Doom leg stage = record leg { doomed = leg.doomed || not (is_over leg.stage) }
+ordered (kinds.Doom cause) leg stage = record leg { doomed = leg.doomed || not (is_over leg.stage) }
 ordered kinds.Paid leg stage = record leg { owes = leg.owes && not (is_over leg.stage) }
 ordered kind leg stage = moved leg stage
 

@@ -10,7 +10,7 @@ use Rattle.leg_machine.specs.LegTable.{effect_of}
 use Rattle.leg_machine.specs.Legs.{LegState, entered, failed, resent_by, with_window}
 use Rattle.call_signals.specs.Messages.{message_of, is_numbered, is_inval, is_vnak}
 use Rattle.leg_machine.specs.Replies.{reply_frame, outgoing, next_byte, ack, vnak, sent_again}
-use Rattle.leg_machine.specs.Working.{learnt, acknowledged, counts, settled, recorded, heard, wants_vnak, asked, sent}
+use Rattle.leg_machine.specs.Working.{learnt, acknowledged, counts, settled, end_noted, recorded, heard, wants_vnak, asked, sent}
 use Rattle.call_signals.specs.declared.effects.Answering.{Answering}
 use Rattle.call_signals.specs.declared.effects.Answering.TheVariants.{Acknowledged, Answered, Silent}
 use Rattle.call_signals.specs.declared.effects.Effect.{Effect}
@@ -56,7 +56,8 @@ vnak_step acknowledgement leg now = if counts acknowledgement then resend_step l
 
 -- the leg with the frame taken: its row's stage and mark, and the frame recorded
 abbrev pub taken : Effect → LegState → FullFrame → Message → LegState
-taken effect leg frame message = recorded (heard (marked (entered leg effect.stage) effect.mark) message) frame
+taken effect leg frame message =
+    recorded (heard (marked (entered (end_noted leg effect.stage frame message) effect.stage) effect.mark) message) frame
 
 -- a numbered reply goes out
 abbrev pub replied : LegState → ℕ → Answering → LegState

@@ -7,7 +7,6 @@ use Rattle.leg_machine.specs.Replies.{reply_frame, outgoing, next_byte}
 use Rattle.call_signals.specs.Stages.{is_over, is_talking, is_ended}
 use Rattle.leg_machine.specs.Tries.{tries}
 use Rattle.leg_machine.specs.Working.{sent}
-use Rattle.call_signals.specs.declared.causes.Cause.TheVariants.{NormalClearing}
 use Rattle.call_signals.specs.declared.failure.Failure.TheVariants as failures
 use Rattle.call_signals.specs.declared.replies.Reply.{Reply}
 use Rattle.call_signals.specs.declared.replies.Reply.TheVariants.{Hangup, Ping}
@@ -40,7 +39,7 @@ must_hang_up leg = leg.doomed && not (is_over leg.stage) && not (is_full leg.win
 
 abbrev pub hang_up_step : Bool → LegState → ℕ → Tick
 hang_up_step grown leg now =
-    if must_hang_up leg then sends_if grown leg (entered leg stages.Closing) now (Hangup NormalClearing) else quiet leg
+    if must_hang_up leg then sends_if grown leg (entered leg stages.Closing) now (Hangup leg.cause) else quiet leg
 
 -- ---- PING
 

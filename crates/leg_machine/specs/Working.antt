@@ -1,14 +1,19 @@
 -- The small changes of which a leg's steps are made.
-use Rattle.std.specs.Prelude.{ℕ, ◌-◌, ◌&&◌, ◌||◌, ◌==◌, Bool, true, false, nat_le, Option, None, Some, unwrap_or, if◌then◌else◌}
+use Rattle.std.specs.Prelude.{ℕ, ◌-◌, ◌&&◌, ◌||◌, ◌==◌, not, Bool, true, false, nat_le, Option, None, Some, unwrap_or, if◌then◌else◌}
 use Rattle.iax_frames.specs.FullFrame.{FullFrame}
 use Rattle.iax_frames.specs.declared.stored_frame.Frame.{Frame}
 use Rattle.seq_window.specs.declared.judgements.Acknowledged.{Acknowledged}
 use Rattle.seq_window.specs.declared.judgements.Acknowledged.TheVariants.{Acked, Ignored}
 use Rattle.seq_window.specs.Window.{held_count, after_acknowledgement, after_receiving, after_sending}
 use Rattle.leg_machine.specs.Legs.{LegState, entered, with_window}
+use Rattle.call_signals.specs.Endings.{ending_cause}
 use Rattle.call_signals.specs.Messages.{is_voice_in}
-use Rattle.call_signals.specs.Stages.{is_closing}
+use Rattle.call_signals.specs.Stages.{is_closing, is_over}
+use Rattle.call_signals.specs.declared.formats.Format.{Format}
 use Rattle.call_signals.specs.declared.messages.Message.{Message}
+use Rattle.call_signals.specs.declared.replies.Reply.{Reply}
+use Rattle.call_signals.specs.declared.replies.Reply.TheVariants.{Accept}
+use Rattle.call_signals.specs.declared.stages.Stage.{Stage}
 use Rattle.call_signals.specs.declared.stages.Stage.TheVariants.{Ended}
 
 -- the other side's number is learnt from the first frame
@@ -34,6 +39,20 @@ stored f = record { ts = f.head.timestamp; kind = f.head.frame_type; subclass = 
 abbrev pub recorded : LegState → FullFrame → LegState
 recorded leg frame =
     record (with_window leg (after_receiving leg.window frame.head.oseqno (stored frame))) { vnak_sent = None }
+
+-- why the leg ends, where it ends by entering this stage, with this frame
+abbrev pub end_noted : LegState → Stage → FullFrame → Message → LegState
+end_noted leg stage frame message = record leg {
+  cause = if leg.rules.carries_cause && is_over stage && not (is_over leg.stage) then ending_cause frame message else leg.cause;
+}
+
+-- an ACCEPT agrees on its format
+abbrev pub agreed_format : Reply → Format → Format
+agreed_format (Accept format) before = format
+agreed_format reply before = before
+
+abbrev pub agreed : LegState → Reply → LegState
+agreed leg reply = record leg { format = agreed_format reply leg.format }
 
 -- in whatever stage voice of the format is taken
 abbrev pub heard : LegState → Message → LegState

@@ -4,16 +4,17 @@ ghost use Rattle.std.specs.Option.{ForSome};
 ghost use Rattle.seq_window.specs.History.{IsLegal};
 ghost use Rattle.leg_machine.specs.Media.{accepts_media};
 ghost use Rattle.leg_machine.specs.Onward.{onward_of};
-ghost use Rattle.leg_machine.specs.Openings.{opening_data, new_data, called_of, calling_of, caller_of};
+ghost use Rattle.leg_machine.specs.Openings.{opening_data, new_data, called_of, calling_of, caller_of, formats_of};
 ghost use Rattle.leg_machine.specs.Ticks.{is_idle};
 ghost use Rattle.call_signals.specs.NewElements.{named, new_elements};
 ghost use Rattle.call_signals.specs.declared.signals.Signal.TheVariants.{Offered};
 
 use crate::legs::Leg;
 use crate::machine::Machine;
+use call_signals::openings::offered_formats;
 use call_signals::{
-    Caller, ElementText, Failure, Format, Indication, MediaIn, MediaSpan, NewElements, Onward,
-    Signal, Stage,
+    Caller, Cause, ElementText, Failure, Format, Formats, Indication, MediaIn, MediaSpan,
+    NewElements, Onward, Signal, Stage,
 };
 use iax_frames::CallNumber;
 use info_elements::{CALLED_NUMBER, CALLING_NUMBER, last_in};
@@ -68,7 +69,14 @@ impl Leg {
         self.machine.opened
     }
 
-    /// The format of the call.
+    /// Why the leg ends, or for what it is to be hung up; normal clearing until it is known.
+    pub fn cause(&self) -> Cause
+        ensures { result ≡ self.now.state.cause }
+    {
+        self.machine.cause
+    }
+
+    /// The format of the call: that of its NEW, until it is accepted in another one.
     pub fn format(&self) -> Format
         ensures { result ≡ self.now.state.format }
     {
@@ -133,6 +141,7 @@ impl Leg {
             remote: _,
             owes: _,
             doomed: _,
+            cause: _,
             quelched: _,
             challenge: _,
             authenticated: _,
@@ -183,6 +192,14 @@ impl Leg {
         ensures { result ≡ caller_of self.now.state }
     {
         Caller::of(&self.opening_elements(), self.machine.rules.carries_caller)
+    }
+
+    /// The formats that an offered call may have.
+    pub fn offered_formats(&self) -> Formats
+        ensures { result ≡ formats_of self.now.state }
+    {
+        let machine = &self.machine;
+        offered_formats(&machine.rules, &self.opening_elements(), machine.format)
     }
 
     /// The elements of the NEW that opened the leg, by one reading; all absent where no NEW came.

@@ -17,7 +17,7 @@ use crate::media::MediaSent;
 use call_auth::Challenge;
 use call_signals::openings::{call_format, opening_of};
 use call_signals::{
-    Caller, Format, Heard, LocalNumber, Message, NewElements, Order, OrderError, PeerRules,
+    Caller, Cause, Format, Heard, LocalNumber, Message, NewElements, Order, OrderError, PeerRules,
     Replies, Stage, StepError,
 };
 use iax_frames::{CallNumber, Full};
@@ -90,6 +90,7 @@ impl Leg {
             remote: Some(frame.source()),
             owes: false,
             doomed: false,
+            cause: Cause::NormalClearing,
             quelched: false,
             challenge: opening.challenge(challenge),
             authenticated: false,
@@ -142,6 +143,7 @@ impl Leg {
             remote: None,
             owes: false,
             doomed: false,
+            cause: Cause::NormalClearing,
             quelched: false,
             challenge: None,
             authenticated: false,

@@ -8,7 +8,8 @@ ghost use Rattle.leg_machine.specs.Working as steps;
 
 use call_auth::Challenge;
 use call_signals::{
-    Failure, Format, LocalNumber, Message, PeerRules, Replies, Reply, Stage, StepError,
+    Cause, Failure, Format, LocalNumber, Message, PeerRules, Replies, Reply, Stage, StepError,
+    ending_cause,
 };
 use iax_frames::{CallNumber, Frame, Full, FullHead, Payload};
 use seq_window::{Acknowledged, Window};
@@ -24,6 +25,7 @@ pub struct Machine {
     pub remote: Option<CallNumber>,
     pub owes: bool,
     pub doomed: bool,
+    pub cause: Cause,
     pub quelched: bool,
     pub challenge: Option<Challenge>,
     pub authenticated: bool,
@@ -69,6 +71,26 @@ impl Machine {
         self.stage = stage;
     }
 
+    /// Why the leg ends is noted, where it ends by entering this stage, with this frame.
+    pub fn note_end(&mut self, stage: Stage, frame: &Full, message: &Message)
+        ensures leg { leg_of self.new ≡ steps.end_noted (leg_of self.old) stage frame.now message.now }
+        ensures window { self.new.window ≡ self.old.window }
+    {
+        if self.rules.carries_cause && stage.is_over() && !self.stage.is_over() {
+            self.cause = ending_cause(frame, message);
+        }
+    }
+
+    /// An ACCEPT agrees on its format.
+    pub fn agree(&mut self, reply: &Reply)
+        ensures leg { leg_of self.new ≡ steps.agreed (leg_of self.old) reply.now }
+        ensures window { self.new.window ≡ self.old.window }
+    {
+        if let Reply::Accept(format) = reply {
+            self.format = *format;
+        }
+    }
+
     /// The leg ends since it can't go on. What ended before stays as it ended.
     pub fn fail(&mut self, failure: Failure)
         ensures leg { leg_of self.new ≡ failed (leg_of self.old) failure }
@@ -76,6 +98,9 @@ impl Machine {
     {
         if !self.stage.is_ended() {
             self.failure = Some(failure);
+        }
+        if self.rules.carries_cause && !self.stage.is_over() {
+            self.cause = failure.cause();
         }
         self.enter(Stage::Ended);
     }

@@ -38,9 +38,9 @@ impl Machine {
         let width = self.window.width() as usize;
         let room = self.local_room();
         match order {
-            Order::Accept => when(
+            Order::Accept(format) => when(
                 stage.is_offered(),
-                Reply::Accept(self.format),
+                Reply::Accept(*format),
                 Stage::Linked,
                 width,
             ),
@@ -58,14 +58,14 @@ impl Machine {
             ),
             Order::Answer => when(stage.is_linked(), Reply::Answer, Stage::Up, room),
             Order::Dtmf(digit) => when(stage.is_talking(), Reply::Dtmf(*digit), stage, room),
-            Order::Hangup => when(
+            Order::Hangup(cause) => when(
                 !stage.is_over(),
-                Reply::Hangup(Cause::NormalClearing),
+                Reply::Hangup(*cause),
                 Stage::Closing,
                 width,
             ),
             Order::Media(_) => None,
-            Order::Doom => None,
+            Order::Doom(_) => None,
             Order::Paid => None,
         }
     }
@@ -112,6 +112,7 @@ impl Machine {
         ensures capacity { capacity_of (whole_leg self.old) ≤ capacity_of (whole_leg self.new) }
     {
         self.enter(row.stage);
+        self.agree(&row.reply);
         self.send(row.reply, now, outs);
     }
 
@@ -137,10 +138,13 @@ impl Machine {
     }
 
     /// The leg is doomed, unless it is over.
-    fn doom(&mut self)
-        ensures leg { leg_of self.new ≡ orders.doomed (leg_of self.old) }
+    fn doom(&mut self, cause: Cause)
+        ensures leg { leg_of self.new ≡ orders.doomed (leg_of self.old) cause }
         ensures window { self.new.window ≡ self.old.window }
     {
+        if !self.stage.is_over() {
+            self.cause = cause;
+        }
         self.doomed = self.doomed || !self.stage.is_over();
     }
 
@@ -168,8 +172,8 @@ impl Machine {
     {
         match order {
             Order::Media(media) => self.media_order(media, now, outs),
-            Order::Doom => {
-                self.doom();
+            Order::Doom(cause) => {
+                self.doom(*cause);
                 Ok(())
             }
             Order::Paid => {

@@ -6,7 +6,7 @@ ghost use Rattle.leg_machine.specs.Legs.{is_short_of_entries};
 ghost use Rattle.leg_machine.specs.Ticks as ticks;
 
 use crate::machine::Machine;
-use call_signals::{Cause, Failure, Replies, Reply, Stage};
+use call_signals::{Failure, Replies, Reply, Stage};
 
 impl Machine {
     ghost use Rattle.leg_machine.specs.Legs.{leg_of, whole_leg, capacity_of, HasRoom};
@@ -73,7 +73,7 @@ impl Machine {
             return 1;
         }
         self.enter(Stage::Closing);
-        self.send(Reply::Hangup(Cause::NormalClearing), now, outs);
+        self.send(Reply::Hangup(self.cause), now, outs);
         0
     }
 

@@ -40,6 +40,7 @@ impl Machine {
         ensures width { self.new.window.state.width ≡ self.old.window.state.width }
         ensures capacity { capacity_of (whole_leg self.old) ≤ capacity_of (whole_leg self.new) }
     {
+        self.note_end(effect.stage, frame, message);
         self.enter(effect.stage);
         self.mark(effect.mark);
         self.hear(message);

@@ -2,7 +2,7 @@
 ghost use Rattle.std.specs.Prelude.{◌≡◌, ◌≤◌, ◌+◌, ◌<◌, ◌++◌, ◌∷◌, [], ◌==◌, length, slice_get, option_copied, Option, None, Some, OnOk, OnErr};
 
 use call_book::LegName;
-use leg_machine::{Caller, ElementText, Format, Signal};
+use leg_machine::{Caller, ElementText, Format, Formats, Signal};
 use std::alloc::{AllocError, Global};
 use std::marker::Model;
 
@@ -13,8 +13,10 @@ pub struct Offer {
     pub called: ElementText,
     /// Who calls, as far as it is carried on.
     pub caller: Caller,
-    /// The format of the call.
+    /// The format that is chosen by the NEW alone.
     pub format: Format,
+    /// The formats that the call may have.
+    pub formats: Formats,
 }
 
 /// What the legs of a peer hand up in one step, in order, each with the leg's name; and what an offered call asks for.

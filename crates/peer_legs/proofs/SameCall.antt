@@ -18,7 +18,7 @@ use Rattle.leg_machine.specs.Steps.{Step, nothing_sent, resend_step, taken, repl
 use Rattle.leg_machine.specs.Stages.{is_closing, is_ended}
 use Rattle.leg_machine.specs.Ticks.{Tick, quiet, hang_up_step, ping_step, last_step, due_frames, tick_step}
 use Rattle.leg_machine.specs.Tries.{Tried, tries, one_try, after_try}
-use Rattle.leg_machine.specs.Working.{learnt, settled, acknowledged, counts, wants_vnak}
+use Rattle.leg_machine.specs.Working.{learnt, settled, acknowledged, counts, wants_vnak, end_noted}
 use Rattle.call_signals.specs.declared.failure.Failure.TheVariants.{RecordFull}
 use Rattle.call_signals.specs.declared.effects.Answering.{Answering}
 use Rattle.call_signals.specs.declared.effects.Answering.TheVariants.{Acknowledged as Acks, Answered, Silent}
@@ -83,7 +83,7 @@ same_marked leg Authenticates = record { number = refl; remote = refl; ruled = r
 
 same_taken : (effect : Effect) (leg : LegState) (frame : FullFrame) (message : Message) → IsSameCall leg (taken effect leg frame message)
 same_taken effect leg frame message =
-    let marks = same_marked (entered leg effect.stage) effect.mark in record { number = marks.number; remote = marks.remote; ruled = record { rules = marks.ruled.rules; width = marks.ruled.width; limit = marks.ruled.limit } }
+    let marks = same_marked (entered (end_noted leg effect.stage frame message) effect.stage) effect.mark in record { number = marks.number; remote = marks.remote; ruled = record { rules = marks.ruled.rules; width = marks.ruled.width; limit = marks.ruled.limit } }
 
 same_replied : (leg : LegState) (now : ℕ) (answer : Answering) → IsSameCall leg (replied leg now answer)
 same_replied leg now (Answered reply) = record { number = refl; remote = refl; ruled = record { rules = refl; width = refl; limit = refl } }
@@ -152,14 +152,14 @@ same_media (Mini timestamp) leg media now = same leg
 
 pub same_order : (leg : LegState) (order : Order) (now : ℕ) → IsSameCall leg (order_carried leg order now).leg
 same_order leg (orders.Media media) now = same_media (media_sent leg now) leg media.now now
-same_order leg orders.Doom now = record { number = refl; remote = refl; ruled = record { rules = refl; width = refl; limit = refl } }
+same_order leg (orders.Doom cause) now = record { number = refl; remote = refl; ruled = record { rules = refl; width = refl; limit = refl } }
 same_order leg orders.Paid now = record { number = refl; remote = refl; ruled = record { rules = refl; width = refl; limit = refl } }
-same_order leg orders.Accept now = same_row leg (order_row leg orders.Accept) now
+same_order leg (orders.Accept format) now = same_row leg (order_row leg (orders.Accept format)) now
 same_order leg (orders.Reject cause) now = same_row leg (order_row leg (orders.Reject cause)) now
 same_order leg (orders.Indicate i) now = same_row leg (order_row leg (orders.Indicate i)) now
 same_order leg orders.Answer now = same_row leg (order_row leg orders.Answer) now
 same_order leg (orders.Dtmf digit) now = same_row leg (order_row leg (orders.Dtmf digit)) now
-same_order leg orders.Hangup now = same_row leg (order_row leg orders.Hangup) now
+same_order leg (orders.Hangup cause) now = same_row leg (order_row leg (orders.Hangup cause)) now
 
 -- ---- a tick
 

@@ -125,13 +125,13 @@ media_legs (sent.Mini timestamp) peer number media = short_legs peer number time
 pub ordered_legs : (peer : PeerView) (named : NamedLeg) (order : Order) (now : ℕ) → (ordered_at peer named order now).legs ≡ with_leg peer.legs named.name (order_carried named.leg order now).leg
 ordered_legs peer named (orders.Media media) now =
     media_legs (media_sent named.leg now) (with_media (media_sent named.leg now) peer named media.now now) named.name.number media.now
-ordered_legs peer named orders.Accept now = refl
+ordered_legs peer named (orders.Accept format) now = refl
 ordered_legs peer named (orders.Reject cause) now = refl
 ordered_legs peer named (orders.Indicate indication) now = refl
 ordered_legs peer named orders.Answer now = refl
 ordered_legs peer named (orders.Dtmf digit) now = refl
-ordered_legs peer named orders.Hangup now = refl
-ordered_legs peer named orders.Doom now = refl
+ordered_legs peer named (orders.Hangup cause) now = refl
+ordered_legs peer named (orders.Doom cause) now = refl
 ordered_legs peer named orders.Paid now = refl
 
 none_due : (due : Option LegError) → from_leg_due due ≡ None → due ≡ None
@@ -186,11 +186,11 @@ gone legs name none before = gone_at (leg_at legs name.number) name before none
 -- an order that a leg may refuse for want of room
 refusable : (leg : LegState) (order : Order) (now : ℕ) (due : LegError) → order_refused leg order now ≡ Some due → (error : OrderError)
     → (error ≡ errors.WindowFull) ⊎ ((error ≡ errors.RecordFull) ⊎ (error ≡ errors.Memory)) → refuses_order (kind_of order) error ≡ true
-refusable leg orders.Doom now due is error which = cc
+refusable leg (orders.Doom cause) now due is error which = cc
 refusable leg orders.Paid now due is error which = cc
-refusable leg orders.Accept now due is error (inl e) = rw e refl
-refusable leg orders.Accept now due is error (inr (inl e)) = rw e refl
-refusable leg orders.Accept now due is error (inr (inr e)) = rw e refl
+refusable leg (orders.Accept format) now due is error (inl e) = rw e refl
+refusable leg (orders.Accept format) now due is error (inr (inl e)) = rw e refl
+refusable leg (orders.Accept format) now due is error (inr (inr e)) = rw e refl
 refusable leg (orders.Reject cause) now due is error (inl e) = rw e refl
 refusable leg (orders.Reject cause) now due is error (inr (inl e)) = rw e refl
 refusable leg (orders.Reject cause) now due is error (inr (inr e)) = rw e refl
@@ -206,21 +206,21 @@ refusable leg (orders.Dtmf digit) now due is error (inr (inr e)) = rw e refl
 refusable leg (orders.Media media) now due is error (inl e) = rw e refl
 refusable leg (orders.Media media) now due is error (inr (inl e)) = rw e refl
 refusable leg (orders.Media media) now due is error (inr (inr e)) = rw e refl
-refusable leg orders.Hangup now due is error (inl e) = rw e refl
-refusable leg orders.Hangup now due is error (inr (inl e)) = rw e refl
-refusable leg orders.Hangup now due is error (inr (inr e)) = rw e refl
+refusable leg (orders.Hangup cause) now due is error (inl e) = rw e refl
+refusable leg (orders.Hangup cause) now due is error (inr (inl e)) = rw e refl
+refusable leg (orders.Hangup cause) now due is error (inr (inr e)) = rw e refl
 
 -- .. or for want of memory
 unsure : (leg : LegState) (order : Order) (now : ℕ) → wants_memory leg order now ≡ true → refuses_order (kind_of order) errors.Memory ≡ true
-unsure leg orders.Doom now wants = cc
+unsure leg (orders.Doom cause) now wants = cc
 unsure leg orders.Paid now wants = cc
-unsure leg orders.Accept now wants = refl
+unsure leg (orders.Accept format) now wants = refl
 unsure leg (orders.Reject cause) now wants = refl
 unsure leg (orders.Indicate indication) now wants = refl
 unsure leg orders.Answer now wants = refl
 unsure leg (orders.Dtmf digit) now wants = refl
 unsure leg (orders.Media media) now wants = refl
-unsure leg orders.Hangup now wants = refl
+unsure leg (orders.Hangup cause) now wants = refl
 
 right_stage : (there : Option Stage) → there ≢ None → is_some there ≡ true
 right_stage None some = absurd (some refl)

@@ -116,13 +116,13 @@ media_puts (sent.Mini timestamp) peer named media now same = short_puts peer nam
 ordered_puts : (peer : PeerView) (named : NamedLeg) (order : Order) (now : ℕ) → named.name.number ≡ named.leg.number
     → Puts peer.outbox (ordered_at peer named order now).outbox (order_carried named.leg order now).datagrams
 ordered_puts peer named (orders.Media media) now same = media_puts (media_sent named.leg now) peer named media.now now same
-ordered_puts peer named orders.Accept now same = record { datagrams = _; outbox = refl; which = inl refl }
+ordered_puts peer named (orders.Accept format) now same = record { datagrams = _; outbox = refl; which = inl refl }
 ordered_puts peer named (orders.Reject cause) now same = record { datagrams = _; outbox = refl; which = inl refl }
 ordered_puts peer named (orders.Indicate indication) now same = record { datagrams = _; outbox = refl; which = inl refl }
 ordered_puts peer named orders.Answer now same = record { datagrams = _; outbox = refl; which = inl refl }
 ordered_puts peer named (orders.Dtmf digit) now same = record { datagrams = _; outbox = refl; which = inl refl }
-ordered_puts peer named orders.Hangup now same = record { datagrams = _; outbox = refl; which = inl refl }
-ordered_puts peer named orders.Doom now same = record { datagrams = _; outbox = refl; which = inl refl }
+ordered_puts peer named (orders.Hangup cause) now same = record { datagrams = _; outbox = refl; which = inl refl }
+ordered_puts peer named (orders.Doom cause) now same = record { datagrams = _; outbox = refl; which = inl refl }
 ordered_puts peer named orders.Paid now same = record { datagrams = _; outbox = refl; which = inl refl }
 
 all_either : (leg : LegState) (datagrams sent : List (List ℕ)) → (datagrams ≡ sent) ⊎ (datagrams ≡ []) → All (IsSendingOrMini leg) sent → All (IsSendingOrMini leg) datagrams

@@ -9,7 +9,6 @@ use Rattle.leg_machine.specs.Stages.{is_ended}
 use Rattle.leg_machine.specs.Ticks.{Tick, quiet, sends_if, must_hang_up, hang_up_step, must_ping, pinged, ping_step, last_step, due_frames, tick_step, is_idle}
 use Rattle.leg_machine.specs.Tries.{tries}
 use Rattle.call_signals.specs.declared.failure.Failure.TheVariants as failures
-use Rattle.call_signals.specs.declared.causes.Cause.TheVariants.{NormalClearing}
 use Rattle.call_signals.specs.declared.replies.Reply.{Reply}
 use Rattle.call_signals.specs.declared.replies.Reply.TheVariants as replies
 use Rattle.call_signals.specs.declared.stages.Stage.TheVariants as stages
@@ -39,8 +38,8 @@ few_quiet leg = omega arith
 
 few_hung : (grown : Bool) (leg : LegState) (now : ℕ) → (hang_up_step grown leg now).skipped ≤ 1
 few_hung grown leg now =
-    either (λ (t : Tick). t.skipped ≤ 1) (must_hang_up leg) (sends_if grown leg (entered leg stages.Closing) now (replies.Hangup NormalClearing)) (quiet leg)
-    (few_sends grown leg (entered leg stages.Closing) now (replies.Hangup NormalClearing)) (few_quiet leg)
+    either (λ (t : Tick). t.skipped ≤ 1) (must_hang_up leg) (sends_if grown leg (entered leg stages.Closing) now (replies.Hangup leg.cause)) (quiet leg)
+    (few_sends grown leg (entered leg stages.Closing) now (replies.Hangup leg.cause)) (few_quiet leg)
 
 few_pinged : (grown : Bool) (leg : LegState) (now : ℕ) → (ping_step grown leg now).skipped ≤ 1
 few_pinged grown leg now =

@@ -2,7 +2,7 @@
 use Rattle.std.specs.Prelude.{ℕ, List, [], ◌∷◌, Option, None, Some}
 use Rattle.call_book.specs.declared.leg_name.LegName.{LegName}
 use Rattle.leg_machine.specs.Legs.{LegState}
-use Rattle.leg_machine.specs.Openings.{called_of, caller_of}
+use Rattle.leg_machine.specs.Openings.{called_of, caller_of, formats_of}
 use Rattle.call_signals.specs.declared.outcomes.Judged.{Judged}
 use Rattle.call_signals.specs.declared.outcomes.Judged.TheVariants.{Unnumbered}
 use Rattle.call_signals.specs.declared.rules.PeerRules.{PeerRules}
@@ -49,7 +49,7 @@ handed_up name (Some signal) = (name, signal) ∷ []
 
 -- what an offered call asks for
 abbrev pub offer_of : LegState → Offer
-offer_of leg = record { called = called_of leg; caller = caller_of leg; format = leg.format }
+offer_of leg = record { called = called_of leg; caller = caller_of leg; format = leg.format; formats = formats_of leg }
 
 abbrev pub offer_with : LegState → Option Signal → Option Offer
 offer_with leg (Some Offered) = Some (offer_of leg)

@@ -97,7 +97,7 @@ IsGone legs name = (before : SeenLeg) → seen_at legs name.number ≢ Some (rec
 
 -- what refuses an order of a leg that stands so, where its stage is a right one
 abbrev pub refuses_order : OrderKind → OrderError → Bool
-refuses_order kinds.Doom error = false
+refuses_order (kinds.Doom cause) error = false
 refuses_order kinds.Paid error = false
 refuses_order kind errors.WindowFull = true
 refuses_order kind errors.RecordFull = true

@@ -14,6 +14,7 @@ status_of named = record {
   name = named.name;
   stage = named.leg.stage;
   owes = named.leg.owes;
+  cause = named.leg.cause;
   held = held_count named.leg.window;
   entries = entry_count named.leg.window;
 }

@@ -8,7 +8,6 @@ ghost use Rattle.iax_frames.specs.FullFrame.{spelling};
 ghost use Rattle.peer_lock.specs.Arrivals.{bare, reached_step, delivered_step, datagram_step, datagram_refused};
 ghost use Rattle.peer_legs.specs.Finding.{can_reach, is_reached, found};
 ghost use Rattle.peer_lock.specs.Delivery.{delivery, delivery_refused, unknown_call, full_refused, Reaches, Gets};
-ghost use Rattle.peer_lock.specs.Delivery as answers;
 ghost use Rattle.peer_legs.specs.Legs.{NamedLeg as NamedLegValue, leg_at, leg_of_remote, with_leg};
 ghost use Rattle.peer_accounts.specs.HandedUp.{IsNothing};
 ghost use Rattle.peer_lock.specs.Makes.{Makes, IsUnchanged, IsDue};
@@ -25,9 +24,10 @@ use crate::outboxes::put_all;
 use crate::read_datagram::ReadDatagram;
 use crate::state::PeerState;
 use crate::steps::Step;
-use iax_frames::{CallNumber, Datagram, Full, FullHead, write_full};
+use crate::unknown_calls::answer_to;
+use iax_frames::{Datagram, Full, FullHead, write_full};
 use info_elements::elements;
-use leg_machine::{ElementText, Heard, Judged, Message, Signal, StepError};
+use leg_machine::{ElementText, Heard, Judged, Signal, StepError};
 use peer_accounts::{Naming, Offer, Onwards, Pass};
 use peer_legs::NamedLeg;
 
@@ -40,6 +40,7 @@ fn offer_of(named: &NamedLeg) -> Offer
         called: ElementText::new(leg.called()),
         caller: leg.caller(),
         format: leg.format(),
+        formats: leg.offered_formats(),
     }
 }
 
@@ -58,71 +59,6 @@ pub(crate) fn hand_up(onwards: &mut Onwards, named: &NamedLeg, signal: Option<Si
         onwards.set_offer(offer_of(named));
     }
     onwards.push(named.name(), *signal);
-}
-
-fn is_new(message: &Message) -> bool
-    ensures { result ≡ answers.is_new message.now }
-{
-    matches!(message, Message::New)
-}
-
-fn is_poke(message: &Message) -> bool
-    ensures { result ≡ answers.is_poke message.now }
-{
-    matches!(message, Message::Poke)
-}
-
-// INVAL from the number that a frame names, to its source.
-fn inval_for(frame: &Full) -> FullHead
-    ensures { result ≡ answers.inval_for frame.now.head }
-{
-    FullHead {
-        source: frame.destination(),
-        retransmitted: false,
-        destination: frame.source(),
-        timestamp: 0,
-        oseqno: 0,
-        iseqno: 0,
-        frame_type: 6,
-        subclass: 0x0a,
-    }
-}
-
-// PONG to the source of a POKE, from a number that is none of a plan.
-fn pong_for(frame: &Full) -> FullHead
-    ensures { result ≡ answers.pong_for frame.now.head }
-{
-    FullHead {
-        source: CallNumber::new(0x7fff),
-        retransmitted: false,
-        destination: frame.source(),
-        timestamp: frame.timestamp(),
-        oseqno: 0,
-        iseqno: frame.oseqno().wrapping_add(1),
-        frame_type: 6,
-        subclass: 3,
-    }
-}
-
-// The frame without data that answers one which no leg has.
-fn answer_to(frame: &Full, poke: bool) -> Result<FullHead, PeerError>
-    ensures answer { IfOk result (λ head. unknown_call poke frame.now ≡ Gets head) }
-    ensures refused { IfErr result (λ e. Some e ≡ delivery_refused (unknown_call poke frame.now)) }
-{
-    let message = Message::of(frame);
-    if frame.destination().get() == 0 {
-        if is_new(&message) && frame.oseqno() == 0 {
-            return Err(PeerError::NeedsNumber);
-        }
-        if poke && is_poke(&message) {
-            return Ok(pong_for(frame));
-        }
-        return Err(PeerError::NoCall);
-    }
-    if !message.is_numbered() {
-        return Err(PeerError::NoCall);
-    }
-    Ok(inval_for(frame))
 }
 
 impl<J: Naming> PeerState<J> {

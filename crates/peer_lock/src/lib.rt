@@ -14,6 +14,7 @@ mod read_datagram;
 mod state;
 mod steps;
 mod ticks;
+mod unknown_calls;
 
 pub use closed::ClosedPeer;
 pub use descriptions::Description;

@@ -4,7 +4,7 @@ ghost use Rattle.peer_lock.specs.Statuses.{facts_of, status_of};
 
 use call_book::LegName;
 use iax_frames::CallNumber;
-use leg_machine::{Failure, Format, Judged, Stage};
+use leg_machine::{Cause, Failure, Format, Judged, Stage};
 use peer_legs::NamedLeg;
 use seq_window::Record;
 
@@ -24,6 +24,8 @@ pub struct Status {
     pub stage: Stage,
     /// Whether the layer above isn't done with the end of the call.
     pub owes: bool,
+    /// Why it ends; normal clearing until it is known.
+    pub cause: Cause,
     /// How many full frames are held, to be sent again.
     pub held: usize,
     /// How many entries the leg's record has.
@@ -40,6 +42,7 @@ impl Status {
             name: named.name(),
             stage: leg.stage(),
             owes: leg.owes(),
+            cause: leg.cause(),
             held: leg.window().held_len(),
             entries: leg.window().record().len(),
         }

@@ -120,7 +120,7 @@ window_in format ms = if nat_le 2 format then value ms key.Window (Ok 64) (numbe
 abbrev pub poke_in : ℕ → Members → Result Bool PlanError
 poke_in format ms = if format == 3 then value ms key.Poke (Ok true) as_bool else Ok false
 
--- who calls is carried on in format 3 alone
+-- who calls and why a call ended are carried on, and a call's format is chosen as it is routed, in format 3 alone
 abbrev pub rules_from : ℕ → Limits → Credentials → Media → ℕ → Bool → PeerRules
 rules_from format limits credentials media window poke =
     record {
@@ -137,6 +137,8 @@ rules_from format limits credentials media window poke =
       vnak_ms = limits.vnak_ms;
       poke = poke;
       carries_caller = format == 3;
+      carries_cause = format == 3;
+      routes_format = format == 3;
     }
 
 unfoldable pub peer_in : ℕ → Limits → ℕ → Members → Result Peer PlanError

@@ -11,7 +11,7 @@ use crate::desk::{Desk, NEW_300, PLENTY, octets_of, opened, opening_of, plan_of}
 use crate::same::{holds, same};
 use call_book::Lease;
 use iax_frames::Full;
-use leg_machine::{Digit, Judged, Order, Stage};
+use leg_machine::{Digit, Format, Judged, Order, Stage};
 use media_ledger::Blank;
 use peer_lock::{Naming, OpenError, OrderError, PeerError, Status, Step};
 use peer_plan::{Plan, PlanError};
@@ -106,7 +106,7 @@ fn calls<J: Naming>(rt: &impl Abort, desk: &mut Desk<J>) {
 
 // The call is accepted and answered, and the leg is Up.
 fn answers<J: Naming>(rt: &impl Abort, desk: &mut Desk<J>) {
-    desk.obeys_at_last(rt, 0, &Order::Accept);
+    desk.obeys_at_last(rt, 0, &Order::Accept(Format::Ulaw));
     desk.says(rt, "800100070000000000010607090400000004");
     let heard = desk.judged_at_last(rt, 10, "800700010000000001010604");
     same(rt, &heard, &Some(Judged::Unnumbered));

@@ -95,6 +95,12 @@ fn warn_of_formats<W: Write>(
     requires caller { caller < length plan.now.peers }
     requires target { target < length plan.now.peers }
 {
+    // Where a call has other formats too, one of them may do.
+    let alone = if plan.rules(caller).routes_format {
+        " alone"
+    } else {
+        ""
+    };
     for format in [Format::Gsm, Format::Ulaw, Format::Alaw] {
         if lacks(
             plan.rules(caller).formats,
@@ -103,9 +109,10 @@ fn warn_of_formats<W: Write>(
         ) {
             writeln!(
                 writer,
-                "warning: calls of {} in {} are rejected where they lead to {}, cause 21",
+                "warning: calls of {} in {}{} are rejected where they lead to {}, cause 21",
                 plan.name(caller),
                 format_name(format),
+                alone,
                 plan.name(target)
             )?;
         }

@@ -36,6 +36,8 @@ pub fn rules_of(record_limit: u32) -> PeerRules
         vnak_ms: 0,
         poke: false,
         carries_caller: false,
+        carries_cause: false,
+        routes_format: false,
     }
 }
 
@@ -169,7 +171,12 @@ impl Driven {
         self.replies.clear();
         let replies = &mut self.replies;
         match wish {
-            Wish::Accept => self.leg.order_into(&Order::Accept, at, replies).is_ok(),
+            Wish::Accept => {
+                let format = self.leg.format();
+                self.leg
+                    .order_into(&Order::Accept(format), at, replies)
+                    .is_ok()
+            }
             Wish::Reject(cause) => self
                 .leg
                 .order_into(&Order::Reject(cause), at, replies)
@@ -179,7 +186,10 @@ impl Driven {
                 .leg
                 .order_into(&Order::Dtmf(Digit::new(0x35)), at, replies)
                 .is_ok(),
-            Wish::Hangup => self.leg.order_into(&Order::Hangup, at, replies).is_ok(),
+            Wish::Hangup => self
+                .leg
+                .order_into(&Order::Hangup(Cause::NormalClearing), at, replies)
+                .is_ok(),
         }
     }
 

@@ -76,6 +76,8 @@ fn peer(table: &Table, format: u64, limits: Limits, workers: u64) -> Result<Peer
             vnak_ms: limits.vnak_ms,
             poke,
             carries_caller: format == 3,
+            carries_cause: format == 3,
+            routes_format: format == 3,
         },
         numbers: numbers as u16,
     })

@@ -8,7 +8,8 @@ use Rattle.call_steps.specs.declared.needs.Need.TheVariants as needs
 use Rattle.call_steps.specs.declared.replies.Reply.TheVariants as replies
 use Rattle.std.specs.Prelude.{Err}
 use Rattle.std.proofs.Common.{None, false, refl}
-use Rattle.call_steps.proofs.PeerSteps.{nothing_changed, datagram_is, call_in_is, call_out_is, order_is, refusal_is, tick_is, look_is, retiring_is}
+use Rattle.call_steps.proofs.PeerSteps.{nothing_changed, datagram_is, call_in_is, call_out_is, order_is, refusal_is, look_is, retiring_is}
+use Rattle.call_steps.proofs.PeerTicks.{tick_is}
 use Rattle.call_steps.proofs.laws.peers_steps_are_the_worlds.Goals as goal
 
 pub returns-clause-datagrams : goal.returns-clause-datagrams

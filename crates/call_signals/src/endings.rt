@@ -1,0 +1,41 @@
+//! Why a leg ends, by the frame that ends it ("Information Elements": CAUSECODE; "Control Frames": BUSY, CONGESTION).
+ghost use Rattle.std.specs.Prelude.{◌≡◌, option_copied};
+ghost use Rattle.call_signals.specs.Endings as endings;
+
+use crate::causes::Cause;
+use crate::messages::Message;
+use iax_frames::{Full, subclass_meaning};
+use info_elements::{CAUSECODE, last_in};
+
+// By the value of a CAUSECODE, if it has one octet.
+fn told_cause(value: Option<&[u8]>) -> Cause
+    ensures { result ≡ endings.told_cause (option_copied value.entry) }
+{
+    match value {
+        Some([code]) => Cause::of_code(*code),
+        _ => Cause::NormalClearing,
+    }
+}
+
+// By the subclass of a control frame that ends the call.
+fn clearing_cause(subclass: Option<u64>) -> Cause
+    ensures { result ≡ endings.clearing_cause subclass }
+{
+    match subclass {
+        Some(5) => Cause::UserBusy,
+        Some(8) => Cause::Congestion,
+        _ => Cause::NormalClearing,
+    }
+}
+
+/// Why a leg ends that this frame ends: the CAUSECODE of a HANGUP or a REJECT, where it has one octet; BUSY, CONGESTION; else
+/// normal clearing.
+pub fn ending_cause(frame: &Full, message: &Message) -> Cause
+    ensures { result ≡ endings.ending_cause frame.now message.now }
+{
+    match message {
+        Message::Hangup | Message::Reject => told_cause(last_in(frame.payload(), CAUSECODE)),
+        Message::ClearsCall => clearing_cause(subclass_meaning(frame.subclass())),
+        _ => Cause::NormalClearing,
+    }
+}
