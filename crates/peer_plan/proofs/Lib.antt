@@ -1,5 +1,6 @@
 mod Lists
 mod Each
+mod KeyNames
 mod Ranges
 mod FormatLaws
 mod RouteLaws

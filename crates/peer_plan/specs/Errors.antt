@@ -12,4 +12,5 @@ error_text error.SameName = codes "SameName"
 error_text error.SameEndpoint = codes "SameEndpoint"
 error_text error.UnknownPeer = codes "UnknownPeer"
 error_text error.SameRoute = codes "SameRoute"
+error_text (error.Unknown name) = codes "Unknown " ++ name
 error_text error.Memory = codes "Memory"

@@ -4,5 +4,6 @@ pub mod Address
 pub mod Plan
 pub mod Fields
 pub mod FormatNames
+pub mod UnknownKeys
 pub mod Reading
 pub mod PlanFields

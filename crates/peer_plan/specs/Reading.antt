@@ -22,6 +22,7 @@ use Rattle.peer_plan.specs.Address.{address_of}
 use Rattle.peer_plan.specs.Fields.{◌>>=◌, number_of, text_of, value, each, list_in}
 use Rattle.peer_plan.specs.FormatNames.{format_name}
 use Rattle.peer_plan.specs.Keys.{key_name}
+use Rattle.peer_plan.specs.UnknownKeys.{known_in}
 use Rattle.peer_plan.specs.Plan.{PlanView, is_name, is_prefix}
 
 -- how many entries a record has at most, where `record_limit` is absent
@@ -227,6 +228,7 @@ plan_in ms = do
   passes ← passes_in (length workers) ms
   peers ← peers_in format limits (length workers) ms
   routes ← routes_in format peers ms
+  known ← known_in format ms
   Ok (record { workers = workers; passes = passes; peers = peers; routes = routes })
 
 -- the table that toml reads from the text, where it reads one

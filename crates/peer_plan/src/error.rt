@@ -3,11 +3,12 @@ ghost use Rattle.std.specs.Prelude.{◌≡◌};
 ghost use Rattle.peer_plan.specs.declared.error.PlanError.TheVariants.{Memory};
 
 use crate::key::Key;
+use crate::key_name::KeyName;
 use std::alloc::{AllocError, AllocFailed};
 use std::fmt;
 
 /// The first fault of a text: the keys are judged in the order of `Key`, table by table.
-#[derive(Clone, Copy, Debug, PartialEq, Eq)]
+#[derive(Debug, Drop, PartialEq, Eq)]
 pub enum PlanError {
     /// The text is no TOML document.
     NotToml,
@@ -23,6 +24,9 @@ pub enum PlanError {
     UnknownPeer,
     /// Two routes have one prefix and one source, or none.
     SameRoute,
+    /// A key that a plan of format 3 doesn't have: looked for after all other faults, in the plan itself, then in its workers, peers and
+    /// routes, table by table, and in a table by the order of the names.
+    Unknown(KeyName),
     /// Memory ran out.
     Memory,
 }
@@ -58,6 +62,7 @@ impl fmt::Display for PlanError {
             PlanError::SameEndpoint => f.write_str("SameEndpoint"),
             PlanError::UnknownPeer => f.write_str("UnknownPeer"),
             PlanError::SameRoute => f.write_str("SameRoute"),
+            PlanError::Unknown(name) => write!(f, "Unknown {name}"),
             PlanError::Memory => f.write_str("Memory"),
         }
     }

@@ -50,7 +50,7 @@ impl Plan {
 
     /// The plan of a text in TOML, of format 1, 2 or 3, or its first fault.
     ///
-    /// Any octets may come. The keys are judged in the order of `Key`, lists in their order.
+    /// Any octets may come. The keys are judged in the order of `Key`, lists in their order, and in format 3 last whether there are others.
     pub fn read(alloc: Global, text: &[u8]) -> Result<Plan, PlanError>
         ensures plan { Gives (λ plan. plan) result (plan_of text.now) }
         ensures sound { IfOk result IsPlan }
@@ -238,6 +238,7 @@ fn plan_in(alloc: Global, table: &Table) -> Result<Plan, PlanError>
     let passes = reading::passes(table, worker_count)?;
     let peers = reading::peers(alloc, table, format, limits, worker_count)?;
     let routes = reading::routes(alloc, table, format, &peers)?;
+    reading::known(table, format)?;
     let endpoints = endpoints(alloc, &peers)?;
     let counts = counts(alloc, &peers)?;
     Ok(Plan {

@@ -9,6 +9,7 @@ mod media;
 mod peers;
 mod routes;
 mod texts;
+mod unknown_keys;
 mod workers;
 
 use crate::error::PlanError;
@@ -19,6 +20,7 @@ pub(crate) use peers::peers;
 pub(crate) use routes::routes;
 use std::alloc::Global;
 use toml::Table;
+pub(crate) use unknown_keys::known;
 pub(crate) use workers::workers;
 
 // The document of a text.
