@@ -13,11 +13,19 @@ pub(crate) struct Printer<'a, W> {
     pub writer: &'a mut W,
 }
 
+// Two digits for each octet.
+fn write_hex<W: Write>(octets: &[u8], writer: &mut W) -> io::Result<()> {
+    let mut digits = [0; 2];
+    for octet in octets {
+        let _ = hex::encode_to_slice(&[*octet], &mut digits);
+        writer.write_all(&digits)?;
+    }
+    Ok(())
+}
+
 fn write_datagram<W: Write>(peer: &str, octets: &[u8], writer: &mut W) -> io::Result<()> {
     write!(writer, "tx {peer} ")?;
-    for octet in octets {
-        write!(writer, "{octet:02x}")?;
-    }
+    write_hex(octets, writer)?;
     writer.write_all(b"\n")
 }
 

@@ -17,6 +17,7 @@ use plan_report::explain;
 use replay_views::{LadderForm, write_capture, write_ladder, write_records};
 use std::alloc::Global;
 use std::fs::File;
+use std::io::{BufWriter, Write};
 use std::net::{Net, SocketAddr};
 use std::process::ExitCode;
 use std::random::RandomSource;
@@ -98,8 +99,25 @@ fn replay_file<R: Files + Print + Alloc + Wait>(
     script: &str,
 ) -> u8 {
     match octets_of(rt, script) {
-        Some(script) => replay(rt, alloc, plan, &script, &mut io::writer(rt)),
+        Some(script) => replay_buffered(rt, alloc, plan, &script),
         None => 1,
+    }
+}
+
+// A replay's lines go out in large pieces: a script may have millions.
+fn replay_buffered<R: Print + Alloc + Wait>(
+    rt: &R,
+    alloc: Global,
+    plan: &[u8],
+    script: &[u8],
+) -> u8 {
+    let Ok(mut writer) = BufWriter::new(alloc, io::writer(rt)) else {
+        return refuse_memory(rt);
+    };
+    let status = replay(rt, alloc, plan, script, &mut writer);
+    match writer.flush() {
+        Ok(()) => status,
+        Err(_) => 1,
     }
 }
 
