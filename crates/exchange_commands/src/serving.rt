@@ -23,8 +23,8 @@ use std::sync::ledger::Ledger;
 use std::thread::Threads;
 use std::time::{Clock, Instant};
 use udp_workers::{
-    BindError, Challenges, MioWire, Moments, NoThread, Place, Post, Seat, TurnReport, Wire, Worker,
-    run_all,
+    BindError, Challenges, MioWire, Moments, NoThread, Place, Post, Seat, Sharing, TurnReport,
+    Wire, Worker, run_all,
 };
 
 /// Why a service ends before its turns are made, or before its accounts are written.
@@ -89,18 +89,25 @@ pub fn service_error_name(error: ServiceError) -> Option<&'static str> {
 /// A worker over a UDP socket of the system, by its clock.
 type ServiceSeat<'r, R, J, P> = Seat<MioWire, SinceOpening<'r, R>, Digits, J, P>;
 
-/// What is done with the socket of each worker once it is bound.
+/// What is done with the sockets of workers.
 pub trait Sockets {
+    /// Whether workers of one endpoint share it. Where they don't, the second of them isn't bound.
+    fn are_shared(&self) -> bool;
+
     /// The socket of the worker at this place of the plan has this descriptor. Gives how many octets the system then keeps of
     /// datagrams that wait, where that was asked.
     fn set_up(&self, place: u16, descriptor: RawFd) -> Option<u64>;
 }
 
-/// Nothing is done with them.
+/// Each is bound alone, and nothing is done with it.
 #[derive(Clone, Copy, Debug, Drop)]
 pub struct PlainSockets;
 
 impl Sockets for PlainSockets {
+    fn are_shared(&self) -> bool {
+        false
+    }
+
     fn set_up(&self, _place: u16, _descriptor: RawFd) -> Option<u64> {
         None
     }
@@ -120,7 +127,13 @@ fn wire_of<N: Net, S: Sockets>(
     ensures { IfOk result (λ wire. AreEndpoints plan.now worker.now.peers (wires.peers_of wire)) }
 {
     let endpoints = worker.endpoints(alloc, plan)?;
-    let wire = MioWire::bind(rt, alloc, plan.workers()[usize::from(place)], endpoints)?;
+    let workers = plan.workers();
+    let sharing = if sockets.are_shared() {
+        Sharing::of(workers, place)
+    } else {
+        Sharing::Alone
+    };
+    let wire = MioWire::bind(rt, alloc, workers[usize::from(place)], endpoints, sharing)?;
     let _waiting = sockets.set_up(place, wire.descriptor());
     Ok(wire)
 }

@@ -6,10 +6,10 @@ mod client;
 mod control;
 mod doors;
 mod journal;
-mod receive_buffer;
 mod recording;
 mod running;
 mod seating;
+mod service_sockets;
 mod socket_file;
 
 pub use running::{Settings, TraceOptions, run};

@@ -3,9 +3,9 @@ ghost use Rattle.std.specs.Prelude.{◌≡◌, ◌+◌, ◌≤◌, IfOk, length,
 
 use crate::control::Control;
 use crate::journal::Journal;
-use crate::receive_buffer::ReceiveBuffer;
 use crate::recording::{Written, serve_written};
 use crate::running::Settings;
+use crate::service_sockets::ServiceSockets;
 use call_writer::Disk;
 use exchange_commands::{ServiceError, reports_of};
 use exchange_core::{Exchange, NoGate, Pass};
@@ -64,8 +64,8 @@ fn told_seats<'r, J: Naming, P: Post, R: Clock + Eprint + Net + RandomSource + W
         level: settings.level,
     };
     tell_start(&log, plan, settings.version, settings.plan_path);
-    let sockets = ReceiveBuffer { log: &log };
-    traced_seats_of::<J, P, R, ReceiveBuffer<'_, Journal<'_, R>>>(
+    let sockets = ServiceSockets { log: &log };
+    traced_seats_of::<J, P, R, ServiceSockets<'_, Journal<'_, R>>>(
         rt, alloc, plan, passes, opened, &sockets, trace,
     )
 }

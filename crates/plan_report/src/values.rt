@@ -91,10 +91,18 @@ fn write_limits<W: Write>(
     write_number(table, Key::Passes, u64::from(plan.passes()), writer)
 }
 
+// Whether more than one worker has this endpoint.
+fn is_shared(workers: &[Endpoint], at: Endpoint) -> bool {
+    workers.iter().filter(|other| **other == at).count() > 1
+}
+
 fn write_workers<W: Write>(plan: &Plan, writer: &mut W) -> io::Result<()> {
     for (place, endpoint) in plan.workers().iter().enumerate() {
         write!(writer, "worker {place}: ")?;
         write_endpoint(*endpoint, writer)?;
+        if is_shared(plan.workers(), *endpoint) {
+            writer.write_all(b", shared (by run; serve refuses to bind it)")?;
+        }
         writeln!(writer)?;
     }
     Ok(())

@@ -6,4 +6,6 @@ pub mod MioWire
 pub mod PeerCounts
 pub mod Receipts
 pub mod Served
+pub mod Sharing
+pub mod SocketAddress
 pub mod Ticked

@@ -5,6 +5,8 @@ ghost use Rattle.udp_workers.specs.Counts.{RisesBy};
 ghost use Rattle.udp_workers.specs.declared.mio_wire.BindError.TheVariants as errors;
 
 use crate::peer_counts::PeerCounts;
+use crate::shared_port::{bound_beside, share};
+use crate::sharing::Sharing;
 use crate::wire::{Wire, WireFault};
 use mio::net::UdpSocket;
 use mio::{Events, Interest, Poll, Token};
@@ -14,6 +16,9 @@ use std::io;
 use std::net::{IpAddr, Ipv4Addr, Net, SocketAddr};
 use std::os::fd::{AsRawFd, RawFd};
 use std::time::Duration;
+
+// How long it waits at most where another worker may have taken a datagram that these peers are answered.
+const SHARED_MS: u64 = 2;
 
 /// Why no socket was bound.
 #[derive(Clone, Copy, Debug, PartialEq, Eq)]
@@ -48,6 +53,8 @@ pub struct MioWire {
     events: Events,
     // Whether the last `receive` found nothing. The system tells of each datagram once, so without it there may be more.
     empty: bool,
+    // Whether a worker that shares its endpoint takes datagrams of these peers, too.
+    shared: bool,
     peers: PeerCounts,
     given: u64,
     failures: u64,
@@ -101,9 +108,29 @@ fn sent(socket: &UdpSocket, to: Endpoint, octets: &[u8]) -> Result<bool, WireFau
     }
 }
 
+// A socket that is bound to this endpoint.
+fn bound<N: Net>(rt: &N, at: Endpoint, sharing: Sharing) -> Result<UdpSocket, BindError> {
+    if sharing == Sharing::Beside {
+        return match bound_beside(at) {
+            Some(socket) => Ok(UdpSocket::from_std(socket)),
+            None => Err(BindError::Bind),
+        };
+    }
+    let socket = UdpSocket::bind(rt, socket_address(at))?;
+    if sharing == Sharing::First && !share(socket.as_raw_fd()) {
+        return Err(BindError::Bind);
+    }
+    Ok(socket)
+}
+
 // A socket that is bound to this endpoint; the system tells of its datagrams where they are polled.
-fn readable<N: Net>(rt: &N, poll: &Poll, at: Endpoint) -> Result<UdpSocket, BindError> {
-    let mut socket = UdpSocket::bind(rt, socket_address(at))?;
+fn readable<N: Net>(
+    rt: &N,
+    poll: &Poll,
+    at: Endpoint,
+    sharing: Sharing,
+) -> Result<UdpSocket, BindError> {
+    let mut socket = bound(rt, at, sharing)?;
     poll.registry()
         .register(&mut socket, Token(0), Interest::READABLE)?;
     Ok(socket)
@@ -114,12 +141,14 @@ impl MioWire {
 
     /// A socket that is bound to this endpoint and may send to these peers. Nothing was given to it yet, and no call failed.
     ///
-    /// At an `Err` the list is dropped.
+    /// Workers of one endpoint are bound in the order of their places: what comes from one sender then comes to one of them, whichever the
+    /// system chooses. At an `Err` the list is dropped.
     pub fn bind<N: Net>(
         rt: &N,
         alloc: Global,
         at: Endpoint,
         peers: Vec<Endpoint>,
+        sharing: Sharing,
     ) -> Result<MioWire, BindError>
         ensures peers { IfOk result (λ wire. peers_of wire ≡ peers.items) }
         ensures given { IfOk result (λ wire. given_of wire ≡ 0) }
@@ -129,8 +158,8 @@ impl MioWire {
         let peers = PeerCounts::new(alloc, peers)?;
         let poll = Poll::new(rt)?;
         let events = Events::with_capacity(alloc, 1)?;
-        let socket = readable(rt, &poll, at)?;
-        Ok(MioWire::over(socket, poll, events, peers))
+        let socket = readable(rt, &poll, at, sharing)?;
+        Ok(MioWire::over(socket, poll, events, peers, sharing))
     }
 
     /// The descriptor of its socket, for whoever sets what the system does with it.
@@ -139,7 +168,13 @@ impl MioWire {
     }
 
     // Over a socket that is bound and polled.
-    fn over(socket: UdpSocket, poll: Poll, events: Events, peers: PeerCounts) -> MioWire
+    fn over(
+        socket: UdpSocket,
+        poll: Poll,
+        events: Events,
+        peers: PeerCounts,
+        sharing: Sharing,
+    ) -> MioWire
         ensures peers { result.peers ≡ peers }
         ensures given { given_of result ≡ 0 }
         ensures failures { failures_of result ≡ 0 }
@@ -149,6 +184,7 @@ impl MioWire {
             poll,
             events,
             empty: false,
+            shared: sharing != Sharing::Alone,
             peers,
             given: 0,
             failures: 0,
@@ -200,6 +236,7 @@ impl Wire for MioWire {
 
     fn wait(&mut self, ms: u64) {
         if self.empty {
+            let ms = if self.shared { ms.min(SHARED_MS) } else { ms };
             let _ = self
                 .poll
                 .poll(&mut self.events, Some(Duration::from_millis(ms)));

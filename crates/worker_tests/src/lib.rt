@@ -18,6 +18,8 @@ mod plans;
 #[cfg(test)]
 mod same;
 #[cfg(test)]
+mod shared_port;
+#[cfg(test)]
 mod until_ended;
 #[cfg(test)]
 mod watched_threads;

@@ -17,7 +17,7 @@ use std::net::{IpAddr, Ipv4Addr, Net, SocketAddr};
 use std::sync::Wait;
 use std::sync::ledger::Ledger;
 use std::test::*;
-use udp_workers::{MioWire, Wire, Worker};
+use udp_workers::{MioWire, Sharing, Wire, Worker};
 
 // A NEW for 200, for which the plan has no route.
 const NEW_FOR_200: &[u8] =
@@ -82,7 +82,7 @@ fn call_worker<J: Naming, R: Net + Wait>(
     let at = *exchange.plan().workers().first()?;
     let mut worker = Worker::new(exchange.plan(), 0);
     let endpoints = worker.endpoints(alloc, exchange.plan()).ok()?;
-    let mut wire = MioWire::bind(rt, alloc, at, endpoints).ok()?;
+    let mut wire = MioWire::bind(rt, alloc, at, endpoints, Sharing::Alone).ok()?;
     let caller = caller_at(rt, at)?;
     let rejected = turn_until_rejected(
         rt,

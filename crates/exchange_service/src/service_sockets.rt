@@ -1,4 +1,4 @@
-//! The room that the system keeps for datagrams that wait at a worker's socket.
+//! Sockets of workers as a service has them: those of one endpoint share it, and the system keeps more room for datagrams that wait.
 use exchange_commands::Sockets;
 use libc::net as system;
 use log::{Log, info};
@@ -7,9 +7,9 @@ use std::os::fd::RawFd;
 // So many octets are asked for. The system gives as many as its `net.core.rmem_max` lets it, and counts each twice.
 const WANTED: u32 = 4_194_304;
 
-/// Asks for more room at each socket, and logs how much there is.
+/// Workers of one endpoint share it; at each socket more room is asked for, and how much there is is logged.
 #[derive(Drop)]
-pub(crate) struct ReceiveBuffer<'l, L> {
+pub(crate) struct ServiceSockets<'l, L> {
     pub(crate) log: &'l L,
 }
 
@@ -37,7 +37,11 @@ fn room_of(descriptor: RawFd) -> Option<u64> {
     Some(u64::from(octets))
 }
 
-impl<'l, L: Log> Sockets for ReceiveBuffer<'l, L> {
+impl<'l, L: Log> Sockets for ServiceSockets<'l, L> {
+    fn are_shared(&self) -> bool {
+        true
+    }
+
     fn set_up(&self, place: u16, descriptor: RawFd) -> Option<u64> {
         let room = room_of(descriptor);
         if let Some(octets) = room {

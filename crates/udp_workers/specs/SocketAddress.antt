@@ -1,0 +1,9 @@
+-- The octets of C's `sockaddr_in`, in as much room as the system's calls want: the family in the order of the machine, the port in that of
+-- the network, the address.
+use Rattle.std.specs.Prelude.{ℕ, List, ◌++◌, replicate}
+use Rattle.std.specs.Int.{w16, to_le_bytes, to_be_bytes}
+use Rattle.peer_plan.specs.declared.endpoint.Endpoint.{Endpoint}
+
+-- 2 is IPv4
+abbrev pub socket_address : Endpoint → List ℕ
+socket_address at = to_le_bytes w16 2 ++ to_be_bytes w16 at.port ++ at.address ++ replicate 120 0
