@@ -1,13 +1,14 @@
 // Loads an exchange, or a plain relay, with calls that carry mini frames of 160 octets both ways, and says how many frames it
 // carried per second of its processor time.
 //
-// load exchange|relay CALLS[/ENDS] SECONDS COMMAND [ARGUMENT..]
+// load exchange|trunk|relay CALLS[/ENDS] SECONDS COMMAND [ARGUMENT..]
 //
 // It starts the command, which has to bind 127.0.0.1 port 4569; it is itself the peers at ports 5001 (west) and 5002 (east). To
 // an exchange it first sets up the calls, from west to the number 300. It then keeps a fixed number of frames on their way,
 // evenly over the calls, takes the processor time of the command over the given seconds, and ends the command. Of the set-up it
 // says what processor time each call took, of all that was carried how many frames there were, and how much memory was used.
-// Where ENDS is given, so many calls are hung up a second, one after another, and each is set up anew.
+// Where ENDS is given, so many calls are hung up a second, one after another, and each is set up anew. To a trunk it sends the media of
+// eight calls in each datagram, and takes entries; to a relay a mini frame in each, as to an exchange. With 0 seconds no media is sent.
 #define _GNU_SOURCE
 #include <arpa/inet.h>
 #include <netinet/in.h>
@@ -21,7 +22,7 @@
 #include <time.h>
 #include <unistd.h>
 
-enum { MOST_CALLS = 512, MEDIA = 160, BATCH = 32, ON_THE_WAY = 96, FULL = 12 };
+enum { MOST_CALLS = 512, MEDIA = 160, BATCH = 32, ON_THE_WAY = 96, FULL = 12, TRUNK = 8, ENTRY = 4, ENTRIES = 8 };
 enum { DTMF = 1, VOICE = 2, CONTROL = 4, IAX = 6 };
 enum { NEW = 1, PING = 2, PONG = 3, ACK = 4, HANGUP = 5, ACCEPT = 7, INVAL = 10, VNAK = 18, ANSWER = 4, ULAW = 4 };
 
@@ -44,7 +45,7 @@ struct peer {
 
 static struct peer west, east;
 static struct timespec begin;
-static int calls, ends;
+static int calls, ends, trunks;
 
 static unsigned now_ms(void) {
     struct timespec now;
@@ -134,6 +135,13 @@ static void take_full(struct peer *peer, const unsigned char *frame) {
     }
 }
 
+// Counts the entries of a trunk frame ("Trunk Frames"), without timestamps of their own.
+static int entries_of(const unsigned char *frame, unsigned length) {
+    int entries = 0;
+    for (unsigned at = TRUNK; at + ENTRY <= length; entries++) at += ENTRY + ((unsigned)frame[at + 2] << 8 | frame[at + 3]);
+    return entries;
+}
+
 // Takes what is there.
 static void take_all(struct peer *peer) {
     static unsigned char frames[BATCH][2049];
@@ -147,8 +155,12 @@ static void take_all(struct peer *peer) {
     for (;;) {
         int got = recvmmsg(peer->wire, all, BATCH, MSG_DONTWAIT, 0);
         for (int i = 0; i < got; i++) {
-            if (frames[i][0] & 0x80) take_full(peer, frames[i]);
-            else peer->carried++, peer->on_the_way--;
+            if (frames[i][0] & 0x80) {
+                take_full(peer, frames[i]);
+                continue;
+            }
+            int carried = frames[i][0] | frames[i][1] ? 1 : entries_of(frames[i], all[i].msg_len);
+            peer->carried += (unsigned long)carried, peer->on_the_way -= carried;
         }
         if (got < BATCH) return;
     }
@@ -163,9 +175,8 @@ static void wait_for_any(int ms) {
 
 static int both_open(int place) { return west.legs[place].open && east.legs[place].open; }
 
-// Sets up the calls one after another, and opens the voice of each both ways.
+// Sets up the calls one after another.
 static int set_up(void) {
-    static const unsigned char media[MEDIA];
     for (int place = 0; place < calls; place++) {
         // The first NEW may go out before the command has bound its socket, so it is sent again.
         for (int tries = 0; tries < 500 && !both_open(place); tries++) {
@@ -177,30 +188,66 @@ static int set_up(void) {
         }
         if (!both_open(place)) return place;
     }
+    return calls;
+}
+
+// Opens the voice of each call both ways.
+static void open_voice(void) {
+    static const unsigned char media[MEDIA];
     for (int place = 0; place < calls; place++) {
         long before = (long)(west.carried + east.carried);
         send_full(&west, place, now_ms(), 1, VOICE, ULAW, media, MEDIA);
         send_full(&east, place, now_ms(), 1, VOICE, ULAW, media, MEDIA);
         for (int tries = 0; tries < 500 && (long)(west.carried + east.carried) < before + 2; tries++) wait_for_any(10);
     }
-    return calls;
+}
+
+// The next call in turn whose voice is open.
+static int next_open(const struct peer *from, int *next) {
+    for (int tries = 0; tries < calls && !from->legs[*next].open; tries++) *next = (*next + 1) % calls;
+    int place = *next;
+    *next = (place + 1) % calls;
+    return place;
 }
 
 // Sends a batch of mini frames, one of each of the next calls in turn ("Mini Frames").
-static void send_batch(struct peer *from, struct peer *to, int *next) {
+static int send_minis(struct peer *from, int *next) {
     static unsigned char frames[BATCH][4 + MEDIA];
     struct iovec parts[BATCH];
     struct mmsghdr all[BATCH];
     unsigned ts = now_ms();
     memset(all, 0, sizeof all);
     for (int i = 0; i < BATCH; i++) {
-        for (int tries = 0; tries < calls && !from->legs[*next].open; tries++) *next = (*next + 1) % calls;
-        put16(frames[i], (unsigned)(*next + 1)), put16(frames[i] + 2, ts);
+        put16(frames[i], (unsigned)(next_open(from, next) + 1)), put16(frames[i] + 2, ts);
         parts[i] = (struct iovec){frames[i], sizeof frames[i]};
         all[i].msg_hdr.msg_iov = &parts[i], all[i].msg_hdr.msg_iovlen = 1;
-        *next = (*next + 1) % calls;
     }
-    int gone = sendmmsg(from->wire, all, BATCH, 0);
+    return sendmmsg(from->wire, all, BATCH, 0);
+}
+
+// The same as entries of trunk frames ("Trunk Frames").
+static int send_trunks(struct peer *from, int *next) {
+    static unsigned char frames[BATCH / ENTRIES][TRUNK + ENTRIES * (ENTRY + MEDIA)];
+    struct iovec parts[BATCH / ENTRIES];
+    struct mmsghdr all[BATCH / ENTRIES];
+    unsigned ts = now_ms();
+    memset(all, 0, sizeof all);
+    for (int i = 0; i < BATCH / ENTRIES; i++) {
+        frames[i][2] = 1;
+        put16(frames[i] + 4, ts >> 16), put16(frames[i] + 6, ts);
+        for (int entry = 0; entry < ENTRIES; entry++) {
+            unsigned char *at = frames[i] + TRUNK + entry * (ENTRY + MEDIA);
+            put16(at, (unsigned)(next_open(from, next) + 1)), put16(at + 2, MEDIA);
+        }
+        parts[i] = (struct iovec){frames[i], sizeof frames[i]};
+        all[i].msg_hdr.msg_iov = &parts[i], all[i].msg_hdr.msg_iovlen = 1;
+    }
+    int gone = sendmmsg(from->wire, all, BATCH / ENTRIES, 0);
+    return gone > 0 ? gone * ENTRIES : gone;
+}
+
+static void send_batch(struct peer *from, struct peer *to, int *next) {
+    int gone = trunks ? send_trunks(from, next) : send_minis(from, next);
     if (gone > 0) to->on_the_way += gone;
 }
 
@@ -265,11 +312,12 @@ static long peak_of(pid_t command) {
 
 int main(int count, char **words) {
     if (count < 5 || (calls = atoi(words[2])) < 1 || calls > MOST_CALLS) {
-        fprintf(stderr, "usage: load exchange|relay CALLS[/ENDS] SECONDS COMMAND [ARGUMENT..]\n");
+        fprintf(stderr, "usage: load exchange|trunk|relay CALLS[/ENDS] SECONDS COMMAND [ARGUMENT..]\n");
         return 2;
     }
     ends = strchr(words[2], '/') ? atoi(strchr(words[2], '/') + 1) : 0;
     east.freed = west.freed = -1;
+    trunks = strcmp(words[1], "trunk") == 0;
     double seconds = atof(words[3]);
     clock_gettime(CLOCK_MONOTONIC, &begin);
     west.wire = bound(5001), east.wire = bound(5002);
@@ -280,21 +328,23 @@ int main(int count, char **words) {
         _exit(127);
     }
     usleep(200000);
-    int status = 1;
+    int status = 1, is_relay = strcmp(words[1], "relay") == 0;
     clockid_t processor;
-    if (strcmp(words[1], "exchange") == 0 && set_up() != calls)
-        fprintf(stderr, "load: a call wasn't set up\n");
-    else if (clock_getcpuclockid(command, &processor) != 0)
+    double setting_up = 0;
+    if (clock_getcpuclockid(command, &processor) != 0)
         fprintf(stderr, "load: the command has ended\n");
+    else if (setting_up = seconds_of(processor), !is_relay && set_up() != calls)
+        fprintf(stderr, "load: a call wasn't set up\n");
     else {
-        double setting_up = seconds_of(processor);
-        carry(0.5);
+        setting_up = seconds_of(processor) - setting_up;
+        if (!is_relay && seconds > 0) open_voice();
+        if (seconds > 0) carry(0.5);
         unsigned long carried = west.carried + east.carried;
         double used = seconds_of(processor), from = seconds_of(CLOCK_MONOTONIC);
         carry(seconds);
         carried = west.carried + east.carried - carried;
         used = seconds_of(processor) - used, from = seconds_of(CLOCK_MONOTONIC) - from;
-        printf("%s %d calls: %lu frames in %.2f s, %.2f s of processor time: %.0f frames per second of processor time; set-up %.1f us a call; %lu frames in all; %ld KB\n", words[1], calls, carried, from, used, (double)carried / used, setting_up / calls * 1e6, west.carried + east.carried, peak_of(command));
+        printf("%s %d calls: %lu frames in %.2f s, %.2f s of processor time: %.0f frames per second of processor time; set-up %.1f us a call; %lu frames in all; %ld KB\n", words[1], calls, carried, from, used, used > 0 ? (double)carried / used : 0, setting_up / calls * 1e6, west.carried + east.carried, peak_of(command));
         status = 0;
     }
     kill(command, SIGTERM);
