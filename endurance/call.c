@@ -46,10 +46,17 @@ static void tell(const struct call *call, const char *what) {
 }
 
 // The exchange ended the call, or it makes no progress: what is left is hung up, and the call is watched no more.
+// Digits may be left out only right before an exchange ends their call: one had no room there.
+static void count_left_out(const struct call *call, int is_cut) {
+    if (is_cut) seen.left_out_digits += call->left_out;
+    else if (call->left_out) seen.wrong_digits += call->left_out, tell(call, "wrong_digits");
+}
+
 static void fail(struct call *call, unsigned long *counted, const char *what) {
     if (call->stage == FAILED || call->stage == OVER) return;
     ++*counted;
     tell(call, what);
+    count_left_out(call, counted == &seen.cut);
     for (int side = 0; side < 2; side++)
         if (call->ends[side] && !call->ends[side]->is_dead)
             send_numbered(call->ends[side], timestamp_of(call->ends[side]), IAX, HANGUP, NULL, 0);
@@ -153,9 +160,9 @@ static void ping_where_quiet(struct call *call, double moment) {
 }
 
 static void count_lacking(const struct call *call) {
+    count_left_out(call, 0);
     unsigned sent = call->digits_sent[0] + call->digits_sent[1], taken = call->digits_taken[0] + call->digits_taken[1];
-    seen.lacking_digits += sent - taken;
-    if (sent != taken) tell(call, "lacking_digits");
+    if (sent > taken) seen.lacking_digits += sent - taken, tell(call, "lacking_digits");
 }
 
 // The call is counted, and its legs' numbers are free.
@@ -254,12 +261,20 @@ static void check_digest(struct leg *leg, unsigned timestamp, const unsigned cha
     answer_call(leg, timestamp);
 }
 
+// At which place of what was sent a digit stands, from this one on; one beyond all of them where it stands at none.
+static unsigned place_from(const struct call *call, int from, unsigned place, int digit) {
+    while (place < call->digits_sent[from] && digit_of(call->id, from, place) != digit) place++;
+    return place;
+}
+
 static void take_digit(struct leg *leg, int digit) {
     struct call *call = leg->call;
-    unsigned place = call->digits_taken[leg->side]++;
+    int from = 1 - leg->side;
+    unsigned expected = call->digits_taken[leg->side], place = place_from(call, from, expected, digit);
     seen.digits_taken++;
-    if (digit != digit_of(call->id, 1 - leg->side, place)) seen.wrong_digits++, tell(call, "wrong_digits");
-    if (place >= call->digits_sent[1 - leg->side]) seen.wrong_digits++, tell(call, "wrong_digits");
+    if (place < call->digits_sent[from]) call->left_out += place - expected;
+    else seen.wrong_digits++, tell(call, "wrong_digits"), place = expected;
+    call->digits_taken[leg->side] = place + 1;
 }
 
 static void take_media(struct leg *leg, const unsigned char *media, unsigned length) {

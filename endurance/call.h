@@ -17,6 +17,8 @@ struct call {
     int hanger, early;
     // By side: what it sent, and what it took.
     unsigned digits_sent[2], digits_taken[2], media_sent[2], media_taken[2], hangups[2];
+    // Digits of both that were left out before others came.
+    unsigned left_out;
 };
 
 // What is wanted of each call.
@@ -29,7 +31,7 @@ struct wanted {
 // What was seen, by the names that the report has.
 struct seen {
     unsigned long placed, answered, ended, early, hung_up_by_caller, hung_up_by_called, challenged;
-    unsigned long digits_sent, digits_taken, wrong_digits, lacking_digits, media_sent, media_taken, wrong_media;
+    unsigned long digits_sent, digits_taken, wrong_digits, lacking_digits, left_out_digits, media_sent, media_taken, wrong_media;
     unsigned long hangups_twice, hangups_missing, hangups_back, offered_twice, misrouted, rejected, cut, inval, stuck, bad_answers;
     // When the first call was answered, and how many digits had come by the end of the time, in seconds since the start.
     double first_answer;

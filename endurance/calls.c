@@ -166,7 +166,7 @@ static void report(double begun) {
            received, sent, resent, inval, drops);
 #define TELL(name) printf(", \"%s\": %lu", #name, seen.name)
     TELL(placed), TELL(answered), TELL(ended), TELL(early), TELL(hung_up_by_caller), TELL(hung_up_by_called), TELL(challenged);
-    TELL(digits_sent), TELL(digits_taken), TELL(wrong_digits), TELL(lacking_digits), TELL(media_sent), TELL(media_taken), TELL(wrong_media);
+    TELL(digits_sent), TELL(digits_taken), TELL(wrong_digits), TELL(lacking_digits), TELL(left_out_digits), TELL(media_sent), TELL(media_taken), TELL(wrong_media);
     TELL(hangups_twice), TELL(hangups_missing), TELL(hangups_back), TELL(offered_twice), TELL(misrouted), TELL(rejected), TELL(cut);
     TELL(inval), TELL(stuck), TELL(bad_answers), TELL(digits_in_time);
     printf(", \"last_stuck_stage\": %.0f, \"first_answer\": %.3f", seen.last_stuck_stage,

@@ -125,7 +125,7 @@ class Sums:
         """Answers what was wrong, by kind: how often, and where first."""
         self.taken.append(seen["digits_taken"])
         self.each[storm] = for_each(seen, network)
-        self.seen.update({it: seen[it] for it in DIGITS + OFFERS + tuple(ENDED)})
+        self.seen.update({it: seen[it] for it in (*DIGITS, *OFFERS, *ENDED, "left_out_digits")})
         told = [(*it, endings.why_of(*it[:2])) for it in seen["told"]]
         ended = [why for what, _, _, why in told if what in ENDED]
         self.why.update(why or "unknown" for why in ended)
@@ -141,7 +141,8 @@ class Sums:
     def tell(self, report):
         digits, offers, ended = (self.counts(it) for it in (DIGITS, OFFERS, ENDED))
         is_kept = sum(digits.values()) == 0 < min(self.taken)
-        report.tell("each digit is taken once and in order in each storm", is_kept, digits_taken=sum(self.taken), **digits)
+        left_out = self.seen["left_out_digits"]
+        report.tell("each digit is taken once and in order in each storm", is_kept, digits_taken=sum(self.taken), **digits, left_out_as_a_call_is_cut=left_out)
         report.tell("each call is offered once and hung up once", not any(offers.values()), **offers)
         unknown = self.why.pop("unknown")
         report.tell("exchanges end calls only for reasons that are in their records", not unknown, **ended, **self.why, without_one=unknown)
