@@ -1,7 +1,9 @@
 -- Why a call ends: the codes of Q.850, and this project's texts ("Information Elements").
-use Rattle.std.specs.Prelude.{ℕ, ◌+◌, ◌/◌, ◌%◌, ◌==◌, nat_le, List, [], ◌∷◌, ◌++◌, codes, Option, None, Some, unwrap_or, if◌then◌else◌}
+use Rattle.std.specs.Prelude.{ℕ, ◌+◌, ◌/◌, ◌%◌, ◌==◌, nat_le, List, [], ◌∷◌, ◌++◌, codes, Option, None, Some, unwrap_or}
+use Rattle.std.specs.Prelude.{if◌then◌else◌}
 use Rattle.call_signals.specs.declared.causes.Cause.{Cause}
-use Rattle.call_signals.specs.declared.causes.Cause.TheVariants.{UnallocatedNumber, NormalClearing, UserBusy, NoUserResponding, CallRejected, NoChannelAvailable, Congestion, Other}
+use Rattle.call_signals.specs.declared.causes.Cause.TheVariants.{UnallocatedNumber, NormalClearing, UserBusy, NoUserResponding}
+use Rattle.call_signals.specs.declared.causes.Cause.TheVariants.{CallRejected, NoChannelAvailable, Congestion, Other}
 
 abbrev pub cause_code : Cause → ℕ
 cause_code UnallocatedNumber = 1

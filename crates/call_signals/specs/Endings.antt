@@ -3,6 +3,7 @@ use Rattle.std.specs.Prelude.{ℕ, List, [], ◌∷◌, ◌==◌, Option, None, 
 use Rattle.iax_frames.specs.FullFrame.{FullFrame, subclass_meaning}
 use Rattle.info_elements.specs.Numbers.{CAUSECODE}
 use Rattle.call_signals.specs.Causes.{cause_of_code}
+use Rattle.call_signals.specs.Codes.{CONTROL_BUSY, CONTROL_CONGESTION}
 use Rattle.call_signals.specs.FrameElements.{element_in}
 use Rattle.call_signals.specs.declared.causes.Cause.{Cause}
 use Rattle.call_signals.specs.declared.causes.Cause.TheVariants.{NormalClearing, UserBusy, NoUserResponding, Congestion}
@@ -19,7 +20,7 @@ told_cause _ = NormalClearing
 -- by the subclass of a control frame that ends the call: BUSY, CONGESTION, HANGUP
 abbrev pub clearing_cause : Option ℕ → Cause
 clearing_cause (Some subclass) =
-    if subclass == 5 then UserBusy else if subclass == 8 then Congestion else NormalClearing
+    if subclass == CONTROL_BUSY then UserBusy else if subclass == CONTROL_CONGESTION then Congestion else NormalClearing
 clearing_cause None = NormalClearing
 
 abbrev pub ending_cause : FullFrame → Message → Cause

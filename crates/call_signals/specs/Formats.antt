@@ -1,14 +1,22 @@
 -- Formats of voice ("Media Formats").
-use Rattle.std.specs.Prelude.{ℕ, Bool, ◌&&◌, true, false, Option, None, Some, if◌then◌else◌}
+use Rattle.std.specs.Prelude.{ℕ, Bool, ◌==◌, ◌&&◌, true, false, Option, None, Some, if◌then◌else◌}
 use Rattle.call_signals.specs.declared.formats.Format.{Format}
 use Rattle.call_signals.specs.declared.formats.Format.TheVariants.{Gsm, Ulaw, Alaw}
 use Rattle.call_signals.specs.declared.formats.Formats.{Formats}
 
--- the one bit of a format
+-- the one bit of a format, in a FORMAT, a CAPABILITY and a voice frame's subclass
 abbrev pub format_bit : Format → ℕ
 format_bit Gsm = 0x02
 format_bit Ulaw = 0x04
 format_bit Alaw = 0x08
+
+-- the format of a bit
+abbrev pub format_of_bit : ℕ → Option Format
+format_of_bit bit =
+    if bit == format_bit Gsm then Some Gsm
+    else if bit == format_bit Ulaw then Some Ulaw
+    else if bit == format_bit Alaw then Some Alaw
+    else None
 
 abbrev pub has_format : Formats → Format → Bool
 has_format formats Gsm = formats.gsm

@@ -1,5 +1,6 @@
 pub mod Caller
 pub mod Causes
+pub mod Codes
 pub mod Credential
 pub mod Effects
 pub mod Endings

@@ -2,48 +2,57 @@
 use Rattle.std.specs.Prelude.{ℕ, List, codes, Bool, true, false, ◌==◌, nat_lt, Option, Some, None, if◌then◌else◌}
 use Rattle.iax_frames.specs.declared.full_frame.FullHead.{FullHead}
 use Rattle.iax_frames.specs.FullFrame.{subclass_meaning}
-use Rattle.call_signals.specs.Formats.{same_format}
+use Rattle.call_signals.specs.Codes.{FRAME_DTMF, FRAME_VOICE, FRAME_CONTROL, FRAME_IAX}
+use Rattle.call_signals.specs.Codes.{CONTROL_HANGUP, CONTROL_RINGING, CONTROL_ANSWER, CONTROL_BUSY, CONTROL_CONGESTION}
+use Rattle.call_signals.specs.Codes.{CONTROL_PROGRESS, CONTROL_PROCEEDING}
+use Rattle.call_signals.specs.Codes.{IAX_NEW, IAX_PING, IAX_PONG, IAX_ACK, IAX_HANGUP, IAX_REJECT, IAX_ACCEPT, IAX_AUTHREQ}
+use Rattle.call_signals.specs.Codes.{IAX_AUTHREP, IAX_INVAL}
+use Rattle.call_signals.specs.Codes.{IAX_LAGRQ, IAX_LAGRP, IAX_VNAK, IAX_TXCNT, IAX_TXACC, IAX_QUELCH, IAX_UNQUELCH, IAX_POKE}
+use Rattle.call_signals.specs.Codes.{IAX_UNSUPPORT}
+use Rattle.call_signals.specs.Formats.{format_of_bit, same_format}
 use Rattle.call_signals.specs.Signals.{indication_name}
 use Rattle.call_signals.specs.declared.formats.Format.{Format}
-use Rattle.call_signals.specs.declared.formats.Format.TheVariants.{Gsm, Ulaw, Alaw}
 use Rattle.call_signals.specs.declared.signals.Indication.TheVariants.{Ringing, Progress, Proceeding}
 use Rattle.call_signals.specs.declared.messages.Message.{Message}
-use Rattle.call_signals.specs.declared.messages.Message.TheVariants.{New, Ping, Pong, Ack, Hangup, Reject, Accept, AuthReq, AuthRep, Inval, LagRq, LagRp, Vnak, TxCnt, TxAcc, Quelch, Unquelch, Poke, Unsupport, UnknownIax, ClearsCall, Indicates, Answer, Dtmf, Voice, Other}
+use Rattle.call_signals.specs.declared.messages.Message.TheVariants.{New, Ping, Pong, Ack, Hangup, Reject, Accept, AuthReq}
+use Rattle.call_signals.specs.declared.messages.Message.TheVariants.{AuthRep, Inval, LagRq, LagRp, Vnak, TxCnt, TxAcc, Quelch}
+use Rattle.call_signals.specs.declared.messages.Message.TheVariants.{Unquelch, Poke, Unsupport, UnknownIax, ClearsCall, Indicates}
+use Rattle.call_signals.specs.declared.messages.Message.TheVariants.{Answer, Dtmf, Voice, Other}
 
 -- "IAX Frames"
 abbrev pub iax_message : ℕ → Message
 iax_message subclass =
-    if subclass == 1 then New
-    else if subclass == 2 then Ping
-    else if subclass == 3 then Pong
-    else if subclass == 4 then Ack
-    else if subclass == 5 then Hangup
-    else if subclass == 6 then Reject
-    else if subclass == 7 then Accept
-    else if subclass == 8 then AuthReq
-    else if subclass == 9 then AuthRep
-    else if subclass == 0x0a then Inval
-    else if subclass == 0x0b then LagRq
-    else if subclass == 0x0c then LagRp
-    else if subclass == 0x12 then Vnak
-    else if subclass == 0x17 then TxCnt
-    else if subclass == 0x18 then TxAcc
-    else if subclass == 0x1c then Quelch
-    else if subclass == 0x1d then Unquelch
-    else if subclass == 0x1e then Poke
-    else if subclass == 0x21 then Unsupport
+    if subclass == IAX_NEW then New
+    else if subclass == IAX_PING then Ping
+    else if subclass == IAX_PONG then Pong
+    else if subclass == IAX_ACK then Ack
+    else if subclass == IAX_HANGUP then Hangup
+    else if subclass == IAX_REJECT then Reject
+    else if subclass == IAX_ACCEPT then Accept
+    else if subclass == IAX_AUTHREQ then AuthReq
+    else if subclass == IAX_AUTHREP then AuthRep
+    else if subclass == IAX_INVAL then Inval
+    else if subclass == IAX_LAGRQ then LagRq
+    else if subclass == IAX_LAGRP then LagRp
+    else if subclass == IAX_VNAK then Vnak
+    else if subclass == IAX_TXCNT then TxCnt
+    else if subclass == IAX_TXACC then TxAcc
+    else if subclass == IAX_QUELCH then Quelch
+    else if subclass == IAX_UNQUELCH then Unquelch
+    else if subclass == IAX_POKE then Poke
+    else if subclass == IAX_UNSUPPORT then Unsupport
     else UnknownIax
 
--- "Control Frames": HANGUP, RINGING, ANSWER, BUSY, CONGESTION, PROGRESS, PROCEEDING
+-- "Control Frames"
 abbrev pub control_message : ℕ → Message
 control_message subclass =
-    if subclass == 1 then ClearsCall
-    else if subclass == 3 then Indicates Ringing
-    else if subclass == 4 then Answer
-    else if subclass == 5 then ClearsCall
-    else if subclass == 8 then ClearsCall
-    else if subclass == 0x0e then Indicates Progress
-    else if subclass == 0x0f then Indicates Proceeding
+    if subclass == CONTROL_HANGUP then ClearsCall
+    else if subclass == CONTROL_RINGING then Indicates Ringing
+    else if subclass == CONTROL_ANSWER then Answer
+    else if subclass == CONTROL_BUSY then ClearsCall
+    else if subclass == CONTROL_CONGESTION then ClearsCall
+    else if subclass == CONTROL_PROGRESS then Indicates Progress
+    else if subclass == CONTROL_PROCEEDING then Indicates Proceeding
     else Other
 
 -- "DTMF Frames"
@@ -51,26 +60,26 @@ abbrev pub dtmf_message : ℕ → Message
 dtmf_message subclass = if nat_lt subclass 128 then Dtmf subclass else Other
 
 -- "Voice Frames", "Media Formats"
+abbrev pub voice_in : Option Format → Message
+voice_in (Some format) = Voice format
+voice_in None = Other
+
 abbrev pub voice_message : ℕ → Message
-voice_message subclass =
-    if subclass == 0x02 then Voice Gsm
-    else if subclass == 0x04 then Voice Ulaw
-    else if subclass == 0x08 then Voice Alaw
-    else Other
+voice_message subclass = voice_in (format_of_bit subclass)
 
 -- "Frame Types"
 abbrev pub by_type : ℕ → ℕ → Message
 by_type frame_type subclass =
-    if frame_type == 1 then dtmf_message subclass
-    else if frame_type == 2 then voice_message subclass
-    else if frame_type == 4 then control_message subclass
-    else if frame_type == 6 then iax_message subclass
+    if frame_type == FRAME_DTMF then dtmf_message subclass
+    else if frame_type == FRAME_VOICE then voice_message subclass
+    else if frame_type == FRAME_CONTROL then control_message subclass
+    else if frame_type == FRAME_IAX then iax_message subclass
     else Other
 
 -- an octet of C and subclass that means nothing is an unknown subclass
 abbrev pub message_by : ℕ → Option ℕ → Message
 message_by frame_type (Some subclass) = by_type frame_type subclass
-message_by frame_type None = if frame_type == 6 then UnknownIax else Other
+message_by frame_type None = if frame_type == FRAME_IAX then UnknownIax else Other
 
 abbrev pub message_of : FullHead → Message
 message_of head = message_by head.frame_type (subclass_meaning head.subclass)

@@ -1,7 +1,8 @@
 -- The information elements of a NEW, by their names ("Call Setup", "Information Elements").
 use Rattle.std.specs.Prelude.{ℕ, ◌==◌, if◌then◌else◌, List, Option, Some, option_copied}
 use Rattle.info_elements.specs.Element.{Element, elements_of, last_of, u8_in, u16_in, u32_in}
-use Rattle.info_elements.specs.Numbers.{CALLED_NUMBER, CALLING_NUMBER, CALLING_NAME, CALLINGPRES, CALLINGTON, CALLINGTNS, CAPABILITY, FORMAT, VERSION}
+use Rattle.info_elements.specs.Numbers.{CALLED_NUMBER, CALLING_NUMBER, CALLING_NAME, CALLINGPRES, CALLINGTON, CALLINGTNS}
+use Rattle.info_elements.specs.Numbers.{CAPABILITY, FORMAT, VERSION}
 use Rattle.call_signals.specs.declared.new_elements.NewElements.{NewElements as ReadElements}
 
 pub record NewElements : Type 0 where

@@ -1,5 +1,6 @@
 -- What becomes of a NEW that comes, by the rules of its peer ("Call Setup").
-use Rattle.std.specs.Prelude.{◌≡◌, ◌≤◌, ◌⊎◌, ℕ, Bool, true, false, ◌&&◌, ◌||◌, ◌==◌, is_some, List, Option, None, Some, unwrap_or, bit_and, if◌then◌else◌}
+use Rattle.std.specs.Prelude.{◌≡◌, ◌≤◌, ◌⊎◌, ℕ, Bool, true, false, ◌&&◌, ◌||◌, ◌==◌, is_some, List, Option, None, Some, unwrap_or}
+use Rattle.std.specs.Prelude.{bit_and, if◌then◌else◌}
 use Rattle.iax_frames.specs.FullFrame.{FullFrame}
 use Rattle.info_elements.specs.Element.{u32_in}
 use Rattle.info_elements.specs.Numbers.{CAPABILITY, FORMAT}

@@ -1,16 +1,22 @@
 -- The replies of a leg, and the elements of its frames ("IAX Frames", "Control Frames", "Information Elements").
 use Rattle.std.specs.Prelude.{ℕ, List, [], ◌∷◌, ◌++◌, Option, None, Some}
 use Rattle.std.specs.Int.{w32, to_be_bytes}
-use Rattle.info_elements.specs.Numbers.{CALLED_NUMBER, USERNAME, CAPABILITY, FORMAT, VERSION, AUTHMETHODS, CHALLENGE, CAUSE, CAUSECODE}
+use Rattle.info_elements.specs.Numbers.{CALLED_NUMBER, USERNAME, CAPABILITY, FORMAT, VERSION, AUTHMETHODS, CHALLENGE, CAUSE}
+use Rattle.info_elements.specs.Numbers.{CAUSECODE}
 pub use Rattle.call_signals.specs.Caller.{element_of, element_if}
 use Rattle.call_signals.specs.Causes.{cause_code, cause_text}
+use Rattle.call_signals.specs.Codes.{FRAME_DTMF, FRAME_CONTROL, FRAME_IAX, CONTROL_RINGING, CONTROL_ANSWER, CONTROL_PROGRESS}
+use Rattle.call_signals.specs.Codes.{CONTROL_PROCEEDING}
+use Rattle.call_signals.specs.Codes.{IAX_AUTHREQ, IAX_AUTHREP, IAX_ACCEPT, IAX_REJECT, IAX_HANGUP, IAX_UNSUPPORT, IAX_PING}
+use Rattle.call_signals.specs.Codes.{IAX_PONG, IAX_LAGRP}
 use Rattle.call_signals.specs.Formats.{format_bit}
 use Rattle.call_signals.specs.declared.causes.Cause.{Cause}
 use Rattle.call_signals.specs.declared.formats.Format.{Format}
 use Rattle.call_signals.specs.declared.signals.Indication.{Indication}
 use Rattle.call_signals.specs.declared.signals.Indication.TheVariants.{Ringing, Progress, Proceeding}
 use Rattle.call_signals.specs.declared.replies.Reply.{Reply}
-use Rattle.call_signals.specs.declared.replies.Reply.TheVariants.{AuthReq, AuthRep, Accept, Reject, Hangup, Ping, Pong, LagRp, Unsupport, Indicate, Answer, Dtmf}
+use Rattle.call_signals.specs.declared.replies.Reply.TheVariants.{AuthReq, AuthRep, Accept, Reject, Hangup, Ping, Pong, LagRp}
+use Rattle.call_signals.specs.declared.replies.Reply.TheVariants.{Unsupport, Indicate, Answer, Dtmf}
 
 abbrev pub cause_elements : Cause → List ℕ
 cause_elements cause = element_of CAUSE (cause_text cause) ++ element_of CAUSECODE (cause_code cause ∷ [])
@@ -31,28 +37,28 @@ auth_req_elements user challenge =
 
 -- DTMF, control and IAX frames
 abbrev pub type_of : Reply → ℕ
-type_of (Dtmf digit) = 1
-type_of (Indicate indication) = 4
-type_of Answer = 4
-type_of _ = 6
+type_of (Dtmf digit) = FRAME_DTMF
+type_of (Indicate indication) = FRAME_CONTROL
+type_of Answer = FRAME_CONTROL
+type_of _ = FRAME_IAX
 
 abbrev pub indication_subclass : Indication → ℕ
-indication_subclass Ringing = 3
-indication_subclass Progress = 0x0e
-indication_subclass Proceeding = 0x0f
+indication_subclass Ringing = CONTROL_RINGING
+indication_subclass Progress = CONTROL_PROGRESS
+indication_subclass Proceeding = CONTROL_PROCEEDING
 
 abbrev pub subclass_of : Reply → ℕ
-subclass_of AuthReq = 8
-subclass_of (AuthRep digits) = 9
-subclass_of (Accept format) = 7
-subclass_of (Reject cause) = 6
-subclass_of (Hangup cause) = 5
-subclass_of (Unsupport octet) = 0x21
-subclass_of Ping = 2
-subclass_of (Pong timestamp) = 3
-subclass_of (LagRp timestamp) = 0x0c
+subclass_of AuthReq = IAX_AUTHREQ
+subclass_of (AuthRep digits) = IAX_AUTHREP
+subclass_of (Accept format) = IAX_ACCEPT
+subclass_of (Reject cause) = IAX_REJECT
+subclass_of (Hangup cause) = IAX_HANGUP
+subclass_of (Unsupport octet) = IAX_UNSUPPORT
+subclass_of Ping = IAX_PING
+subclass_of (Pong timestamp) = IAX_PONG
+subclass_of (LagRp timestamp) = IAX_LAGRP
 subclass_of (Indicate indication) = indication_subclass indication
-subclass_of Answer = 4
+subclass_of Answer = CONTROL_ANSWER
 subclass_of (Dtmf digit) = digit
 
 -- PONG and LAGRP bear the timestamp of the frame that they answer

@@ -3,6 +3,7 @@ ghost use Rattle.std.specs.Prelude.{◌≡◌, option_copied};
 ghost use Rattle.call_signals.specs.Endings as endings;
 
 use crate::causes::Cause;
+use crate::codes::{CONTROL_BUSY, CONTROL_CONGESTION};
 use crate::messages::Message;
 use iax_frames::{Full, subclass_meaning};
 use info_elements::{CAUSECODE, last_in};
@@ -22,9 +23,12 @@ fn clearing_cause(subclass: Option<u64>) -> Cause
     ensures { result ≡ endings.clearing_cause subclass }
 {
     match subclass {
-        Some(5) => Cause::UserBusy,
-        Some(8) => Cause::Congestion,
-        _ => Cause::NormalClearing,
+        Some(subclass) => match u8::try_from(subclass) {
+            Ok(CONTROL_BUSY) => Cause::UserBusy,
+            Ok(CONTROL_CONGESTION) => Cause::Congestion,
+            _ => Cause::NormalClearing,
+        },
+        None => Cause::NormalClearing,
     }
 }
 

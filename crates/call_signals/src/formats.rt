@@ -1,6 +1,7 @@
 //! Formats of voice ("Media Formats").
 ghost use Rattle.std.specs.Prelude.{◌≡◌};
-ghost use Rattle.call_signals.specs.Formats.{format_bit, has_format, lowest_format, same_format, formats_of_both, format_alone, format_among};
+ghost use Rattle.call_signals.specs.Formats.{format_bit, format_of_bit, has_format, lowest_format, same_format, formats_of_both};
+ghost use Rattle.call_signals.specs.Formats.{format_alone, format_among};
 
 /// A format of voice.
 #[derive(Clone, Copy, Debug, PartialEq, Eq)]
@@ -22,6 +23,21 @@ impl Format {
             Format::Gsm => 0x02,
             Format::Ulaw => 0x04,
             Format::Alaw => 0x08,
+        }
+    }
+
+    /// The format of this bit.
+    pub fn of_bit(bit: u64) -> Option<Format>
+        ensures { result ≡ format_of_bit bit }
+    {
+        if bit == Format::Gsm.bit() as u64 {
+            Some(Format::Gsm)
+        } else if bit == Format::Ulaw.bit() as u64 {
+            Some(Format::Ulaw)
+        } else if bit == Format::Alaw.bit() as u64 {
+            Some(Format::Alaw)
+        } else {
+            None
         }
     }
 

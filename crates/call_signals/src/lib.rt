@@ -4,6 +4,7 @@
 
 mod caller;
 mod causes;
+pub mod codes;
 pub mod effects;
 mod endings;
 mod failure;

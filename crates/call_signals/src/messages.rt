@@ -3,6 +3,13 @@ ghost use Rattle.std.specs.Prelude.{◌≡◌, ◌<◌, ◌^◌};
 ghost use Rattle.iax_frames.specs.FullFrame.{subclass_meaning};
 ghost use Rattle.call_signals.specs.Messages as meaning;
 
+use crate::codes::{
+    CONTROL_ANSWER, CONTROL_BUSY, CONTROL_CONGESTION, CONTROL_HANGUP, CONTROL_PROCEEDING,
+    CONTROL_PROGRESS, CONTROL_RINGING, FRAME_CONTROL, FRAME_DTMF, FRAME_IAX, FRAME_VOICE,
+    IAX_ACCEPT, IAX_ACK, IAX_AUTHREP, IAX_AUTHREQ, IAX_HANGUP, IAX_INVAL, IAX_LAGRP, IAX_LAGRQ,
+    IAX_NEW, IAX_PING, IAX_POKE, IAX_PONG, IAX_QUELCH, IAX_REJECT, IAX_TXACC, IAX_TXCNT,
+    IAX_UNQUELCH, IAX_UNSUPPORT, IAX_VNAK,
+};
 use crate::formats::Format;
 use crate::signals::{Digit, Indication};
 use iax_frames::{Full, subclass_meaning};
@@ -56,7 +63,7 @@ impl Message {
         match subclass_meaning(octet) {
             Some(subclass) => Message::by_type(frame_type, subclass),
             None => {
-                if frame_type == 6 {
+                if frame_type == FRAME_IAX {
                     Message::UnknownIax
                 } else {
                     Message::Other
@@ -69,10 +76,10 @@ impl Message {
         ensures { result ≡ meaning.by_type frame_type subclass }
     {
         match frame_type {
-            1 => Message::of_dtmf(subclass),
-            2 => Message::of_voice(subclass),
-            4 => Message::of_control(subclass),
-            6 => Message::of_iax(subclass),
+            FRAME_DTMF => Message::of_dtmf(subclass),
+            FRAME_VOICE => Message::of_voice(subclass),
+            FRAME_CONTROL => Message::of_control(subclass),
+            FRAME_IAX => Message::of_iax(subclass),
             _ => Message::Other,
         }
     }
@@ -90,25 +97,23 @@ impl Message {
     fn of_voice(subclass: u64) -> Message
         ensures { result ≡ meaning.voice_message subclass }
     {
-        match subclass {
-            0x02 => Message::Voice(Format::Gsm),
-            0x04 => Message::Voice(Format::Ulaw),
-            0x08 => Message::Voice(Format::Alaw),
-            _ => Message::Other,
+        match Format::of_bit(subclass) {
+            Some(format) => Message::Voice(format),
+            None => Message::Other,
         }
     }
 
     fn of_control(subclass: u64) -> Message
         ensures { result ≡ meaning.control_message subclass }
     {
-        match subclass {
-            1 => Message::ClearsCall,
-            3 => Message::Indicates(Indication::Ringing),
-            4 => Message::Answer,
-            5 => Message::ClearsCall,
-            8 => Message::ClearsCall,
-            0x0e => Message::Indicates(Indication::Progress),
-            0x0f => Message::Indicates(Indication::Proceeding),
+        match u8::try_from(subclass) {
+            Ok(CONTROL_HANGUP) => Message::ClearsCall,
+            Ok(CONTROL_RINGING) => Message::Indicates(Indication::Ringing),
+            Ok(CONTROL_ANSWER) => Message::Answer,
+            Ok(CONTROL_BUSY) => Message::ClearsCall,
+            Ok(CONTROL_CONGESTION) => Message::ClearsCall,
+            Ok(CONTROL_PROGRESS) => Message::Indicates(Indication::Progress),
+            Ok(CONTROL_PROCEEDING) => Message::Indicates(Indication::Proceeding),
             _ => Message::Other,
         }
     }
@@ -116,26 +121,26 @@ impl Message {
     fn of_iax(subclass: u64) -> Message
         ensures { result ≡ meaning.iax_message subclass }
     {
-        match subclass {
-            1 => Message::New,
-            2 => Message::Ping,
-            3 => Message::Pong,
-            4 => Message::Ack,
-            5 => Message::Hangup,
-            6 => Message::Reject,
-            7 => Message::Accept,
-            8 => Message::AuthReq,
-            9 => Message::AuthRep,
-            0x0a => Message::Inval,
-            0x0b => Message::LagRq,
-            0x0c => Message::LagRp,
-            0x12 => Message::Vnak,
-            0x17 => Message::TxCnt,
-            0x18 => Message::TxAcc,
-            0x1c => Message::Quelch,
-            0x1d => Message::Unquelch,
-            0x1e => Message::Poke,
-            0x21 => Message::Unsupport,
+        match u8::try_from(subclass) {
+            Ok(IAX_NEW) => Message::New,
+            Ok(IAX_PING) => Message::Ping,
+            Ok(IAX_PONG) => Message::Pong,
+            Ok(IAX_ACK) => Message::Ack,
+            Ok(IAX_HANGUP) => Message::Hangup,
+            Ok(IAX_REJECT) => Message::Reject,
+            Ok(IAX_ACCEPT) => Message::Accept,
+            Ok(IAX_AUTHREQ) => Message::AuthReq,
+            Ok(IAX_AUTHREP) => Message::AuthRep,
+            Ok(IAX_INVAL) => Message::Inval,
+            Ok(IAX_LAGRQ) => Message::LagRq,
+            Ok(IAX_LAGRP) => Message::LagRp,
+            Ok(IAX_VNAK) => Message::Vnak,
+            Ok(IAX_TXCNT) => Message::TxCnt,
+            Ok(IAX_TXACC) => Message::TxAcc,
+            Ok(IAX_QUELCH) => Message::Quelch,
+            Ok(IAX_UNQUELCH) => Message::Unquelch,
+            Ok(IAX_POKE) => Message::Poke,
+            Ok(IAX_UNSUPPORT) => Message::Unsupport,
             _ => Message::UnknownIax,
         }
     }
@@ -174,7 +179,8 @@ impl Message {
         }
     }
 
-    /// Its name as RFC 5456 writes it ("Frame Types", "Control Frames", "IAX Frames"); of what has no one name, what it is: ASCII.
+    /// Its name as RFC 5456 writes it ("Frame Types", "Control Frames", "IAX Frames"); of what has no one name, what it is:
+    /// ASCII.
     pub fn name(&self) -> &'static str
         ensures { result.now ≡ meaning.name_of self.now }
     {

@@ -52,11 +52,11 @@ fn common_formats(formats: Formats, wanted: u32, capable: u32) -> Formats
 fn chosen_format(common: Formats, wanted: u32) -> Option<Format>
     ensures { result ≡ opening.chosen_format common wanted }
 {
-    if common.gsm && wanted == 0x02 {
+    if common.gsm && wanted == Format::Gsm.bit() {
         Some(Format::Gsm)
-    } else if common.ulaw && wanted == 0x04 {
+    } else if common.ulaw && wanted == Format::Ulaw.bit() {
         Some(Format::Ulaw)
-    } else if common.alaw && wanted == 0x08 {
+    } else if common.alaw && wanted == Format::Alaw.bit() {
         Some(Format::Alaw)
     } else {
         common.lowest()

@@ -4,6 +4,11 @@ ghost use Rattle.iax_frames.specs.FullFrame.{spelling};
 ghost use Rattle.call_signals.specs.Replies.{type_of, subclass_of, indication_subclass, timestamp_of};
 
 use crate::causes::Cause;
+use crate::codes::{
+    CONTROL_ANSWER, CONTROL_PROCEEDING, CONTROL_PROGRESS, CONTROL_RINGING, FRAME_CONTROL,
+    FRAME_DTMF, FRAME_IAX, IAX_ACCEPT, IAX_AUTHREP, IAX_AUTHREQ, IAX_HANGUP, IAX_LAGRP, IAX_PING,
+    IAX_PONG, IAX_REJECT, IAX_UNSUPPORT,
+};
 use crate::formats::Format;
 use crate::signals::{Digit, Indication};
 use arrayvec::ArrayVec;
@@ -37,10 +42,10 @@ impl Reply {
         ensures { result ≡ type_of self.now }
     {
         match self {
-            Reply::Dtmf(_) => 1,
-            Reply::Indicate(_) => 4,
-            Reply::Answer => 4,
-            _ => 6,
+            Reply::Dtmf(_) => FRAME_DTMF,
+            Reply::Indicate(_) => FRAME_CONTROL,
+            Reply::Answer => FRAME_CONTROL,
+            _ => FRAME_IAX,
         }
     }
 
@@ -49,17 +54,17 @@ impl Reply {
         ensures { result ≡ subclass_of self.now }
     {
         match self {
-            Reply::AuthReq => 8,
-            Reply::AuthRep(_) => 9,
-            Reply::Accept(_) => 7,
-            Reply::Reject(_) => 6,
-            Reply::Hangup(_) => 5,
-            Reply::Unsupport(_) => 0x21,
-            Reply::Ping => 2,
-            Reply::Pong(_) => 3,
-            Reply::LagRp(_) => 0x0c,
+            Reply::AuthReq => IAX_AUTHREQ,
+            Reply::AuthRep(_) => IAX_AUTHREP,
+            Reply::Accept(_) => IAX_ACCEPT,
+            Reply::Reject(_) => IAX_REJECT,
+            Reply::Hangup(_) => IAX_HANGUP,
+            Reply::Unsupport(_) => IAX_UNSUPPORT,
+            Reply::Ping => IAX_PING,
+            Reply::Pong(_) => IAX_PONG,
+            Reply::LagRp(_) => IAX_LAGRP,
             Reply::Indicate(indication) => indication.subclass(),
-            Reply::Answer => 4,
+            Reply::Answer => CONTROL_ANSWER,
             Reply::Dtmf(digit) => digit.get(),
         }
     }
@@ -82,9 +87,9 @@ impl Indication {
         ensures { result ≡ indication_subclass self }
     {
         match self {
-            Indication::Ringing => 3,
-            Indication::Progress => 0x0e,
-            Indication::Proceeding => 0x0f,
+            Indication::Ringing => CONTROL_RINGING,
+            Indication::Progress => CONTROL_PROGRESS,
+            Indication::Proceeding => CONTROL_PROCEEDING,
         }
     }
 }

@@ -1,15 +1,18 @@
 -- The frames that a leg writes ("Full Frames", "IAX Frames", "Control Frames", "Information Elements").
-pub use Rattle.call_signals.specs.Replies.{element_of, element_if, cause_elements, format_bits, new_elements, auth_req_elements, type_of, indication_subclass, subclass_of, timestamp_of}
+pub use Rattle.call_signals.specs.Replies.{element_of, element_if, cause_elements, format_bits, new_elements, auth_req_elements}
+pub use Rattle.call_signals.specs.Replies.{type_of, indication_subclass, subclass_of, timestamp_of}
 use Rattle.std.specs.Prelude.{ℕ, Bool, true, false, ◌-◌, ◌%◌, ◌^◌, List, [], ◌∷◌, Option, unwrap_or}
 use Rattle.iax_frames.specs.FullFrame.{FullFrame}
 use Rattle.iax_frames.specs.declared.stored_frame.Frame.{Frame}
 use Rattle.info_elements.specs.Numbers.{FORMAT, MD5_RESULT, IAX_UNKNOWN}
 use Rattle.resend_queue.specs.declared.held_frame.Held.{Held}
 use Rattle.seq_window.specs.History.{sent_count, taken_count}
+use Rattle.call_signals.specs.Codes.{FRAME_VOICE, FRAME_IAX, IAX_NEW, IAX_ACK, IAX_VNAK}
 use Rattle.call_signals.specs.Formats.{format_bit}
 use Rattle.leg_machine.specs.Legs.{LegState}
 use Rattle.call_signals.specs.declared.replies.Reply.{Reply}
-use Rattle.call_signals.specs.declared.replies.Reply.TheVariants.{AuthReq, AuthRep, Accept, Reject, Hangup, Ping, Pong, LagRp, Unsupport, Indicate, Answer, Dtmf}
+use Rattle.call_signals.specs.declared.replies.Reply.TheVariants.{AuthReq, AuthRep, Accept, Reject, Hangup, Ping, Pong, LagRp}
+use Rattle.call_signals.specs.declared.replies.Reply.TheVariants.{Unsupport, Indicate, Answer, Dtmf}
 
 -- the data of a reply
 abbrev pub data_of : LegState → Reply → List ℕ
@@ -42,8 +45,8 @@ reply_frame leg now reply = record {
 abbrev pub new_frame : LegState → ℕ → List ℕ → List ℕ → Frame
 new_frame leg now called caller = record {
   ts = present_of leg now;
-  kind = 6;
-  subclass = 1;
+  kind = FRAME_IAX;
+  subclass = IAX_NEW;
   payload = new_elements leg.rules.user called caller leg.format;
 }
 
@@ -51,7 +54,7 @@ new_frame leg now called caller = record {
 abbrev pub voice_frame : LegState → ℕ → List ℕ → Frame
 voice_frame leg now media = record {
   ts = present_of leg now;
-  kind = 2;
+  kind = FRAME_VOICE;
   subclass = format_bit leg.format;
   payload = media;
 }
@@ -79,13 +82,13 @@ next_byte leg = sent_count leg.window.history % 256
 -- an IAX frame without a number of its own, with the timestamp of the frame that it answers
 abbrev pub unnumbered : LegState → ℕ → ℕ → FullFrame
 unnumbered leg subclass timestamp =
-    outgoing leg false (next_byte leg) (record { ts = timestamp; kind = 6; subclass = subclass; payload = [] })
+    outgoing leg false (next_byte leg) (record { ts = timestamp; kind = FRAME_IAX; subclass = subclass; payload = [] })
 
 abbrev pub ack : LegState → FullFrame → FullFrame
-ack leg frame = unnumbered leg 4 frame.head.timestamp
+ack leg frame = unnumbered leg IAX_ACK frame.head.timestamp
 
 abbrev pub vnak : LegState → FullFrame → FullFrame
-vnak leg frame = unnumbered leg 0x12 frame.head.timestamp
+vnak leg frame = unnumbered leg IAX_VNAK frame.head.timestamp
 
 -- a held frame as it goes out again
 abbrev pub sent_again : LegState → Held → FullFrame

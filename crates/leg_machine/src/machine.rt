@@ -7,6 +7,7 @@ ghost use Rattle.leg_machine.specs.Replies as replies;
 ghost use Rattle.leg_machine.specs.Working as steps;
 
 use call_auth::Challenge;
+use call_signals::codes::{FRAME_IAX, IAX_ACK, IAX_VNAK};
 use call_signals::{
     Cause, Failure, Format, LocalNumber, Message, PeerRules, Replies, Reply, Stage, StepError,
     ending_cause,
@@ -194,7 +195,7 @@ impl Machine {
                 timestamp,
                 oseqno: self.window.next(),
                 iseqno: self.window.expected(),
-                frame_type: 6,
+                frame_type: FRAME_IAX,
                 subclass,
             },
             &[],
@@ -206,7 +207,7 @@ impl Machine {
         requires { length outs.old < 128 }
         ensures { outs.new ≡ outs.old ++ spelling (replies.ack (leg_of self.now) frame.now) ∷ [] }
     {
-        self.unnumbered(4, frame.timestamp(), outs);
+        self.unnumbered(IAX_ACK, frame.timestamp(), outs);
     }
 
     /// Writes a VNAK, since a frame before this one is missing.
@@ -214,7 +215,7 @@ impl Machine {
         requires { length outs.old < 128 }
         ensures { outs.new ≡ outs.old ++ spelling (replies.vnak (leg_of self.now) frame.now) ∷ [] }
     {
-        self.unnumbered(0x12, frame.timestamp(), outs);
+        self.unnumbered(IAX_VNAK, frame.timestamp(), outs);
     }
 
     /// Milliseconds since the opening, modulo 2^32.

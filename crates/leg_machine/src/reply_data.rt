@@ -3,6 +3,7 @@ ghost use Rattle.std.specs.Prelude.{◌≡◌, ◌+◌, ◌≤◌, ◌++◌, [],
 ghost use Rattle.leg_machine.specs.Replies as replies;
 
 use crate::machine::Machine;
+use call_signals::codes::{FRAME_IAX, FRAME_VOICE, IAX_NEW};
 use call_signals::reply_elements::{auth_req_elements, cause_elements, new_elements, one_element};
 use call_signals::{Caller, Reply};
 use iax_frames::{Frame, Payload};
@@ -65,8 +66,8 @@ impl Machine {
     {
         Frame {
             ts: self.present(now),
-            kind: 6,
-            subclass: 1,
+            kind: FRAME_IAX,
+            subclass: IAX_NEW,
             payload: new_elements(&self.rules.user, called, caller, self.format),
         }
     }
@@ -78,7 +79,7 @@ impl Machine {
     {
         Frame {
             ts: self.present(now),
-            kind: 2,
+            kind: FRAME_VOICE,
             subclass: self.format.bit() as u8,
             payload: Payload::new(media),
         }

@@ -4,6 +4,7 @@ use Rattle.iax_frames.specs.FullFrame.{FullFrame}
 use Rattle.iax_frames.specs.declared.full_frame.FullHead.{FullHead}
 use Rattle.leg_machine.specs.Legs.{is_short_of_entries}
 use Rattle.leg_machine.specs.Messages.{message_of, is_numbered}
+use Rattle.call_signals.specs.Codes.{FRAME_IAX, IAX_INVAL, IAX_PONG}
 use Rattle.call_signals.specs.declared.messages.Message.{Message}
 use Rattle.call_signals.specs.declared.messages.Message.TheVariants.{New, Poke}
 pub use Rattle.peer_legs.specs.Finding.{is_reached, can_reach, if_reached, found}
@@ -37,8 +38,8 @@ inval_for head = record {
   timestamp = 0;
   oseqno = 0;
   iseqno = 0;
-  frame_type = 6;
-  subclass = 0x0a;
+  frame_type = FRAME_IAX;
+  subclass = IAX_INVAL;
 }
 
 -- the source of each PONG that belongs to no call: no local number of a plan
@@ -54,8 +55,8 @@ pong_for head = record {
   timestamp = head.timestamp;
   oseqno = 0;
   iseqno = (head.oseqno + 1) % 256;
-  frame_type = 6;
-  subclass = 3;
+  frame_type = FRAME_IAX;
+  subclass = IAX_PONG;
 }
 
 -- no leg is found; whether a POKE is answered

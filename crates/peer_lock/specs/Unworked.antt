@@ -1,5 +1,6 @@
 -- What is looked at before a datagram is worked, and why it is refused then ("Full Frames", "Information Elements").
 use Rattle.std.specs.Prelude.{◌≡◌, ◌≢◌, ℕ, ◌+◌, ◌<◌, ◌≤◌, ◌⊎◌, List, length, map}
+use Rattle.call_signals.specs.Codes.{FRAME_IAX}
 use Rattle.iax_frames.specs.Datagram.{Spells, Refuses}
 use Rattle.iax_frames.specs.FullFrame.{FullFrame}
 use Rattle.iax_frames.specs.TrunkFrame.{entry_item, is_timed}
@@ -13,7 +14,7 @@ use Rattle.peer_lock.specs.declared.errors.PeerError.TheVariants as errors
 
 -- the last element of an IAX frame passes the end
 abbrev pub IsCutFrame : FullFrame → Type 0
-IsCutFrame frame = (frame.head.frame_type ≡ 6) × ((place : ℕ) × IsElementCutAt frame.payload place)
+IsCutFrame frame = (frame.head.frame_type ≡ FRAME_IAX) × ((place : ℕ) × IsElementCutAt frame.payload place)
 
 -- why a full frame goes to no leg, in this order: too much data, no source, elements that are cut
 abbrev pub IsRefusedFull : FullFrame → PeerError → Type 0

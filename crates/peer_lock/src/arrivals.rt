@@ -1,5 +1,6 @@
 //! The steps of a peer in which a datagram comes ("Full Frames", "Mini Frames", "Meta Frames").
-ghost use Rattle.std.specs.Prelude.{◌≡◌, ◌≢◌, ◌+◌, ◌-◌, ◌<◌, ◌≤◌, ◌⊎◌, ◌↔◌, [], length, map, true, None, Some, Err, IsSome, IfOk, IfErr, OnOk, OnErr, IfSome, IsNone, IsTrue};
+ghost use Rattle.std.specs.Prelude.{◌≡◌, ◌≢◌, ◌+◌, ◌-◌, ◌<◌, ◌≤◌, ◌⊎◌, ◌↔◌, [], length, map, true, None, Some, Err, IsSome, IfOk};
+ghost use Rattle.std.specs.Prelude.{IfErr, OnOk, OnErr, IfSome, IsNone, IsTrue};
 ghost use Rattle.leg_machine.specs.Legs.{is_short_of_entries};
 ghost use Rattle.leg_machine.specs.Steps.{full_step, heard_of};
 ghost use Rattle.peer_accounts.specs.Accounts.{stepped, with_accepted, with_step as with_credit};
@@ -17,7 +18,8 @@ ghost use Rattle.peer_lock.specs.Peer.{handed_up, leg_alone, offer_with, no_leg,
 ghost use Rattle.iax_frames.specs.declared.datagram.Datagram.{Datagram as DatagramValue};
 ghost use Rattle.iax_frames.specs.declared.full_frame.FullHead.{FullHead as FullHeadValue};
 ghost use Rattle.peer_lock.specs.declared.errors.PeerError.{PeerError as PeerErrorValue};
-ghost use Rattle.peer_lock.specs.Unworked.{IsSoundFull, IsRefusedFull, IsCutFrame, IsSound, IsRefusedRead, IsShortDatagram, IsWorked, IsUnworked};
+ghost use Rattle.peer_lock.specs.Unworked.{IsSoundFull, IsRefusedFull, IsCutFrame, IsSound, IsRefusedRead, IsShortDatagram};
+ghost use Rattle.peer_lock.specs.Unworked.{IsWorked, IsUnworked};
 
 use crate::errors::PeerError;
 use crate::outboxes::put_all;
@@ -25,6 +27,7 @@ use crate::read_datagram::ReadDatagram;
 use crate::state::PeerState;
 use crate::steps::Step;
 use crate::unknown_calls::answer_to;
+use call_signals::codes::FRAME_IAX;
 use iax_frames::{Datagram, Full, FullHead, write_full};
 use info_elements::elements;
 use leg_machine::{ElementText, Heard, Judged, Signal, StepError};
@@ -66,16 +69,19 @@ impl<J: Naming> PeerState<J> {
     fn hear(&mut self, number: u16, frame: &Full, now: u64) -> Result<Heard, StepError>
         requires short { length frame.now.payload ≤ 1388 }
         requires there { can_reach self.old.legs frame.now.head.source (leg_at self.old.legs number) ≡ true }
-        ensures peer { OnOk result ((named : NamedLegValue) → leg_at self.old.legs number ≡ Some named → self.new ≡ record self.old {
-          legs = with_leg self.old.legs named.name (full_step named.leg frame.now now).leg;
-          outbox = put self.old.outbox (map spelling (full_step named.leg frame.now now).replies);
-        }) }
+        ensures peer { OnOk result ((named : NamedLegValue) → leg_at self.old.legs number ≡ Some named →
+            self.new ≡ record self.old {
+              legs = with_leg self.old.legs named.name (full_step named.leg frame.now now).leg;
+              outbox = put self.old.outbox (map spelling (full_step named.leg frame.now now).replies);
+            }) }
         ensures accounts { self.new.accounts ≡ self.old.accounts }
-        ensures heard { IfOk result (λ heard. (named : NamedLegValue) → leg_at self.old.legs number ≡ Some named → heard ≡ heard_of (full_step named.leg frame.now now)) }
+        ensures heard { IfOk result (λ heard. (named : NamedLegValue) → leg_at self.old.legs number ≡ Some named →
+            heard ≡ heard_of (full_step named.leg frame.now now)) }
         ensures kept { OnOk result (IsSome (leg_at self.new.legs number)) }
         ensures there { OnOk result ((named : NamedLegValue) → leg_at self.old.legs number ≡ Some named
             → leg_at self.new.legs number ≡ Some (record { name = named.name; leg = (full_step named.leg frame.now now).leg })) }
-        ensures record_full { (named : NamedLegValue) → leg_at self.old.legs number ≡ Some named → (result ≡ Err StepError.RecordFull) ↔ (is_short_of_entries named.leg ≡ true) }
+        ensures record_full { (named : NamedLegValue) → leg_at self.old.legs number ≡ Some named →
+            (result ≡ Err StepError.RecordFull) ↔ (is_short_of_entries named.leg ≡ true) }
         ensures err { OnErr result (self.new ≡ self.old) }
     {
         self.replies.clear();
@@ -96,8 +102,14 @@ impl<J: Naming> PeerState<J> {
         requires there { IsSome (leg_at self.old.legs number) }
         requires room { 1 ≤ onwards.old.room }
         requires nothing { IsNothing onwards.old }
-        ensures peer { self.new ≡ record self.old { accounts = with_accepted (stepped self.old.accounts) (granted J.first_octets self.old.accounts.accepted heard.signal).octets } }
-        ensures step { (named : NamedLegValue) → leg_at self.old.legs number ≡ Some named → result ≡ leg_alone named.name heard.judged }
+        ensures peer { self.new ≡
+            record self.old {
+              accounts =
+                  with_accepted (stepped self.old.accounts)
+                  (granted J.first_octets self.old.accounts.accepted heard.signal).octets;
+            } }
+        ensures step { (named : NamedLegValue) → leg_at self.old.legs number ≡ Some named →
+            result ≡ leg_alone named.name heard.judged }
         ensures signals { (named : NamedLegValue) → leg_at self.old.legs number ≡ Some named
             → onwards.new.signals ≡ handed_up named.name (granted J.first_octets self.old.accounts.accepted heard.signal).signal }
         ensures offer { (named : NamedLegValue) → leg_at self.old.legs number ≡ Some named
@@ -129,8 +141,10 @@ impl<J: Naming> PeerState<J> {
         requires nothing { IsNothing onwards.old }
         ensures made { IfOk result (λ step. (named : NamedLegValue) → leg_at self.old.legs number ≡ Some named
             → Makes (reached_step J.first_octets self.old named frame.now now) self.new step pass.old pass.new onwards.new) }
-        ensures unrefused { OnOk result ((named : NamedLegValue) → leg_at self.old.legs number ≡ Some named → delivery_refused (Reaches named) ≡ None) }
-        ensures refused { IfErr result (λ e. (named : NamedLegValue) → leg_at self.old.legs number ≡ Some named → IsDue (delivery_refused (Reaches named)) e) }
+        ensures unrefused { OnOk result ((named : NamedLegValue) → leg_at self.old.legs number ≡ Some named →
+            delivery_refused (Reaches named) ≡ None) }
+        ensures refused { IfErr result (λ e. (named : NamedLegValue) → leg_at self.old.legs number ≡ Some named →
+            IsDue (delivery_refused (Reaches named)) e) }
         ensures err { OnErr result (IsUnchanged self.old self.new pass.old pass.new onwards.new) }
     {
         if self.legs.is_short(number) {
@@ -172,7 +186,8 @@ impl<J: Naming> PeerState<J> {
     // A full frame that no leg has.
     fn answer_unknown(&mut self, pass: &mut Pass<J>, frame: &Full) -> Result<Step, PeerError>
         requires { self.old.accounts.steps ≢ J.first_steps }
-        ensures peer { OnOk result ((head : FullHeadValue) → unknown_call self.old.rules.poke frame.now ≡ Gets head → self.new ≡ counted (with_datagram self.old (bare head))) }
+        ensures peer { OnOk result ((head : FullHeadValue) → unknown_call self.old.rules.poke frame.now ≡ Gets head →
+            self.new ≡ counted (with_datagram self.old (bare head))) }
         ensures answer { OnOk result ((head : FullHeadValue) × (unknown_call self.old.rules.poke frame.now ≡ Gets head)) }
         ensures step { IfOk result (λ step. step ≡ no_leg) }
         ensures credit { OnOk result (pass.new ≡ with_credit pass.old 0) }
@@ -194,7 +209,10 @@ impl<J: Naming> PeerState<J> {
         requires steps { self.old.accounts.steps ≢ J.first_steps }
         requires short { length frame.now.payload ≤ 1388 }
         requires nothing { IsNothing onwards.old }
-        ensures made { IfOk result (λ step. Makes (delivered_step J.first_octets self.old (delivery self.old frame.now) frame.now now) self.new step pass.old pass.new onwards.new) }
+        ensures made { IfOk result
+            (λ step.
+            Makes (delivered_step J.first_octets self.old
+            (delivery self.old frame.now) frame.now now) self.new step pass.old pass.new onwards.new) }
         ensures unrefused { OnOk result (full_refused self.old frame.now ≡ None) }
         ensures refused { IfErr result (λ e. IsDue (full_refused self.old frame.now) e) }
         ensures err { OnErr result (IsUnchanged self.old self.new pass.old pass.new onwards.new) }
@@ -215,11 +233,15 @@ impl<J: Naming> PeerState<J> {
     ) -> Result<Step, PeerError>
         requires steps { self.old.accounts.steps ≢ J.first_steps }
         requires nothing { IsNothing onwards.old }
-        ensures made { IfOk result (λ step. Makes (delivered_step J.first_octets self.old (delivery self.old frame.now) frame.now now) self.new step pass.old pass.new onwards.new) }
+        ensures made { IfOk result
+            (λ step.
+            Makes (delivered_step J.first_octets self.old
+            (delivery self.old frame.now) frame.now now) self.new step pass.old pass.new onwards.new) }
         ensures sound { OnOk result (IsSoundFull frame.now) }
         ensures unrefused { OnOk result (full_refused self.old frame.now ≡ None) }
         ensures unsound { (e : PeerErrorValue) → IsRefusedFull frame.now e → result ≡ Err e }
-        ensures refused { IfErr result (λ e. IsRefusedFull frame.now e ⊎ (IsSoundFull frame.now × IsDue (full_refused self.old frame.now) e)) }
+        ensures refused { IfErr result (λ e. IsRefusedFull frame.now e ⊎
+            (IsSoundFull frame.now × IsDue (full_refused self.old frame.now) e)) }
         ensures err { OnErr result (IsUnchanged self.old self.new pass.old pass.new onwards.new) }
     {
         if frame.payload().len() > 1388 {
@@ -245,11 +267,13 @@ impl<J: Naming> PeerState<J> {
         requires steps { self.old.accounts.steps ≢ J.first_steps }
         requires short { IsShortDatagram datagram.now }
         requires nothing { IsNothing onwards.old }
-        ensures made { IfOk result (λ step. Makes (datagram_step J.first_octets self.old datagram.now now) self.new step pass.old pass.new onwards.new) }
+        ensures made { IfOk result (λ step.
+            Makes (datagram_step J.first_octets self.old datagram.now now) self.new step pass.old pass.new onwards.new) }
         ensures sound { OnOk result (IsSound datagram.now) }
         ensures unrefused { OnOk result (datagram_refused self.old datagram.now ≡ None) }
         ensures unsound { (e : PeerErrorValue) → IsRefusedRead datagram.now e → result ≡ Err e }
-        ensures refused { IfErr result (λ e. IsRefusedRead datagram.now e ⊎ (IsSound datagram.now × IsDue (datagram_refused self.old datagram.now) e)) }
+        ensures refused { IfErr result (λ e. IsRefusedRead datagram.now e ⊎
+            (IsSound datagram.now × IsDue (datagram_refused self.old datagram.now) e)) }
         ensures err { OnErr result (IsUnchanged self.old self.new pass.old pass.new onwards.new) }
     {
         match datagram {
@@ -276,11 +300,13 @@ impl<J: Naming> PeerState<J> {
         ensures made { IfOk result (λ step. (d : DatagramValue) → IsWorked J.first_steps self.old.accounts.steps octets.now d
             → Makes (datagram_step J.first_octets self.old d now) self.new step pass.old pass.new onwards.new) }
         ensures worked { OnOk result ((d : DatagramValue) × IsWorked J.first_steps self.old.accounts.steps octets.now d) }
-        ensures unrefused { OnOk result ((d : DatagramValue) → IsWorked J.first_steps self.old.accounts.steps octets.now d → datagram_refused self.old d ≡ None) }
+        ensures unrefused { OnOk result ((d : DatagramValue) → IsWorked J.first_steps self.old.accounts.steps octets.now d →
+            datagram_refused self.old d ≡ None) }
         // Each refusal comes where its cause is, and has it.
         ensures unworked { (e : PeerErrorValue) → IsUnworked J.first_steps self.old.accounts.steps octets.now e → result ≡ Err e }
         ensures refused { IfErr result (λ e. IsUnworked J.first_steps self.old.accounts.steps octets.now e
-            ⊎ ((d : DatagramValue) × IsWorked J.first_steps self.old.accounts.steps octets.now d × IsDue (datagram_refused self.old d) e)) }
+            ⊎ ((d : DatagramValue) × IsWorked J.first_steps self.old.accounts.steps octets.now d ×
+            IsDue (datagram_refused self.old d) e)) }
         ensures err { OnErr result (IsUnchanged self.old self.new pass.old pass.new onwards.new) }
     {
         self.datagram_read(pass, &ReadDatagram::of(octets), now, onwards)
@@ -304,9 +330,11 @@ impl<J: Naming> PeerState<J> {
         ensures unrefused { OnOk result ((d : DatagramValue) → IsWorked J.first_steps self.old.accounts.steps datagram.now d
             → datagram_refused self.old d ≡ None) }
         // Each refusal comes where its cause is, and has it.
-        ensures unworked { (e : PeerErrorValue) → IsUnworked J.first_steps self.old.accounts.steps datagram.now e → result ≡ Err e }
+        ensures unworked { (e : PeerErrorValue) → IsUnworked J.first_steps self.old.accounts.steps datagram.now e →
+            result ≡ Err e }
         ensures refused { IfErr result (λ e. IsUnworked J.first_steps self.old.accounts.steps datagram.now e
-            ⊎ ((d : DatagramValue) × IsWorked J.first_steps self.old.accounts.steps datagram.now d × IsDue (datagram_refused self.old d) e)) }
+            ⊎ ((d : DatagramValue) × IsWorked J.first_steps self.old.accounts.steps datagram.now d ×
+            IsDue (datagram_refused self.old d) e)) }
         ensures err { OnErr result (IsUnchanged self.old self.new pass.old pass.new onwards.new) }
     {
         if self.account.is_spent() {
@@ -326,7 +354,7 @@ impl<J: Naming> PeerState<J> {
 fn is_cut(frame: &Full) -> bool
     ensures { IsTrue result ↔ IsCutFrame frame.now }
 {
-    if frame.frame_type() != 6 {
+    if frame.frame_type() != FRAME_IAX {
         return false;
     }
     match elements(frame.payload()) {

@@ -4,6 +4,7 @@ ghost use Rattle.peer_lock.specs.Delivery.{delivery_refused, unknown_call, Gets}
 ghost use Rattle.peer_lock.specs.Delivery as answers;
 
 use crate::errors::PeerError;
+use call_signals::codes::{FRAME_IAX, IAX_INVAL, IAX_PONG};
 use iax_frames::{CallNumber, Full, FullHead};
 use leg_machine::Message;
 
@@ -30,8 +31,8 @@ fn inval_for(frame: &Full) -> FullHead
         timestamp: 0,
         oseqno: 0,
         iseqno: 0,
-        frame_type: 6,
-        subclass: 0x0a,
+        frame_type: FRAME_IAX,
+        subclass: IAX_INVAL,
     }
 }
 
@@ -46,8 +47,8 @@ fn pong_for(frame: &Full) -> FullHead
         timestamp: frame.timestamp(),
         oseqno: 0,
         iseqno: frame.oseqno().wrapping_add(1),
-        frame_type: 6,
-        subclass: 3,
+        frame_type: FRAME_IAX,
+        subclass: IAX_PONG,
     }
 }
 

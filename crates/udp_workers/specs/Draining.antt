@@ -1,13 +1,14 @@
 -- What a draining service doesn't hand to its exchange ("NEW").
 use Rattle.std.specs.Prelude.{◌≡◌, ℕ, List, Some}
+use Rattle.call_signals.specs.Codes.{FRAME_IAX, IAX_NEW}
 use Rattle.iax_frames.specs.FullFrame.{FullFrame, SpellsFull, subclass_meaning}
 use Rattle.udp_workers.specs.declared.watch.ServiceStage.{ServiceStage}
 use Rattle.udp_workers.specs.declared.watch.ServiceStage.TheVariants as stages
 
 -- a NEW that may open a leg: it has no destination and OSeqno 0
 pub record IsNew (frame : FullFrame) : Type 0 where
-  pub frame_type : frame.head.frame_type ≡ 6
-  pub subclass : subclass_meaning frame.head.subclass ≡ Some 1
+  pub frame_type : frame.head.frame_type ≡ FRAME_IAX
+  pub subclass : subclass_meaning frame.head.subclass ≡ Some IAX_NEW
   pub destination : frame.head.destination ≡ 0
   pub oseqno : frame.head.oseqno ≡ 0
 

@@ -3,6 +3,7 @@ ghost use Rattle.std.specs.Prelude.{◌↔◌, IsTrue};
 ghost use Rattle.udp_workers.specs.Draining.{IsNew, IsTurnedAway, SpellsNew};
 
 use crate::watch::ServiceStage;
+use call_signals::codes::{FRAME_IAX, IAX_NEW};
 use iax_frames::Full;
 use peer_lock::ReadDatagram;
 
@@ -10,7 +11,7 @@ use peer_lock::ReadDatagram;
 fn is_new(frame: &Full) -> bool
     ensures { IsTrue result ↔ IsNew frame.now }
 {
-    if frame.frame_type() != 6 || frame.meaning() != Some(1) {
+    if frame.frame_type() != FRAME_IAX || frame.meaning() != Some(IAX_NEW as u64) {
         return false;
     }
     frame.destination().get() == 0 && frame.oseqno() == 0
