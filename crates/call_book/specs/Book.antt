@@ -1,5 +1,7 @@
 -- The book of calls: which leg has each number, which legs are bridged, and which numbers are free.
-use Rattle.std.specs.Prelude.{◌≡◌, ◌≢◌, ℕ, ◌+◌, ◌-◌, ◌*◌, ◌^◌, ◌<◌, ◌≤◌, ◌==◌, ◌&&◌, Bool, false, not, is_some, List, [], ◌∷◌, ◌++◌, Option, Some, None, Result, Ok, Err, IsSome, Contains, length, slice_index_or, slice_set, if◌then◌else◌, refl}
+use Rattle.std.specs.Prelude.{◌≡◌, ◌≢◌, ℕ, ◌+◌, ◌-◌, ◌*◌, ◌^◌, ◌<◌, ◌≤◌, ◌==◌, ◌&&◌, Bool, false, not, is_some, List, [], ◌∷◌}
+use Rattle.std.specs.Prelude.{◌++◌, Option, Some, None, Result, Ok, Err, IsSome, Contains, length, slice_index_or, slice_set}
+use Rattle.std.specs.Prelude.{if◌then◌else◌, refl}
 use Rattle.std.specs.List.{AllByRecursion}
 use Rattle.std.specs.Ordering.{nat_cmp}
 use Rattle.std.specs.Coded.{Coded, code_by, coded×, coded_ℕ, coded_list}
@@ -27,7 +29,9 @@ pub record Book : Type 0 where
 abbrev pub book_code : Coded Book
 book_code =
     code_by (List ℕ × (FinMap nat_cmp LegName × (FinMap nat_cmp LegName × (List (List ℕ) × ℕ))))
-    (coded× (coded_list coded_ℕ) (coded× (map_code coded_ℕ name_code) (coded× (map_code coded_ℕ name_code) (coded× (coded_list (coded_list coded_ℕ)) coded_ℕ))))
+    (coded× (coded_list coded_ℕ)
+    (coded× (map_code coded_ℕ name_code)
+    (coded× (map_code coded_ℕ name_code) (coded× (coded_list (coded_list coded_ℕ)) coded_ℕ))))
     (λ b. (b.counts, (b.names, (b.partners, (b.free, b.next)))))
     (λ p. record { counts = p.0; names = p.1.0; partners = p.1.1.0; free = p.1.1.1.0; next = p.1.1.1.1 }) (λ _. refl)
 
@@ -54,11 +58,14 @@ pub record IsBook (book : Book) : Type 0 where
   pub limit : total_of book.counts ≤ 32 * 512
   pub peers : length book.free ≡ length book.counts
   -- a name stands at its number, which is one of its peer's, and has a serial that was given out
-  pub placed : (n : ℕ) (a : LegName) → get book.names n ≡ Some a → (a.number ≡ n) × IsNumberOf book.counts a.peer n × (a.serial < book.next)
+  pub placed : (n : ℕ) (a : LegName) → get book.names n ≡ Some a →
+      (a.number ≡ n) × IsNumberOf book.counts a.peer n × (a.serial < book.next)
   -- a serial is given out once
   pub serials : (m n : ℕ) (a b : LegName) → get book.names m ≡ Some a → get book.names n ≡ Some b → a.serial ≡ b.serial → m ≡ n
   -- partners are of each other, and in the book
-  pub paired : (n : ℕ) (b : LegName) → get book.partners n ≡ Some b → (b.number ≢ n) × (get book.names b.number ≡ Some b) × IsSome (get book.names n) × (get book.partners b.number ≡ get book.names n)
+  pub paired : (n : ℕ) (b : LegName) → get book.partners n ≡ Some b →
+      (b.number ≢ n) × (get book.names b.number ≡ Some b) × IsSome (get book.names n) ×
+      (get book.partners b.number ≡ get book.names n)
   -- what is listed as free is free, and listed once
   pub free : (peer : ℕ) → AreFree book.counts book.names peer (free_of book peer)
   -- a number without a leg is listed as free

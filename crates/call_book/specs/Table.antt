@@ -6,7 +6,9 @@ use Rattle.std.specs.FinMap.{FinMap, from_entries, code as map_code}
 use Rattle.call_book.specs.declared.leg_name.LegName.{LegName}
 
 abbrev pub name_code : Coded LegName
-name_code = code_by (ℕ × (ℕ × ℕ)) (coded× coded_ℕ (coded× coded_ℕ coded_ℕ)) (λ a. (a.peer, (a.number, a.serial))) (λ p. record { peer = p.0; number = p.1.0; serial = p.1.1 }) (λ _. refl)
+name_code = code_by (ℕ ×
+    (ℕ × ℕ)) (coded× coded_ℕ (coded× coded_ℕ coded_ℕ)) (λ a. (a.peer, (a.number, a.serial))) (λ p.
+    record { peer = p.0; number = p.1.0; serial = p.1.1 }) (λ _. refl)
 
 pub record Table : Type 0 where
   pub names : FinMap nat_cmp LegName

@@ -1,6 +1,7 @@
 //! The book of calls.
 ghost use Rattle.std.specs.Option.{ForSome};
-ghost use Rattle.std.specs.Prelude.{◌≡◌, ◌<◌, ◌≤◌, ◌+◌, ◌^◌, ◌↔◌, All, length, Some, None, Ok, Err, IsTrue, IsErr, OnOk, OnErr, IfOk, IfErr, IfSome, true, false};
+ghost use Rattle.std.specs.Prelude.{◌≡◌, ◌<◌, ◌≤◌, ◌+◌, ◌^◌, ◌↔◌, All, length, Some, None, Ok, Err, IsTrue, IsErr, OnOk, OnErr};
+ghost use Rattle.std.specs.Prelude.{IfOk, IfErr, IfSome, true, false};
 ghost use Rattle.call_book.specs.Book.{unbridged};
 
 use crate::errors::{BridgeError, ReserveError, Stale};
@@ -43,7 +44,8 @@ impl Model for CallBook {
 
 impl CallBook {
     ghost use Rattle.std.specs.FinMap.{get};
-    ghost use Rattle.call_book.specs.Book.{IsBook, IsNumberOf, IsCount, fresh_book, has_name, is_same, reserve_answer, after_reserve, bridge_answer, bridged, partner_of, released};
+    ghost use Rattle.call_book.specs.Book.{IsBook, IsNumberOf, IsCount, fresh_book, has_name, is_same, reserve_answer};
+    ghost use Rattle.call_book.specs.Book.{after_reserve, bridge_answer, bridged, partner_of, released};
 
     /// A book of as many peers as there are counts (1 to 32), in which the peer at place i has the next `counts[i]`
     /// numbers (1 to 512), from 1 on. All of them are free. The first name has the serial `first_serial`.

@@ -72,7 +72,8 @@ fn write_lines<F: RowFile>(
     header: &mut Line,
     row: &mut Option<Line>,
 ) -> Result<bool, Fault>
-    ensures same { with_lines line_end.new header.new row.new (F.contents file.new) ≡ with_lines line_end.old header.old row.old (F.contents file.old) }
+    ensures same { with_lines line_end.new header.new row.new (F.contents file.new) ≡
+        with_lines line_end.old header.old row.old (F.contents file.old) }
     ensures done { IfOk result (λ is_row. (is_row ≡ is_some row.old) × (row.new ≡ None)) }
     ensures kept { OnErr result (is_some row.new ≡ is_some row.old) }
 {

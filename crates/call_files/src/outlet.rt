@@ -8,8 +8,8 @@ use rtrb::{Producer, PushError};
 use std::marker::Model;
 use std::mem;
 
-/// A ring to another thread, and the rows that found no room in it, in their order. The next of these goes into the ring before any
-/// row that comes later. Contracts see what went into the ring, and what is kept.
+/// A ring to another thread, and the rows that found no room in it, in their order. The next of these goes into the ring before
+/// any row that comes later. Contracts see what went into the ring, and what is kept.
 #[derive(Drop)]
 pub struct Outlet<T: Drop> {
     ring: Producer<T>,

@@ -15,8 +15,8 @@ pub trait Spelling<T> {
     fn spell(&self, row: &T, octets: &mut Vec<u8>) -> Result<(), AllocError>;
 }
 
-/// Rows that wait for a file, in their order, and the file. None is lost while a bound isn't passed: a row that the file didn't take
-/// to its end is gone on with, where the file is the same, and written whole where it is another one.
+/// Rows that wait for a file, in their order, and the file. None is lost while a bound isn't passed: a row that the file didn't
+/// take to its end is gone on with, where the file is the same, and written whole where it is another one.
 ///
 /// Moments are in milliseconds. Contracts see what waits, and the row that is on its way, if one is.
 #[derive(Drop)]

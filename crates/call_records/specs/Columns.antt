@@ -1,7 +1,8 @@
 -- The columns of a row, in order.
 use Rattle.std.specs.Prelude.{ℕ, List, [], ◌∷◌, ◌++◌, Some, codes, option_map}
 use Rattle.call_records.specs.Courses.{talk_ms}
-use Rattle.call_records.specs.Rows.{side_text, format_text, failure_text, or_nothing, number_text, telephone_text, moment_columns, ending_text, end_moment, end_cause}
+use Rattle.call_records.specs.Rows.{side_text, format_text, failure_text, or_nothing, number_text, telephone_text, moment_columns}
+use Rattle.call_records.specs.Rows.{ending_text, end_moment, end_cause}
 use Rattle.call_records.specs.declared.call_row.CallRow.{CallRow}
 use Rattle.call_records.specs.declared.call_row.RowTexts.{RowTexts}
 

@@ -1,5 +1,6 @@
 -- What the frames of a leg say of its call ("Call Setup", "Call Tear Down").
-use Rattle.std.specs.Prelude.{ℕ, ◌&&◌, ◌||◌, ◌-◌, nat_le, Bool, true, false, not, is_some, Option, None, Some, List, [], ◌∷◌, if◌then◌else◌}
+use Rattle.std.specs.Prelude.{ℕ, ◌&&◌, ◌||◌, ◌-◌, nat_le, Bool, true, false, not, is_some, Option, None, Some, List, [], ◌∷◌}
+use Rattle.std.specs.Prelude.{if◌then◌else◌}
 use Rattle.info_elements.specs.Element.{elements_of, last_of}
 use Rattle.info_elements.specs.Numbers.{CAUSECODE}
 use Rattle.call_signals.specs.declared.messages.Message.{Message}

@@ -1,7 +1,8 @@
 -- What one step of a call does to the exchange that is stored, and what it answers. It is one locked section, in which one peer
 -- makes a step, or the book does, or nothing is changed. What a peer becomes is said in the words of the clauses of `PeerState`,
 -- what the book becomes in those of `CallBook`.
-use Rattle.std.specs.Prelude.{◌≡◌, ◌⊎◌, ◌↔◌, ℕ, Bool, true, false, List, ◌∷◌, Option, None, Some, Result, Ok, Err, option_map, slice_get, slice_set, All, IsTrue, if◌then◌else◌}
+use Rattle.std.specs.Prelude.{◌≡◌, ◌⊎◌, ◌↔◌, ℕ, Bool, true, false, List, ◌∷◌, Option, None, Some, Result, Ok, Err, option_map}
+use Rattle.std.specs.Prelude.{slice_get, slice_set, All, IsTrue, if◌then◌else◌}
 use Rattle.call_book.specs.Book.{Book, has_name, reserve_answer, after_reserve, bridge_answer, bridged, partner_of, released}
 use Rattle.call_book.specs.declared.errors.BridgeError.{BridgeError}
 use Rattle.call_book.specs.declared.errors.Stale.{Stale}

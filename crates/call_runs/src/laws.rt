@@ -20,7 +20,8 @@ ghost use Rattle.call_runs.specs.Runs.{Begins, Steps, TakesOut, Changes, IsRun, 
 ghost use Rattle.call_runs.specs.LookedAfter.{InEveryRunWithinSteps, AllAreLookedAfter, AllHavePartners};
 ghost use Rattle.call_runs.specs.Spent.{is_spent, called_at, called_in, AreWithinSteps};
 ghost use Rattle.call_runs.specs.Stored.{Stored, ArePeers, HaveRanges, IsMade, IsOpened, IsSeenIn, opened_world};
-ghost use Rattle.call_runs.specs.StoredNames.{InEveryRun, NamesAreHeldOnce, LegsAreBooked, NumbersServeOne, LeasesAreFree, LeasesAreInHand, OpeningsAreFree, NoneMeetsOffered, NamesAreTheLegs};
+ghost use Rattle.call_runs.specs.StoredNames.{InEveryRun, NamesAreHeldOnce, LegsAreBooked, NumbersServeOne, LeasesAreFree};
+ghost use Rattle.call_runs.specs.StoredNames.{LeasesAreInHand, OpeningsAreFree, NoneMeetsOffered, NamesAreTheLegs};
 
 /// Each change of an exchange that is stored is an event of the world of which `call_steps::laws::calls_at_once` speaks: where
 /// that world has the stored book, callers and legs as they are seen, it has them so again after the event.

@@ -1,5 +1,6 @@
 -- What holds whenever many calls are made at once.
-use Rattle.std.specs.Prelude.{◌≡◌, ◌≢◌, ℕ, ◌+◌, ◌≤◌, ◌||◌, ◌&&◌, not, Bool, true, false, List, [], ◌∷◌, ◌++◌, None, Some, slice_get, is_some, IsSome, if◌then◌else◌}
+use Rattle.std.specs.Prelude.{◌≡◌, ◌≢◌, ℕ, ◌+◌, ◌≤◌, ◌||◌, ◌&&◌, not, Bool, true, false, List, [], ◌∷◌, ◌++◌, None, Some}
+use Rattle.std.specs.Prelude.{slice_get, is_some, IsSome, if◌then◌else◌}
 use Rattle.std.specs.List.{AllByRecursion}
 use Rattle.std.specs.FinMap.{get}
 use Rattle.call_book.specs.Book.{IsBook, IsNumberOf, has_name, is_same, partner_of}
@@ -10,7 +11,8 @@ use Rattle.call_signals.specs.declared.stages.Stage.TheVariants as stages
 use Rattle.peer_lock.specs.declared.errors.OpenError.TheVariants as open_errors
 use Rattle.peer_lock.specs.declared.errors.OrderError.TheVariants as order_errors
 use Rattle.peer_lock.specs.declared.errors.PeerError.TheVariants as peer_errors
-use Rattle.call_steps.specs.Scene.{Leg, Choice, RefusesDatagram, RefusesOpening, RefusesOrder, RefusesTick, is_leased, leg_at, leg_named, without}
+use Rattle.call_steps.specs.Scene.{Leg, Choice, RefusesDatagram, RefusesOpening, RefusesOrder, RefusesTick, is_leased, leg_at}
+use Rattle.call_steps.specs.Scene.{leg_named, without}
 use Rattle.call_steps.specs.SeenReply.{seen_reply}
 use Rattle.call_steps.specs.Work.{Work, next_of, after_told, ended}
 use Rattle.call_steps.specs.World.{World, Caller, Event, Starts, Steps, run}
@@ -88,7 +90,8 @@ NamesAreHeldOnce world = AreTheBooks world (held_names world)
 -- no number serves two legs: but for the leg that is found under it, none has it
 abbrev pub NumbersServeOne : World → Type 0
 NumbersServeOne world =
-    (peer number : ℕ) (leg : Leg) → leg_at world.legs peer number ≡ Some leg → leg_at (without world.legs leg.name) peer number ≡ None
+    (peer number : ℕ) (leg : Leg) → leg_at world.legs peer number ≡ Some leg →
+    leg_at (without world.legs leg.name) peer number ≡ None
 
 -- whatever caller opens a leg next has the lease of its name in hand, and no leg has its number
 pub record NoneIsBusy (world : World) : Type 0 where
@@ -168,7 +171,8 @@ is_kept leg = is_heard leg.seen.stage && not (leg.seen.doomed || leg.called)
 -- each such leg has a partner, or stands in what some caller still has to do
 abbrev pub IsLookedAfter : World → Leg → Type 0
 IsLookedAfter world leg =
-    is_kept leg ≡ true → 1 ≤ (if is_some (partner_of world.book leg.name) then 1 else 0) + times leg.name (names_in_all world.callers)
+    is_kept leg ≡ true →
+    1 ≤ (if is_some (partner_of world.book leg.name) then 1 else 0) + times leg.name (names_in_all world.callers)
 
 abbrev pub AllAreLookedAfter : World → Type 0
 AllAreLookedAfter world = AllByRecursion (IsLookedAfter world) world.legs

@@ -1,10 +1,13 @@
 -- One step of a call, on the book and the legs of all peers: what it leaves, and its answer.
-use Rattle.std.specs.Prelude.{ℕ, ◌==◌, ◌&&◌, not, Bool, true, false, List, [], ◌∷◌, ◌++◌, Option, None, Some, Result, Ok, Err, is_some, if◌then◌else◌}
-use Rattle.call_book.specs.Book.{Book, has_name, is_same, reserve_answer, after_reserve, bridge_answer, bridged, partner_of, released}
+use Rattle.std.specs.Prelude.{ℕ, ◌==◌, ◌&&◌, not, Bool, true, false, List, [], ◌∷◌, ◌++◌, Option, None, Some, Result, Ok, Err}
+use Rattle.std.specs.Prelude.{is_some, if◌then◌else◌}
+use Rattle.call_book.specs.Book.{Book, has_name, is_same, reserve_answer, after_reserve, bridge_answer, bridged, partner_of}
+use Rattle.call_book.specs.Book.{released}
 use Rattle.call_book.specs.declared.errors.BridgeError.{BridgeError}
 use Rattle.call_book.specs.declared.errors.ReserveError.{ReserveError}
 use Rattle.call_book.specs.declared.leg_name.LegName.{LegName}
-use Rattle.leg_machine.specs.Seen.{SeenLeg, SeenFrame, Speaks, frame_effect, opening_effect, fresh_leg, stage_after, ordered, moved, Lapse, lapsed}
+use Rattle.leg_machine.specs.Seen.{SeenLeg, SeenFrame, Speaks, frame_effect, opening_effect, fresh_leg, stage_after, ordered}
+use Rattle.leg_machine.specs.Seen.{moved, Lapse, lapsed}
 use Rattle.leg_machine.specs.Stages.{is_ended}
 use Rattle.call_signals.specs.declared.causes.Cause.{Cause}
 use Rattle.call_signals.specs.declared.causes.Cause.TheVariants.{NormalClearing}
@@ -298,7 +301,8 @@ answered scene (needs.OpenIn name) called choice = at_open_in scene name choice
 answered scene (needs.OpenOut name) called choice = at_open_out scene name called choice
 answered scene (needs.Order name act) called choice = at_order scene name (act_kind act) choice
 answered scene (needs.Tick peer) called choice = at_tick scene peer choice
-answered scene (needs.Look peer number) called choice = answer scene (replies.Look (status_of (told_cause choice) (leg_at scene.legs peer number)))
+answered scene (needs.Look peer number) called choice =
+    answer scene (replies.Look (status_of (told_cause choice) (leg_at scene.legs peer number)))
 answered scene (needs.Retire name) called choice = at_retire scene name choice
 answered scene (needs.Reserve peer) called choice = reserves scene peer (reserve_answer scene.book peer)
 answered scene (needs.Bridge a b) called choice = bridges scene a b (bridge_answer scene.book a b)

@@ -1,4 +1,5 @@
--- What an answer tells the steps of a call: neither the texts of an offer, nor how much room a list has, nor how much a leg holds.
+-- What an answer tells the steps of a call: neither the texts of an offer, nor how much room a list has, nor how much a leg
+-- holds.
 use Rattle.std.specs.Prelude.{List, Option, None, Some, Ok}
 use Rattle.call_book.specs.declared.leg_name.LegName.{LegName}
 use Rattle.call_signals.specs.declared.signals.Signal.{Signal}

@@ -19,9 +19,10 @@ Sees all legs = (number : ℕ) → option_map look_of (leg_at all legs.peer numb
 abbrev pub AreApart : ℕ → List Leg → List Leg → Type 0
 AreApart peer old new = (other number : ℕ) → other ≢ peer → leg_at new other number ≡ leg_at old other number
 
--- Where the peer's step answers so and leaves its legs so, the world's step can answer so too and leave them so. It leaves the book
--- and the legs of all other peers as they are, and of the leases what is said.
-pub record IsWorldStep (scene : Scene) (need : Need) (called : Bool) (old new : PeerLegs) (reply : Reply) (leases : List LegName) : Type 0 where
+-- Where the peer's step answers so and leaves its legs so, the world's step can answer so too and leave them so. It leaves the
+-- book and the legs of all other peers as they are, and of the leases what is said.
+pub record IsWorldStep (scene : Scene) (need : Need) (called : Bool) (old new : PeerLegs) (reply : Reply)
+    (leases : List LegName) : Type 0 where
   pub choice : Choice
   pub answers : (answered scene need called choice).reply ≡ seen_reply reply
   pub sees : Sees (answered scene need called choice).scene.legs new

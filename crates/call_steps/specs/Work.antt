@@ -3,7 +3,8 @@ use Rattle.std.specs.Prelude.{ℕ, suc, zero, ◌+◌, Bool, true, false, List, 
 use Rattle.call_book.specs.Book.{is_same}
 use Rattle.call_book.specs.declared.leg_name.LegName.{LegName}
 use Rattle.call_signals.specs.declared.causes.Cause.{Cause}
-use Rattle.call_signals.specs.declared.causes.Cause.TheVariants.{UnallocatedNumber, NormalClearing, CallRejected, NoChannelAvailable}
+use Rattle.call_signals.specs.declared.causes.Cause.TheVariants.{UnallocatedNumber, NormalClearing, CallRejected}
+use Rattle.call_signals.specs.declared.causes.Cause.TheVariants.{NoChannelAvailable}
 use Rattle.call_signals.specs.declared.formats.Format.{Format}
 use Rattle.call_signals.specs.declared.signals.Signal.{Signal}
 use Rattle.call_signals.specs.declared.signals.Signal.TheVariants as signals
@@ -122,7 +123,11 @@ passed_on (Some place) rest further = at place rest
 abbrev pub go_on_from : List (LegName × Signal) → Option LegName → List (ℕ × ℕ) → Work
 go_on_from [] touched looks = finish touched looks
 go_on_from (up ∷ onward) touched looks =
-    passed_on (place_for up.0 up.1) (record { onward = onward; touched = touched; looks = looks }) (go_on_from onward touched looks)
+    passed_on (place_for up.0 up.1) (record {
+      onward = onward;
+      touched = touched;
+      looks = looks;
+    }) (go_on_from onward touched looks)
 
 abbrev pub go_on : Rest → Work
 go_on rest = go_on_from rest.onward rest.touched rest.looks

@@ -226,7 +226,8 @@ impl Work {
 
     // A leg that owes is settled with its partner before it is taken out.
     fn after_status(&mut self, status: &Status)
-        ensures { self.new ≡ record self.old { work = work.after_status status.now.name status.now.owes status.now.cause self.old.work.rest } }
+        ensures { self.new ≡
+            record self.old { work = work.after_status status.now.name status.now.owes status.now.cause self.old.work.rest } }
     {
         if status.owes {
             self.go_to(Place::FindingPartner(status.name, status.cause))

@@ -33,7 +33,9 @@ ghost use Rattle.call_steps.specs.declared.acts.Act.{Act};
 ghost use Rattle.call_steps.specs.declared.needs.Need.TheVariants as needs;
 ghost use Rattle.call_steps.specs.declared.replies.Reply.{Reply};
 ghost use Rattle.call_steps.specs.declared.replies.Reply.TheVariants as replies;
-ghost use Rattle.call_steps.specs.Law.{InEveryRun, InEveryRunWithinSteps, OnlyWhatIsSeenCounts, NamesAreHeldOnce, NumbersServeOne, NoneIsBusy, NoneIsOutside, NoneIsStale, AllAreLookedAfter, NoneMeetsOffered, NamesAreTheLegs, AllHavePartners};
+ghost use Rattle.call_steps.specs.Law.{InEveryRun, InEveryRunWithinSteps, OnlyWhatIsSeenCounts, NamesAreHeldOnce};
+ghost use Rattle.call_steps.specs.Law.{NumbersServeOne, NoneIsBusy, NoneIsOutside, NoneIsStale, AllAreLookedAfter};
+ghost use Rattle.call_steps.specs.Law.{NoneMeetsOffered, NamesAreTheLegs, AllHavePartners};
 
 /// Whatever many calls do at once, whichever step comes first and whatever is refused.
 pub fn calls_at_once()
@@ -60,36 +62,47 @@ pub fn calls_at_once()
     ensures seen { OnlyWhatIsSeenCounts }
 {}
 
-/// Each step of a peer, and each taking out of a leg, is a step of the world of which `calls_at_once` speaks: where the world has the
-/// peer's legs as they are seen, it can make that step too, with that answer, and has them so again. The steps are those of the
-/// contracts of `PeerState`.
+/// Each step of a peer, and each taking out of a leg, is a step of the world of which `calls_at_once` speaks: where the world has
+/// the peer's legs as they are seen, it can make that step too, with that answer, and has them so again. The steps are those of
+/// the contracts of `PeerState`.
 pub fn peers_steps_are_the_worlds()
     ensures datagrams { (first : ℕ) (peer : PeerView) (datagram : Datagram) (now : ℕ) (scene : Scene) (called : Bool) →
         AreLegs peer.legs → Sees scene.legs peer.legs →
         IsWorldStep scene (needs.Datagram peer.legs.peer) called peer.legs (datagram_step first peer datagram now).peer.legs
-        (replies.Datagram (Ok (heard (datagram_step first peer datagram now).step.touched (datagram_step first peer datagram now).signals)))
+        (replies.Datagram (Ok
+        (heard (datagram_step first peer datagram now).step.touched (datagram_step first peer datagram now).signals)))
         scene.leases }
     ensures refused_datagrams { (legs : PeerLegs) (error : PeerError) (scene : Scene) (called : Bool) → Sees scene.legs legs →
         IsWorldStep scene (needs.Datagram legs.peer) called legs legs (replies.Datagram (Err error)) scene.leases }
     // An opening is made by a caller that has the lease.
-    ensures calls_in { (peer : PeerView) (name : LegName) (frame : FullFrame) (now : ℕ) (challenge : List ℕ) (scene : Scene) (called : Bool) →
-        AreLegs peer.legs → 1 ≤ peer.rules.window → is_free_name peer.legs name ≡ true → Sees scene.legs peer.legs → is_leased scene.leases name ≡ true →
+    ensures calls_in { (peer : PeerView) (name : LegName) (frame : FullFrame) (now : ℕ) (challenge : List ℕ) (scene : Scene)
+        (called : Bool) →
+        AreLegs peer.legs → 1 ≤ peer.rules.window → is_free_name peer.legs name ≡ true → Sees scene.legs peer.legs →
+        is_leased scene.leases name ≡ true →
         IsWorldStep scene (needs.OpenIn name) called peer.legs (opens_in peer name frame now challenge).peer.legs
-        (replies.OpenIn (Ok (heard (opens_in peer name frame now challenge).step.touched (opens_in peer name frame now challenge).signals)))
+        (replies.OpenIn (Ok (heard (opens_in peer name frame now challenge).step.touched
+        (opens_in peer name frame now challenge).signals)))
         (dropped scene.leases name) }
-    ensures refused_calls_in { (legs : PeerLegs) (name : LegName) (error : OpenError) (scene : Scene) (called : Bool) → Sees scene.legs legs →
+    ensures refused_calls_in { (legs : PeerLegs) (name : LegName) (error : OpenError) (scene : Scene) (called : Bool) →
+        Sees scene.legs legs →
         IsWorldStep scene (needs.OpenIn name) called legs legs (replies.OpenIn (Err error)) scene.leases }
-    ensures calls_out { (peer : PeerView) (name : LegName) (number : List ℕ) (caller : List ℕ) (format : Format) (now : ℕ) (scene : Scene) (called : Bool) →
+    ensures calls_out { (peer : PeerView) (name : LegName) (number : List ℕ) (caller : List ℕ) (format : Format) (now : ℕ)
+        (scene : Scene) (called : Bool) →
         AreLegs peer.legs → is_free_name peer.legs name ≡ true → Sees scene.legs peer.legs → is_leased scene.leases name ≡ true →
         IsWorldStep scene (needs.OpenOut name) called peer.legs (opens_out peer name number caller format now).peer.legs
         (replies.OpenOut (Ok tt)) (dropped scene.leases name) }
-    ensures refused_calls_out { (legs : PeerLegs) (name : LegName) (error : OpenError) (scene : Scene) (called : Bool) → Sees scene.legs legs →
+    ensures refused_calls_out { (legs : PeerLegs) (name : LegName) (error : OpenError) (scene : Scene) (called : Bool) →
+        Sees scene.legs legs →
         IsWorldStep scene (needs.OpenOut name) called legs legs (replies.OpenOut (Err error)) scene.leases }
-    ensures orders { (peer : PeerView) (credit : ℕ) (name : LegName) (act : Act) (order : Order) (now : ℕ) (scene : Scene) (called : Bool) →
-        AreLegs peer.legs → name.peer ≡ peer.legs.peer → kind_of order ≡ act_kind act → order_refused_by peer credit name order now ≡ None →
+    ensures orders { (peer : PeerView) (credit : ℕ) (name : LegName) (act : Act) (order : Order) (now : ℕ) (scene : Scene)
+        (called : Bool) →
+        AreLegs peer.legs → name.peer ≡ peer.legs.peer → kind_of order ≡ act_kind act →
+        order_refused_by peer credit name order now ≡ None →
         Sees scene.legs peer.legs →
-        IsWorldStep scene (needs.Order name act) called peer.legs (ordered_step peer name order now).legs (replies.Order (Ok tt)) scene.leases }
-    ensures refused_orders { (peer : PeerView) (credit : ℕ) (name : LegName) (act : Act) (order : Order) (now : ℕ) (error : OrderError) (scene : Scene) (called : Bool) →
+        IsWorldStep scene (needs.Order name act) called peer.legs (ordered_step peer name order now).legs
+        (replies.Order (Ok tt)) scene.leases }
+    ensures refused_orders { (peer : PeerView) (credit : ℕ) (name : LegName) (act : Act) (order : Order) (now : ℕ)
+        (error : OrderError) (scene : Scene) (called : Bool) →
         AreLegs peer.legs → name.peer ≡ peer.legs.peer → kind_of order ≡ act_kind act →
         IsOrderRefusal (order_refused_by peer credit name order now) error →
         (error ≡ Memory → (named : NamedLeg) → leg_named peer.legs name ≡ Some named → wants_memory named.leg order now ≡ true) →
@@ -101,12 +114,14 @@ pub fn peers_steps_are_the_worlds()
     ensures refused_ticks { (legs : PeerLegs) (scene : Scene) (called : Bool) → Sees scene.legs legs →
         IsWorldStep scene (needs.Tick legs.peer) called legs legs (replies.Tick (Err (record {}))) scene.leases }
     ensures looks { (legs : PeerLegs) (number : ℕ) (scene : Scene) (called : Bool) → Sees scene.legs legs →
-        IsWorldStep scene (needs.Look legs.peer number) called legs legs (replies.Look (option_map status_of (leg_at legs number))) scene.leases }
+        IsWorldStep scene (needs.Look legs.peer number) called legs legs
+        (replies.Look (option_map status_of (leg_at legs number))) scene.leases }
     // A leg is taken out where no other leg has its number, as in every run (`numbers` of `calls_at_once`).
     ensures retiring { (legs : PeerLegs) (name : LegName) (scene : Scene) (called : Bool) →
         AreLegs legs → name.peer ≡ legs.peer → is_done (leg_named legs name) ≡ true → Sees scene.legs legs →
         world_leg_at (without scene.legs name) name.peer name.number ≡ None →
-        IsWorldStep scene (needs.Retire name) called legs (with_place legs name.number None) (replies.Retire true) (name ∷ scene.leases) }
+        IsWorldStep scene (needs.Retire name) called legs (with_place legs name.number None) (replies.Retire true)
+        (name ∷ scene.leases) }
     // A leg that is kept is kept in the world too.
     ensures keeping { (legs : PeerLegs) (name : LegName) (scene : Scene) (called : Bool) → Sees scene.legs legs →
         IsWorldStep scene (needs.Retire name) called legs legs (replies.Retire false) scene.leases }
@@ -114,9 +129,9 @@ pub fn peers_steps_are_the_worlds()
     peer_lock::laws::steps_are_seen();
 }
 
-/// The media that a call still has to carry, through its steps: where all that is handed up lies within the datagram, so does all that
-/// is left and each piece that is ordered. An order takes its octets away from what is left, and no answer adds more to it than it
-/// hands up.
+/// The media that a call still has to carry, through its steps: where all that is handed up lies within the datagram, so does all
+/// that is left and each piece that is ordered. An order takes its octets away from what is left, and no answer adds more to it
+/// than it hands up.
 pub fn media_is_carried_once()
     // Where all that is handed up lies within the datagram, all that is left does.
     ensures within { (len : ℕ) (work : Work) (reply : Reply) → AllByRecursion (LiesWithin len) (media_left work) →
@@ -135,21 +150,26 @@ pub fn media_is_carried_once()
 /// after each answer the call has the lease that the step left.
 pub fn leases_are_as_named()
     ensures needed { (work : Work) (name : LegName) → lease_needed (next_of work) ≡ Some name → lease_in work ≡ Some name }
-    ensures after { (work : Work) (reply : Reply) → lease_in (after_told work reply) ≡ lease_after (next_of work) reply (lease_in work) }
+    ensures after { (work : Work) (reply : Reply) →
+        lease_in (after_told work reply) ≡ lease_after (next_of work) reply (lease_in work) }
 {}
 
-/// How a call begins. Until a step of a peer is made, or any step is refused, it stands at one of the first places of its kind. A step
-/// that is refused there ends it: it makes no step of a peer any more, and at most gives a lease back.
+/// How a call begins. Until a step of a peer is made, or any step is refused, it stands at one of the first places of its kind. A
+/// step that is refused there ends it: it makes no step of a peer any more, and at most gives a lease back.
 pub fn refused_calls_end()
     // A step of a peer that is made leads past the beginning, and nothing leads back.
     ensures made { (work : Work) (reply : Reply) → is_answer (next_of work) reply ≡ true → is_made reply ≡ true →
         beginning_at (after_told work reply).place ≡ None }
-    ensures goes_on { (work : Work) (reply : Reply) (begun : Beginning) → is_answer (next_of work) reply ≡ true → beginning_at work.place ≡ Some begun →
+    ensures goes_on { (work : Work) (reply : Reply) (begun : Beginning) → is_answer (next_of work) reply ≡ true →
+        beginning_at work.place ≡ Some begun →
         is_made reply ≡ false → is_refusal reply ≡ false → beginning_at (after_told work reply).place ≡ Some begun }
-    ensures past { (work : Work) (reply : Reply) → beginning_at work.place ≡ None → beginning_at (after_told work reply).place ≡ None }
-    ensures refused { (work : Work) (reply : Reply) (begun : Beginning) → is_answer (next_of work) reply ≡ true → beginning_at work.place ≡ Some begun →
+    ensures past { (work : Work) (reply : Reply) → beginning_at work.place ≡ None →
+        beginning_at (after_told work reply).place ≡ None }
+    ensures refused { (work : Work) (reply : Reply) (begun : Beginning) → is_answer (next_of work) reply ≡ true →
+        beginning_at work.place ≡ Some begun →
         is_refusal reply ≡ true → is_over (after_told work reply).place ≡ true }
     // Nothing follows.
     ensures over { (work : Work) (reply : Reply) → is_over work.place ≡ true → is_over (after_told work reply).place ≡ true }
-    ensures nothing { (work : Work) (reply : Reply) → is_over work.place ≡ true → is_answer (next_of work) reply ≡ true → is_made reply ≡ false }
+    ensures nothing { (work : Work) (reply : Reply) → is_over work.place ≡ true → is_answer (next_of work) reply ≡ true →
+        is_made reply ≡ false }
 {}

@@ -6,8 +6,8 @@ use std::alloc::{AllocError, Global};
 use std::sync::atomic::{AtomicBool, AtomicU64, Ordering};
 use std::sync::{Mutex, MutexGuard, Wait};
 
-// How many rows there are at most between a thread and the writer, and how many more the thread keeps. Two workers whose calls end at
-// 1,000 a second each may be alone for four seconds.
+// How many rows there are at most between a thread and the writer, and how many more the thread keeps. Two workers whose calls
+// end at 1,000 a second each may be alone for four seconds.
 const RING: usize = 256;
 
 const KEPT: usize = 4096;
@@ -138,8 +138,8 @@ impl CallOutlets {
         None
     }
 
-    /// Hands a row over, without waiting. A thread is named by its place, and is nowhere else in this call at the same time. Where
-    /// there is no room the row is lost, and counted.
+    /// Hands a row over, without waiting. A thread is named by its place, and is nowhere else in this call at the same time.
+    /// Where there is no room the row is lost, and counted.
     pub fn hand_over(&self, thread: u16, row: CallRow) {
         let is_kept = match self.free_outlet(thread) {
             Some(mut outlet) => outlet.hand_over(row),
@@ -180,8 +180,8 @@ impl CallOutlets {
             .store(number_of(state.trouble), Ordering::Relaxed);
     }
 
-    /// The rows that an outlet keeps, if it keeps any, and how many of those in its ring came before them. Into a second outlet it is
-    /// looked only once the outlets are over.
+    /// The rows that an outlet keeps, if it keeps any, and how many of those in its ring came before them. Into a second outlet
+    /// it is looked only once the outlets are over.
     pub(crate) fn take_kept<R: Wait>(
         &self,
         rt: &R,

@@ -12,7 +12,8 @@ pub struct Calendar {
 }
 
 impl Calendar {
-    // A moment of the exchange, in milliseconds, as a date and time (RFC 3339, in UTC, with milliseconds); nothing beyond the year 9999.
+    // A moment of the exchange, in milliseconds, as a date and time (RFC 3339, in UTC, with milliseconds); nothing beyond the
+    // year 9999.
     fn text(self, alloc: Global, moment: u64) -> Result<String, AllocError> {
         let ms = i64::try_from(moment).unwrap_or(i64::MAX);
         match Timestamp::from_millisecond((self.opened_us / 1000).saturating_add(ms)) {

@@ -38,8 +38,8 @@ struct Writer<'a, D: Disk> {
 }
 
 impl CallRows {
-    /// The outlets of a plan's workers and of one thread more, and what the writer needs. The serials of calls begin with the date, so
-    /// that those of a later run are greater.
+    /// The outlets of a plan's workers and of one thread more, and what the writer needs. The serials of calls begin with the
+    /// date, so that those of a later run are greater.
     pub fn new(
         alloc: Global,
         plan: &Plan,
@@ -148,11 +148,11 @@ fn moment<R: Clock>(rt: &R, opened: Instant, last: u64) -> u64 {
     }
 }
 
-/// Appends to the file of this name what is handed over, until the outlets are over: in rounds of a tenth of a second. Rows that were
-/// written are on the disk after a second at most, and at the end.
+/// Appends to the file of this name what is handed over, until the outlets are over: in rounds of a tenth of a second. Rows that
+/// were written are on the disk after a second at most, and at the end.
 ///
-/// A file that can't be opened or written to is tried again, and rows wait, 65,536 of them at most. One whose name leads to another
-/// file is opened anew there. At the end there is one more try.
+/// A file that can't be opened or written to is tried again, and rows wait, 65,536 of them at most. One whose name leads to
+/// another file is opened anew there. At the end there is one more try.
 pub fn write_calls<R: Clock + Wait, D: Disk>(
     rt: &R,
     disk: &D,

@@ -1,5 +1,6 @@
 -- The commands that requests name.
-use Rattle.std.specs.Prelude.{ℕ, ◌==◌, ◌&&◌, nat_le, List, take, drop, codes, slice_index, Option, Some, None, is_some, option_and_then, Result, Ok, Err, if◌then◌else◌}
+use Rattle.std.specs.Prelude.{ℕ, ◌==◌, ◌&&◌, nat_le, List, take, drop, codes, slice_index, Option, Some, None, is_some}
+use Rattle.std.specs.Prelude.{option_and_then, Result, Ok, Err, if◌then◌else◌}
 use Rattle.std.specs.Str.{bytes_eq}
 use Rattle.control_requests.specs.Digits.{number_of}
 use Rattle.control_requests.specs.declared.commands.Command.{Command}

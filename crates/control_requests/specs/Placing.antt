@@ -1,5 +1,6 @@
 -- The body of POST /calls.
-use Rattle.std.specs.Prelude.{◌≡◌, ℕ, ◌&&◌, nat_le, List, length, codes, IsUtf8, Option, Some, None, option_and_then, Result, Ok, Err, if◌then◌else◌, ⊤}
+use Rattle.std.specs.Prelude.{◌≡◌, ℕ, ◌&&◌, nat_le, List, length, codes, IsUtf8, Option, Some, None, option_and_then, Result, Ok}
+use Rattle.std.specs.Prelude.{Err, if◌then◌else◌, ⊤}
 use Rattle.serde_json.specs.Data.{Data}
 use Rattle.serde_json.specs.Find.{get, as_str}
 use Rattle.serde_json.specs.Read.{read}

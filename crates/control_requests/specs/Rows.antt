@@ -1,6 +1,7 @@
 -- The JSON of peers, calls and accounts. The members stand in the order of their names.
 use Rattle.std.specs.Prelude.{ℕ, ◌==◌, List, [], ◌∷◌, ◌++◌, length, codes, option_copied, Option, Some, None, if◌then◌else◌}
-use Rattle.serde_json.specs.Data.{Data, null, number, unsigned, string, array, object, Items, no_items, item, Members, no_members, member}
+use Rattle.serde_json.specs.Data.{Data, null, number, unsigned, string, array, object, Items, no_items, item, Members, no_members}
+use Rattle.serde_json.specs.Data.{member}
 use Rattle.serde_json.specs.Written.{compact_text}
 use Rattle.control_requests.specs.declared.views.PeerRow.{PeerRow}
 use Rattle.control_requests.specs.declared.views.CallRow.{CallRow}

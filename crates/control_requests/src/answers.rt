@@ -2,7 +2,8 @@
 ghost use Rattle.std.specs.Prelude.{◌≡◌, IfOk, string_bytes};
 ghost use Rattle.serde_json.specs.View.{view};
 ghost use Rattle.serde_json.specs.Written.{compact_text};
-ghost use Rattle.control_requests.specs.Answers.{code_of, reason_of, allow_text, allow_line, status_line, field_lines, error_data, answer_text};
+ghost use Rattle.control_requests.specs.Answers.{code_of, reason_of, allow_text, allow_line, status_line, field_lines};
+ghost use Rattle.control_requests.specs.Answers.{error_data, answer_text};
 
 use crate::commands::Methods;
 use crate::json_text::text_of;

@@ -105,7 +105,8 @@ fn put_number(
     name: &str,
     value: u64,
 ) -> Result<(), AllocError>
-    ensures { OnOk result (members_view members.new.entries ≡ with_member name.now (number (unsigned value)) (members_view members.old.entries)) }
+    ensures { OnOk result (members_view members.new.entries ≡
+        with_member name.now (number (unsigned value)) (members_view members.old.entries)) }
 {
     put(members, alloc, name, Value::from(value))
 }
@@ -117,7 +118,8 @@ fn put_text(
     name: &str,
     text: &str,
 ) -> Result<(), AllocError>
-    ensures { OnOk result (members_view members.new.entries ≡ with_member name.now (string text.now) (members_view members.old.entries)) }
+    ensures { OnOk result (members_view members.new.entries ≡
+        with_member name.now (string text.now) (members_view members.old.entries)) }
 {
     let text = String::from_str(alloc, text)?;
     put(members, alloc, name, Value::String(text))
@@ -130,7 +132,8 @@ fn put_optional(
     name: &str,
     value: Option<u64>,
 ) -> Result<(), AllocError>
-    ensures { OnOk result (members_view members.new.entries ≡ with_member name.now (optional value) (members_view members.old.entries)) }
+    ensures { OnOk result (members_view members.new.entries ≡
+        with_member name.now (optional value) (members_view members.old.entries)) }
 {
     put(members, alloc, name, optional(value))
 }
@@ -142,7 +145,8 @@ fn put_optional_text(
     name: &str,
     text: Option<&str>,
 ) -> Result<(), AllocError>
-    ensures { OnOk result (members_view members.new.entries ≡ with_member name.now (optional_text (option_copied text.entry)) (members_view members.old.entries)) }
+    ensures { OnOk result (members_view members.new.entries ≡
+        with_member name.now (optional_text (option_copied text.entry)) (members_view members.old.entries)) }
 {
     put(members, alloc, name, optional_text(alloc, text)?)
 }

@@ -14,14 +14,19 @@ pub fn call_row(leg: &Retired, call: u64) -> CallRow
     ensures call { result.call ≡ call }
     ensures name { result.name ≡ leg.now.name }
     ensures partner { result.partner ≡ leg.now.partner }
-    ensures facts { (result.format ≡ leg.now.facts.format) × (result.failure ≡ leg.now.facts.failure) × (result.resent ≡ leg.now.facts.resent) }
+    ensures facts { (result.format ≡ leg.now.facts.format) × (result.failure ≡ leg.now.facts.failure) ×
+        (result.resent ≡ leg.now.facts.resent) }
     ensures parties { (result.leg.opened_by ≡ course.opener_of (frames_of leg.now.history.entries))
         × (result.leg.called ≡ (new_elements (course.new_data (frames_of leg.now.history.entries))).called)
         × (result.leg.calling ≡ (new_elements (course.new_data (frames_of leg.now.history.entries))).calling) }
-    ensures course { (result.leg.accepted ≡ course.accepted_of (course.opener_of (frames_of leg.now.history.entries)) (frames_of leg.now.history.entries))
-        × (result.leg.answered ≡ course.answered_of (course.opener_of (frames_of leg.now.history.entries)) (frames_of leg.now.history.entries))
-        × (result.leg.end ≡ course.end_of (course.opener_of (frames_of leg.now.history.entries)) (frames_of leg.now.history.entries)) }
-    ensures frames { (result.leg.sent ≡ sent_count leg.now.history.entries) × (result.leg.acknowledged ≡ acked_count leg.now.history.entries)
+    ensures course { (result.leg.accepted ≡
+        course.accepted_of (course.opener_of (frames_of leg.now.history.entries)) (frames_of leg.now.history.entries))
+        × (result.leg.answered ≡
+        course.answered_of (course.opener_of (frames_of leg.now.history.entries)) (frames_of leg.now.history.entries))
+        × (result.leg.end ≡ course.end_of (course.opener_of (frames_of leg.now.history.entries))
+        (frames_of leg.now.history.entries)) }
+    ensures frames { (result.leg.sent ≡ sent_count leg.now.history.entries) ×
+        (result.leg.acknowledged ≡ acked_count leg.now.history.entries)
         × (result.leg.taken ≡ taken_count leg.now.history.entries) }
     ensures digits { (result.leg.digits_taken ≡ count_by (course.is_digit_by Peer) (frames_of leg.now.history.entries))
         × (result.leg.digits_sent ≡ count_by (course.is_digit_by Exchange) (frames_of leg.now.history.entries)) }

@@ -106,8 +106,8 @@ fn take_and_free<J: Naming, R: Wait>(
     Ok(())
 }
 
-/// Has the numbers of a peer be given out in the order of this text from now on, unseen by anybody: calls take all of them, and end in
-/// that order. What waits in the peer's outbox is dropped.
+/// Has the numbers of a peer be given out in the order of this text from now on, unseen by anybody: calls take all of them, and
+/// end in that order. What waits in the peer's outbox is dropped.
 ///
 /// `Script`: no peer has that name, one of its numbers has a leg, or the text doesn't list each of its numbers once.
 pub(crate) fn order_free<J: Naming, R: Wait>(

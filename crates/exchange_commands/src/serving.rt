@@ -185,8 +185,8 @@ fn seat_of<'r, J: Naming, P: Post, R: Clock + Net + RandomSource, S: Sockets>(
 
 /// The seats of all workers of the plan, in its order, at most 8. Each takes the next pass, so the first worker has the first.
 ///
-/// `Bind`, `Entropy`, `Memory`: a socket isn't bound, the system gives no random octets, a request for memory was refused. Then the
-/// passes that were taken are gone.
+/// `Bind`, `Entropy`, `Memory`: a socket isn't bound, the system gives no random octets, a request for memory was refused. Then
+/// the passes that were taken are gone.
 fn seats_of<'r, J: Naming, P: Post, R: Clock + Net + RandomSource, S: Sockets>(
     rt: &'r R,
     alloc: Global,
@@ -309,8 +309,10 @@ fn work<
     steps: Blank,
 ) -> Result<(), ServiceError>
     requires plan { plan ≡ P.plan }
-    requires octets { (octets.name ≡ J.Octets.name) × (octets.parts ≡ J.Octets.parts) × (octets.parts ≡ length plan.peers + plan.passes) }
-    requires steps { (steps.name ≡ J.Steps.name) × (steps.parts ≡ J.Steps.parts) × (steps.parts ≡ length plan.peers + plan.passes) }
+    requires octets { (octets.name ≡ J.Octets.name) × (octets.parts ≡ J.Octets.parts) ×
+        (octets.parts ≡ length plan.peers + plan.passes) }
+    requires steps { (steps.name ≡ J.Steps.name) × (steps.parts ≡ J.Steps.parts) ×
+        (steps.parts ≡ length plan.peers + plan.passes) }
     requires first { (J.first_octets ≡ 2 ^ 48) × (J.first_steps ≡ 2 ^ 48) }
 {
     let Ok(opened) = Instant::now(rt) else {

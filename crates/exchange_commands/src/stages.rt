@@ -18,9 +18,9 @@ enum Changed {
 
 /// What was told of each number, and which of them may be another way now.
 ///
-/// A leg is opened by a full frame or by a call that goes out, and by nothing else; so behind any other line only the numbers are looked
-/// at that had a leg before it. A datagram that is no full frame brings media at most, and leaves each leg in its stage: behind it no
-/// number is looked at.
+/// A leg is opened by a full frame or by a call that goes out, and by nothing else; so behind any other line only the numbers are
+/// looked at that had a leg before it. A datagram that is no full frame brings media at most, and leaves each leg in its stage:
+/// behind it no number is looked at.
 #[derive(Drop)]
 pub(crate) struct Stages {
     // By number, from 1 on.

@@ -51,7 +51,9 @@ abbrev pub IsOpenedOut : Reply → Type 0
 IsOpenedOut (replies.OpenOut (Ok done)) = Unit {0}
 IsOpenedOut reply = ⊥
 
--- the call that began here made one step without media, at a leg of its peer under the last name that the book gave, unless it is denied
+-- the call that began here made one step without media, at a leg of its peer under the last name that the book gave, unless it is
+-- denied
 abbrev pub CallIsMade : Place → Credit → Credit → Option Denial → Option LegName → Type 0
-CallIsMade (places.ReserveCall peer) first now None named = (now ≡ with_step first 0) × IsSome named × IfSome named (λ name. name.peer ≡ peer)
+CallIsMade (places.ReserveCall peer) first now None named = (now ≡ with_step first 0) × IsSome named ×
+    IfSome named (λ name. name.peer ≡ peer)
 CallIsMade start first now denial named = Unit {0}

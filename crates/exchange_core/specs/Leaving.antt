@@ -21,7 +21,13 @@ pub record Departure : Type 0 where
   pub partner : Option LegName
 
 abbrev pub departure_of : Retired → Departure
-departure_of leg = record { name = leg.name; facts = leg.facts; entries = leg.history.entries; ended = leg.ended; partner = leg.partner }
+departure_of leg = record {
+  name = leg.name;
+  facts = leg.facts;
+  entries = leg.history.entries;
+  ended = leg.ended;
+  partner = leg.partner;
+}
 
 -- the legs that a call has taken out so far
 pub record Leaving : Type 0 where
@@ -55,7 +61,10 @@ all_left leaving = leaving.gone ++ option_to_list leaving.last
 
 -- A leg is taken out, or the name of the last one goes back to the book; another step takes none out.
 abbrev pub left_by : ℕ → Made → Leaving → Leaving
-left_by now (mades.Retire peer name (Some leg)) leaving = record { last = Some (given_up_at now name leg); gone = all_left leaving }
+left_by now (mades.Retire peer name (Some leg)) leaving = record {
+  last = Some (given_up_at now name leg);
+  gone = all_left leaving;
+}
 left_by now (mades.Release name answer) leaving =
     record { last = None; gone = leaving.gone ++ option_to_list (option_map (parted (former_of answer)) leaving.last) }
 left_by now made leaving = leaving
@@ -77,7 +86,7 @@ pub record LeftSince (now : ℕ) (old new : Noted) (leaving : Leaving) : Type 0 
   pub noted : new.made ≡ old.made ++ steps
   pub left : leaving ≡ left_after now steps nobody
 
--- In the steps that the pass has noted since, just these legs were taken out, in their order: each with what its peer's state gave up,
--- at this moment, and with the partner that the book told when it took the name back.
+-- In the steps that the pass has noted since, just these legs were taken out, in their order: each with what its peer's state
+-- gave up, at this moment, and with the partner that the book told when it took the name back.
 abbrev pub Leave : ℕ → Noted → Noted → List Departure → Type 0
 Leave now old new legs = (leaving : Leaving) × LeftSince now old new leaving × (legs ≡ all_left leaving)

@@ -15,8 +15,8 @@ abbrev pub LeadsInside : Route → ℕ → Type 0
 LeadsInside (routes.To peer format) peers = peer < peers
 LeadsInside route peers = Unit {0}
 
--- the format of an offered call at a target with these formats: the one chosen by its NEW, where the target has that, else the lowest
--- that the call may have and the target has; none: they have none in common
+-- the format of an offered call at a target with these formats: the one chosen by its NEW, where the target has that, else the
+-- lowest that the call may have and the target has; none: they have none in common
 abbrev pub format_for : Offer → Formats → Option Format
 format_for offer formats = format_among (formats_of_both offer.formats formats) offer.format
 

@@ -1,5 +1,6 @@
 -- The steps of a call, as they are noted under its pass.
-use Rattle.std.specs.Prelude.{◌≡◌, ◌≢◌, ℕ, ◌≤◌, ◌++◌, ◌∷◌, ◌⊎◌, [], Bool, List, Option, None, Some, Result, Ok, Err, false, is_some, length, option_copied, option_map, slice_get, All}
+use Rattle.std.specs.Prelude.{◌≡◌, ◌≢◌, ℕ, ◌≤◌, ◌++◌, ◌∷◌, ◌⊎◌, [], Bool, List, Option, None, Some, Result, Ok, Err, false}
+use Rattle.std.specs.Prelude.{is_some, length, option_copied, option_map, slice_get, All}
 use Rattle.call_book.specs.declared.leg_name.LegName.{LegName}
 use Rattle.call_signals.specs.Caller.{numbered}
 use Rattle.call_signals.specs.Formats.{lowest_format}
@@ -41,7 +42,13 @@ pub record Call : Type 0 where
   pub now : ℕ
 
 abbrev pub call_of : PlanView → Given → Call
-call_of plan given = record { plan = plan; octets = given.datagram; challenge = option_copied given.challenge; called = option_copied given.called; now = given.now }
+call_of plan given = record {
+  plan = plan;
+  octets = given.datagram;
+  challenge = option_copied given.challenge;
+  called = option_copied given.called;
+  now = given.now;
+}
 
 -- a call with nothing but its moment
 abbrev pub moment : PlanView → ℕ → Call
@@ -69,13 +76,15 @@ abbrev pub octets_of : Option (List ℕ) → List ℕ
 octets_of None = []
 octets_of (Some media) = media
 
--- a leg of this peer is opened for the number that is called from outside, in the lowest format of the peer; else for what is offered, in the
--- format of that call at this peer
+-- a leg of this peer is opened for the number that is called from outside, in the lowest format of the peer; else for what is
+-- offered, in the format of that call at this peer
 abbrev pub IsCallFor : PlanView → Option (List ℕ) → Option Offer → ℕ → List ℕ → List ℕ → Format → Type 0
 IsCallFor plan (Some text) offer peer called caller format =
-    (called ≡ text) × (caller ≡ numbered None) × (option_map (λ peer. lowest_format peer.rules.formats) (slice_get plan.peers peer) ≡ Some (Some format))
+    (called ≡ text) × (caller ≡ numbered None) ×
+    (option_map (λ peer. lowest_format peer.rules.formats) (slice_get plan.peers peer) ≡ Some (Some format))
 IsCallFor plan None (Some offer) peer called caller format =
-    (called ≡ offer.called) × (caller ≡ offer.caller) × (option_map (λ peer. format_for offer peer.rules.formats) (slice_get plan.peers peer) ≡ Some (Some format))
+    (called ≡ offer.called) × (caller ≡ offer.caller) ×
+    (option_map (λ peer. format_for offer peer.rules.formats) (slice_get plan.peers peer) ≡ Some (Some format))
 IsCallFor plan None None peer called caller format = ⊥
 
 -- ---- one step
@@ -83,14 +92,17 @@ IsCallFor plan None None peer called caller format = ⊥
 -- nothing is offered, or the peer has no format of the call
 abbrev pub LacksFormat : PlanView → Option Offer → ℕ → Type 0
 LacksFormat plan None peer = Unit {0}
-LacksFormat plan (Some offer) peer = option_map (λ peer. format_for offer peer.rules.formats) (slice_get plan.peers peer) ≡ Some None
+LacksFormat plan (Some offer) peer = option_map (λ peer. format_for offer peer.rules.formats) (slice_get plan.peers peer) ≡
+    Some None
 
--- what is answered without asking a locked state: where no peer of the plan is meant, where memory was refused for a leg that is to be
--- taken out, where nothing is offered or the peer lacks the format, and where a call leads
+-- what is answered without asking a locked state: where no peer of the plan is meant, where memory was refused for a leg that is
+-- to be taken out, where nothing is offered or the peer lacks the format, and where a call leads
 abbrev pub IsUnasked : Call → Option Offer → Need → Reply → Type 0
 IsUnasked call offer (needs.OpenOut name) reply =
-    (reply ≡ replies.OpenOut (Err open_errors.NumberBusy)) × ((length call.plan.peers ≤ name.peer) ⊎ ((call.called ≡ None) × LacksFormat call.plan offer name.peer))
-IsUnasked call offer (needs.Order name act) reply = (reply ≡ replies.Order (Err order_errors.Gone)) × (length call.plan.peers ≤ name.peer)
+    (reply ≡ replies.OpenOut (Err open_errors.NumberBusy)) ×
+    ((length call.plan.peers ≤ name.peer) ⊎ ((call.called ≡ None) × LacksFormat call.plan offer name.peer))
+IsUnasked call offer (needs.Order name act) reply = (reply ≡ replies.Order (Err order_errors.Gone)) ×
+    (length call.plan.peers ≤ name.peer)
 IsUnasked call offer (needs.Look peer number) reply = (reply ≡ replies.Look None) × (length call.plan.peers ≤ peer)
 IsUnasked call offer (needs.Retire name) reply = reply ≡ replies.Retire false
 IsUnasked call offer (needs.Route name) (replies.Route route) = IsRoute call.plan name.peer offer route
@@ -99,7 +111,8 @@ IsUnasked call offer need reply = ⊥
 -- the step that is needed was made so, and this is its answer
 abbrev pub IsMade : Call → Option Offer → Need → Reply → Made → Type 0
 IsMade call offer need reply (mades.Datagram peer octets now answer onwards) =
-    (need ≡ needs.Datagram peer) × (reply ≡ replies.Datagram (heard_of answer onwards)) × (octets ≡ call.octets) × (now ≡ call.now)
+    (need ≡ needs.Datagram peer) × (reply ≡ replies.Datagram (heard_of answer onwards)) × (octets ≡ call.octets) ×
+    (now ≡ call.now)
 IsMade call offer need reply (mades.OpenIn peer name head payload now challenge answer onwards) =
     (need ≡ needs.OpenIn name) × (reply ≡ replies.OpenIn (heard_of answer onwards)) × (peer ≡ name.peer)
     × SpellsFull call.octets (record { head = head; payload = payload }) × (call.challenge ≡ Some challenge) × (now ≡ call.now)
@@ -107,11 +120,14 @@ IsMade call offer need reply (mades.OpenOut peer name called caller format now a
     (need ≡ needs.OpenOut name) × (reply ≡ replies.OpenOut (done_of answer)) × (peer ≡ name.peer)
     × IsCallFor call.plan call.called offer peer called caller format × (now ≡ call.now)
 IsMade call offer need reply (mades.Order peer name kind media now answer) =
-    (act : Act) × (need ≡ needs.Order name act) × (reply ≡ replies.Order (done_of answer)) × (peer ≡ name.peer) × (kind ≡ act_kind act)
+    (act : Act) × (need ≡ needs.Order name act) × (reply ≡ replies.Order (done_of answer)) × (peer ≡ name.peer) ×
+    (kind ≡ act_kind act)
     × (media ≡ octets_of (act_media act call.octets)) × (now ≡ call.now)
-IsMade call offer need reply (mades.Tick peer now answer) = (need ≡ needs.Tick peer) × (reply ≡ replies.Tick (quiet_of answer)) × (now ≡ call.now)
+IsMade call offer need reply (mades.Tick peer now answer) = (need ≡ needs.Tick peer) × (reply ≡ replies.Tick (quiet_of answer)) ×
+    (now ≡ call.now)
 IsMade call offer need reply (mades.Look peer number answer) = (need ≡ needs.Look peer number) × (reply ≡ replies.Look answer)
-IsMade call offer need reply (mades.Retire peer name answer) = (need ≡ needs.Retire name) × (reply ≡ replies.Retire (is_some answer)) × (peer ≡ name.peer)
+IsMade call offer need reply (mades.Retire peer name answer) = (need ≡ needs.Retire name) ×
+    (reply ≡ replies.Retire (is_some answer)) × (peer ≡ name.peer)
 IsMade call offer need reply (mades.Reserve peer answer) = (need ≡ needs.Reserve peer) × (reply ≡ replies.Reserve answer)
 IsMade call offer need reply (mades.Bridge one other answer) = (need ≡ needs.Bridge one other) × (reply ≡ replies.Bridge answer)
 IsMade call offer need reply (mades.Partner name answer) = (need ≡ needs.Partner name) × (reply ≡ replies.Partner answer)
@@ -125,7 +141,8 @@ pub record Makes (call : Call) (offer : Option Offer) (need : Need) (reply : Rep
   pub made : IsMade call offer need reply step
 
 -- the pass has noted that a leg was opened so by a NEW of ours, for the number that is called from outside or for what is offered
-pub record OpensOut (plan : PlanView) (outside : Option (List ℕ)) (offer : Option Offer) (name : LegName) (now : ℕ) (answer : Result Step OpenError) (old new : Noted) : Type 0 where
+pub record OpensOut (plan : PlanView) (outside : Option (List ℕ)) (offer : Option Offer) (name : LegName) (now : ℕ)
+    (answer : Result Step OpenError) (old new : Noted) : Type 0 where
   pub called : List ℕ
   pub caller : List ℕ
   pub format : Format
@@ -142,7 +159,8 @@ told state reply = record { work = after_told state.work reply; onwards = onward
 abbrev pub IsTrace : Call → WorkState → List Made → WorkState → Type 0
 IsTrace call from [] to = from ≡ to
 IsTrace call from (step ∷ rest) to =
-    (need : Need) × (reply : Reply) × (next_of from.work ≡ Some need) × IsMade call (offer_in from.onwards) need reply step × IsTrace call (told from reply) rest to
+    (need : Need) × (reply : Reply) × (next_of from.work ≡ Some need) × IsMade call (offer_in from.onwards) need reply step ×
+    IsTrace call (told from reply) rest to
 
 -- the steps between these two places, and none else, are noted under the pass
 pub record Traces (call : Call) (from to : WorkState) (old new : Noted) : Type 0 where
@@ -161,4 +179,5 @@ pub record MakesAll (call : Call) (from : WorkState) (old new : Noted) : Type 0 
 abbrev pub IsHeard : PlanView → Endpoint → Call → Noted → Noted → Type 0
 IsHeard plan from call old new =
     (All (λ peer. peer.endpoint ≢ from) plan.peers × (new ≡ old))
-    ⊎ ((peer : ℕ) × (option_map (λ peer. peer.endpoint) (slice_get plan.peers peer) ≡ Some from) × MakesAll call (begun (of_datagram peer)) old new)
+    ⊎ ((peer : ℕ) × (option_map (λ peer. peer.endpoint) (slice_get plan.peers peer) ≡ Some from) ×
+    MakesAll call (begun (of_datagram peer)) old new)

@@ -37,7 +37,8 @@ impl<G: Gate, J: Naming> Exchange<G, J> {
         b: LegName,
     ) -> Result<(), BridgeError>
         ensures noted { pass.new ≡ note (mades.Bridge a b result) pass.old }
-        ensures made { (call : Call) (offer : Option OfferValue) → Makes call offer (needs.Bridge a b) (replies.Bridge result) pass.old pass.new }
+        ensures made { (call : Call) (offer : Option OfferValue) →
+            Makes call offer (needs.Bridge a b) (replies.Bridge result) pass.old pass.new }
         ensures same { a ≡ b → result ≡ Err BridgeError.Same }
     {
         self.book.lock(rt).bridge(pass, a, b)
@@ -51,7 +52,8 @@ impl<G: Gate, J: Naming> Exchange<G, J> {
         name: LegName,
     ) -> Option<LegName>
         ensures noted { pass.new ≡ note (mades.Partner name result) pass.old }
-        ensures made { (call : Call) (offer : Option OfferValue) → Makes call offer (needs.Partner name) (replies.Partner result) pass.old pass.new }
+        ensures made { (call : Call) (offer : Option OfferValue) →
+            Makes call offer (needs.Partner name) (replies.Partner result) pass.old pass.new }
     {
         self.book.lock(rt).partner(pass, name)
     }

@@ -20,8 +20,8 @@ use peer_lock::Naming;
 use std::sync::Wait;
 
 impl<G: Gate, J: Naming> Exchange<G, J> {
-    // Makes the steps of a call that begins so: each that its table names, and tells the table what it answered. Either a step of a
-    // peer was made, or the call is refused, and none was.
+    // Makes the steps of a call that begins so: each that its table names, and tells the table what it answered. Either a step of
+    // a peer was made, or the call is refused, and none was.
     pub(crate) fn run<R: Wait>(
         &self,
         rt: &R,
@@ -37,7 +37,8 @@ impl<G: Gate, J: Naming> Exchange<G, J> {
         requires called { ForSome given.now.called (λ text. IsCalled text.now) }
         // Just the steps that its table named are noted under the pass, each with the answer that the table was told.
         ensures all { MakesAll (call_of self.now given.entry.now) work.old pass.old pass.new }
-        ensures steps { MatchOption hands.new.denial (pass.old.credit.steps + 1 ≤ pass.new.credit.steps) (λ why. (pass.new.credit ≡ pass.old.credit) × Denies (beginning_at work.old.work.place) why) }
+        ensures steps { MatchOption hands.new.denial (pass.old.credit.steps + 1 ≤ pass.new.credit.steps) (λ why.
+            (pass.new.credit ≡ pass.old.credit) × Denies (beginning_at work.old.work.place) why) }
         // The legs that were taken out in these steps.
         ensures left { LeftSince given.entry.now.now pass.old pass.new (leaving_of hands.new.leavers) }
         // It keeps no lease.

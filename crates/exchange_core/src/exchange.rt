@@ -38,7 +38,9 @@ impl<G: Gate, J: Naming> Model for Exchange<G, J> {
     ghost view = { λ x. x.plan };
 
     // Each peer and each pass has one share of either supply, which is what the peers began with.
-    ghost invariant = { λ x. (vec_len x.peers ≡ length x.plan.peers) × (vec_len x.peers ≤ 32) × (x.plan.passes ≤ 64) × (x.octets.shares ≡ vec_len x.peers + x.plan.passes) × (x.steps.shares ≡ vec_len x.peers + x.plan.passes) × (x.octets.amount ≡ vec_len x.peers * J.first_octets) × (x.steps.amount ≡ vec_len x.peers * J.first_steps) };
+    ghost invariant = { λ x. (vec_len x.peers ≡ length x.plan.peers) × (vec_len x.peers ≤ 32) × (x.plan.passes ≤ 64) ×
+        (x.octets.shares ≡ vec_len x.peers + x.plan.passes) × (x.steps.shares ≡ vec_len x.peers + x.plan.passes) ×
+        (x.octets.amount ≡ vec_len x.peers * J.first_octets) × (x.steps.amount ≡ vec_len x.peers * J.first_steps) };
 }
 
 impl<G: Gate, J: Naming> Exchange<G, J> {

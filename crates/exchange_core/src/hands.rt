@@ -86,7 +86,8 @@ impl Hands {
         requires room { vec_len self.old.leavers.gone + 2 ≤ vec_capacity self.old.leavers.gone }
         requires legal { IsHistory leg.history.entries }
         ensures lease { self.new.lease ≡ Some lease }
-        ensures left { leaving_of self.new.leavers ≡ record { last = Some (given_up_at now name leg); gone = all_left (leaving_of self.old.leavers) } }
+        ensures left { leaving_of self.new.leavers ≡
+            record { last = Some (given_up_at now name leg); gone = all_left (leaving_of self.old.leavers) } }
         ensures denial { self.new.denial ≡ self.old.denial }
         ensures named { self.new.named ≡ self.old.named }
     {

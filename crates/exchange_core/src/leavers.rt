@@ -43,7 +43,8 @@ impl Leavers {
     // The last one is one of those before, if there is one. There is room for it.
     fn close(&mut self)
         ensures all { leaving_of self.new ≡ record { last = None; gone = all_left (leaving_of self.old) } }
-        ensures room { vec_len self.old.gone + 2 ≤ vec_capacity self.old.gone → vec_len self.new.gone < vec_capacity self.new.gone }
+        ensures room { vec_len self.old.gone + 2 ≤ vec_capacity self.old.gone →
+            vec_len self.new.gone < vec_capacity self.new.gone }
     {
         if let Some(leg) = self.last.take() {
             self.gone.push_reserved(leg);

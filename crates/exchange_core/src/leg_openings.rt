@@ -1,6 +1,7 @@
 //! The openings of legs: by a NEW that came, of a far leg, and of a call from outside.
 ghost use Rattle.std.specs.Option.{ForSome};
-ghost use Rattle.std.specs.Prelude.{◌≡◌, ◌≢◌, ◌+◌, ◌<◌, ◌≤◌, length, None, Option, Some, Err, option_copied, option_map, slice_get, IfOk, IfErr, IsSome, OnOk, OnErr};
+ghost use Rattle.std.specs.Prelude.{◌≡◌, ◌≢◌, ◌+◌, ◌<◌, ◌≤◌, length, None, Option, Some, Err, option_copied, option_map};
+ghost use Rattle.std.specs.Prelude.{slice_get, IfOk, IfErr, IsSome, OnOk, OnErr};
 ghost use Rattle.call_signals.specs.Formats.{lowest_format};
 ghost use Rattle.exchange_core.specs.Covered.{TakesCredit};
 ghost use Rattle.exchange_core.specs.Newcomers.{SpellsOpening};
@@ -60,7 +61,8 @@ impl<G: Gate, J: Naming> Exchange<G, J> {
     ) -> Result<Step, (Lease, OpenError)>
         requires peer { lease.peer < length self.now.peers }
         requires called { IsCalled called.now }
-        ensures noted { (offer : Option OfferValue) → OpensOut self.now (Some called.now) offer lease now (without_lease result) pass.old pass.new }
+        ensures noted { (offer : Option OfferValue) →
+            OpensOut self.now (Some called.now) offer lease now (without_lease result) pass.old pass.new }
         ensures credit { OnOk result (pass.new.credit ≡ with_step pass.old.credit 0) }
         ensures refused { OnErr result (pass.new.credit ≡ pass.old.credit) }
         ensures lease { IfErr result (λ back. back.0 ≡ lease) }
@@ -82,7 +84,8 @@ impl<G: Gate, J: Naming> Exchange<G, J> {
         now: u64,
     ) -> Result<Step, (Lease, OpenError)>
         requires peer { lease.peer < length self.now.peers }
-        requires format { option_map (λ peer. format_for offer.now peer.rules.formats) (slice_get self.now.peers lease.peer) ≡ Some (Some format) }
+        requires format { option_map (λ peer. format_for offer.now peer.rules.formats) (slice_get self.now.peers lease.peer) ≡
+            Some (Some format) }
         ensures noted { OpensOut self.now None (Some offer.now) lease now (without_lease result) pass.old pass.new }
         ensures credit { OnOk result (pass.new.credit ≡ with_step pass.old.credit 0) }
         ensures refused { OnErr result (pass.new.credit ≡ pass.old.credit) }
@@ -111,7 +114,9 @@ impl<G: Gate, J: Naming> Exchange<G, J> {
         now: u64,
     ) -> Result<Step, (Lease, OpenError)>
         requires peer { lease.peer < length self.now.peers }
-        ensures noted { (given : GivenValue) → option_copied given.called ≡ None → given.now ≡ now → Makes (call_of self.now given) (option_copied offer.entry) (needs.OpenOut lease) (replies.OpenOut (done_of (without_lease result))) pass.old pass.new }
+        ensures noted { (given : GivenValue) → option_copied given.called ≡ None → given.now ≡ now →
+            Makes (call_of self.now given) (option_copied offer.entry) (needs.OpenOut lease)
+            (replies.OpenOut (done_of (without_lease result))) pass.old pass.new }
         ensures credit { OnOk result (pass.new.credit ≡ with_step pass.old.credit 0) }
         ensures refused { OnErr result (pass.new.credit ≡ pass.old.credit) }
         ensures lease { IfErr result (λ back. back.0 ≡ lease) }
@@ -136,7 +141,8 @@ impl<G: Gate, J: Naming> Exchange<G, J> {
         given: &Given<'_, '_, '_>,
     ) -> Result<Step, (Lease, OpenError)>
         requires called { ForSome given.now.called (λ text. IsCalled text.now) }
-        ensures noted { Makes (call_of self.now given.entry.now) (option_copied offer.entry) (needs.OpenOut lease) (replies.OpenOut (done_of (without_lease result))) pass.old pass.new }
+        ensures noted { Makes (call_of self.now given.entry.now) (option_copied offer.entry) (needs.OpenOut lease)
+            (replies.OpenOut (done_of (without_lease result))) pass.old pass.new }
         ensures credit { OnOk result (pass.new.credit ≡ with_step pass.old.credit 0) }
         ensures refused { OnErr result (pass.new.credit ≡ pass.old.credit) }
         ensures lease { IfErr result (λ back. back.0 ≡ lease) }
@@ -164,7 +170,8 @@ impl<G: Gate, J: Naming> Exchange<G, J> {
     ) -> Result<(), OpenError>
         requires lease { hands.old.lease ≡ Some _name }
         requires called { ForSome given.now.called (λ text. IsCalled text.now) }
-        ensures noted { Makes (call_of self.now given.entry.now) (option_copied offer.entry) (needs.OpenOut _name) (replies.OpenOut result) pass.old pass.new }
+        ensures noted { Makes (call_of self.now given.entry.now) (option_copied offer.entry) (needs.OpenOut _name)
+            (replies.OpenOut result) pass.old pass.new }
         ensures credit { OnOk result (pass.new.credit ≡ with_step pass.old.credit 0) }
         ensures refused { OnErr result (pass.new.credit ≡ pass.old.credit) }
         ensures taken { OnOk result (hands.new.lease ≡ None) }
@@ -197,9 +204,11 @@ impl<G: Gate, J: Naming> Exchange<G, J> {
         requires peer { _name.peer < length self.now.peers }
         requires opening { SpellsOpening given.now.datagram }
         requires challenge { IsSome given.now.challenge }
-        ensures noted { (offer : Option OfferValue) → Makes (call_of self.now given.entry.now) offer (needs.OpenIn _name) (replies.OpenIn result) pass.old pass.new }
+        ensures noted { (offer : Option OfferValue) →
+            Makes (call_of self.now given.entry.now) offer (needs.OpenIn _name) (replies.OpenIn result) pass.old pass.new }
         ensures steps { OnOk result (pass.new.credit.steps ≡ pass.old.credit.steps + 1) }
-        ensures media { IfOk result (λ heard. TakesCredit (length given.entry.now.datagram) pass.old.credit pass.new.credit heard.onwards.signals) }
+        ensures media { IfOk result (λ heard.
+            TakesCredit (length given.entry.now.datagram) pass.old.credit pass.new.credit heard.onwards.signals) }
         ensures refused { OnErr result (pass.new.credit ≡ pass.old.credit) }
         ensures taken { OnOk result (hands.new.lease ≡ None) }
         ensures kept { OnErr result (hands.new.lease ≡ hands.old.lease) }

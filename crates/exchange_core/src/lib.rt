@@ -1,4 +1,5 @@
-//! The exchange: peers under their locks, the book of calls, the passes of workers and callers, and the settlement of all accounts.
+//! The exchange: peers under their locks, the book of calls, the passes of workers and callers, and the settlement of all
+//! accounts.
 #![tactic(auto)]
 
 mod answers;

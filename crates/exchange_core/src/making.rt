@@ -1,7 +1,8 @@
 //! Each step that a call can need, made as it is named.
 ghost use Rattle.std.specs.Option.{ForSome};
 ghost use Rattle.std.specs.List.{AllByRecursion};
-ghost use Rattle.std.specs.Prelude.{◌≡◌, ◌≢◌, ℕ, ◌+◌, ◌<◌, ◌≤◌, length, Option, None, Some, Err, true, false, IfOk, IfErr, IsSome, OnOk, OnErr};
+ghost use Rattle.std.specs.Prelude.{◌≡◌, ◌≢◌, ℕ, ◌+◌, ◌<◌, ◌≤◌, length, Option, None, Some, Err, true, false, IfOk, IfErr};
+ghost use Rattle.std.specs.Prelude.{IsSome, OnOk, OnErr};
 ghost use Rattle.call_book.specs.declared.leg_name.LegName.{LegName as LegNameValue};
 ghost use Rattle.call_signals.specs.Orders.{kind_of};
 ghost use Rattle.call_steps.specs.Acts.{act_kind, act_media};
@@ -79,7 +80,8 @@ impl<G: Gate, J: Naming> Exchange<G, J> {
     ) -> Reply
         requires peer { peer < length self.now.peers }
         ensures answer { is_answer (Some (needs.Datagram peer)) result ≡ true }
-        ensures noted { (offer : Option OfferValue) → Makes (call_of self.now given.entry.now) offer (needs.Datagram peer) result pass.old pass.new }
+        ensures noted { (offer : Option OfferValue) →
+            Makes (call_of self.now given.entry.now) offer (needs.Datagram peer) result pass.old pass.new }
         ensures made { is_made result ≡ true → pass.new.credit.steps ≡ pass.old.credit.steps + 1 }
         ensures unmade { is_made result ≡ false → pass.new.credit ≡ pass.old.credit }
         ensures within { AllByRecursion (LiesWithin (length given.entry.now.datagram)) (handed_by result) }
@@ -101,9 +103,11 @@ impl<G: Gate, J: Naming> Exchange<G, J> {
         given: &Given<'_, '_, '_>,
     ) -> Result<Heard, PeerError>
         requires peer { peer < length self.now.peers }
-        ensures noted { (offer : Option OfferValue) → Makes (call_of self.now given.entry.now) offer (needs.Datagram peer) (replies.Datagram result) pass.old pass.new }
+        ensures noted { (offer : Option OfferValue) →
+            Makes (call_of self.now given.entry.now) offer (needs.Datagram peer) (replies.Datagram result) pass.old pass.new }
         ensures steps { OnOk result (pass.new.credit.steps ≡ pass.old.credit.steps + 1) }
-        ensures media { IfOk result (λ heard. TakesCredit (length given.entry.now.datagram) pass.old.credit pass.new.credit heard.onwards.signals) }
+        ensures media { IfOk result (λ heard.
+            TakesCredit (length given.entry.now.datagram) pass.old.credit pass.new.credit heard.onwards.signals) }
         ensures refused { OnErr result (pass.new.credit ≡ pass.old.credit) }
         ensures opening { IfErr result (λ error. error ≡ PeerError.NeedsNumber → SpellsOpening given.entry.now.datagram) }
     {
@@ -129,15 +133,16 @@ impl<G: Gate, J: Naming> Exchange<G, J> {
         given: &Given<'_, '_, '_>,
     ) -> Result<bool, StepsSpent>
         requires { peer < length self.now.peers }
-        ensures noted { (offer : Option OfferValue) → Makes (call_of self.now given.entry.now) offer (needs.Tick peer) (replies.Tick result) pass.old pass.new }
+        ensures noted { (offer : Option OfferValue) →
+            Makes (call_of self.now given.entry.now) offer (needs.Tick peer) (replies.Tick result) pass.old pass.new }
         ensures credit { OnOk result (pass.new.credit ≡ with_step pass.old.credit 0) }
         ensures refused { OnErr result (pass.new.credit ≡ pass.old.credit) }
     {
         Ok(self.tick_peer(rt, pass, peer, given.now)?.is_quiet)
     }
 
-    // The leg of a name gets an order with the octets of its media, for which the pass has the credit. None has it where its peer isn't
-    // of the plan.
+    // The leg of a name gets an order with the octets of its media, for which the pass has the credit. None has it where its peer
+    // isn't of the plan.
     fn act<R: Wait>(
         &self,
         rt: &R,
@@ -147,7 +152,8 @@ impl<G: Gate, J: Naming> Exchange<G, J> {
         given: &Given<'_, '_, '_>,
     ) -> Result<(), OrderError>
         requires media { IsCovered (length given.now.datagram) pass.old.credit.octets (media_of name act) }
-        ensures noted { (offer : Option OfferValue) → Makes (call_of self.now given.entry.now) offer (needs.Order name act) (replies.Order result) pass.old pass.new }
+        ensures noted { (offer : Option OfferValue) →
+            Makes (call_of self.now given.entry.now) offer (needs.Order name act) (replies.Order result) pass.old pass.new }
         ensures steps { OnOk result (pass.new.credit.steps ≡ pass.old.credit.steps + 1) }
         ensures octets { OnOk result (pass.new.credit.octets + handed_octets (media_of name act) ≡ pass.old.credit.octets) }
         ensures refused { OnErr result (pass.new.credit ≡ pass.old.credit) }
@@ -165,7 +171,8 @@ impl<G: Gate, J: Naming> Exchange<G, J> {
 
     // How the leg of a number stands.
     fn look_at<R: Wait>(&self, rt: &R, pass: &mut Pass<J>, peer: u16, number: u16) -> Option<Status>
-        ensures noted { (given : GivenValue) (offer : Option OfferValue) → Makes (call_of self.now given) offer (needs.Look peer number) (replies.Look result) pass.old pass.new }
+        ensures noted { (given : GivenValue) (offer : Option OfferValue) →
+            Makes (call_of self.now given) offer (needs.Look peer number) (replies.Look result) pass.old pass.new }
         ensures credit { pass.new.credit ≡ pass.old.credit }
     {
         if peer >= self.plan.peer_count() {
@@ -184,7 +191,8 @@ impl<G: Gate, J: Naming> Exchange<G, J> {
         now: u64,
         hands: &mut Hands,
     ) -> bool
-        ensures noted { (given : GivenValue) (offer : Option OfferValue) → Makes (call_of self.now given) offer (needs.Retire name) (replies.Retire result) pass.old pass.new }
+        ensures noted { (given : GivenValue) (offer : Option OfferValue) →
+            Makes (call_of self.now given) offer (needs.Retire name) (replies.Retire result) pass.old pass.new }
         ensures credit { pass.new.credit ≡ pass.old.credit }
         ensures lease { hands.new.lease ≡ lease_after (Some (needs.Retire name)) (replies.Retire result) hands.old.lease }
         ensures left { Leaves now pass.old pass.new (leaving_of hands.old.leavers) (leaving_of hands.new.leavers) }
@@ -210,7 +218,8 @@ impl<G: Gate, J: Naming> Exchange<G, J> {
         peer: u16,
         hands: &mut Hands,
     ) -> Result<LegName, ReserveError>
-        ensures noted { (given : GivenValue) (offer : Option OfferValue) → Makes (call_of self.now given) offer (needs.Reserve peer) (replies.Reserve result) pass.old pass.new }
+        ensures noted { (given : GivenValue) (offer : Option OfferValue) →
+            Makes (call_of self.now given) offer (needs.Reserve peer) (replies.Reserve result) pass.old pass.new }
         ensures credit { pass.new.credit ≡ pass.old.credit }
         ensures peer { IfOk result (λ name. name.peer ≡ peer) }
         ensures lease { hands.new.lease ≡ lease_after (Some (needs.Reserve peer)) (replies.Reserve result) hands.old.lease }
@@ -225,8 +234,8 @@ impl<G: Gate, J: Naming> Exchange<G, J> {
         Ok(name)
     }
 
-    // The lease that the call keeps, on this name, goes back, and the leg that was taken out with it has left. A lease that the book
-    // refuses is dropped.
+    // The lease that the call keeps, on this name, goes back, and the leg that was taken out with it has left. A lease that the
+    // book refuses is dropped.
     fn release_from<R: Wait>(
         &self,
         rt: &R,
@@ -235,7 +244,8 @@ impl<G: Gate, J: Naming> Exchange<G, J> {
         hands: &mut Hands,
     ) -> Result<Option<LegName>, Stale>
         requires { hands.old.lease ≡ Some _name }
-        ensures noted { (given : GivenValue) (offer : Option OfferValue) → Makes (call_of self.now given) offer (needs.Release _name) (replies.Release result) pass.old pass.new }
+        ensures noted { (given : GivenValue) (offer : Option OfferValue) →
+            Makes (call_of self.now given) offer (needs.Release _name) (replies.Release result) pass.old pass.new }
         ensures credit { pass.new.credit ≡ pass.old.credit }
         ensures lease { hands.new.lease ≡ None }
         ensures left { (now : ℕ) → Leaves now pass.old pass.new (leaving_of hands.old.leavers) (leaving_of hands.new.leavers) }
@@ -248,8 +258,8 @@ impl<G: Gate, J: Naming> Exchange<G, J> {
         answer
     }
 
-    // Makes the step that the call needs, and nothing else. The pass has the credit for the media of an order, and the call has the
-    // lease that the step takes, and what a first step asks for.
+    // Makes the step that the call needs, and nothing else. The pass has the credit for the media of an order, and the call has
+    // the lease that the step takes, and what a first step asks for.
     #[tactic(auto, using(crate::proofs::Leaving::none_leave))]
     pub(crate) fn make<R: Wait>(
         &self,
@@ -272,10 +282,12 @@ impl<G: Gate, J: Naming> Exchange<G, J> {
         ensures made { is_made result ≡ true → pass.new.credit.steps ≡ pass.old.credit.steps + 1 }
         ensures unmade { is_made result ≡ false → pass.new.credit ≡ pass.old.credit }
         ensures within { AllByRecursion (LiesWithin (length given.entry.now.datagram)) (handed_by result) }
-        ensures octets { pass.old.credit.octets + handed_octets (handed_by result) ≤ pass.new.credit.octets + handed_octets (media_needed (Some need)) }
+        ensures octets { pass.old.credit.octets + handed_octets (handed_by result) ≤ pass.new.credit.octets +
+            handed_octets (media_needed (Some need)) }
         ensures lease { hands.new.lease ≡ lease_after (Some need) result hands.old.lease }
         // The legs that it took out are those of this step.
-        ensures left { Leaves given.entry.now.now pass.old pass.new (leaving_of hands.old.leavers) (leaving_of hands.new.leavers) }
+        ensures left { Leaves given.entry.now.now pass.old pass.new (leaving_of hands.old.leavers)
+            (leaving_of hands.new.leavers) }
         ensures denial { hands.new.denial ≡ hands.old.denial }
         ensures named { hands.new.named ≡ named_after result hands.old.named }
         ensures opened { IsOpenedOut result → pass.new.credit ≡ with_step pass.old.credit 0 }

@@ -1,5 +1,6 @@
 //! Opening an exchange.
-ghost use Rattle.std.specs.Prelude.{◌≡◌, ℕ, ◌+◌, ◌-◌, ◌*◌, ◌<◌, ◌≤◌, ◌^◌, ◌++◌, [], Some, IfOk, OnOk, All, length, map, option_map, replicate, slice_get, vec_len};
+ghost use Rattle.std.specs.Prelude.{◌≡◌, ℕ, ◌+◌, ◌-◌, ◌*◌, ◌<◌, ◌≤◌, ◌^◌, ◌++◌, [], Some, IfOk, OnOk, All, length, map};
+ghost use Rattle.std.specs.Prelude.{option_map, replicate, slice_get, vec_len};
 ghost use Rattle.exchange_core.specs.Start.{first_book, first_legs, IsStart};
 ghost use Rattle.peer_lock.specs.Accounts.{no_accounts};
 
@@ -19,8 +20,8 @@ use std::sync::ledger::Ledger;
 const FIRST_CREDIT: u64 = 1 << 48;
 
 impl<G: Gate, J: Naming> Exchange<G, J> {
-    /// An exchange with all its passes: as many as the plan says, each without credit, and nothing made under it. No peer has a leg, and every number is
-    /// free. Each peer may accept 2^48 octets of media and make 2^48 steps.
+    /// An exchange with all its passes: as many as the plan says, each without credit, and nothing made under it. No peer has a
+    /// leg, and every number is free. Each peer may accept 2^48 octets of media and make 2^48 steps.
     ///
     /// Where memory is refused, all that was handed in is dropped.
     pub fn open(
@@ -30,8 +31,10 @@ impl<G: Gate, J: Naming> Exchange<G, J> {
         octets: Blank,
         steps: Blank,
     ) -> Result<(Exchange<G, J>, Vec<Pass<J>>), AllocError>
-        requires octets { (octets.name ≡ J.Octets.name) × (octets.parts ≡ J.Octets.parts) × (octets.parts ≡ length plan.peers + plan.passes) }
-        requires steps { (steps.name ≡ J.Steps.name) × (steps.parts ≡ J.Steps.parts) × (steps.parts ≡ length plan.peers + plan.passes) }
+        requires octets { (octets.name ≡ J.Octets.name) × (octets.parts ≡ J.Octets.parts) ×
+            (octets.parts ≡ length plan.peers + plan.passes) }
+        requires steps { (steps.name ≡ J.Steps.name) × (steps.parts ≡ J.Steps.parts) ×
+            (steps.parts ≡ length plan.peers + plan.passes) }
         requires first { (J.first_octets ≡ 2 ^ 48) × (J.first_steps ≡ 2 ^ 48) }
         ensures plan { IfOk result (λ opened. opened.0 ≡ plan) }
         ensures passes { IfOk result (λ opened. vec_len opened.1 ≡ plan.passes) }
@@ -76,8 +79,10 @@ fn stock_with_book<J: Naming>(
     octets: Blank,
     steps: Blank,
 ) -> Result<(CallBook, Stock<J>), AllocError>
-    requires octets { (octets.name ≡ J.Octets.name) × (octets.parts ≡ J.Octets.parts) × (octets.parts ≡ length plan.now.peers + plan.now.passes) }
-    requires steps { (steps.name ≡ J.Steps.name) × (steps.parts ≡ J.Steps.parts) × (steps.parts ≡ length plan.now.peers + plan.now.passes) }
+    requires octets { (octets.name ≡ J.Octets.name) × (octets.parts ≡ J.Octets.parts) ×
+        (octets.parts ≡ length plan.now.peers + plan.now.passes) }
+    requires steps { (steps.name ≡ J.Steps.name) × (steps.parts ≡ J.Steps.parts) ×
+        (steps.parts ≡ length plan.now.peers + plan.now.passes) }
     requires first { (J.first_octets ≡ 2 ^ 48) × (J.first_steps ≡ 2 ^ 48) }
     ensures start { OnOk result (IsStart plan.now) }
     ensures range { OnOk result ((length plan.now.peers ≤ 32) × (plan.now.passes ≤ 64)) }
@@ -85,8 +90,10 @@ fn stock_with_book<J: Naming>(
     ensures passes { IfOk result (λ made. vec_len made.1.passes ≡ plan.now.passes) }
     ensures empty { IfOk result (λ made. All (λ pass. (pass.credit.octets ≡ 0) × (pass.credit.steps ≡ 0)) made.1.passes.items) }
     ensures unused { IfOk result (λ made. All (λ pass. (pass.begun ≡ 0) × (pass.made ≡ [])) made.1.passes.items) }
-    ensures octets { IfOk result (λ made. (made.1.octets.shares ≡ length plan.now.peers + plan.now.passes) × (made.1.octets.amount ≡ length plan.now.peers * J.first_octets)) }
-    ensures steps { IfOk result (λ made. (made.1.steps.shares ≡ length plan.now.peers + plan.now.passes) × (made.1.steps.amount ≡ length plan.now.peers * J.first_steps)) }
+    ensures octets { IfOk result (λ made. (made.1.octets.shares ≡ length plan.now.peers + plan.now.passes) ×
+        (made.1.octets.amount ≡ length plan.now.peers * J.first_octets)) }
+    ensures steps { IfOk result (λ made. (made.1.steps.shares ≡ length plan.now.peers + plan.now.passes) ×
+        (made.1.steps.amount ≡ length plan.now.peers * J.first_steps)) }
 {
     let book = book_of(alloc, plan)?;
     let stock = stock_of(alloc, plan, octets, steps)?;
@@ -100,16 +107,20 @@ fn stock_of<J: Naming>(
     octets: Blank,
     steps: Blank,
 ) -> Result<Stock<J>, AllocError>
-    requires octets { (octets.name ≡ J.Octets.name) × (octets.parts ≡ J.Octets.parts) × (octets.parts ≡ length plan.now.peers + plan.now.passes) }
-    requires steps { (steps.name ≡ J.Steps.name) × (steps.parts ≡ J.Steps.parts) × (steps.parts ≡ length plan.now.peers + plan.now.passes) }
+    requires octets { (octets.name ≡ J.Octets.name) × (octets.parts ≡ J.Octets.parts) ×
+        (octets.parts ≡ length plan.now.peers + plan.now.passes) }
+    requires steps { (steps.name ≡ J.Steps.name) × (steps.parts ≡ J.Steps.parts) ×
+        (steps.parts ≡ length plan.now.peers + plan.now.passes) }
     requires first { (J.first_octets ≡ 2 ^ 48) × (J.first_steps ≡ 2 ^ 48) }
     ensures range { OnOk result ((length plan.now.peers ≤ 32) × (plan.now.passes ≤ 64)) }
     ensures peers { IfOk result (λ stock. vec_len stock.peers ≡ length plan.now.peers) }
     ensures passes { IfOk result (λ stock. vec_len stock.passes ≡ plan.now.passes) }
     ensures empty { IfOk result (λ stock. All (λ pass. (pass.credit.octets ≡ 0) × (pass.credit.steps ≡ 0)) stock.passes.items) }
     ensures unused { IfOk result (λ stock. All (λ pass. (pass.begun ≡ 0) × (pass.made ≡ [])) stock.passes.items) }
-    ensures octets { IfOk result (λ stock. (stock.octets.shares ≡ length plan.now.peers + plan.now.passes) × (stock.octets.amount ≡ length plan.now.peers * J.first_octets)) }
-    ensures steps { IfOk result (λ stock. (stock.steps.shares ≡ length plan.now.peers + plan.now.passes) × (stock.steps.amount ≡ length plan.now.peers * J.first_steps)) }
+    ensures octets { IfOk result (λ stock. (stock.octets.shares ≡ length plan.now.peers + plan.now.passes) ×
+        (stock.octets.amount ≡ length plan.now.peers * J.first_octets)) }
+    ensures steps { IfOk result (λ stock. (stock.steps.shares ≡ length plan.now.peers + plan.now.passes) ×
+        (stock.steps.amount ≡ length plan.now.peers * J.first_steps)) }
 {
     let peer_count = plan.peer_count();
     let pass_count = plan.passes();
@@ -191,9 +202,11 @@ fn state_of<J: Naming>(
     requires peer { peer < length plan.now.peers }
     requires octets { octets ≡ J.first_octets }
     requires steps { steps ≡ J.first_steps }
-    ensures rules { IfOk result (λ state. option_map (λ peer. peer.rules) (slice_get plan.now.peers peer) ≡ Some state.state.rules) }
+    ensures rules { IfOk result (λ state. option_map (λ peer. peer.rules) (slice_get plan.now.peers peer) ≡
+        Some state.state.rules) }
     ensures legs { IfOk result (λ state. (state.number ≡ peer) × (state.state.legs ≡ first_legs plan.now peer)) }
-    ensures empty { IfOk result (λ state. (state.state.outbox ≡ []) × (state.state.queue ≡ []) × (state.state.accounts ≡ no_accounts)) }
+    ensures empty { IfOk result (λ state. (state.state.outbox ≡ []) × (state.state.queue ≡ []) ×
+        (state.state.accounts ≡ no_accounts)) }
 {
     let _counts = plan.counts();
     let range = plan.range(peer);
@@ -215,7 +228,8 @@ fn state_of<J: Naming>(
 fn last_of<L: Ledger>(shares: &mut Vec<Share<L>>) -> Share<L>
     requires some { 1 ≤ vec_len shares.old }
     // Where all are equal, it is one of them.
-    ensures equal { (n amount : ℕ) → shares.old.items ≡ replicate n amount → (result ≡ amount) × (shares.new.items ≡ replicate (n - 1) amount) }
+    ensures equal { (n amount : ℕ) → shares.old.items ≡ replicate n amount →
+        (result ≡ amount) × (shares.new.items ≡ replicate (n - 1) amount) }
 {
     match shares.pop() {
         Some(share) => share,

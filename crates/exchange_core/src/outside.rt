@@ -1,5 +1,6 @@
 //! The calls of workers and callers.
-ghost use Rattle.std.specs.Prelude.{◌≡◌, ◌≢◌, ◌+◌, ◌<◌, ◌≤◌, ◌↔◌, Err, None, IfNone, IfOk, IfErr, IfSome, IsSome, Some, IsTrue, OnOk, OnErr, length, map};
+ghost use Rattle.std.specs.Prelude.{◌≡◌, ◌≢◌, ◌+◌, ◌<◌, ◌≤◌, ◌↔◌, Err, None, IfNone, IfOk, IfErr, IfSome, IsSome, Some, IsTrue};
+ghost use Rattle.std.specs.Prelude.{OnOk, OnErr, length, map};
 ghost use Rattle.call_steps.specs.Beginnings.{OfCall, OfHangUp};
 ghost use Rattle.call_steps.specs.Work as work;
 ghost use Rattle.call_steps.specs.WorkState.{begun};
@@ -93,7 +94,10 @@ impl<G: Gate, J: Naming> Exchange<G, J> {
         challenge: &Challenge,
     ) -> Answer
         // The steps that were made under the pass are just those which the table of the call named, in its order, and it ended.
-        ensures all { IsHeard self.now from (record (moment self.now now) { octets = octets.now; challenge = Some challenge.now }) pass.old pass.new }
+        ensures all { IsHeard self.now from (record (moment self.now now) {
+          octets = octets.now;
+          challenge = Some challenge.now;
+        }) pass.old pass.new }
         // The legs that were taken out in these steps, and none else, with what they left behind.
         ensures retired { Leave now pass.old pass.new (map departure_of result.retired.items) }
         ensures steps { pass.new.credit.steps ≡ pass.old.credit.steps + result.steps }
@@ -133,7 +137,9 @@ impl<G: Gate, J: Naming> Exchange<G, J> {
     pub fn tick<R: Wait>(&self, rt: &R, pass: &mut Pass<J>, peer: u16, now: u64) -> Answer
         requires { peer < length self.now.peers }
         // Its looks go over all numbers of the peer.
-        ensures all { MakesAll (moment self.now now) (begun (work.of_tick peer (range_of (counts_of self.now.peers) peer).first (range_of (counts_of self.now.peers) peer).count)) pass.old pass.new }
+        ensures all { MakesAll (moment self.now now)
+            (begun (work.of_tick peer (range_of (counts_of self.now.peers) peer).first
+            (range_of (counts_of self.now.peers) peer).count)) pass.old pass.new }
         ensures retired { Leave now pass.old pass.new (map departure_of result.retired.items) }
         ensures steps { pass.new.credit.steps ≡ pass.old.credit.steps + result.steps }
         ensures some { IfNone result.refused (1 ≤ result.steps) }
@@ -164,7 +170,8 @@ impl<G: Gate, J: Naming> Exchange<G, J> {
         now: u64,
     ) -> Result<LegName, CallError>
         requires { peer < length self.now.peers }
-        ensures all { result ≢ Err CallError.BadNumber → MakesAll (record (moment self.now now) { called = Some called.now }) (begun (work.of_call peer)) pass.old pass.new }
+        ensures all { result ≢ Err CallError.BadNumber →
+            MakesAll (record (moment self.now now) { called = Some called.now }) (begun (work.of_call peer)) pass.old pass.new }
         ensures unmade { result ≡ Err CallError.BadNumber → pass.new ≡ pass.old }
         ensures called { OnOk result (IsCalled called.now) }
         ensures bad { (IsCalled called.now → ⊥) → result ≡ Err CallError.BadNumber }

@@ -1,6 +1,7 @@
 //! Peers and passes are parted from their shares.
 ghost use Rattle.std.specs.Prelude.{◌≡◌, ◌+◌, ◌*◌, ◌<◌, ◌≤◌, ◌++◌, ◌∷◌, [], IfOk, sum, vec_len, vec_capacity};
-ghost use Rattle.exchange_core.specs.Sums.{accepted_of, packed_of, queued_of, dropped_of, quelched_of, steps_of, left_with, steps_under, begun_with, noted_under};
+ghost use Rattle.exchange_core.specs.Sums.{accepted_of, packed_of, queued_of, dropped_of, quelched_of, steps_of, left_with};
+ghost use Rattle.exchange_core.specs.Sums.{steps_under, begun_with, noted_under};
 ghost use Rattle.peer_lock.specs.Accounts.{carried};
 
 use crate::exchange::PeerCell;
@@ -70,9 +71,12 @@ pub(crate) fn part_peers<J: Naming>(
     steps: &mut Vec<Share<J::Steps>>,
 )
     requires empty { (peers.old.items ≡ []) × (octets.old.items ≡ []) × (steps.old.items ≡ []) }
-    requires room { (vec_len cells ≤ vec_capacity peers.old) × (vec_len cells ≤ vec_capacity octets.old) × (vec_len cells ≤ vec_capacity steps.old) }
-    ensures all { (vec_len peers.new ≡ vec_len cells) × (vec_len octets.new ≡ vec_len cells) × (vec_len steps.new ≡ vec_len cells) }
-    ensures octets { sum octets.new.items + accepted_of peers.new.items ≡ vec_len cells * J.first_octets + packed_of peers.new.items + queued_of peers.new.items + dropped_of peers.new.items }
+    requires room { (vec_len cells ≤ vec_capacity peers.old) × (vec_len cells ≤ vec_capacity octets.old) ×
+        (vec_len cells ≤ vec_capacity steps.old) }
+    ensures all { (vec_len peers.new ≡ vec_len cells) × (vec_len octets.new ≡ vec_len cells) ×
+        (vec_len steps.new ≡ vec_len cells) }
+    ensures octets { sum octets.new.items + accepted_of peers.new.items ≡
+        vec_len cells * J.first_octets + packed_of peers.new.items + queued_of peers.new.items + dropped_of peers.new.items }
     ensures steps { sum steps.new.items + steps_of peers.new.items ≡ vec_len cells * J.first_steps }
     ensures within { accepted_of peers.new.items ≤ vec_len cells * J.first_octets }
     ensures quelched { quelched_of peers.new.items ≤ dropped_of peers.new.items }
@@ -95,8 +99,10 @@ pub(crate) fn part_passes<J: Naming>(
     octets: &mut Vec<Share<J::Octets>>,
     steps: &mut Vec<Share<J::Steps>>,
 )
-    requires room { (vec_len octets.old + vec_len passes ≤ vec_capacity octets.old) × (vec_len steps.old + vec_len passes ≤ vec_capacity steps.old) }
-    ensures all { (vec_len octets.new ≡ vec_len octets.old + vec_len passes) × (vec_len steps.new ≡ vec_len steps.old + vec_len passes) }
+    requires room { (vec_len octets.old + vec_len passes ≤ vec_capacity octets.old) ×
+        (vec_len steps.old + vec_len passes ≤ vec_capacity steps.old) }
+    ensures all { (vec_len octets.new ≡ vec_len octets.old + vec_len passes) ×
+        (vec_len steps.new ≡ vec_len steps.old + vec_len passes) }
     ensures octets { sum octets.new.items ≡ sum octets.old.items + left_with passes.items }
     ensures steps { sum steps.new.items ≡ sum steps.old.items + steps_under passes.items }
     ensures noted { steps_under passes.items ≡ begun_with passes.items + noted_under passes.items }

@@ -118,7 +118,9 @@ impl<G: Gate, J: Naming> Exchange<G, J> {
         requires peer { lease.peer < length self.now.peers }
         requires opening { IsOpening frame.now }
         requires nothing { IsNothing onwards.old }
-        ensures noted { Notes (mades.OpenIn lease.peer lease frame.now.head frame.now.payload now challenge.now (without_lease result) onwards.new) pass.old pass.new }
+        ensures noted { Notes
+            (mades.OpenIn lease.peer lease frame.now.head frame.now.payload now challenge.now
+            (without_lease result) onwards.new) pass.old pass.new }
         ensures credit { OnOk result (pass.new.credit ≡ with_step pass.old.credit 0) }
         // What opens a leg has no media.
         ensures media { (len : ℕ) → OnOk result (TakesCredit len pass.old.credit pass.new.credit onwards.new.signals) }
@@ -144,7 +146,8 @@ impl<G: Gate, J: Naming> Exchange<G, J> {
     ) -> Result<Step, (Lease, OpenError)>
         requires peer { lease.peer < length self.now.peers }
         requires called { length called.now ≤ 255 }
-        ensures noted { Notes (mades.OpenOut lease.peer lease called.now caller.now format now (without_lease result)) pass.old pass.new }
+        ensures noted { Notes
+            (mades.OpenOut lease.peer lease called.now caller.now format now (without_lease result)) pass.old pass.new }
         ensures credit { OnOk result (pass.new.credit ≡ with_step pass.old.credit 0) }
         ensures touched { IfOk result (λ step. step.touched ≡ Some lease) }
         ensures lease { IfErr result (λ back. back.0 ≡ lease) }

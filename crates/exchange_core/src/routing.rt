@@ -40,7 +40,9 @@ impl<G: Gate, J: Naming> Exchange<G, J> {
         offered: LegName,
         offer: Option<&Offer>,
     ) -> Route
-        ensures noted { (given : GivenValue) → Makes (call_of self.now given) (option_copied offer.entry) (needs.Route offered) (replies.Route result) pass.old pass.new }
+        ensures noted { (given : GivenValue) →
+            Makes (call_of self.now given) (option_copied offer.entry) (needs.Route offered)
+            (replies.Route result) pass.old pass.new }
         ensures credit { pass.new.credit ≡ pass.old.credit }
         ensures inside { LeadsInside result (length self.now.peers) }
     {

@@ -1,6 +1,7 @@
 //! The accounts of all peers, once every pass is back.
 ghost use Rattle.std.specs.Prelude.{◌≡◌, ◌≢◌, ◌+◌, ◌<◌, ◌≤◌, ◌^◌, [], IfOk, IfErr, OnOk, length, sum, vec_len, vec_capacity};
-ghost use Rattle.exchange_core.specs.Sums.{accepted_of, packed_of, queued_of, dropped_of, quelched_of, steps_of, left_with, steps_under, begun_with, noted_under};
+ghost use Rattle.exchange_core.specs.Sums.{accepted_of, packed_of, queued_of, dropped_of, quelched_of, steps_of, left_with};
+ghost use Rattle.exchange_core.specs.Sums.{steps_under, begun_with, noted_under};
 
 use crate::exchange::Exchange;
 use crate::gates::Gate;

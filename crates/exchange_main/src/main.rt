@@ -29,8 +29,11 @@ use std::{env, fs, io};
 use trace_writer::Folder;
 
 const USAGE: &str =
-    "usage: exchange_main check <plan> | replay <plan> <script> | serve <plan> <turns>\n       exchange_main explain <plan>\n       \
-exchange_main ladder <plan> <script> [--leg <number>] [--text]\n       exchange_main pcap <plan> <script>\n       exchange_main records <plan> <script>\n       \
+    "usage: exchange_main check <plan> | replay <plan> <script> | serve <plan> <turns>\n       \
+exchange_main explain <plan>\n       \
+exchange_main ladder <plan> <script> [--leg <number>] [--text]\n       \
+exchange_main pcap <plan> <script>\n       \
+exchange_main records <plan> <script>\n       \
 exchange_main run <plan> [--control <socket>] [--metrics <address:port>] [--log <level>] [--drain <seconds>] \
 [--calls <file>] [--trace <folder>] [--trace-limit <mebibytes>] [--trace-digits yes|no] [--stop-at-end-of-input]\n       \
 exchange_main ctl <socket> peers | calls | accounts | call <peer> <number> | hangup <number> | stop";

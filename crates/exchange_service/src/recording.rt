@@ -1,5 +1,5 @@
-//! The files that are written while a service runs, the records of ended legs and the trace: what is made for them, and the thread that
-//! writes each beside the others.
+//! The files that are written while a service runs, the records of ended legs and the trace: what is made for them, and the
+//! thread that writes each beside the others.
 use crate::control::Control;
 use crate::journal::Journal;
 use crate::running::{Settings, TraceOptions};
@@ -221,8 +221,8 @@ fn serve_traced<
     }
 }
 
-// The workers serve, beside a thread that appends the rows of ended legs to their file. False if a thread was refused. The log tells
-// what couldn't be written.
+// The workers serve, beside a thread that appends the rows of ended legs to their file. False if a thread was refused. The log
+// tells what couldn't be written.
 fn serve_beside_writer<
     J: Naming,
     P: Post + Send + Sync,

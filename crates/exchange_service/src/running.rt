@@ -116,8 +116,10 @@ fn work<
 ) -> Result<(), ServiceError>
     requires plan { plan ≡ P.plan }
     requires enough { length plan.workers + 1 ≤ plan.passes }
-    requires octets { (octets.name ≡ J.Octets.name) × (octets.parts ≡ J.Octets.parts) × (octets.parts ≡ length plan.peers + plan.passes) }
-    requires steps { (steps.name ≡ J.Steps.name) × (steps.parts ≡ J.Steps.parts) × (steps.parts ≡ length plan.peers + plan.passes) }
+    requires octets { (octets.name ≡ J.Octets.name) × (octets.parts ≡ J.Octets.parts) ×
+        (octets.parts ≡ length plan.peers + plan.passes) }
+    requires steps { (steps.name ≡ J.Steps.name) × (steps.parts ≡ J.Steps.parts) ×
+        (steps.parts ≡ length plan.peers + plan.passes) }
     requires first { (J.first_octets ≡ 2 ^ 48) × (J.first_steps ≡ 2 ^ 48) }
 {
     let Ok(opened) = Instant::now(rt) else {
@@ -289,20 +291,20 @@ fn status_of<W: Write>(served: Result<(), ServiceError>, writer: &mut W) -> u8 {
     }
 }
 
-/// Has the workers of a plan carry calls until a client of the control socket stops them, or without end where there is none. Then
-/// it writes `worker <place> <received> <sent> <lost> <faults>` for each, and the accounts. Answers the status: 0, or 1 after a
-/// refusal.
+/// Has the workers of a plan carry calls until a client of the control socket stops them, or without end where there is none.
+/// Then it writes `worker <place> <received> <sent> <lost> <faults>` for each, and the accounts. Answers the status: 0, or 1
+/// after a refusal.
 ///
 /// The plan is the octets of its file; a refused one is told as `check` tells it. `refused Control`: the control socket isn't
-/// bound, since somebody answers there, what lies there is no socket, or the system doesn't let it; `refused Metrics`: the address
-/// of the metrics isn't bound; the others as `serve` has them. A stop hangs up each leg, and the workers end once none is left, or
-/// after `drain_ms` milliseconds, or at a second stop. The file of the control socket is gone afterwards.
+/// bound, since somebody answers there, what lies there is no socket, or the system doesn't let it; `refused Metrics`: the
+/// address of the metrics isn't bound; the others as `serve` has them. A stop hangs up each leg, and the workers end once none is
+/// left, or after `drain_ms` milliseconds, or at a second stop. The file of the control socket is gone afterwards.
 ///
-/// Where `trace` names a folder, a thread writes there what the exchange is given, as a script that `replay` reads (`docs/INCIDENTS.md`);
-/// `refused Trace`: the folder can't be made, or no file in it.
+/// Where `trace` names a folder, a thread writes there what the exchange is given, as a script that `replay` reads
+/// (`docs/INCIDENTS.md`); `refused Trace`: the folder can't be made, or no file in it.
 ///
-/// Where `calls` names a file, a thread appends the record of each ended leg to it (`docs/RECORDS.md`), as this disk has it. Whatever
-/// becomes of the file, calls go on.
+/// Where `calls` names a file, a thread appends the record of each ended leg to it (`docs/RECORDS.md`), as this disk has it.
+/// Whatever becomes of the file, calls go on.
 pub fn run<
     R: Clock + Eprint + Files<File = File> + Net + RandomSource + Threads + Wait + Sync,
     D: Disk + Folder + Sync,

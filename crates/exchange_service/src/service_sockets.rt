@@ -1,4 +1,5 @@
-//! Sockets of workers as a service has them: those of one endpoint share it, and the system keeps more room for datagrams that wait.
+//! Sockets of workers as a service has them: those of one endpoint share it, and the system keeps more room for datagrams that
+//! wait.
 use exchange_commands::Sockets;
 use libc::net as system;
 use log::{Log, info};

@@ -31,8 +31,8 @@ fn is_free<R: Files + Net>(rt: &R, path: &str) -> io::Result<bool> {
 
 /// Binds a listener at the path, to which its owner alone may connect. The socket of a process that has ended is replaced.
 ///
-/// `AddrInUse`: somebody answers there, or what lies there is no socket. Other errors are those of the system, as for a path of 108
-/// octets or more, or one in a folder that isn't there.
+/// `AddrInUse`: somebody answers there, or what lies there is no socket. Other errors are those of the system, as for a path of
+/// 108 octets or more, or one in a folder that isn't there.
 pub fn bind<R: Files + Net>(rt: &R, alloc: Global, path: &str) -> io::Result<UnixListener> {
     if !is_free(rt, path)? {
         return Err(io::Error::from(ErrorKind::AddrInUse));

@@ -1,5 +1,5 @@
-//! Tests of an exchange: growths that are refused, datagrams that nobody should send, a storm of them, passes that are missing, and two
-//! workers at once.
+//! Tests of an exchange: growths that are refused, datagrams that nobody should send, a storm of them, passes that are missing,
+//! and two workers at once.
 #![tactic(auto)]
 
 #[cfg(test)]

@@ -84,8 +84,10 @@ fn play_opened<R: Abort + Sync + Threads + Wait, J: Naming>(
     octets: Blank,
     steps: Blank,
 ) -> Result<Option<Sums>, PlanError>
-    requires octets { (octets.name ≡ J.Octets.name) × (octets.parts ≡ J.Octets.parts) × (octets.parts ≡ length plan.peers + plan.passes) }
-    requires steps { (steps.name ≡ J.Steps.name) × (steps.parts ≡ J.Steps.parts) × (steps.parts ≡ length plan.peers + plan.passes) }
+    requires octets { (octets.name ≡ J.Octets.name) × (octets.parts ≡ J.Octets.parts) ×
+        (octets.parts ≡ length plan.peers + plan.passes) }
+    requires steps { (steps.name ≡ J.Steps.name) × (steps.parts ≡ J.Steps.parts) ×
+        (steps.parts ≡ length plan.peers + plan.passes) }
     requires first { (J.first_octets ≡ 2 ^ 48) × (J.first_steps ≡ 2 ^ 48) }
 {
     match Exchange::<NoGate, J>::open(alloc, plan, NoGate, octets, steps) {
@@ -109,8 +111,8 @@ fn play_named<R: Abort + Sync + Threads + Wait, O: Ledger + Send + Sync, T: Ledg
     play_opened::<R, Service<O, T>>(rt, alloc, plan, scene, octets, steps)
 }
 
-/// Opens an exchange of a plan, plays the scene on it, and closes its accounts, as `ended` does. `Err` where memory for the opening was
-/// refused, or the text is no plan.
+/// Opens an exchange of a plan, plays the scene on it, and closes its accounts, as `ended` does. `Err` where memory for the
+/// opening was refused, or the text is no plan.
 pub fn play_on<R: Abort + Sync + Threads + Wait>(
     rt: &R,
     alloc: Global,

@@ -1,5 +1,5 @@
-//! What tests of an exchange share: plans, lines that are given to an exchange, and its recovery: every leg is got rid of, and the accounts
-//! are closed.
+//! What tests of an exchange share: plans, lines that are given to an exchange, and its recovery: every leg is got rid of, and
+//! the accounts are closed.
 
 mod lines;
 pub mod plans;

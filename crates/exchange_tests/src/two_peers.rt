@@ -133,8 +133,10 @@ fn tick_opened<R: Abort + Clock + Sync + Threads + Wait, J: Naming>(
     octets: Blank,
     steps: Blank,
 ) -> Result<Option<Sums>, PlanError>
-    requires octets { (octets.name ≡ J.Octets.name) × (octets.parts ≡ J.Octets.parts) × (octets.parts ≡ length plan.peers + plan.passes) }
-    requires steps { (steps.name ≡ J.Steps.name) × (steps.parts ≡ J.Steps.parts) × (steps.parts ≡ length plan.peers + plan.passes) }
+    requires octets { (octets.name ≡ J.Octets.name) × (octets.parts ≡ J.Octets.parts) ×
+        (octets.parts ≡ length plan.peers + plan.passes) }
+    requires steps { (steps.name ≡ J.Steps.name) × (steps.parts ≡ J.Steps.parts) ×
+        (steps.parts ≡ length plan.peers + plan.passes) }
     requires first { (J.first_octets ≡ 2 ^ 48) × (J.first_steps ≡ 2 ^ 48) }
 {
     let gate = HoldsWest {

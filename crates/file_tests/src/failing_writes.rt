@@ -5,8 +5,8 @@ use call_files::{Fault, Trouble};
 use std::alloc::{AllocError, Global};
 use std::process::Abort;
 
-// Twelve rows, four in each of three rounds, on a disk that fails so; then rounds in which nothing comes. How many of them are written
-// when isn't told; in the end all are.
+// Twelve rows, four in each of three rounds, on a disk that fails so; then rounds in which nothing comes. How many of them are
+// written when isn't told; in the end all are.
 fn twelve_rows(rt: &impl Abort, alloc: Global, fails: Fails) -> Result<(), AllocError> {
     let steps = [
         Step::Fail(fails),

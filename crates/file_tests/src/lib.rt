@@ -1,5 +1,5 @@
-//! Tests of rows on their way to a file: a disk in memory that fails at each of its writes in turn, that is full for a while, whose
-//! file is renamed, emptied or taken away.
+//! Tests of rows on their way to a file: a disk in memory that fails at each of its writes in turn, that is full for a while,
+//! whose file is renamed, emptied or taken away.
 #![tactic(auto)]
 
 #[cfg(test)]

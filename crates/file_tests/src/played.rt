@@ -138,8 +138,8 @@ fn make_all(
     Ok(())
 }
 
-/// Opens a log with room for so many rows that wait, on a disk with a file of these octets under the name, or with none; makes the
-/// steps; then the files have these texts.
+/// Opens a log with room for so many rows that wait, on a disk with a file of these octets under the name, or with none; makes
+/// the steps; then the files have these texts.
 pub fn play(
     rt: &impl Abort,
     alloc: Global,

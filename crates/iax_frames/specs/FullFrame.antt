@@ -1,5 +1,6 @@
 -- "Full Frames"
-use Rattle.std.specs.Prelude.{◌≡◌, ℕ, ◌-◌, ◌<◌, ◌^◌, true, List, [], ◌∷◌, ◌++◌, nat_le, nat_lt, if◌then◌else◌, slice_index, drop, Option, Some, None}
+use Rattle.std.specs.Prelude.{◌≡◌, ℕ, ◌-◌, ◌<◌, ◌^◌, true, List, [], ◌∷◌, ◌++◌, nat_le, nat_lt, if◌then◌else◌, slice_index, drop}
+use Rattle.std.specs.Prelude.{Option, Some, None}
 use Rattle.std.specs.Int.{w32, to_be_bytes}
 use Rattle.iax_frames.specs.Octets.{u16_at, u32_at, flagged, below_flag}
 use Rattle.iax_frames.specs.declared.full_frame.FullHead.{FullHead}

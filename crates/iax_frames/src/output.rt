@@ -1,5 +1,6 @@
 //! Frames that are written.
-ghost use Rattle.std.specs.Prelude.{◌≡◌, ℕ, List, ◌<◌, ◌≤◌, ◌^◌, ◌+◌, ◌++◌, ◌↔◌, [], ◌∷◌, length, slice_index, if◌then◌else◌, IsOk, IsErr, IfOk, OnOk, OnErr};
+ghost use Rattle.std.specs.Prelude.{◌≡◌, ℕ, List, ◌<◌, ◌≤◌, ◌^◌, ◌+◌, ◌++◌, ◌↔◌, [], ◌∷◌, length, slice_index, if◌then◌else◌};
+ghost use Rattle.std.specs.Prelude.{IsOk, IsErr, IfOk, OnOk, OnErr};
 ghost use Rattle.iax_frames.specs.FullFrame.{FullFrame, SpellsFull, IsFullHead, full_head, with_more};
 ghost use Rattle.iax_frames.specs.MiniFrame.{SpellsMini};
 ghost use Rattle.iax_frames.specs.TrunkFrame.{TrunkFrame, SpellsTrunk, IsTrunk, with_entry, entry_of, entry, head_len, is_timed};
@@ -245,8 +246,10 @@ pub fn append_entry_in_two(
 ) -> Result<(), TooLong>
     requires trunk { IsTrunk out.old }
     requires short { length front.now + length back.now < 2 ^ 64 }
-    ensures variant { IsOk result ↔ (length out.old + head_len (is_timed (slice_index out.old 3)) + length (front.now ++ back.now) ≤ 1400) }
-    ensures octets { OnOk result (out.new ≡ out.old ++ entry (entry_of (is_timed (slice_index out.old 3)) number timestamp (front.now ++ back.now))) }
+    ensures variant { IsOk result ↔
+        (length out.old + head_len (is_timed (slice_index out.old 3)) + length (front.now ++ back.now) ≤ 1400) }
+    ensures octets { OnOk result (out.new ≡ out.old ++
+        entry (entry_of (is_timed (slice_index out.old 3)) number timestamp (front.now ++ back.now))) }
     ensures spelled { OnOk result ((t : TrunkFrame) → SpellsTrunk out.old t
         → SpellsTrunk out.new (with_entry t (entry_of (is_timed t.command_data) number timestamp (front.now ++ back.now)))) }
     ensures err { OnErr result (out.new ≡ out.old) }
@@ -270,7 +273,8 @@ pub fn append_entry(
 ) -> Result<(), TooLong>
     requires { IsTrunk out.old }
     ensures variant { IsOk result ↔ (length out.old + head_len (is_timed (slice_index out.old 3)) + length media.now ≤ 1400) }
-    ensures octets { OnOk result (out.new ≡ out.old ++ entry (entry_of (is_timed (slice_index out.old 3)) number timestamp media.now)) }
+    ensures octets { OnOk result (out.new ≡ out.old ++
+        entry (entry_of (is_timed (slice_index out.old 3)) number timestamp media.now)) }
     ensures spelled { OnOk result ((t : TrunkFrame) → SpellsTrunk out.old t
         → SpellsTrunk out.new (with_entry t (entry_of (is_timed t.command_data) number timestamp media.now))) }
     ensures err { OnErr result (out.new ≡ out.old) }

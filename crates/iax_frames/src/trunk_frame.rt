@@ -1,6 +1,8 @@
 //! Trunk meta frames ("Meta Frames").
-ghost use Rattle.std.specs.Prelude.{◌≡◌, ◌≤◌, ◌<◌, true, false, List, [], ◌∷◌, drop, length, map, slice_index, IfSome, IfNone, Some, None};
-ghost use Rattle.iax_frames.specs.TrunkFrame.{TrunkEntry, TrunkFrame, is_timed, first_entry, entries_of, entry, entry_item, IsEntry, trunk_at};
+ghost use Rattle.std.specs.Prelude.{◌≡◌, ◌≤◌, ◌<◌, true, false, List, [], ◌∷◌, drop, length, map, slice_index, IfSome, IfNone};
+ghost use Rattle.std.specs.Prelude.{Some, None};
+ghost use Rattle.iax_frames.specs.TrunkFrame.{TrunkEntry, TrunkFrame, is_timed, first_entry, entries_of, entry, entry_item};
+ghost use Rattle.iax_frames.specs.TrunkFrame.{IsEntry, trunk_at};
 ghost use Rattle.std.specs.Iterator.{YieldsFirstBy, item_count};
 ghost use Rattle.iax_frames.specs.Items.{SpellsItems, IsCutAt};
 
@@ -39,7 +41,13 @@ impl<'a> Model for Trunk<'a> {
 
     ghost Value = { TrunkFrame };
 
-    ghost view = { λ t. record { command_data = t.command_data; timestamp = t.timestamp; entries = entries_of (is_timed t.command_data) t.entries.now } };
+    ghost view = { λ t.
+        record {
+          command_data = t.command_data;
+          timestamp = t.timestamp;
+          entries =
+              entries_of (is_timed t.command_data) t.entries.now;
+        } };
 
     ghost invariant = { λ t. SpellsItems entry (IsEntry (is_timed t.command_data)) t.entries.now
         (entries_of (is_timed t.command_data) t.entries.now) };

@@ -1,7 +1,8 @@
 //! The information elements of a text, and those among octets ("Information Elements").
 ghost use Rattle.std.specs.Prelude.{◌≡◌, ◌<◌, ◌≤◌, List, [], ◌∷◌, length, MatchResult, MatchOption, Ok, IfSome, IfNone};
 ghost use Rattle.std.specs.Option.{option_copied};
-ghost use Rattle.info_elements.specs.Element.{Element, SpellsElements, IsElementCutAt, last_of, u16_in, u32_in, first_element, elements_of};
+ghost use Rattle.info_elements.specs.Element.{Element, SpellsElements, IsElementCutAt, last_of, u16_in, u32_in, first_element};
+ghost use Rattle.info_elements.specs.Element.{elements_of};
 
 use std::marker::Model;
 
@@ -29,7 +30,8 @@ impl<'a> Model for Elements<'a> {
 // The element at the front, and what follows it.
 fn split_element(octets: &[u8]) -> Option<(u8, &[u8], &[u8])>
     ensures none { IfNone result (first_element octets.now ≡ None) }
-    ensures some { IfSome result (λ found. first_element octets.now ≡ Some (record { number = found.0; value = found.1.now }, found.2.now)) }
+    ensures some { IfSome result (λ found. first_element octets.now ≡
+        Some (record { number = found.0; value = found.1.now }, found.2.now)) }
     ensures short { IfSome result (λ found. length found.1.now ≤ 255) }
     ensures shorter { IfSome result (λ found. length found.2.now < length octets.now) }
 {

@@ -197,8 +197,8 @@ fn opened_out(alloc: Global, plan: &Plan, replies: &mut Replies) -> Option<Leg>
     .ok()
 }
 
-/// The leg of the peer in the east that a call for 300 opens at moment 0, under local number 5, where there must be memory, under a
-/// plan with further lines for that peer.
+/// The leg of the peer in the east that a call for 300 opens at moment 0, under local number 5, where there must be memory, under
+/// a plan with further lines for that peer.
 pub fn calling(rt: &impl Abort, alloc: Global, east: &str) -> Tested {
     let plan = planned(rt, alloc, "", east);
     let mut replies = Box::new(alloc, Replies::new()).expect(rt, "memory");

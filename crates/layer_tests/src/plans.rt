@@ -7,7 +7,8 @@ use peer_plan::{Endpoint, Key, NumberRange, Plan, PlanError};
 use std::alloc::Global;
 use std::process::Abort;
 
-/// Two peers, the first with a secret and a narrow window; what begins with `30` leads to it, else what begins with `3` to the second.
+/// Two peers, the first with a secret and a narrow window; what begins with `30` leads to it, else what begins with `3` to the
+/// second.
 const PLAN: &str = "format = 2\n\
 [[worker]]\n\
 address = \"127.0.0.1\"\n\
@@ -68,8 +69,8 @@ fn routes(rt: HostRuntime) {
     leads(&rt, &plan, 0, b"200", None);
 }
 
-/// Three peers: what begins with `3` leads to the second one, of the third's calls to the first one, and with `30` so of all calls; what
-/// begins with `4` leads there of the second's calls alone.
+/// Three peers: what begins with `3` leads to the second one, of the third's calls to the first one, and with `30` so of all
+/// calls; what begins with `4` leads there of the second's calls alone.
 const SOURCES: &str = "format = 3\n\
 [[worker]]\n\
 address = \"127.0.0.1\"\n\

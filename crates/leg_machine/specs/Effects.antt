@@ -1,5 +1,6 @@
 -- What a row of the tables says, and what a leg notes of it.
-pub use Rattle.call_signals.specs.Effects.{row, marking, no_effect, reply_alone, hung_up, rejected, goes_on, unless_over, is_reply}
+pub use Rattle.call_signals.specs.Effects.{row, marking, no_effect, reply_alone, hung_up, rejected, goes_on, unless_over}
+pub use Rattle.call_signals.specs.Effects.{is_reply}
 use Rattle.std.specs.Prelude.{true, false}
 use Rattle.leg_machine.specs.Legs.{LegState}
 use Rattle.call_signals.specs.declared.effects.Mark.{Mark}

@@ -1,6 +1,7 @@
 -- The table of the leg: what a taken frame does, row by row ("IAX Frames", "Control Frames", "Call Setup").
 pub use Rattle.call_signals.specs.FrameElements.{element_in}
-use Rattle.std.specs.Prelude.{ℕ, ◌+◌, List, length, map, not, nat_le, ◌&&◌, Bool, true, false, Option, None, Some, bit_and, ◌==◌, bytes_eq, if◌then◌else◌}
+use Rattle.std.specs.Prelude.{ℕ, ◌+◌, List, length, map, not, nat_le, ◌&&◌, Bool, true, false, Option, None, Some, bit_and, ◌==◌}
+use Rattle.std.specs.Prelude.{bytes_eq, if◌then◌else◌}
 use Rattle.std.specs.Char.{to_ascii_lowercase}
 use Rattle.call_auth.specs.Md5Answer.{md5_answer}
 use Rattle.iax_frames.specs.FullFrame.{FullFrame}

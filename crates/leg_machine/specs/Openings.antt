@@ -1,5 +1,6 @@
 -- How a leg begins: the rows of a NEW that comes, and a NEW that goes out ("Call Setup").
-pub use Rattle.call_signals.specs.Openings.{bits_in, has_bit, is_common, common_formats, chosen_format, call_format, offered_formats, is_version_2, opening_of, opening_effect, challenge_sent}
+pub use Rattle.call_signals.specs.Openings.{bits_in, has_bit, is_common, common_formats, chosen_format, call_format}
+pub use Rattle.call_signals.specs.Openings.{offered_formats, is_version_2, opening_of, opening_effect, challenge_sent}
 use Rattle.std.specs.Prelude.{ℕ, false, List, [], ◌∷◌, Option, None, Some, unwrap_or}
 use Rattle.iax_frames.specs.FullFrame.{FullFrame}
 use Rattle.info_elements.specs.Element.{elements_of, last_of}

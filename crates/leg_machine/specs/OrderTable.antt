@@ -1,5 +1,6 @@
 -- The table of orders: what the layer above lets a leg do, row by row ("Call Setup", "Control Frames").
-use Rattle.std.specs.Prelude.{◌≡◌, ◌≤◌, ℕ, not, ◌&&◌, ◌||◌, nat_le, length, Bool, true, false, List, [], ◌∷◌, map, Option, None, Some, if◌then◌else◌}
+use Rattle.std.specs.Prelude.{◌≡◌, ◌≤◌, ℕ, not, ◌&&◌, ◌||◌, nat_le, length, Bool, true, false, List, [], ◌∷◌, map, Option, None}
+use Rattle.std.specs.Prelude.{Some, if◌then◌else◌}
 use Rattle.iax_frames.specs.FullFrame.{spelling}
 use Rattle.iax_frames.specs.MiniFrame.{mini_spelling}
 use Rattle.seq_window.specs.Window.{held_count}
@@ -12,7 +13,8 @@ use Rattle.call_signals.specs.declared.causes.Cause.{Cause}
 use Rattle.leg_machine.specs.declared.media.MediaSent.{MediaSent}
 use Rattle.leg_machine.specs.declared.media.MediaSent.TheVariants.{Quelched, Voice, Mini}
 use Rattle.call_signals.specs.declared.orders.Order.{Order}
-use Rattle.call_signals.specs.declared.orders.Order.TheVariants.{Accept, Reject, Indicate, Answer, Dtmf, Media, Hangup, Doom, Paid}
+use Rattle.call_signals.specs.declared.orders.Order.TheVariants.{Accept, Reject, Indicate, Answer, Dtmf, Media, Hangup, Doom}
+use Rattle.call_signals.specs.declared.orders.Order.TheVariants.{Paid}
 use Rattle.call_signals.specs.declared.orders.OrderError.{OrderError}
 use Rattle.call_signals.specs.declared.orders.OrderError.TheVariants as errors
 use Rattle.leg_machine.specs.declared.orders.Ordered.{Ordered}
@@ -130,7 +132,10 @@ paid leg = record leg { owes = leg.owes && not (is_over leg.stage) }
 
 abbrev pub order_carried : LegState → Order → ℕ → Carried
 order_carried leg (Media media) now =
-    record { leg = after_media (media_sent leg now) leg media.now now; datagrams = media_datagrams (media_sent leg now) leg media.now now }
+    record {
+      leg = after_media (media_sent leg now) leg media.now now;
+      datagrams = media_datagrams (media_sent leg now) leg media.now now;
+    }
 order_carried leg (Doom cause) now = record { leg = doomed leg cause; datagrams = [] }
 order_carried leg Paid now = record { leg = paid leg; datagrams = [] }
 order_carried leg (Accept format) now = row_carried leg (order_row leg (Accept format)) now

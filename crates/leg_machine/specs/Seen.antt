@@ -79,7 +79,8 @@ frame_effect frame stage = seen_effect stage None
 -- the leg after a full frame, and what it hands up, are those of one of these frames
 abbrev pub IsSeenFrame : SeenLeg → SeenLeg → Option Signal → Type 0
 IsSeenFrame old new signal =
-    (frame : SeenFrame) × (new ≡ moved old (frame_effect frame old.stage).stage) × (signal ≡ (frame_effect frame old.stage).signal)
+    (frame : SeenFrame) × (new ≡ moved old (frame_effect frame old.stage).stage) ×
+    (signal ≡ (frame_effect frame old.stage).signal)
 
 -- ---- openings
 

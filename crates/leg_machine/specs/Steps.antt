@@ -121,7 +121,12 @@ prepared leg frame = settled (acknowledged (learnt leg frame.head.source) frame.
 -- an INVAL ends the leg; it neither acknowledges nor teaches
 abbrev pub inval_step : LegState → Step
 inval_step leg =
-    record { leg = failed leg failures.Inval; replies = []; judged = judged.Unnumbered; signal = unless_over leg.stage signals.Hangup }
+    record {
+      leg = failed leg failures.Inval;
+      replies = [];
+      judged = judged.Unnumbered;
+      signal = unless_over leg.stage signals.Hangup;
+    }
 
 abbrev pub message_step : Message → LegState → FullFrame → ℕ → Step
 message_step message leg frame now =

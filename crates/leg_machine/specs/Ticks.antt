@@ -1,5 +1,6 @@
 -- What a tick does to a leg ("Message Transport": retransmission; "PING").
-use Rattle.std.specs.Prelude.{ℕ, ◌+◌, not, nat_lt, nat_le, ◌==◌, ◌&&◌, ◌||◌, Bool, false, is_none, List, [], ◌∷◌, ◌++◌, if◌then◌else◌}
+use Rattle.std.specs.Prelude.{ℕ, ◌+◌, not, nat_lt, nat_le, ◌==◌, ◌&&◌, ◌||◌, Bool, false, is_none, List, [], ◌∷◌, ◌++◌}
+use Rattle.std.specs.Prelude.{if◌then◌else◌}
 use Rattle.iax_frames.specs.FullFrame.{FullFrame}
 use Rattle.seq_window.specs.Window.{held_count, is_full, first_due}
 use Rattle.leg_machine.specs.Legs.{LegState, entered, failed, local_room, is_short_of_entries}

@@ -1,5 +1,6 @@
 -- What a step of a leg adds to its record, and what it sends, as one side of a network does ("Message Transport").
-use Rattle.std.specs.Prelude.{◌≡◌, ◌⊎◌, ℕ, ◌+◌, ◌≤◌, Bool, true, false, Option, None, Some, List, [], ◌∷◌, ◌++◌, All, slice_get, if◌then◌else◌}
+use Rattle.std.specs.Prelude.{◌≡◌, ◌⊎◌, ℕ, ◌+◌, ◌≤◌, Bool, true, false, Option, None, Some, List, [], ◌∷◌, ◌++◌, All, slice_get}
+use Rattle.std.specs.Prelude.{if◌then◌else◌}
 use Rattle.iax_frames.specs.FullFrame.{FullFrame, spelling, subclass_meaning}
 use Rattle.iax_frames.specs.MiniFrame.{MiniFrame, SpellsMini}
 use Rattle.iax_frames.specs.declared.stored_frame.Frame.{Frame}
@@ -51,9 +52,9 @@ SendsNumbered leg = All IsNumberedFrame (sent leg.window.history)
 abbrev pub IsNewest : List Entry → Frame → ℕ → Type 0
 IsNewest history frame number = (before : List Entry) × (history ≡ before ++ Sent frame ∷ []) × (number ≡ sent_count before)
 
--- The number under which a side with this record has sent: a new frame, the record's last entry, under the number that was the next
--- before it, so that it can't be acknowledged yet; again a held frame, under its own; and what is no frame of the record under the
--- next number. Again: R is set.
+-- The number under which a side with this record has sent: a new frame, the record's last entry, under the number that was the
+-- next before it, so that it can't be acknowledged yet; again a held frame, under its own; and what is no frame of the record
+-- under the next number. Again: R is set.
 abbrev pub IsNumberOf : List Entry → Bool → Option Frame → ℕ → Type 0
 IsNumberOf history false (Some frame) number = IsNewest history frame number
 IsNumberOf history true (Some frame) number = (slice_get (sent history) number ≡ Some frame) × (acked_count history ≤ number)

@@ -1,5 +1,6 @@
 -- The small changes of which a leg's steps are made.
-use Rattle.std.specs.Prelude.{ℕ, ◌-◌, ◌&&◌, ◌||◌, ◌==◌, not, Bool, true, false, nat_le, Option, None, Some, unwrap_or, if◌then◌else◌}
+use Rattle.std.specs.Prelude.{ℕ, ◌-◌, ◌&&◌, ◌||◌, ◌==◌, not, Bool, true, false, nat_le, Option, None, Some, unwrap_or}
+use Rattle.std.specs.Prelude.{if◌then◌else◌}
 use Rattle.iax_frames.specs.FullFrame.{FullFrame}
 use Rattle.iax_frames.specs.declared.stored_frame.Frame.{Frame}
 use Rattle.seq_window.specs.declared.judgements.Acknowledged.{Acknowledged}

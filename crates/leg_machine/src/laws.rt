@@ -9,11 +9,13 @@ ghost use Rattle.leg_machine.specs.Legs.{LegState};
 ghost use Rattle.leg_machine.specs.Media.{IsMediaOf};
 ghost use Rattle.leg_machine.specs.Openings.{open_in_step, open_out_step};
 ghost use Rattle.leg_machine.specs.OrderTable.{order_refused, order_carried};
-ghost use Rattle.leg_machine.specs.Seen.{seen, kind_of, stage_after, fresh_leg, IsSeenFrame, IsSeenOpening, IsSeenOrder, IsSeenTick};
+ghost use Rattle.leg_machine.specs.Seen.{seen, kind_of, stage_after, fresh_leg, IsSeenFrame, IsSeenOpening, IsSeenOrder};
+ghost use Rattle.leg_machine.specs.Seen.{IsSeenTick};
 ghost use Rattle.leg_machine.specs.Replies.{vnak};
 ghost use Rattle.leg_machine.specs.Steps.{full_step, judged_step};
 ghost use Rattle.leg_machine.specs.Ticks.{quiet, hang_up_step, tick_step, is_idle};
-ghost use Rattle.leg_machine.specs.Tie.{TakesTurn, SendsAtMostOne, TakesFirstTurn, HasSentAtMostOne, SendsNumbered, HasSent, HasSentOrMini};
+ghost use Rattle.leg_machine.specs.Tie.{TakesTurn, SendsAtMostOne, TakesFirstTurn, HasSentAtMostOne, SendsNumbered, HasSent};
+ghost use Rattle.leg_machine.specs.Tie.{HasSentOrMini};
 ghost use Rattle.leg_machine.specs.Tries.{tries, NoneDue, IsFinished};
 ghost use Rattle.call_signals.specs.declared.formats.Format.{Format};
 ghost use Rattle.call_signals.specs.declared.messages.Message.{Message};
@@ -45,8 +47,8 @@ pub fn media_is_the_frames()
     ensures { (leg : LegState) (frame : FullFrame) (now : ℕ) → IsMediaOf frame (full_step leg frame now).signal }
 {}
 
-/// Where the plan has no `vnak_ms`, each gap is answered by a VNAK. Where it has, silence waits for the frame that the last VNAK asked
-/// for and for no other: a leg that has come to expect another one has no VNAK that counts.
+/// Where the plan has no `vnak_ms`, each gap is answered by a VNAK. Where it has, silence waits for the frame that the last VNAK
+/// asked for and for no other: a leg that has come to expect another one has no VNAK that counts.
 pub fn gaps_are_answered()
     ensures always { (leg : LegState) (frame : FullFrame) (message : Message) (now : ℕ) → leg.rules.vnak_ms ≡ 0 →
         (judged_step Gap leg frame message now).replies ≡ vnak leg frame ∷ [] }
@@ -67,7 +69,8 @@ pub fn steps_are_seen()
         (order_refused leg order now ≡ Some WrongStage) ↔ (stage_after (kind_of order) leg.stage ≡ None) }
     ensures ticks { (grown : Bool) (leg : LegState) (now : ℕ) → IsSeenTick (seen leg) (seen (tick_step grown leg now).leg) }
     ensures calls_in { (rules : PeerRules) (number : ℕ) (frame : FullFrame) (now : ℕ) (challenge : List ℕ) → 1 ≤ rules.window →
-        IsSeenOpening (seen (open_in_step rules number frame now challenge).leg) (open_in_step rules number frame now challenge).signal }
+        IsSeenOpening (seen (open_in_step rules number frame now challenge).leg)
+        (open_in_step rules number frame now challenge).signal }
     ensures calls_out { (rules : PeerRules) (number : ℕ) (called : List ℕ) (caller : List ℕ) (format : Format) (now : ℕ) →
         seen (open_out_step rules number called caller format now).leg ≡ fresh_leg Waiting }
 {}
@@ -95,7 +98,8 @@ pub fn steps_send_as_sides()
     ensures ticks { (grown : Bool) (leg : LegState) (now : ℕ) → SendsNumbered leg →
         HasSent (tick_step grown leg now).leg (map spelling (tick_step grown leg now).replies) }
     ensures calls_in { (rules : PeerRules) (number : ℕ) (frame : FullFrame) (now : ℕ) (challenge : List ℕ) →
-        HasSent (open_in_step rules number frame now challenge).leg (map spelling (open_in_step rules number frame now challenge).replies) }
+        HasSent (open_in_step rules number frame now challenge).leg
+        (map spelling (open_in_step rules number frame now challenge).replies) }
     ensures calls_out { (rules : PeerRules) (number : ℕ) (called : List ℕ) (caller : List ℕ) (format : Format) (now : ℕ) →
         HasSent (open_out_step rules number called caller format now).leg
         (map spelling (open_out_step rules number called caller format now).replies) }

@@ -1,12 +1,15 @@
 //! A leg, by the calls of the layer above.
-ghost use Rattle.std.specs.Prelude.{◌≡◌, ◌==◌, ℕ, ◌+◌, ◌≤◌, ◌<◌, ◌↔◌, true, None, Some, Err, [], length, map, All, IfOk, IfErr, OnOk, OnErr};
+ghost use Rattle.std.specs.Prelude.{◌≡◌, ◌==◌, ℕ, ◌+◌, ◌≤◌, ◌<◌, ◌↔◌, true, None, Some, Err, [], length, map, All, IfOk, IfErr};
+ghost use Rattle.std.specs.Prelude.{OnOk, OnErr};
 ghost use Rattle.iax_frames.specs.FullFrame.{spelling};
 ghost use Rattle.leg_machine.specs.Legs.{capacity_of, is_short_of_entries};
 ghost use Rattle.leg_machine.specs.Media.{media_sent, after_media, media_frames};
 ghost use Rattle.leg_machine.specs.Openings.{open_in_step, open_out_step};
-ghost use Rattle.leg_machine.specs.OrderTable.{order_refused, media_refused, is_voice, wants_memory, IsRefusal, IsShortMedia, order_carried};
+ghost use Rattle.leg_machine.specs.OrderTable.{order_refused, media_refused, is_voice, wants_memory, IsRefusal, IsShortMedia};
+ghost use Rattle.leg_machine.specs.OrderTable.{order_carried};
 ghost use Rattle.call_signals.specs.PeerRules.{IsPeerRules};
-ghost use Rattle.leg_machine.specs.Seen.{seen, kind_of, stage_after, fresh_leg, IsSeenFrame, IsSeenOpening, IsSeenOrder, IsSeenTick};
+ghost use Rattle.leg_machine.specs.Seen.{seen, kind_of, stage_after, fresh_leg, IsSeenFrame, IsSeenOpening, IsSeenOrder};
+ghost use Rattle.leg_machine.specs.Seen.{IsSeenTick};
 ghost use Rattle.leg_machine.specs.Steps.{full_step, heard_of};
 ghost use Rattle.leg_machine.specs.Ticks.{tick_step};
 ghost use Rattle.leg_machine.specs.Tie.{TakesTurn, SendsAtMostOne, TakesFirstTurn, HasSentAtMostOne, IsSending, IsSendingOrMini};
@@ -69,7 +72,8 @@ impl Leg {
         requires short { length frame.now.payload ≤ 1388 }
         requires empty { replies.old ≡ [] }
         ensures leg { IfOk result (λ opened. opened.0.state ≡ (open_in_step rules.now number frame.now now challenge.now).leg) }
-        ensures replies { OnOk result (replies.new ≡ map spelling (open_in_step rules.now number frame.now now challenge.now).replies) }
+        ensures replies { OnOk result (replies.new ≡
+            map spelling (open_in_step rules.now number frame.now now challenge.now).replies) }
         ensures heard { IfOk result (λ opened. opened.1 ≡ heard_of (open_in_step rules.now number frame.now now challenge.now)) }
         // The record begins as that of one side of a network may.
         ensures tied { IfOk result (λ opened. TakesFirstTurn frame.now opened.0.state) }
@@ -202,7 +206,8 @@ impl Leg {
         requires empty { replies.old ≡ [] }
         ensures sent { IfOk result (λ sent. sent ≡ media_sent self.old.state now) }
         ensures leg { OnOk result (self.new.state ≡ after_media (media_sent self.old.state now) self.old.state media.now now) }
-        ensures replies { OnOk result (replies.new ≡ map spelling (media_frames (media_sent self.old.state now) self.old.state media.now now)) }
+        ensures replies { OnOk result (replies.new ≡
+            map spelling (media_frames (media_sent self.old.state now) self.old.state media.now now)) }
         ensures tied { OnOk result (SendsAtMostOne self.old.state self.new.state) }
         ensures sendings { OnOk result (All (IsSending self.new.state) replies.new) }
         ensures seen { OnOk result (IsSeenOrder kinds.Media (seen self.old.state) (seen self.new.state)) }
@@ -238,7 +243,8 @@ impl Leg {
         ensures refused { IfErr result (IsRefusal (order_refused self.old.state order.now now)) }
         ensures memory { result ≡ Err OrderError.Memory → wants_memory self.old.state order.now now ≡ true }
         ensures spare { result ≡ Err OrderError.Memory → self.old.spare ≡ 0 }
-        ensures wrong_stage { (result ≡ Err OrderError.WrongStage) ↔ (stage_after (kind_of order.now) self.old.state.stage ≡ None) }
+        ensures wrong_stage { (result ≡ Err OrderError.WrongStage) ↔
+            (stage_after (kind_of order.now) self.old.state.stage ≡ None) }
         ensures err { OnErr result (self.new ≡ self.old) }
         ensures none_sent { OnErr result (replies.new ≡ replies.old) }
         ensures capacity { capacity_of self.old ≤ capacity_of self.new }

@@ -1,5 +1,6 @@
 //! The calls of a leg that give their datagrams in what they answer. Each is made of its form over a lent list.
-ghost use Rattle.std.specs.Prelude.{◌≡◌, ◌==◌, ◌≤◌, ◌<◌, ◌↔◌, true, None, Err, length, map, All, option_copied, IfOk, IfErr, OnOk, OnErr};
+ghost use Rattle.std.specs.Prelude.{◌≡◌, ◌==◌, ◌≤◌, ◌<◌, ◌↔◌, true, None, Err, length, map, All, option_copied, IfOk, IfErr};
+ghost use Rattle.std.specs.Prelude.{OnOk, OnErr};
 ghost use Rattle.std.specs.Option.{ForSome};
 ghost use Rattle.iax_frames.specs.FullFrame.{spelling};
 ghost use Rattle.leg_machine.specs.Legs.{capacity_of, is_short_of_entries};
@@ -8,7 +9,8 @@ ghost use Rattle.leg_machine.specs.Openings.{open_in_step, open_out_step};
 ghost use Rattle.leg_machine.specs.OrderTable.{order_refused, wants_memory, IsRefusal, IsShortMedia, order_carried};
 ghost use Rattle.call_signals.specs.Caller.{numbered};
 ghost use Rattle.call_signals.specs.PeerRules.{IsPeerRules};
-ghost use Rattle.leg_machine.specs.Seen.{seen, kind_of, stage_after, fresh_leg, IsSeenFrame, IsSeenOpening, IsSeenOrder, IsSeenTick};
+ghost use Rattle.leg_machine.specs.Seen.{seen, kind_of, stage_after, fresh_leg, IsSeenFrame, IsSeenOpening, IsSeenOrder};
+ghost use Rattle.leg_machine.specs.Seen.{IsSeenTick};
 ghost use Rattle.leg_machine.specs.Steps.{full_step};
 ghost use Rattle.leg_machine.specs.Ticks.{tick_step};
 ghost use Rattle.leg_machine.specs.Tie.{TakesTurn, SendsAtMostOne, TakesFirstTurn, HasSentAtMostOne, IsSending, IsSendingOrMini};
@@ -50,7 +52,8 @@ impl Leg {
         requires first { frame.now.head.oseqno ≡ 0 }
         requires short { length frame.now.payload ≤ 1388 }
         ensures leg { IfOk result (λ opened. opened.0.state ≡ (open_in_step rules.now number frame.now now challenge.now).leg) }
-        ensures outcome { IfOk result (λ opened. opened.1 ≡ outcome_of (open_in_step rules.now number frame.now now challenge.now)) }
+        ensures outcome { IfOk result (λ opened. opened.1 ≡
+            outcome_of (open_in_step rules.now number frame.now now challenge.now)) }
         ensures tied { IfOk result (λ opened. TakesFirstTurn frame.now opened.0.state) }
         ensures sendings { IfOk result (λ opened. All (IsSending opened.0.state) opened.1.replies) }
         ensures seen { IfOk result (λ opened. HandsUp opened.0.state opened.1.onward (IsSeenOpening (seen opened.0.state))) }
@@ -90,7 +93,8 @@ impl Leg {
         requires number { 1 ≤ number }
         requires called { length called.now ≤ 255 }
         requires calling { ForSome calling (λ text. length text.now ≤ 255) }
-        ensures leg { IfOk result (λ opened. opened.0.state ≡ (open_out_step rules.now number called.now (numbered (option_copied calling.entry)) format now).leg) }
+        ensures leg { IfOk result (λ opened. opened.0.state ≡
+            (open_out_step rules.now number called.now (numbered (option_copied calling.entry)) format now).leg) }
         ensures outcome { IfOk result (λ opened. opened.1 ≡
             outcome_of (open_out_step rules.now number called.now (numbered (option_copied calling.entry)) format now)) }
         ensures tied { IfOk result (λ opened. HasSentAtMostOne opened.0.state) }
@@ -126,7 +130,8 @@ impl Leg {
         ensures outcome { IfOk result (λ outcome. outcome ≡ outcome_of (full_step self.old.state frame.now now)) }
         ensures tied { OnOk result (TakesTurn self.old.state frame.now self.new.state) }
         ensures sendings { IfOk result (λ outcome. All (IsSending self.new.state) outcome.replies) }
-        ensures seen { IfOk result (λ outcome. HandsUp self.new.state outcome.onward (IsSeenFrame (seen self.old.state) (seen self.new.state))) }
+        ensures seen { IfOk result (λ outcome.
+            HandsUp self.new.state outcome.onward (IsSeenFrame (seen self.old.state) (seen self.new.state))) }
         ensures record_full { (result ≡ Err StepError.RecordFull) ↔ (is_short_of_entries self.old.state ≡ true) }
         ensures memory { result ≡ Err StepError.Memory → self.old.spare < 4 }
         ensures err { OnErr result (self.new ≡ self.old) }
@@ -154,7 +159,8 @@ impl Leg {
         ensures refused { IfErr result (IsRefusal (order_refused self.old.state order.now now)) }
         ensures memory { result ≡ Err OrderError.Memory → wants_memory self.old.state order.now now ≡ true }
         ensures spare { result ≡ Err OrderError.Memory → self.old.spare ≡ 0 }
-        ensures wrong_stage { (result ≡ Err OrderError.WrongStage) ↔ (stage_after (kind_of order.now) self.old.state.stage ≡ None) }
+        ensures wrong_stage { (result ≡ Err OrderError.WrongStage) ↔
+            (stage_after (kind_of order.now) self.old.state.stage ≡ None) }
         ensures err { OnErr result (self.new ≡ self.old) }
         ensures capacity { capacity_of self.old ≤ capacity_of self.new }
     {

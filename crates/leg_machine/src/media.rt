@@ -66,7 +66,8 @@ impl Machine {
         requires short { length media.now ≤ 1380 }
         requires empty { outs.old ≡ [] }
         ensures leg { OnOk result (leg_of self.new ≡ rules.after_media MediaSent.Voice (leg_of self.old) media.now now) }
-        ensures replies { OnOk result (outs.new ≡ map spelling (rules.media_frames MediaSent.Voice (leg_of self.old) media.now now)) }
+        ensures replies { OnOk result (outs.new ≡
+            map spelling (rules.media_frames MediaSent.Voice (leg_of self.old) media.now now)) }
         ensures unrefused { OnOk result (orders.media_refused_as MediaSent.Voice (leg_of self.old) ≡ None) }
         ensures refused { IfErr result (orders.IsRefusal (orders.media_refused_as MediaSent.Voice (leg_of self.old))) }
         ensures spare { result ≡ Err OrderError.Memory → self.old.window.spare ≡ 0 }
@@ -92,7 +93,8 @@ impl Machine {
         requires short { length media.now ≤ 1380 }
         requires empty { outs.old ≡ [] }
         ensures sent { IfOk result (λ sent. sent ≡ rules.media_sent (leg_of self.old) now) }
-        ensures leg { OnOk result (leg_of self.new ≡ rules.after_media (rules.media_sent (leg_of self.old) now) (leg_of self.old) media.now now) }
+        ensures leg { OnOk result (leg_of self.new ≡
+            rules.after_media (rules.media_sent (leg_of self.old) now) (leg_of self.old) media.now now) }
         ensures replies { OnOk result (outs.new ≡
             map spelling (rules.media_frames (rules.media_sent (leg_of self.old) now) (leg_of self.old) media.now now)) }
         ensures unrefused { OnOk result (orders.media_refused (leg_of self.old) now ≡ None) }
@@ -134,8 +136,10 @@ impl Machine {
     ) -> Result<(), OrderError>
         requires short { length media.now ≤ 1380 }
         requires empty { outs.old ≡ [] }
-        ensures leg { OnOk result (leg_of self.new ≡ rules.after_media (rules.media_sent (leg_of self.old) now) (leg_of self.old) media.now now) }
-        ensures replies { OnOk result (outs.new ≡ orders.media_datagrams (rules.media_sent (leg_of self.old) now) (leg_of self.old) media.now now) }
+        ensures leg { OnOk result (leg_of self.new ≡
+            rules.after_media (rules.media_sent (leg_of self.old) now) (leg_of self.old) media.now now) }
+        ensures replies { OnOk result (outs.new ≡
+            orders.media_datagrams (rules.media_sent (leg_of self.old) now) (leg_of self.old) media.now now) }
         ensures unrefused { OnOk result (orders.media_refused (leg_of self.old) now ≡ None) }
         ensures refused { IfErr result (orders.IsRefusal (orders.media_refused (leg_of self.old) now)) }
         ensures memory { result ≡ Err OrderError.Memory → orders.is_voice (rules.media_sent (leg_of self.old) now) ≡ true }

@@ -73,7 +73,8 @@ impl Machine {
     /// Why a numbered frame can't go out now: its window, then its record.
     pub fn sending_refused(&self, most: usize) -> Option<OrderError>
         ensures refused { result ≡ orders.sending_refused (leg_of self.now) most }
-        ensures room { IfNone result ((held_count self.now.window.state < most) × (entry_count self.now.window.state + 4 ≤ self.now.window.state.limit)) }
+        ensures room { IfNone result ((held_count self.now.window.state < most) ×
+            (entry_count self.now.window.state + 4 ≤ self.now.window.state.limit)) }
     {
         if most <= self.window.held_len() {
             Some(OrderError::WindowFull)
@@ -119,11 +120,14 @@ impl Machine {
     // An order of the rows in which a numbered frame goes out.
     fn row(&mut self, order: &Order, now: u64, outs: &mut Replies) -> Result<(), OrderError>
         requires { outs.old ≡ [] }
-        ensures leg { OnOk result (leg_of self.new ≡ (orders.row_carried (leg_of self.old) (orders.order_row (leg_of self.old) order.now) now).leg) }
+        ensures leg { OnOk result (leg_of self.new ≡
+            (orders.row_carried (leg_of self.old) (orders.order_row (leg_of self.old) order.now) now).leg) }
         ensures replies { OnOk result (outs.new ≡
             (orders.row_carried (leg_of self.old) (orders.order_row (leg_of self.old) order.now) now).datagrams) }
-        ensures unrefused { OnOk result (orders.row_refused (leg_of self.old) (orders.order_row (leg_of self.old) order.now) ≡ None) }
-        ensures refused { IfErr result (orders.IsRefusal (orders.row_refused (leg_of self.old) (orders.order_row (leg_of self.old) order.now))) }
+        ensures unrefused { OnOk result (orders.row_refused (leg_of self.old) (orders.order_row (leg_of self.old) order.now) ≡
+            None) }
+        ensures refused { IfErr result
+            (orders.IsRefusal (orders.row_refused (leg_of self.old) (orders.order_row (leg_of self.old) order.now))) }
         ensures spare { result ≡ Err OrderError.Memory → self.old.window.spare ≡ 0 }
         ensures err { OnErr result (self.new ≡ self.old) }
         ensures none_sent { OnErr result (outs.new ≡ outs.old) }

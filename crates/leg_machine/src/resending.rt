@@ -16,7 +16,8 @@ impl Machine {
     // The held frames as they go out again, oldest first.
     fn held_again(&self, outs: &mut Replies)
         requires { outs.old ≡ [] }
-        ensures { outs.new ≡ map (λ held. spelling (replies.sent_again (leg_of self.now) held)) (held_frames self.now.window.state) }
+        ensures { outs.new ≡
+            map (λ held. spelling (replies.sent_again (leg_of self.now) held)) (held_frames self.now.window.state) }
     {
         for place in 0..self.window.held_len() {
             let held = self.window.held_frame(place);

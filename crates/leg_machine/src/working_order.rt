@@ -76,7 +76,8 @@ impl Machine {
         requires short { length frame.now.payload ≤ 1388 }
         requires more { length outs.old < 128 }
         ensures leg { leg_of self.new ≡ (steps.taken_step effect.now (leg_of self.old) frame.now message.now now).leg }
-        ensures replies { outs.new ≡ outs.old ++ map spelling (steps.taken_step effect.now (leg_of self.old) frame.now message.now now).replies }
+        ensures replies { outs.new ≡ outs.old ++
+            map spelling (steps.taken_step effect.now (leg_of self.old) frame.now message.now now).replies }
         ensures heard { result ≡ steps.heard_of (steps.taken_step effect.now (leg_of self.old) frame.now message.now now) }
         ensures capacity { capacity_of (whole_leg self.old) ≤ capacity_of (whole_leg self.new) }
     {
@@ -129,9 +130,15 @@ impl Machine {
         requires room { HasRoom 3 self.old }
         requires short { length frame.now.payload ≤ 1388 }
         requires more { length outs.old < 128 }
-        ensures leg { leg_of self.new ≡ (steps.judged_step (judged_number self.old.window.state.history frame.now.head.oseqno) (leg_of self.old) frame.now message.now now).leg }
-        ensures replies { outs.new ≡ outs.old ++ map spelling (steps.judged_step (judged_number self.old.window.state.history frame.now.head.oseqno) (leg_of self.old) frame.now message.now now).replies }
-        ensures heard { result ≡ steps.heard_of (steps.judged_step (judged_number self.old.window.state.history frame.now.head.oseqno) (leg_of self.old) frame.now message.now now) }
+        ensures leg { leg_of self.new ≡
+            (steps.judged_step (judged_number self.old.window.state.history frame.now.head.oseqno)
+            (leg_of self.old) frame.now message.now now).leg }
+        ensures replies { outs.new ≡ outs.old ++
+            map spelling (steps.judged_step (judged_number self.old.window.state.history frame.now.head.oseqno)
+            (leg_of self.old) frame.now message.now now).replies }
+        ensures heard { result ≡
+            steps.heard_of (steps.judged_step (judged_number self.old.window.state.history frame.now.head.oseqno)
+            (leg_of self.old) frame.now message.now now) }
         ensures capacity { capacity_of (whole_leg self.old) ≤ capacity_of (whole_leg self.new) }
     {
         match self.judged(frame) {
@@ -176,7 +183,8 @@ impl Machine {
         requires short { length frame.now.payload ≤ 1388 }
         requires more { length outs.old < 128 }
         ensures leg { leg_of self.new ≡ (steps.numbered_step (leg_of self.old) frame.now message.now now).leg }
-        ensures replies { outs.new ≡ outs.old ++ map spelling (steps.numbered_step (leg_of self.old) frame.now message.now now).replies }
+        ensures replies { outs.new ≡ outs.old ++
+            map spelling (steps.numbered_step (leg_of self.old) frame.now message.now now).replies }
         ensures heard { result ≡ steps.heard_of (steps.numbered_step (leg_of self.old) frame.now message.now now) }
         ensures capacity { capacity_of (whole_leg self.old) ≤ capacity_of (whole_leg self.new) }
     {

@@ -1,5 +1,6 @@
 //! Supplying, moving and gathering shares.
-ghost use Rattle.std.specs.Prelude.{◌≡◌, ◌+◌, ◌<◌, ◌≤◌, ◌^◌, ◌↔◌, [], IfOk, OnOk, IfErr, IsErr, IfSome, IsNone, length, sum, vec_len};
+ghost use Rattle.std.specs.Prelude.{◌≡◌, ◌+◌, ◌<◌, ◌≤◌, ◌^◌, ◌↔◌, [], IfOk, OnOk, IfErr, IsErr, IfSome, IsNone, length, sum};
+ghost use Rattle.std.specs.Prelude.{vec_len};
 ghost use Rattle.std.specs.Arc.{arc_value};
 
 use crate::share::Share;

@@ -19,8 +19,8 @@ pub type Octets = Trail<u8>;
 pub enum Made {
     /// A datagram came to a peer: its octets, the moment, the answer, and what was handed up.
     Datagram(u16, Octets, u64, Result<Step, PeerError>, Seen<Onwards>),
-    /// A NEW that came opens a leg of a peer: the name, the frame's head and data, the moment, the challenge, the answer, and what
-    /// was handed up.
+    /// A NEW that came opens a leg of a peer: the name, the frame's head and data, the moment, the challenge, the answer, and
+    /// what was handed up.
     OpenIn(
         u16,
         LegName,
@@ -31,7 +31,8 @@ pub enum Made {
         Result<Step, OpenError>,
         Seen<Onwards>,
     ),
-    /// A NEW of ours opens a leg of a peer: the name, the number that is called, who calls, the format, the moment, and the answer.
+    /// A NEW of ours opens a leg of a peer: the name, the number that is called, who calls, the format, the moment, and the
+    /// answer.
     OpenOut(u16, LegName, Octets, Seen<Caller>, Format, u64, Result<Step, OpenError>),
     /// A leg of a peer gets an order: the leg's name, the order with its media, the moment, and the answer.
     Order(u16, LegName, OrderKind, Octets, u64, Result<Step, OrderError>),

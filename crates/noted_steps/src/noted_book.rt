@@ -1,7 +1,8 @@
 //! The book of calls, as it lies under its lock.
 ghost use Rattle.std.specs.Prelude.{◌≡◌, ◌↔◌, None, Some, false, IsErr, IfErr, IfOk, IfSome, OnErr, OnOk};
 ghost use Rattle.std.specs.FinMap.{get};
-ghost use Rattle.call_book.specs.Book.{IsBook, IsNumberOf, after_reserve, bridge_answer, bridged, has_name, partner_of, released, reserve_answer};
+ghost use Rattle.call_book.specs.Book.{IsBook, IsNumberOf, after_reserve, bridge_answer, bridged, has_name, partner_of, released};
+ghost use Rattle.call_book.specs.Book.{reserve_answer};
 ghost use Rattle.noted_steps.specs.Notes.{note, without_lease};
 ghost use Rattle.noted_steps.specs.declared.made.Made.TheVariants as mades;
 

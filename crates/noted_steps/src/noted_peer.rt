@@ -10,8 +10,8 @@ use iax_frames::Out;
 use peer_lock::{Description, Naming, PeerState, Status, Sums};
 use std::marker::Model;
 
-/// The state of a peer, whose every step is noted under the pass that it is made with. Contracts see that state and the peer's place
-/// in the plan.
+/// The state of a peer, whose every step is noted under the pass that it is made with. Contracts see that state and the peer's
+/// place in the plan.
 #[derive(Drop)]
 pub struct NotedPeer<J: Naming> {
     pub(crate) number: u16,

@@ -9,8 +9,8 @@ use std::alloc::Global;
 use std::marker::Model;
 use trails::{Seen, Trail};
 
-/// The token of one worker or caller. Contracts see the credit that peers have passed to it, the steps that it began with, and what
-/// was made under it since: each step of a locked state, in order, with its answer.
+/// The token of one worker or caller. Contracts see the credit that peers have passed to it, the steps that it began with, and
+/// what was made under it since: each step of a locked state, in order, with its answer.
 ///
 /// Its step credit is what it began with and one for each step of a peer among those. What was made is kept by proofs alone.
 #[derive(Drop)]
@@ -63,8 +63,8 @@ impl<J: Naming> Pass<J> {
         self.credits.steps()
     }
 
-    /// An empty list for what a step hands up. It should come back by `keep`; without one that came back it is a new one, which has
-    /// no memory yet.
+    /// An empty list for what a step hands up. It should come back by `keep`; without one that came back it is a new one, which
+    /// has no memory yet.
     pub fn lend(&mut self, alloc: Global) -> Onwards
         ensures nothing { IsNothing result }
         ensures same { self.new ≡ self.old }

@@ -1,5 +1,6 @@
 //! The steps of a peer, each noted under its pass.
-ghost use Rattle.std.specs.Prelude.{◌≡◌, ◌+◌, ◌≤◌, ◌↔◌, ◌⊎◌, length, option_map, true, false, All, Err, None, Some, IfErr, IfOk, IfNone, IfSome, IsErr, IsNone, IsTrue, OnErr, OnOk, OnSome};
+ghost use Rattle.std.specs.Prelude.{◌≡◌, ◌+◌, ◌≤◌, ◌↔◌, ◌⊎◌, length, option_map, true, false, All, Err, None, Some, IfErr, IfOk};
+ghost use Rattle.std.specs.Prelude.{IfNone, IfSome, IsErr, IsNone, IsTrue, OnErr, OnOk, OnSome};
 ghost use Rattle.call_signals.specs.Orders.{kind_of};
 ghost use Rattle.call_signals.specs.declared.outcomes.Judged.TheVariants.{Unnumbered};
 ghost use Rattle.iax_frames.specs.declared.datagram.Datagram.{Datagram as DatagramValue};
@@ -69,13 +70,18 @@ impl<J: Naming> NotedPeer<J> {
         requires nothing { IsNothing onwards.old }
         ensures noted { Notes (mades.Datagram self.old.number octets.now now result onwards.new) pass.old pass.new }
         ensures number { self.new.number ≡ self.old.number }
-        ensures made { IfOk result (λ step. (d : DatagramValue) → IsWorked J.first_steps self.old.state.accounts.steps octets.now d
-            → Makes (datagram_step J.first_octets self.old.state d now) self.new.state step pass.old.credit pass.new.credit onwards.new) }
+        ensures made { IfOk result (λ step. (d : DatagramValue) →
+            IsWorked J.first_steps self.old.state.accounts.steps octets.now d
+            → Makes (datagram_step J.first_octets self.old.state d now) self.new.state step
+            pass.old.credit pass.new.credit onwards.new) }
         ensures worked { OnOk result ((d : DatagramValue) × IsWorked J.first_steps self.old.state.accounts.steps octets.now d) }
-        ensures unrefused { OnOk result ((d : DatagramValue) → IsWorked J.first_steps self.old.state.accounts.steps octets.now d → datagram_refused self.old.state d ≡ None) }
-        ensures unworked { (e : PeerErrorValue) → IsUnworked J.first_steps self.old.state.accounts.steps octets.now e → result ≡ Err e }
+        ensures unrefused { OnOk result ((d : DatagramValue) → IsWorked J.first_steps self.old.state.accounts.steps octets.now d →
+            datagram_refused self.old.state d ≡ None) }
+        ensures unworked { (e : PeerErrorValue) → IsUnworked J.first_steps self.old.state.accounts.steps octets.now e →
+            result ≡ Err e }
         ensures refused { IfErr result (λ e. IsUnworked J.first_steps self.old.state.accounts.steps octets.now e
-            ⊎ ((d : DatagramValue) × IsWorked J.first_steps self.old.state.accounts.steps octets.now d × IsDue (datagram_refused self.old.state d) e)) }
+            ⊎ ((d : DatagramValue) × IsWorked J.first_steps self.old.state.accounts.steps octets.now d ×
+            IsDue (datagram_refused self.old.state d) e)) }
         ensures err { OnErr result (IsUnchanged self.old.state self.new.state pass.old.credit pass.new.credit onwards.new) }
     {
         self.datagram_read(pass, &ReadDatagram::of(octets), now, onwards)
@@ -95,12 +101,15 @@ impl<J: Naming> NotedPeer<J> {
         requires nothing { IsNothing onwards.old }
         ensures noted { Notes (mades.Datagram self.old.number datagram.now now result onwards.new) pass.old pass.new }
         ensures number { self.new.number ≡ self.old.number }
-        ensures made { IfOk result (λ step. (d : DatagramValue) → IsWorked J.first_steps self.old.state.accounts.steps datagram.now d
-            → Makes (datagram_step J.first_octets self.old.state d now) self.new.state step pass.old.credit pass.new.credit onwards.new) }
+        ensures made { IfOk result (λ step. (d : DatagramValue) →
+            IsWorked J.first_steps self.old.state.accounts.steps datagram.now d
+            → Makes (datagram_step J.first_octets self.old.state d now) self.new.state step
+            pass.old.credit pass.new.credit onwards.new) }
         ensures worked { OnOk result ((d : DatagramValue) × IsWorked J.first_steps self.old.state.accounts.steps datagram.now d) }
         ensures unrefused { OnOk result ((d : DatagramValue) → IsWorked J.first_steps self.old.state.accounts.steps datagram.now d
             → datagram_refused self.old.state d ≡ None) }
-        ensures unworked { (e : PeerErrorValue) → IsUnworked J.first_steps self.old.state.accounts.steps datagram.now e → result ≡ Err e }
+        ensures unworked { (e : PeerErrorValue) → IsUnworked J.first_steps self.old.state.accounts.steps datagram.now e →
+            result ≡ Err e }
         ensures refused { IfErr result (λ e. IsUnworked J.first_steps self.old.state.accounts.steps datagram.now e
             ⊎ ((d : DatagramValue) × IsWorked J.first_steps self.old.state.accounts.steps datagram.now d
             × IsDue (datagram_refused self.old.state d) e)) }
@@ -116,8 +125,8 @@ impl<J: Naming> NotedPeer<J> {
         answer
     }
 
-    /// A NEW that came opens a leg, under the lease: one step. It is one that `datagram` answers by `NeedsNumber`. What is handed up
-    /// is written to the list, which is empty.
+    /// A NEW that came opens a leg, under the lease: one step. It is one that `datagram` answers by `NeedsNumber`. What is handed
+    /// up is written to the list, which is empty.
     ///
     /// Refusals are looked for in the order of `OpenError`; the lease comes back. `Memory` comes only where memory was refused.
     #[tactic(auto, using(crate::proofs::Counted::steps_in_longer))]
@@ -132,15 +141,19 @@ impl<J: Naming> NotedPeer<J> {
     ) -> Result<Step, (Lease, OpenError)>
         requires opening { IsOpening frame.now }
         requires nothing { IsNothing onwards.old }
-        ensures noted { Notes (mades.OpenIn self.old.number lease frame.now.head frame.now.payload now challenge.now (without_lease result) onwards.new) pass.old pass.new }
+        ensures noted { Notes
+            (mades.OpenIn self.old.number lease frame.now.head frame.now.payload now challenge.now
+            (without_lease result) onwards.new) pass.old pass.new }
         ensures number { self.new.number ≡ self.old.number }
         ensures peer { OnOk result (self.new.state ≡ (opens_in self.old.state lease frame.now now challenge.now).peer) }
         ensures step { IfOk result (λ step. step ≡ (opens_in self.old.state lease frame.now now challenge.now).step) }
-        ensures signals { OnOk result (onwards.new.signals ≡ (opens_in self.old.state lease frame.now now challenge.now).signals) }
+        ensures signals { OnOk result (onwards.new.signals ≡
+            (opens_in self.old.state lease frame.now now challenge.now).signals) }
         ensures offer { OnOk result (onwards.new.offer ≡ (opens_in self.old.state lease frame.now now challenge.now).offer) }
         ensures credit { OnOk result (pass.new.credit ≡ with_step pass.old.credit 0) }
         ensures unrefused { OnOk result (open_in_refused self.old.state J.first_steps lease frame.now.head.source ≡ None) }
-        ensures refused { IfErr result (λ back. IsOpenRefusal (open_in_refused self.old.state J.first_steps lease frame.now.head.source) back.1) }
+        ensures refused { IfErr result (λ back.
+            IsOpenRefusal (open_in_refused self.old.state J.first_steps lease frame.now.head.source) back.1) }
         ensures lease { IfErr result (λ back. back.0 ≡ lease) }
         ensures err { OnErr result (IsUnchanged self.old.state self.new.state pass.old.credit pass.new.credit onwards.new) }
     {
@@ -165,8 +178,8 @@ impl<J: Naming> NotedPeer<J> {
 
     /// A call goes out under the lease, for a number of at most 255 octets: one step.
     ///
-    /// Refusals are looked for in the order of `OpenError`, of which `RemoteBusy` never comes; the lease comes back. `Memory` comes
-    /// only where memory was refused.
+    /// Refusals are looked for in the order of `OpenError`, of which `RemoteBusy` never comes; the lease comes back. `Memory`
+    /// comes only where memory was refused.
     #[tactic(auto, using(crate::proofs::Counted::steps_in_longer))]
     pub fn open_out(
         &mut self,
@@ -178,7 +191,8 @@ impl<J: Naming> NotedPeer<J> {
         now: u64,
     ) -> Result<Step, (Lease, OpenError)>
         requires { length called.now ≤ 255 }
-        ensures noted { Notes (mades.OpenOut self.old.number lease called.now caller.now format now (without_lease result)) pass.old pass.new }
+        ensures noted { Notes
+            (mades.OpenOut self.old.number lease called.now caller.now format now (without_lease result)) pass.old pass.new }
         ensures number { self.new.number ≡ self.old.number }
         ensures peer { OnOk result (self.new.state ≡ (opens_out self.old.state lease called.now caller.now format now).peer) }
         ensures step { IfOk result (λ step. step ≡ leg_alone lease Unnumbered) }
@@ -205,8 +219,8 @@ impl<J: Naming> NotedPeer<J> {
         answer
     }
 
-    /// The leg of a name obeys an order: one step. Media is 1 to 1,380 octets, for which the pass has the credit; the credit comes
-    /// back to the peer, which counts what became of the media.
+    /// The leg of a name obeys an order: one step. Media is 1 to 1,380 octets, for which the pass has the credit; the credit
+    /// comes back to the peer, which counts what became of the media.
     ///
     /// Refusals are looked for in the order of `OrderError`. `Memory` comes only where memory was refused.
     #[tactic(auto, using(crate::proofs::Counted::steps_in_longer))]
@@ -219,7 +233,8 @@ impl<J: Naming> NotedPeer<J> {
     ) -> Result<Step, OrderError>
         requires media { IsShortMedia order.now }
         requires credit { order_octets order.now ≤ pass.old.credit.octets }
-        ensures noted { Notes (mades.Order self.old.number name (kind_of order.now) (media_of order.now) now result) pass.old pass.new }
+        ensures noted { Notes
+            (mades.Order self.old.number name (kind_of order.now) (media_of order.now) now result) pass.old pass.new }
         ensures number { self.new.number ≡ self.old.number }
         ensures peer { OnOk result (self.new.state ≡ ordered_step self.old.state name order.now now) }
         ensures step { IfOk result (λ step. step ≡ leg_alone name Unnumbered) }
@@ -227,7 +242,8 @@ impl<J: Naming> NotedPeer<J> {
         ensures steps { OnOk result (pass.new.credit.steps ≡ pass.old.credit.steps + 1) }
         ensures unrefused { OnOk result (order_refused_by self.old.state J.first_steps name order.now now ≡ None) }
         ensures refused { IfErr result (IsOrderRefusal (order_refused_by self.old.state J.first_steps name order.now now)) }
-        ensures memory { result ≡ Err OrderError.Memory → (named : NamedLegValue) → leg_named self.old.state.legs name ≡ Some named
+        ensures memory { result ≡ Err OrderError.Memory → (named : NamedLegValue) →
+            leg_named self.old.state.legs name ≡ Some named
             → wants_memory named.leg order.now now ≡ true }
         ensures err { OnErr result ((self.new.state ≡ self.old.state) × (pass.new.credit ≡ pass.old.credit)) }
     {
@@ -252,7 +268,8 @@ impl<J: Naming> NotedPeer<J> {
         ensures number { self.new.number ≡ self.old.number }
         ensures spent { IsErr result ↔ (self.old.state.accounts.steps ≡ J.first_steps) }
         ensures ticked { IfOk result (λ report. Ticks self.old.state now report self.new.state) }
-        ensures quiet { IfOk result (λ report. IsTrue report.is_quiet ↔ All (λ place. is_quiet place ≡ true) self.new.state.legs.places) }
+        ensures quiet { IfOk result (λ report. IsTrue report.is_quiet ↔
+            All (λ place. is_quiet place ≡ true) self.new.state.legs.places) }
         ensures credit { OnOk result (pass.new.credit ≡ with_step pass.old.credit 0) }
         ensures err { OnErr result ((self.new.state ≡ self.old.state) × (pass.new.credit ≡ pass.old.credit)) }
     {
@@ -282,11 +299,13 @@ impl<J: Naming> NotedPeer<J> {
         ensures none { IsNone result ↔ (is_done (leg_named self.old.state.legs name) ≡ false) }
         ensures lease { IfSome result (λ retired. retired.0 ≡ name) }
         ensures record { IfSome result (λ retired. (named : NamedLegValue) → leg_named self.old.state.legs name ≡ Some named
-            → (retired.1.history.entries ≡ named.leg.window.history) × IsLegal named.leg.window.width named.leg.window.limit named.leg.window.history) }
+            → (retired.1.history.entries ≡ named.leg.window.history) ×
+            IsLegal named.leg.window.width named.leg.window.limit named.leg.window.history) }
         ensures facts { IfSome result (λ retired. (named : NamedLegValue) → leg_named self.old.state.legs name ≡ Some named
             → retired.1.facts ≡ facts_of named) }
         ensures legal { IfSome result (λ retired. IsHistory retired.1.history.entries) }
-        ensures gone { OnSome result (self.new.state ≡ record self.old.state { legs = with_place self.old.state.legs name.number None }) }
+        ensures gone { OnSome result (self.new.state ≡
+            record self.old.state { legs = with_place self.old.state.legs name.number None }) }
         ensures same { IfNone result (self.new.state ≡ self.old.state) }
     {
         let answer = self.state.retire(name);

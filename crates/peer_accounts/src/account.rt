@@ -46,9 +46,20 @@ impl<J: Naming> Model for Account<J> {
 
     ghost Value = { Accounts };
 
-    ghost view = { λ s. record { accepted = s.accepted; packed = s.packed; queued = s.queued; dropped = s.dropped; quelched = s.quelched; steps = s.made } };
+    ghost view = { λ s.
+        record {
+          accepted = s.accepted;
+          packed = s.packed;
+          queued = s.queued;
+          dropped = s.dropped;
+          quelched = s.quelched;
+          steps =
+              s.made;
+        } };
 
-    ghost invariant = { λ s. (s.octets + s.accepted ≡ J.first_octets + s.packed + s.queued + s.dropped) × (s.quelched ≤ s.dropped) × (s.octets < 2 ^ 64) × (s.unspent + s.accepted ≡ J.first_octets) × (s.steps + s.made ≡ J.first_steps) × (J.first_octets < 2 ^ 64) × (J.first_steps < 2 ^ 64) };
+    ghost invariant = { λ s. (s.octets + s.accepted ≡ J.first_octets + s.packed + s.queued + s.dropped) × (s.quelched ≤ s.dropped) ×
+        (s.octets < 2 ^ 64) × (s.unspent + s.accepted ≡ J.first_octets) × (s.steps + s.made ≡ J.first_steps) ×
+        (J.first_octets < 2 ^ 64) × (J.first_steps < 2 ^ 64) };
 }
 
 impl<J: Naming> Account<J> {
@@ -135,7 +146,8 @@ impl<J: Naming> Account<J> {
         requires { n ≤ self.old.queued }
         ensures packed { self.new.packed ≡ self.old.packed + n }
         ensures queued { self.new.queued + n ≡ self.old.queued }
-        ensures others { (self.new.accepted ≡ self.old.accepted) × (self.new.dropped ≡ self.old.dropped) × (self.new.quelched ≡ self.old.quelched) × (self.new.steps ≡ self.old.steps) }
+        ensures others { (self.new.accepted ≡ self.old.accepted) × (self.new.dropped ≡ self.old.dropped) ×
+            (self.new.quelched ≡ self.old.quelched) × (self.new.steps ≡ self.old.steps) }
     {
         self.queued -= n;
         self.packed += n;
@@ -155,7 +167,8 @@ impl<J: Naming> Account<J> {
     pub fn grant(&mut self, pass: &mut Pass<J>, signal: Option<Signal>) -> Option<Signal>
         ensures signal { result ≡ (granted J.first_octets self.old.accepted signal).signal }
         ensures counted { self.new ≡ with_accepted self.old (granted J.first_octets self.old.accepted signal).octets }
-        ensures credit { pass.new ≡ record pass.old { octets = pass.old.octets + (granted J.first_octets self.old.accepted signal).octets } }
+        ensures credit { pass.new ≡
+            record pass.old { octets = pass.old.octets + (granted J.first_octets self.old.accepted signal).octets } }
     {
         match &signal {
             Some(Signal::Media(span)) => {

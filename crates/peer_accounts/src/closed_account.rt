@@ -26,9 +26,19 @@ impl<J: Naming> Model for ClosedAccount<J> {
 
     ghost Value = { Accounts };
 
-    ghost view = { λ s. record { accepted = s.accepted; packed = s.packed; queued = s.queued; dropped = s.dropped; quelched = s.quelched; steps = s.made } };
+    ghost view = { λ s.
+        record {
+          accepted = s.accepted;
+          packed = s.packed;
+          queued = s.queued;
+          dropped = s.dropped;
+          quelched = s.quelched;
+          steps =
+              s.made;
+        } };
 
-    ghost invariant = { λ s. (s.quelched ≤ s.dropped) × (s.unspent + s.accepted ≡ J.first_octets) × (s.made ≤ J.first_steps) × (J.first_octets < 2 ^ 64) × (J.first_steps < 2 ^ 64) };
+    ghost invariant = { λ s. (s.quelched ≤ s.dropped) × (s.unspent + s.accepted ≡ J.first_octets) × (s.made ≤ J.first_steps) ×
+        (J.first_octets < 2 ^ 64) × (J.first_steps < 2 ^ 64) };
 }
 
 impl<J: Naming> ClosedAccount<J> {

@@ -1,5 +1,6 @@
 //! What the legs of a peer hand up in one step.
-ghost use Rattle.std.specs.Prelude.{◌≡◌, ◌≤◌, ◌+◌, ◌<◌, ◌++◌, ◌∷◌, [], ◌==◌, length, slice_get, option_copied, Option, None, Some, OnOk, OnErr};
+ghost use Rattle.std.specs.Prelude.{◌≡◌, ◌≤◌, ◌+◌, ◌<◌, ◌++◌, ◌∷◌, [], ◌==◌, length, slice_get, option_copied, Option, None};
+ghost use Rattle.std.specs.Prelude.{Some, OnOk, OnErr};
 
 use call_book::LegName;
 use leg_machine::{Caller, ElementText, Format, Formats, Signal};

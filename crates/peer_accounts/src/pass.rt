@@ -50,8 +50,8 @@ impl<J: Naming> Pass<J> {
         self.steps.amount()
     }
 
-    /// An empty list for what a step hands up. It should come back by `keep`; without one that came back it is a new one, which has
-    /// no memory yet.
+    /// An empty list for what a step hands up. It should come back by `keep`; without one that came back it is a new one, which
+    /// has no memory yet.
     pub fn lend(&mut self, alloc: Global) -> Onwards
         ensures nothing { IsNothing result }
         ensures same { self.new ≡ self.old }

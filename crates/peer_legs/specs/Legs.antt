@@ -1,5 +1,6 @@
 -- The legs of a peer, by their local numbers.
-use Rattle.std.specs.Prelude.{◌≡◌, ℕ, ◌+◌, ◌-◌, ◌^◌, ◌≤◌, nat_le, nat_lt, ◌==◌, ◌&&◌, not, is_some, Bool, false, List, [], ◌∷◌, Option, None, Some, slice_get, slice_set, length, is_none, if◌then◌else◌}
+use Rattle.std.specs.Prelude.{◌≡◌, ℕ, ◌+◌, ◌-◌, ◌^◌, ◌≤◌, nat_le, nat_lt, ◌==◌, ◌&&◌, not, is_some, Bool, false, List, [], ◌∷◌}
+use Rattle.std.specs.Prelude.{Option, None, Some, slice_get, slice_set, length, is_none, if◌then◌else◌}
 use Rattle.call_book.specs.Book.{is_same}
 use Rattle.call_book.specs.declared.leg_name.LegName.{LegName}
 use Rattle.call_signals.specs.declared.rules.PeerRules.{PeerRules}
@@ -76,7 +77,8 @@ with_leg legs name leg = with_place legs name.number (Some (record { name = name
 pub record AreLegs (legs : PeerLegs) : Type 0 where
   pub named : (place : ℕ) (named : NamedLeg) → slice_get legs.places place ≡ Some (Some named)
       → (named.name.peer ≡ legs.peer) × (named.name.number ≡ legs.first + place) × (named.leg.number ≡ legs.first + place)
-  pub apart : (a b : ℕ) (one other : NamedLeg) (remote : ℕ) → slice_get legs.places a ≡ Some (Some one) → slice_get legs.places b ≡ Some (Some other)
+  pub apart : (a b : ℕ) (one other : NamedLeg) (remote : ℕ) → slice_get legs.places a ≡ Some (Some one) →
+      slice_get legs.places b ≡ Some (Some other)
       → one.leg.remote ≡ Some remote → other.leg.remote ≡ Some remote → a ≡ b
   pub some : 1 ≤ legs.first
   pub within : legs.first + length legs.places ≤ 2 ^ 15

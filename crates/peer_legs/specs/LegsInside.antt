@@ -16,7 +16,8 @@ pub record HasRemote (legs : PeerLegs) (place remote : ℕ) : Type 0 where
 -- an array that says which leg has each remote number
 pub record IsIndex (legs : PeerLegs) (index : List (Option ℕ)) : Type 0 where
   pub listed : (place remote : ℕ) → HasRemote legs place remote → slice_get index remote ≡ Some (Some (legs.first + place))
-  pub right : (remote number : ℕ) → slice_get index remote ≡ Some (Some number) → (place : ℕ) × (number ≡ legs.first + place) × HasRemote legs place remote
+  pub right : (remote number : ℕ) → slice_get index remote ≡ Some (Some number) →
+      (place : ℕ) × (number ≡ legs.first + place) × HasRemote legs place remote
 
 -- before a moment all legs rest
 abbrev pub RestUntil : ℕ → List (Option NamedLeg) → Type 0

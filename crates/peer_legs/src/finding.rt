@@ -1,5 +1,6 @@
 //! Which leg of a peer a full frame goes to, and which names are free ("Full Frames", "Call Setup").
-ghost use Rattle.std.specs.Prelude.{◌≡◌, ◌<◌, ◌≤◌, ◌↔◌, [], length, map, true, None, Some, Err, IsSome, IfOk, OnOk, OnErr, IfSome, IsNone};
+ghost use Rattle.std.specs.Prelude.{◌≡◌, ◌<◌, ◌≤◌, ◌↔◌, [], length, map, true, None, Some, Err, IsSome, IfOk, OnOk, OnErr};
+ghost use Rattle.std.specs.Prelude.{IfSome, IsNone};
 ghost use Rattle.call_signals.specs.declared.rules.PeerRules.{PeerRules};
 ghost use Rattle.iax_frames.specs.FullFrame.{spelling};
 ghost use Rattle.leg_machine.specs.Legs.{is_short_of_entries};
@@ -25,13 +26,17 @@ impl PeerLegs {
         requires there { can_reach self.old frame.now.head.source (leg_at self.old number) ≡ true }
         requires short { length frame.now.payload ≤ 1388 }
         requires empty { replies.old ≡ [] }
-        ensures leg { OnOk result ((named : NamedLegValue) → leg_at self.old number ≡ Some named → self.new ≡ with_leg self.old named.name (full_step named.leg frame.now now).leg) }
-        ensures replies { OnOk result ((named : NamedLegValue) → leg_at self.old number ≡ Some named → replies.new ≡ map spelling (full_step named.leg frame.now now).replies) }
-        ensures heard { IfOk result (λ heard. (named : NamedLegValue) → leg_at self.old number ≡ Some named → heard ≡ heard_of (full_step named.leg frame.now now)) }
+        ensures leg { OnOk result ((named : NamedLegValue) → leg_at self.old number ≡ Some named →
+            self.new ≡ with_leg self.old named.name (full_step named.leg frame.now now).leg) }
+        ensures replies { OnOk result ((named : NamedLegValue) → leg_at self.old number ≡ Some named →
+            replies.new ≡ map spelling (full_step named.leg frame.now now).replies) }
+        ensures heard { IfOk result (λ heard. (named : NamedLegValue) → leg_at self.old number ≡ Some named →
+            heard ≡ heard_of (full_step named.leg frame.now now)) }
         ensures kept { OnOk result (IsSome (leg_at self.new number)) }
         ensures there { OnOk result ((named : NamedLegValue) → leg_at self.old number ≡ Some named
             → leg_at self.new number ≡ Some (record { name = named.name; leg = (full_step named.leg frame.now now).leg })) }
-        ensures record_full { (named : NamedLegValue) → leg_at self.old number ≡ Some named → (result ≡ Err StepError.RecordFull) ↔ (is_short_of_entries named.leg ≡ true) }
+        ensures record_full { (named : NamedLegValue) → leg_at self.old number ≡ Some named →
+            (result ≡ Err StepError.RecordFull) ↔ (is_short_of_entries named.leg ≡ true) }
         ensures err { OnErr result (self.new ≡ self.old) }
         ensures ruled { (rules : PeerRules) → AreLegsOf rules self.old → AreLegsOf rules self.new }
     {

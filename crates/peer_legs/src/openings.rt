@@ -11,8 +11,8 @@ use iax_frames::{CallNumber, Full};
 use leg_machine::{Heard, Leg, PeerRules, Replies};
 use std::alloc::{AllocError, Global};
 
-/// A leg for a NEW that came, under this local number, 1 ..= 32,767, as `Leg::open_in_into` opens it. Its remote number is the NEW's
-/// source. What is sent is written to the empty list.
+/// A leg for a NEW that came, under this local number, 1 ..= 32,767, as `Leg::open_in_into` opens it. Its remote number is the
+/// NEW's source. What is sent is written to the empty list.
 ///
 /// The NEW has OSeqno 0 and at most 1,388 octets of data. `Err` comes only where memory was refused.
 pub fn open_in(
@@ -33,7 +33,8 @@ pub fn open_in(
     ensures number { IfOk result (λ opened. opened.0.state.number ≡ number) }
     ensures remote { IfOk result (λ opened. opened.0.state.remote ≡ Some frame.now.head.source) }
     ensures ruled { IfOk result (λ opened. IsLegOf rules.now opened.0.state) }
-    ensures replies { OnOk result (replies.new ≡ map spelling (open_in_step rules.now number frame.now now challenge.now).replies) }
+    ensures replies { OnOk result (replies.new ≡
+        map spelling (open_in_step rules.now number frame.now now challenge.now).replies) }
     ensures heard { IfOk result (λ opened. opened.1 ≡ heard_of (open_in_step rules.now number frame.now now challenge.now)) }
     ensures none_sent { OnErr result (replies.new ≡ replies.old) }
 {

@@ -1,11 +1,14 @@
 //! The legs of one peer, by their local numbers.
 ghost use Rattle.std.specs.Option.{ForSome};
-ghost use Rattle.std.specs.Prelude.{◌&&◌, nat_lt, nat_le, ◌≡◌, ◌==◌, ◌+◌, ◌-◌, ◌^◌, ◌<◌, ◌≤◌, ◌↔◌, length, map, option_copied, replicate, slice_get, slice_set, true, None, Some, Err, [], IfErr, IfNone, IfOk, IfSome, IsNone, IsSome, IsTrue, All, OnErr, OnOk};
+ghost use Rattle.std.specs.Prelude.{◌&&◌, nat_lt, nat_le, ◌≡◌, ◌==◌, ◌+◌, ◌-◌, ◌^◌, ◌<◌, ◌≤◌, ◌↔◌, length, map, option_copied};
+ghost use Rattle.std.specs.Prelude.{replicate, slice_get, slice_set, true, None, Some, Err, [], IfErr, IfNone, IfOk, IfSome};
+ghost use Rattle.std.specs.Prelude.{IsNone, IsSome, IsTrue, All, OnErr, OnOk};
 ghost use Rattle.call_signals.specs.declared.rules.PeerRules.{PeerRules};
 ghost use Rattle.iax_frames.specs.FullFrame.{spelling};
 ghost use Rattle.leg_machine.specs.Legs.{is_short_of_entries};
 ghost use Rattle.leg_machine.specs.Media.{media_sent, after_media, media_frames};
-ghost use Rattle.leg_machine.specs.OrderTable.{order_refused, media_refused, is_voice, wants_memory, IsRefusal, IsShortMedia, order_carried};
+ghost use Rattle.leg_machine.specs.OrderTable.{order_refused, media_refused, is_voice, wants_memory, IsRefusal, IsShortMedia};
+ghost use Rattle.leg_machine.specs.OrderTable.{order_carried};
 ghost use Rattle.leg_machine.specs.Steps.{full_step, heard_of};
 ghost use Rattle.leg_machine.specs.Ticks.{tick_step};
 ghost use Rattle.leg_machine.specs.Tie.{TakesTurn, SendsAtMostOne};
@@ -58,7 +61,8 @@ fn no_legs(alloc: Global, count: u16) -> Result<Vec<Option<NamedLeg>>, AllocErro
 }
 
 impl PeerLegs {
-    ghost use Rattle.peer_legs.specs.Legs.{AreLegs, IsLegOf, AreLegsOf, leg_at, leg_named, leg_of_remote, has_remote, is_from, filled, with_place, with_leg};
+    ghost use Rattle.peer_legs.specs.Legs.{AreLegs, IsLegOf, AreLegsOf, leg_at, leg_named, leg_of_remote, has_remote, is_from};
+    ghost use Rattle.peer_legs.specs.Legs.{filled, with_place, with_leg};
 
     /// A peer without a leg, whose local numbers are so many, 1 ..= 512, from the first on.
     pub fn new(alloc: Global, peer: u16, first: u16, count: u16) -> Result<PeerLegs, AllocError>

@@ -1,5 +1,6 @@
 -- The steps of a peer in which a leg obeys an order ("Call Setup", "Control Frames", "Mini Frames", "Meta Frames").
-use Rattle.std.specs.Prelude.{◌≡◌, ℕ, ◌+◌, ◌==◌, ◌||◌, nat_le, nat_lt, Bool, List, [], ◌∷◌, ◌++◌, Option, None, Some, length, map, if◌then◌else◌}
+use Rattle.std.specs.Prelude.{◌≡◌, ℕ, ◌+◌, ◌==◌, ◌||◌, nat_le, nat_lt, Bool, List, [], ◌∷◌, ◌++◌, Option, None, Some, length, map}
+use Rattle.std.specs.Prelude.{if◌then◌else◌}
 use Rattle.call_book.specs.declared.leg_name.LegName.{LegName}
 use Rattle.iax_frames.specs.FullFrame.{spelling}
 use Rattle.iax_frames.specs.MiniFrame.{mini_spelling}
@@ -68,7 +69,11 @@ abbrev pub short_media : PeerView → ℕ → ℕ → List ℕ → PeerView
 short_media peer number timestamp media =
     if peer.rules.trunk
     then queued_media peer (record { number = number; timestamp = timestamp; media = media })
-    else carried_media (with_datagram peer (mini_spelling (record { source = number; timestamp = timestamp; media = media }))) Packed (length media)
+    else carried_media (with_datagram peer (mini_spelling (record {
+      source = number;
+      timestamp = timestamp;
+      media = media;
+    }))) Packed (length media)
 
 -- what is counted of media that goes out so
 abbrev pub counted_media : MediaSent → PeerView → ℕ → List ℕ → PeerView

@@ -1,8 +1,10 @@
 -- What callers at once see of a peer: of each leg its name, where it stands, whether it is doomed and whether it owes; and what a
 -- step of the peer may do to that ("IAX Frames", "Call Setup").
-use Rattle.std.specs.Prelude.{◌≡◌, ◌≢◌, ℕ, ◌&&◌, not, ◌⊎◌, Bool, true, false, List, [], ◌∷◌, ◌++◌, Option, None, Some, option_map, is_some}
+use Rattle.std.specs.Prelude.{◌≡◌, ◌≢◌, ℕ, ◌&&◌, not, ◌⊎◌, Bool, true, false, List, [], ◌∷◌, ◌++◌, Option, None, Some, option_map}
+use Rattle.std.specs.Prelude.{is_some}
 use Rattle.call_book.specs.declared.leg_name.LegName.{LegName}
-use Rattle.leg_machine.specs.Seen.{SeenLeg, SeenFrame, Speaks, seen, frame_effect, moved, opening_effect, fresh_leg, stage_after, IsSeenOrder, IsSeenTick}
+use Rattle.leg_machine.specs.Seen.{SeenLeg, SeenFrame, Speaks, seen, frame_effect, moved, opening_effect, fresh_leg, stage_after}
+use Rattle.leg_machine.specs.Seen.{IsSeenOrder, IsSeenTick}
 use Rattle.leg_machine.specs.Stages.{is_ended}
 use Rattle.call_signals.specs.declared.openings.Opening.{Opening}
 use Rattle.call_signals.specs.declared.orders.OrderKind.{OrderKind}
@@ -71,7 +73,10 @@ pub record OpensIn (old : PeerLegs) (name : LegName) (step : PeerStep) : Type 0 
   pub peer : name.peer ≡ old.peer
   pub free : seen_at old name.number ≡ None
   pub opening : Opening
-  pub turns : TurnsAt old step.peer.legs name.number (Some (record { name = name; seen = fresh_leg (opening_effect opening).stage }))
+  pub turns : TurnsAt old step.peer.legs name.number (Some (record {
+    name = name;
+    seen = fresh_leg (opening_effect opening).stage;
+  }))
   pub signals : step.signals ≡ handed_up name (opening_effect opening).signal
   pub touched : step.step.touched ≡ Some name
 

@@ -1,4 +1,5 @@
--- What a step of a peer adds to the records of its legs, and what it sends of them, as sides of networks do ("Message Transport").
+-- What a step of a peer adds to the records of its legs, and what it sends of them, as sides of networks do ("Message
+-- Transport").
 use Rattle.std.specs.Prelude.{◌≡◌, ◌⊎◌, ℕ, false, List, [], ◌∷◌, ◌++◌, All, Option, None, Some, slice_get}
 use Rattle.call_book.specs.declared.leg_name.LegName.{LegName}
 use Rattle.iax_frames.specs.FullFrame.{FullFrame, spelling}
@@ -61,8 +62,8 @@ TakesDatagram old (Trunk trunk) new = SendsNothing old new
 
 -- ---- orders and openings
 
--- The leg of a name obeys an order: its record grows by at most a sent frame, and all that it sends is a sending from that record, or
--- a mini frame.
+-- The leg of a name obeys an order: its record grows by at most a sent frame, and all that it sends is a sending from that
+-- record, or a mini frame.
 pub record SendsAtLeg (old : PeerView) (name : LegName) (new : PeerView) : Type 0 where
   pub named : NamedLeg
   pub is : named.name ≡ name
@@ -98,7 +99,8 @@ pub record SendsNew (old : PeerView) (name : LegName) (new : PeerView) : Type 0 
 -- at a number the leg's record grows by at most a sent frame
 abbrev pub SendsAt : Option NamedLeg → Option NamedLeg → Type 0
 SendsAt None new = new ≡ None
-SendsAt (Some named) new = (leg : LegState) × SendsAtMostOne named.leg leg × (new ≡ Some (record { name = named.name; leg = leg }))
+SendsAt (Some named) new = (leg : LegState) × SendsAtMostOne named.leg leg ×
+    (new ≡ Some (record { name = named.name; leg = leg }))
 
 -- a datagram is a sending from the record of one of the legs
 pub record IsSendingOfOne (legs : PeerLegs) (datagram : List ℕ) : Type 0 where

@@ -24,7 +24,8 @@ ghost use Rattle.peer_lock.specs.Orders.{order_refused_by, ordered_step, IsOrder
 ghost use Rattle.peer_lock.specs.Peer.{PeerView};
 ghost use Rattle.peer_lock.specs.Seen.{IsSeenDatagram, OpensIn, OpensOut, Obeys, IsSeenRefusal, TicksAll, Retires};
 ghost use Rattle.peer_lock.specs.Sides.{TakesDatagram, TakesTurnAtLeg, TakesNew, SendsNew, SendsAtLeg, EachSends};
-ghost use Rattle.peer_lock.specs.Sides.{IsSideOf, Bears, HasDatagram, IsSentBy, IsSentByOrMini, IsSentFrom, SendsAll, TurnsInto, SendsInto, unused_side};
+ghost use Rattle.peer_lock.specs.Sides.{IsSideOf, Bears, HasDatagram, IsSentBy, IsSentByOrMini, IsSentFrom, SendsAll, TurnsInto};
+ghost use Rattle.peer_lock.specs.Sides.{SendsInto, unused_side};
 ghost use Rattle.peer_lock.specs.SoundPeer.{IsSoundPeer};
 ghost use Rattle.peer_lock.specs.Statuses.{is_done};
 ghost use Rattle.peer_lock.specs.Ticks.{Ticks};
@@ -33,8 +34,8 @@ ghost use Rattle.peer_lock.specs.declared.errors.OrderError.TheVariants.{Memory}
 ghost use Rattle.peer_lock.specs.declared.steps.TickReport.{TickReport};
 ghost use Rattle.seq_window.specs.Network.{Datagram as Sending, Side};
 
-/// Media that a datagram's step hands up lies within the datagram, each piece of it 1 to 1,380 octets, and the step takes credit for
-/// exactly all of it.
+/// Media that a datagram's step hands up lies within the datagram, each piece of it 1 to 1,380 octets, and the step takes credit
+/// for exactly all of it.
 pub fn media_is_the_datagrams()
     ensures { (first : ℕ) (peer : PeerView) (octets : List ℕ) (datagram : Datagram) (now : ℕ) → Spells octets datagram →
         CarriesItsOwn (length octets) (datagram_step first peer datagram now) }
@@ -42,20 +43,22 @@ pub fn media_is_the_datagrams()
     leg_machine::laws::media_is_the_frames();
 }
 
-/// Seen by the legs' names, their stages, whether they are doomed, whether they owe and what is handed up, each step of a peer, and
-/// each taking out of a leg, is one that callers at once reckon with. The steps are those of the calls' own clauses.
+/// Seen by the legs' names, their stages, whether they are doomed, whether they owe and what is handed up, each step of a peer,
+/// and each taking out of a leg, is one that callers at once reckon with. The steps are those of the calls' own clauses.
 pub fn steps_are_seen()
     ensures datagrams { (first : ℕ) (peer : PeerView) (datagram : Datagram) (now : ℕ) → AreLegs peer.legs →
         IsSeenDatagram peer.legs (datagram_step first peer datagram now) }
     ensures calls_in { (peer : PeerView) (name : LegName) (frame : FullFrame) (now : ℕ) (challenge : List ℕ) → AreLegs peer.legs →
-        1 ≤ peer.rules.window → is_free_name peer.legs name ≡ true → OpensIn peer.legs name (opens_in peer name frame now challenge) }
+        1 ≤ peer.rules.window → is_free_name peer.legs name ≡ true →
+        OpensIn peer.legs name (opens_in peer name frame now challenge) }
     ensures calls_out { (peer : PeerView) (name : LegName) (called : List ℕ) (caller : List ℕ) (format : Format) (now : ℕ) →
         AreLegs peer.legs → is_free_name peer.legs name ≡ true →
         OpensOut peer.legs (opens_out peer name called caller format now).peer.legs name }
     ensures orders { (peer : PeerView) (credit : ℕ) (name : LegName) (order : Order) (now : ℕ) → AreLegs peer.legs →
         order_refused_by peer credit name order now ≡ None →
         Obeys peer.legs (ordered_step peer name order now).legs name (kind_of order) }
-    ensures refusals { (peer : PeerView) (credit : ℕ) (name : LegName) (order : Order) (now : ℕ) (error : OrderError) → AreLegs peer.legs →
+    ensures refusals { (peer : PeerView) (credit : ℕ) (name : LegName) (order : Order) (now : ℕ) (error : OrderError) →
+        AreLegs peer.legs →
         IsOrderRefusal (order_refused_by peer credit name order now) error →
         (error ≡ Memory → (named : NamedLeg) → leg_named peer.legs name ≡ Some named → wants_memory named.leg order now ≡ true) →
         IsSeenRefusal peer.legs name (kind_of order) error }
@@ -67,9 +70,9 @@ pub fn steps_are_seen()
     leg_machine::laws::steps_are_seen();
 }
 
-/// Each step of a peer adds to the record of the leg concerned only what one turn of a side of a network adds, and what its legs send
-/// are sendings of such sides, from the records that the legs have after the step; the other records stay. The steps are those of the
-/// calls' own clauses.
+/// Each step of a peer adds to the record of the leg concerned only what one turn of a side of a network adds, and what its legs
+/// send are sendings of such sides, from the records that the legs have after the step; the other records stay. The steps are
+/// those of the calls' own clauses.
 pub fn steps_are_of_sides()
     ensures datagrams { (first : ℕ) (peer : PeerView) (datagram : Datagram) (now : ℕ) → IsSoundPeer peer →
         TakesDatagram peer datagram (datagram_step first peer datagram now).peer }
@@ -86,9 +89,9 @@ pub fn steps_are_of_sides()
     leg_machine::laws::steps_send_as_sides();
 }
 
-/// What such a step adds to a leg's record, actions of a side of a network add, by which the side comes to the record that the leg
-/// has after the step: those of one turn that judges the very datagram that came, or the sending of at most one frame. By more
-/// actions, which send only what is held or isn't numbered, the side then has sent each datagram that the step sends.
+/// What such a step adds to a leg's record, actions of a side of a network add, by which the side comes to the record that the
+/// leg has after the step: those of one turn that judges the very datagram that came, or the sending of at most one frame. By
+/// more actions, which send only what is held or isn't numbered, the side then has sent each datagram that the step sends.
 pub fn steps_are_actions()
     // Of a full frame that bears the numbers of a datagram which the other side sent.
     ensures frames { (old new : PeerView) (frame : FullFrame) (turn : TakesTurnAtLeg old frame new) → IsSoundPeer new →

@@ -71,7 +71,10 @@ impl<J: Naming> PeerState<J> {
         requires steps { self.old.accounts.steps ≢ J.first_steps }
         requires short { length mini.now.media ≤ 2048 }
         requires nothing { IsNothing onwards.old }
-        ensures made { IfOk result (λ step. Makes (media_step self.old (mini_media J.first_octets self.old mini.now)) self.new step pass.old pass.new onwards.new) }
+        ensures made { IfOk result
+            (λ step.
+            Makes (media_step self.old
+            (mini_media J.first_octets self.old mini.now)) self.new step pass.old pass.new onwards.new) }
         ensures unrefused { OnOk result (mini_refused (leg_of_remote self.old.legs mini.now.source) ≡ None) }
         ensures refused { IfErr result (IsDue (mini_refused (leg_of_remote self.old.legs mini.now.source))) }
         ensures err { OnErr result (IsUnchanged self.old self.new pass.old pass.new onwards.new) }
@@ -93,10 +96,15 @@ impl<J: Naming> PeerState<J> {
         requires short { 8 + entries_len (is_timed trunk.now.command_data) (map entry_item trunk.now.entries) ≤ 2048 }
         requires room { length (map entry_item trunk.now.entries) ≤ onwards.old.room }
         requires nothing { IsNothing onwards.old }
-        ensures peer { self.new ≡ record self.old { accounts = with_accepted self.old.accounts (trunk_media J.first_octets self.old trunk.now).octets } }
+        ensures peer { self.new ≡
+            record self.old {
+              accounts =
+                  with_accepted self.old.accounts (trunk_media J.first_octets self.old trunk.now).octets;
+            } }
         ensures signals { onwards.new.signals ≡ (trunk_media J.first_octets self.old trunk.now).signals }
         ensures offer { onwards.new.offer ≡ None }
-        ensures credit { pass.new ≡ record pass.old { octets = pass.old.octets + (trunk_media J.first_octets self.old trunk.now).octets } }
+        ensures credit { pass.new ≡
+            record pass.old { octets = pass.old.octets + (trunk_media J.first_octets self.old trunk.now).octets } }
     {
         let timed = trunk.command_data() % 2 == 1;
         let head = entry_head_len(timed);
@@ -123,7 +131,10 @@ impl<J: Naming> PeerState<J> {
         requires steps { self.old.accounts.steps ≢ J.first_steps }
         requires short { 8 + entries_len (is_timed trunk.now.command_data) (map entry_item trunk.now.entries) ≤ 2048 }
         requires nothing { IsNothing onwards.old }
-        ensures made { IfOk result (λ step. Makes (media_step self.old (trunk_media J.first_octets self.old trunk.now)) self.new step pass.old pass.new onwards.new) }
+        ensures made { IfOk result
+            (λ step.
+            Makes (media_step self.old
+            (trunk_media J.first_octets self.old trunk.now)) self.new step pass.old pass.new onwards.new) }
         ensures refused { IfErr result (IsDue None) }
         ensures err { OnErr result (IsUnchanged self.old self.new pass.old pass.new onwards.new) }
     {

@@ -1,5 +1,6 @@
 //! The steps of a peer in which a leg is opened ("Call Setup").
-ghost use Rattle.std.specs.Prelude.{◌≡◌, ◌≢◌, ◌+◌, ◌<◌, ◌≤◌, [], length, map, None, Some, IsNone, IsTrue, ◌↔◌, true, IfOk, IfErr, OnOk, OnErr};
+ghost use Rattle.std.specs.Prelude.{◌≡◌, ◌≢◌, ◌+◌, ◌<◌, ◌≤◌, [], length, map, None, Some, IsNone, IsTrue, ◌↔◌, true, IfOk, IfErr};
+ghost use Rattle.std.specs.Prelude.{OnOk, OnErr};
 ghost use Rattle.iax_frames.specs.FullFrame.{spelling};
 ghost use Rattle.peer_accounts.specs.Accounts.{with_step as with_credit};
 ghost use Rattle.std.specs.Prelude.{ℕ};
@@ -12,7 +13,8 @@ ghost use Rattle.peer_legs.specs.Legs.{is_free_name};
 ghost use Rattle.leg_machine.specs.Openings.{open_in_step, open_out_step};
 ghost use Rattle.leg_machine.specs.Steps.{heard_of};
 ghost use Rattle.outbox.specs.Outbox.{put};
-ghost use Rattle.peer_lock.specs.Openings.{IsOpening, IsOpenRefusal, open_in_refused, open_out_refused, opens_in, opens_out, with_opened};
+ghost use Rattle.peer_lock.specs.Openings.{IsOpening, IsOpenRefusal, open_in_refused, open_out_refused, opens_in, opens_out};
+ghost use Rattle.peer_lock.specs.Openings.{with_opened};
 
 use crate::arrivals::hand_up;
 use crate::errors::OpenError;
@@ -35,7 +37,13 @@ impl<J: Naming> PeerState<J> {
         requires number { leg.state.number ≡ lease.number }
         requires remote { (remote : ℕ) → leg.state.remote ≡ Some remote → leg_of_remote self.old.legs remote ≡ None }
         requires ruled { IsLegOf self.old.rules leg.state }
-        ensures peer { self.new ≡ record (counted self.old) { legs = with_place self.old.legs lease.number (Some (record { name = lease; leg = leg.state })) } }
+        ensures peer { self.new ≡
+            record (counted self.old) {
+              legs = with_place self.old.legs lease.number (Some (record {
+                name = lease;
+                leg = leg.state;
+              }));
+            } }
         ensures credit { pass.new ≡ with_credit pass.old 0 }
         ensures there { leg_at self.new.legs lease.number ≡ Some (record { name = lease; leg = leg.state }) }
     {
@@ -89,12 +97,20 @@ impl<J: Naming> PeerState<J> {
     ) -> Result<(Leg, Heard), AllocError>
         requires opening { IsOpening frame.now }
         requires free { is_free_name self.old.legs name ≡ true }
-        ensures peer { OnOk result (self.new ≡ record self.old { outbox = put self.old.outbox (map spelling (open_in_step self.old.rules name.number frame.now now challenge.now).replies) }) }
-        ensures leg { IfOk result (λ opened. opened.0.state ≡ (open_in_step self.old.rules name.number frame.now now challenge.now).leg) }
+        ensures peer { OnOk result
+            (self.new ≡
+            record self.old {
+              outbox =
+                  put self.old.outbox (map spelling
+                  (open_in_step self.old.rules name.number frame.now now challenge.now).replies);
+            }) }
+        ensures leg { IfOk result (λ opened. opened.0.state ≡
+            (open_in_step self.old.rules name.number frame.now now challenge.now).leg) }
         ensures number { IfOk result (λ opened. opened.0.state.number ≡ name.number) }
         ensures remote { IfOk result (λ opened. opened.0.state.remote ≡ Some frame.now.head.source) }
         ensures ruled { IfOk result (λ opened. IsLegOf self.old.rules opened.0.state) }
-        ensures heard { IfOk result (λ opened. opened.1 ≡ heard_of (open_in_step self.old.rules name.number frame.now now challenge.now)) }
+        ensures heard { IfOk result (λ opened. opened.1 ≡
+            heard_of (open_in_step self.old.rules name.number frame.now now challenge.now)) }
         ensures err { OnErr result (self.new ≡ self.old) }
     {
         let number = self.free_number(name);
@@ -112,8 +128,8 @@ impl<J: Naming> PeerState<J> {
         Ok(opened)
     }
 
-    /// A NEW that came opens a leg, under the lease: one step. It is one that `datagram` answers by `NeedsNumber`. What is handed up
-    /// is written to the list, which is empty.
+    /// A NEW that came opens a leg, under the lease: one step. It is one that `datagram` answers by `NeedsNumber`. What is handed
+    /// up is written to the list, which is empty.
     ///
     /// Refusals are looked for in the order of `OpenError`; the lease comes back. `Memory` comes only where memory was refused.
     pub fn open_in(
@@ -133,7 +149,8 @@ impl<J: Naming> PeerState<J> {
         ensures offer { OnOk result (onwards.new.offer ≡ (opens_in self.old lease frame.now now challenge.now).offer) }
         ensures credit { OnOk result (pass.new ≡ with_credit pass.old 0) }
         ensures unrefused { OnOk result (open_in_refused self.old J.first_steps lease frame.now.head.source ≡ None) }
-        ensures refused { IfErr result (λ back. IsOpenRefusal (open_in_refused self.old J.first_steps lease frame.now.head.source) back.1) }
+        ensures refused { IfErr result (λ back.
+            IsOpenRefusal (open_in_refused self.old J.first_steps lease frame.now.head.source) back.1) }
         ensures lease { IfErr result (λ back. back.0 ≡ lease) }
         ensures err { OnErr result (IsUnchanged self.old self.new pass.old pass.new onwards.new) }
     {
@@ -165,7 +182,13 @@ impl<J: Naming> PeerState<J> {
         requires ruled { IsLegOf self.old.rules leg.state }
         requires room { 1 ≤ onwards.old.room }
         requires nothing { IsNothing onwards.old }
-        ensures peer { self.new ≡ record (counted self.old) { legs = with_place self.old.legs lease.number (Some (record { name = lease; leg = leg.state })) } }
+        ensures peer { self.new ≡
+            record (counted self.old) {
+              legs = with_place self.old.legs lease.number (Some (record {
+                name = lease;
+                leg = leg.state;
+              }));
+            } }
         ensures credit { pass.new ≡ with_credit pass.old 0 }
         ensures step { result ≡ leg_alone lease heard.judged }
         ensures signals { onwards.new.signals ≡ handed_up lease heard.signal }
@@ -192,8 +215,15 @@ impl<J: Naming> PeerState<J> {
     ) -> Result<Leg, AllocError>
         requires called { length called.now ≤ 255 }
         requires free { is_free_name self.old.legs name ≡ true }
-        ensures peer { OnOk result (self.new ≡ record self.old { outbox = put self.old.outbox (map spelling (open_out_step self.old.rules name.number called.now caller.now format now).replies) }) }
-        ensures leg { IfOk result (λ leg. leg.state ≡ (open_out_step self.old.rules name.number called.now caller.now format now).leg) }
+        ensures peer { OnOk result
+            (self.new ≡
+            record self.old {
+              outbox =
+                  put self.old.outbox (map spelling
+                  (open_out_step self.old.rules name.number called.now caller.now format now).replies);
+            }) }
+        ensures leg { IfOk result (λ leg. leg.state ≡
+            (open_out_step self.old.rules name.number called.now caller.now format now).leg) }
         ensures ruled { IfOk result (λ leg. IsLegOf self.old.rules leg.state) }
         ensures err { OnErr result (self.new ≡ self.old) }
     {
@@ -218,8 +248,8 @@ impl<J: Naming> PeerState<J> {
 
     /// A call goes out under the lease, for a number of at most 255 octets: one step.
     ///
-    /// Refusals are looked for in the order of `OpenError`, of which `RemoteBusy` never comes; the lease comes back. `Memory` comes
-    /// only where memory was refused.
+    /// Refusals are looked for in the order of `OpenError`, of which `RemoteBusy` never comes; the lease comes back. `Memory`
+    /// comes only where memory was refused.
     pub fn open_out(
         &mut self,
         pass: &mut Pass<J>,

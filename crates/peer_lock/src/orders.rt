@@ -1,15 +1,18 @@
 //! The steps of a peer in which a leg obeys an order ("Call Setup", "Control Frames", "Mini Frames", "Meta Frames").
-ghost use Rattle.std.specs.Prelude.{◌≡◌, ◌≢◌, ◌+◌, ◌-◌, ◌<◌, ◌≤◌, [], length, map, None, Some, Err, true, IsSome, IsTrue, ◌↔◌, IsNone, IfSome, IfOk, IfErr, OnOk, OnErr, ℕ};
+ghost use Rattle.std.specs.Prelude.{◌≡◌, ◌≢◌, ◌+◌, ◌-◌, ◌<◌, ◌≤◌, [], length, map, None, Some, Err, true, IsSome, IsTrue, ◌↔◌};
+ghost use Rattle.std.specs.Prelude.{IsNone, IfSome, IfOk, IfErr, OnOk, OnErr, ℕ};
 ghost use Rattle.call_signals.specs.declared.orders.Order.{Order as OrderValue};
 ghost use Rattle.std.specs.Option.{ForSome};
-ghost use Rattle.leg_machine.specs.OrderTable.{IsRefusal, IsShortMedia, is_voice, wants_memory, media_refused, order_refused, order_carried};
+ghost use Rattle.leg_machine.specs.OrderTable.{IsRefusal, IsShortMedia, is_voice, wants_memory, media_refused, order_refused};
+ghost use Rattle.leg_machine.specs.OrderTable.{order_carried};
 ghost use Rattle.peer_accounts.specs.Accounts.{with_step as with_credit};
 ghost use Rattle.leg_machine.specs.Media.{media_sent};
 ghost use Rattle.call_signals.specs.declared.outcomes.Judged.TheVariants.{Unnumbered};
 ghost use Rattle.peer_legs.specs.Legs.{NamedLeg as NamedLegValue, leg_at, leg_named};
 ghost use Rattle.peer_lock.specs.Peer.{counted, leg_alone};
 ghost use Rattle.peer_lock.specs.Orders as spec;
-ghost use Rattle.peer_lock.specs.Orders.{queued_media, counted_media, carries_media, with_order, from_leg_due, IsOrderRefusal, order_refused_by, ordered_step, order_octets};
+ghost use Rattle.peer_lock.specs.Orders.{queued_media, counted_media, carries_media, with_order, from_leg_due, IsOrderRefusal};
+ghost use Rattle.peer_lock.specs.Orders.{order_refused_by, ordered_step, order_octets};
 
 use crate::errors::OrderError;
 use crate::outboxes::put_all;
@@ -88,7 +91,8 @@ impl<J: Naming> PeerState<J> {
         ensures step { IfOk result (λ step. step ≡ leg_alone name Unnumbered) }
         ensures octets { OnOk result (pass.new.octets + length media.now ≡ pass.old.octets) }
         ensures steps { OnOk result (pass.new.steps ≡ pass.old.steps + 1) }
-        ensures unrefused { (named : NamedLegValue) → leg_at self.old.legs name.number ≡ Some named → OnOk result (from_leg_due (media_refused named.leg now) ≡ None) }
+        ensures unrefused { (named : NamedLegValue) → leg_at self.old.legs name.number ≡ Some named →
+            OnOk result (from_leg_due (media_refused named.leg now) ≡ None) }
         ensures refused { (named : NamedLegValue) → leg_at self.old.legs name.number ≡ Some named
             → IfErr result (IsOrderRefusal (from_leg_due (media_refused named.leg now))) }
         ensures memory { result ≡ Err OrderError.Memory → (named : NamedLegValue) → leg_at self.old.legs name.number ≡ Some named
@@ -114,10 +118,12 @@ impl<J: Naming> PeerState<J> {
         ensures peer { (named : NamedLegValue) → leg_at self.old.legs name.number ≡ Some named
             → OnOk result (counted self.new ≡ with_order self.old named (order_carried named.leg order.now now)) }
         ensures accounts { self.new.accounts ≡ self.old.accounts }
-        ensures unrefused { (named : NamedLegValue) → leg_at self.old.legs name.number ≡ Some named → OnOk result (order_refused named.leg order.now now ≡ None) }
+        ensures unrefused { (named : NamedLegValue) → leg_at self.old.legs name.number ≡ Some named →
+            OnOk result (order_refused named.leg order.now now ≡ None) }
         ensures refused { (named : NamedLegValue) → leg_at self.old.legs name.number ≡ Some named
             → IfErr result (IsRefusal (order_refused named.leg order.now now)) }
-        ensures memory { result ≡ Err LegOrderError.Memory → (named : NamedLegValue) → leg_at self.old.legs name.number ≡ Some named
+        ensures memory { result ≡ Err LegOrderError.Memory → (named : NamedLegValue) →
+            leg_at self.old.legs name.number ≡ Some named
             → wants_memory named.leg order.now now ≡ true }
         ensures err { OnErr result (self.new ≡ self.old) }
     {
@@ -142,7 +148,8 @@ impl<J: Naming> PeerState<J> {
             → OnOk result (self.new ≡ with_order self.old named (order_carried named.leg order.now now)) }
         ensures step { IfOk result (λ step. step ≡ leg_alone name Unnumbered) }
         ensures credit { OnOk result (pass.new ≡ with_credit pass.old 0) }
-        ensures unrefused { (named : NamedLegValue) → leg_at self.old.legs name.number ≡ Some named → OnOk result (from_leg_due (order_refused named.leg order.now now) ≡ None) }
+        ensures unrefused { (named : NamedLegValue) → leg_at self.old.legs name.number ≡ Some named →
+            OnOk result (from_leg_due (order_refused named.leg order.now now) ≡ None) }
         ensures refused { (named : NamedLegValue) → leg_at self.old.legs name.number ≡ Some named
             → IfErr result (IsOrderRefusal (from_leg_due (order_refused named.leg order.now now))) }
         ensures memory { result ≡ Err OrderError.Memory → (named : NamedLegValue) → leg_at self.old.legs name.number ≡ Some named
@@ -161,7 +168,8 @@ impl<J: Naming> PeerState<J> {
     fn ordering_refused(&self, name: LegName) -> Option<OrderError>
         ensures none { IsNone result → (self.now.accounts.steps ≢ J.first_steps) × IsSome (leg_named self.now.legs name) }
         ensures at { IsNone result → leg_at self.now.legs name.number ≡ leg_named self.now.legs name }
-        ensures some { IfSome result (λ refusal. (order : OrderValue) (now : ℕ) → order_refused_by self.now J.first_steps name order now ≡ Some refusal) }
+        ensures some { IfSome result (λ refusal. (order : OrderValue) (now : ℕ) →
+            order_refused_by self.now J.first_steps name order now ≡ Some refusal) }
         ensures not_memory { IfSome result (λ refusal. refusal ≢ OrderError.Memory) }
     {
         if self.account.is_spent() {
@@ -173,8 +181,8 @@ impl<J: Naming> PeerState<J> {
         None
     }
 
-    /// The leg of a name obeys an order: one step. Media is 1 to 1,380 octets, for which the pass has the credit; the credit comes
-    /// back to the peer, which counts what became of the media.
+    /// The leg of a name obeys an order: one step. Media is 1 to 1,380 octets, for which the pass has the credit; the credit
+    /// comes back to the peer, which counts what became of the media.
     ///
     /// Refusals are looked for in the order of `OrderError`. `Memory` comes only where memory was refused.
     pub fn order(

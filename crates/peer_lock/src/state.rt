@@ -1,5 +1,6 @@
 //! What lies under the lock of one peer.
-ghost use Rattle.std.specs.Prelude.{◌≡◌, ◌+◌, ◌^◌, ◌<◌, ◌≤◌, [], ◌∷◌, ◌↔◌, length, replicate, option_map, None, Some, false, IfOk, IfErr, IsErr, IsNone, IfNone, IfSome, OnSome, MatchOption};
+ghost use Rattle.std.specs.Prelude.{◌≡◌, ◌+◌, ◌^◌, ◌<◌, ◌≤◌, [], ◌∷◌, ◌↔◌, length, replicate, option_map, None, Some, false};
+ghost use Rattle.std.specs.Prelude.{IfOk, IfErr, IsErr, IsNone, IfNone, IfSome, OnSome, MatchOption};
 ghost use Rattle.std.specs.Bool.{OnTrue, OnFalse};
 ghost use Rattle.call_signals.specs.declared.rules.PeerRules.{PeerRules as PeerRulesValue};
 ghost use Rattle.leg_machine.specs.PeerRules.{IsPeerRules};
@@ -145,18 +146,20 @@ impl<J: Naming> PeerState<J> {
         self.legs.get(number).map(|named| Status::of(named))
     }
 
-    /// Gives up the leg of a name that has ended and owes nothing: its lease, its record and what it tells beside that. That is no
-    /// step.
+    /// Gives up the leg of a name that has ended and owes nothing: its lease, its record and what it tells beside that. That is
+    /// no step.
     ///
     /// `None` exactly where no such leg has that name.
     pub fn retire(&mut self, name: LegName) -> Option<(Lease, EndedLeg)>
         ensures none { IsNone result ↔ (is_done (leg_named self.old.legs name) ≡ false) }
         ensures lease { IfSome result (λ retired. retired.0 ≡ name) }
         ensures record { IfSome result (λ retired. (named : NamedLegValue) → leg_named self.old.legs name ≡ Some named
-            → (retired.1.history.entries ≡ named.leg.window.history) × IsLegal named.leg.window.width named.leg.window.limit named.leg.window.history) }
+            → (retired.1.history.entries ≡ named.leg.window.history) ×
+            IsLegal named.leg.window.width named.leg.window.limit named.leg.window.history) }
         ensures facts { IfSome result (λ retired. (named : NamedLegValue) → leg_named self.old.legs name ≡ Some named
             → retired.1.facts ≡ facts_of named) }
-        ensures ruled { IfSome result (λ retired. IsLegal self.old.rules.window self.old.rules.record_limit retired.1.history.entries) }
+        ensures ruled { IfSome result (λ retired.
+            IsLegal self.old.rules.window self.old.rules.record_limit retired.1.history.entries) }
         ensures legal { IfSome result (λ retired. IsHistory retired.1.history.entries) }
         ensures gone { OnSome result (self.new ≡ record self.old { legs = with_place self.old.legs name.number None }) }
         ensures same { IfNone result (self.new ≡ self.old) }

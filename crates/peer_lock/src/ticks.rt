@@ -1,5 +1,6 @@
 //! The steps of a peer in which time goes on ("Message Transport", "Meta Frames").
-ghost use Rattle.std.specs.Prelude.{◌≡◌, ◌≢◌, ◌+◌, ◌^◌, ◌<◌, ◌≤◌, ◌↔◌, ◌⊎◌, [], length, true, Option, Some, slice_get, slice_set, All, IsErr, IsTrue, IfSome, IfNone, IfOk, OnOk, OnErr};
+ghost use Rattle.std.specs.Prelude.{◌≡◌, ◌≢◌, ◌+◌, ◌^◌, ◌<◌, ◌≤◌, ◌↔◌, ◌⊎◌, [], length, true, Option, Some, slice_get, slice_set};
+ghost use Rattle.std.specs.Prelude.{All, IsErr, IsTrue, IfSome, IfNone, IfOk, OnOk, OnErr};
 ghost use Rattle.peer_accounts.specs.Accounts.{with_step as with_credit};
 ghost use Rattle.peer_legs.specs.Legs.{NamedLeg as NamedLegValue};
 ghost use Rattle.outbox.specs.Outbox.{put};
@@ -23,7 +24,8 @@ impl<J: Naming> PeerState<J> {
               legs = record self.old.legs { places = slice_set self.old.legs.places index (place_tick result place now).place };
               outbox = put self.old.outbox (place_tick result place now).datagrams;
             } }
-        ensures skipped { (place : Option NamedLegValue) → slice_get self.old.legs.places index ≡ Some place → result ≡ (place_tick result place now).skipped }
+        ensures skipped { (place : Option NamedLegValue) → slice_get self.old.legs.places index ≡ Some place →
+            result ≡ (place_tick result place now).skipped }
         ensures few { result ≤ 2 }
     {
         let _ = self.outbox.is_full();
@@ -102,7 +104,8 @@ impl<J: Naming> PeerState<J> {
     pub fn tick(&mut self, pass: &mut Pass<J>, now: u64) -> Result<TickReport, StepsSpent>
         ensures spent { IsErr result ↔ (self.old.accounts.steps ≡ J.first_steps) }
         ensures ticked { IfOk result (λ report. Ticks self.old now report self.new) }
-        ensures quiet { IfOk result (λ report. IsTrue report.is_quiet ↔ All (λ place. is_quiet place ≡ true) self.new.legs.places) }
+        ensures quiet { IfOk result (λ report. IsTrue report.is_quiet ↔
+            All (λ place. is_quiet place ≡ true) self.new.legs.places) }
         ensures credit { OnOk result (pass.new ≡ with_credit pass.old 0) }
         ensures err { OnErr result ((self.new ≡ self.old) × (pass.new ≡ pass.old)) }
     {

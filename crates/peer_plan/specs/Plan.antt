@@ -1,5 +1,7 @@
 -- What a plan is: workers, passes, peers with their numbers, and routes.
-use Rattle.std.specs.Prelude.{◌≡◌, ◌≢◌, ◌≤◌, ◌<◌, ℕ, zero, suc, ◌+◌, ◌*◌, List, [], ◌∷◌, length, map, Bool, true, ◌&&◌, ◌||◌, nat_le, nat_lt, nat_eq, Option, Some, None, is_some, if◌then◌else◌, ◌==◌, slice_index, All, Contains, IfSome}
+use Rattle.std.specs.Prelude.{◌≡◌, ◌≢◌, ◌≤◌, ◌<◌, ℕ, zero, suc, ◌+◌, ◌*◌, List, [], ◌∷◌, length, map, Bool, true, ◌&&◌, ◌||◌}
+use Rattle.std.specs.Prelude.{nat_le, nat_lt, nat_eq, Option, Some, None, is_some, if◌then◌else◌, ◌==◌, slice_index, All}
+use Rattle.std.specs.Prelude.{Contains, IfSome}
 use Rattle.std.specs.Char.{is_ascii_alphanumeric}
 use Rattle.std.specs.List.{list_all, starts_with, AllPairs}
 use Rattle.call_signals.specs.PeerRules.{IsPeerRules, IsWithin}
@@ -122,5 +124,6 @@ pub record IsPlan (plan : PlanView) : Type 0 where
   pub endpoints : AllPairs (λ peer other. peer.endpoint ≢ other.endpoint) plan.peers
   pub ways : AllPairs AreApart plan.routes
   -- the ranges lie apart, within 1 ..= 16,384
-  pub apart : (peer other number : ℕ) → peer ≢ other → IsInRange (range_of (counts_of plan.peers) peer) number → IsInRange (range_of (counts_of plan.peers) other) number → ⊥
+  pub apart : (peer other number : ℕ) → peer ≢ other → IsInRange (range_of (counts_of plan.peers) peer) number →
+      IsInRange (range_of (counts_of plan.peers) other) number → ⊥
   pub total : total_of (counts_of plan.peers) ≤ 32 * 512

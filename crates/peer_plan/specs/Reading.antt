@@ -1,5 +1,6 @@
 -- How a plan is read from a document: the keys in their order, with the first fault.
-use Rattle.std.specs.Prelude.{ℕ, ◌-◌, List, [], ◌∷◌, length, Option, Some, None, Result, Ok, Err, Bool, true, false, is_some, nat_le, nat_eq, ◌==◌, ◌&&◌, if◌then◌else◌, ok_or, option_map, option_and_then, position}
+use Rattle.std.specs.Prelude.{ℕ, ◌-◌, List, [], ◌∷◌, length, Option, Some, None, Result, Ok, Err, Bool, true, false, is_some}
+use Rattle.std.specs.Prelude.{nat_le, nat_eq, ◌==◌, ◌&&◌, if◌then◌else◌, ok_or, option_map, option_and_then, position}
 use Rattle.std.specs.List.{list_all, list_any}
 use Rattle.std.specs.Option.{option_eq}
 use Rattle.std.specs.Str.{is_utf8, bytes_eq}
@@ -76,7 +77,8 @@ credential_in d = option_map Some (text_of is_credential d)
 
 unfoldable pub credentials_in : Members → Result Credentials PlanError
 credentials_in ms = do
-  user ← value ms key.User (if is_some (get_member (key_name key.Secret) ms) then Err (error.Missing key.User) else Ok None) credential_in
+  user ← value ms key.User (if is_some (get_member (key_name key.Secret) ms) then
+      Err (error.Missing key.User) else Ok None) credential_in
   secret ← value ms key.Secret (Ok None) credential_in
   Ok (record { user = user; secret = secret })
 
@@ -152,7 +154,13 @@ peer_in format limits workers ms = do
   numbers ← value ms key.Numbers (Ok 64) (number_of 1 512)
   window ← window_in format ms
   poke ← poke_in format ms
-  Ok (record { name = name; endpoint = endpoint; worker = worker; rules = rules_from format limits credentials media window poke; numbers = numbers })
+  Ok (record {
+    name = name;
+    endpoint = endpoint;
+    worker = worker;
+    rules = rules_from format limits credentials media window poke;
+    numbers = numbers;
+  })
 
 -- whether two of a list are the same by a test
 abbrev pub has_double : {A : Type 0} → (A → A → Bool) → List A → Bool

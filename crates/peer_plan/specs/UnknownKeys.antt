@@ -1,5 +1,5 @@
--- Which key of a document is the first that a plan of format 3 doesn't have: its own keys come first, then those of its workers, peers
--- and routes, table by table, and those of a table in the order of their names.
+-- Which key of a document is the first that a plan of format 3 doesn't have: its own keys come first, then those of its workers,
+-- peers and routes, table by table, and those of a table in the order of their names.
 use Rattle.std.specs.Prelude.{ℕ, List, map, take, Option, Some, None, Result, Ok, Err, option_and_then, ◌==◌, if◌then◌else◌}
 use Rattle.toml.specs.Data.{Data, Items, no_items, item, Members, no_members, member, get_member, as_array, as_table}
 use Rattle.call_signals.specs.Credential.{is_printable}
@@ -20,7 +20,8 @@ shown_name name = map shown_octet (take 64 name)
 -- in a table
 abbrev pub unknown_key : Section → ℕ → Members → Option (List ℕ)
 unknown_key section format no_members = None
-unknown_key section format (member k d ms) = if is_known section format k then unknown_key section format ms else Some (shown_name k)
+unknown_key section format (member k d ms) = if is_known section format k then
+    unknown_key section format ms else Some (shown_name k)
 
 -- in an item of a list
 abbrev pub unknown_in_item : Section → ℕ → Data → Option (List ℕ)

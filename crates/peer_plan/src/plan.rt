@@ -1,5 +1,6 @@
 //! The plan of an exchange.
-ghost use Rattle.std.specs.Prelude.{◌≡◌, ◌≢◌, ◌<◌, ◌≤◌, ◌+◌, ◌*◌, ◌^◌, length, map, All, false, IfOk, IfSome, IfNone, option_map, position, slice_get};
+ghost use Rattle.std.specs.Prelude.{◌≡◌, ◌≢◌, ◌<◌, ◌≤◌, ◌+◌, ◌*◌, ◌^◌, length, map, All, false, IfOk, IfSome, IfNone, option_map};
+ghost use Rattle.std.specs.Prelude.{position, slice_get};
 ghost use Rattle.call_signals.specs.PeerRules.{IsPeerRules, IsWithin};
 ghost use Rattle.toml.specs.View.{table_view};
 ghost use Rattle.peer_plan.specs.Fields.{Gives};
@@ -50,7 +51,8 @@ impl Plan {
 
     /// The plan of a text in TOML, of format 1, 2 or 3, or its first fault.
     ///
-    /// Any octets may come. The keys are judged in the order of `Key`, lists in their order, and in format 3 last whether there are others.
+    /// Any octets may come. The keys are judged in the order of `Key`, lists in their order, and in format 3 last whether there
+    /// are others.
     pub fn read(alloc: Global, text: &[u8]) -> Result<Plan, PlanError>
         ensures plan { Gives (λ plan. plan) result (plan_of text.now) }
         ensures sound { IfOk result IsPlan }
@@ -205,7 +207,8 @@ impl Plan {
 
     /// The peer at an endpoint. Takes the time of a look at the endpoint of each peer.
     pub fn peer_of(&self, endpoint: Endpoint) -> Option<u16>
-        ensures found { IfSome result (λ peer. option_map (λ peer. peer.endpoint) (slice_get self.now.peers peer) ≡ Some endpoint) }
+        ensures found { IfSome result (λ peer. option_map (λ peer. peer.endpoint) (slice_get self.now.peers peer) ≡
+            Some endpoint) }
         ensures none { IfNone result (All (λ peer. peer.endpoint ≢ endpoint) self.now.peers) }
         ensures place { IfSome result (λ peer. peer < length self.now.peers) }
     {
@@ -213,10 +216,11 @@ impl Plan {
         Some(place as u16)
     }
 
-    /// Where a call of a peer leads: to the peer of the longest prefix that begins the called number, among the routes for all and those
-    /// for this caller; of two of one length the latter's. Takes the time of a comparison with each prefix.
+    /// Where a call of a peer leads: to the peer of the longest prefix that begins the called number, among the routes for all
+    /// and those for this caller; of two of one length the latter's. Takes the time of a comparison with each prefix.
     pub fn route(&self, caller: u16, number: &[u8]) -> Option<u16>
-        ensures found { IfSome result (λ peer. (route : Route) × IsNearest self.now.routes caller number.now route × (route.peer ≡ peer)) }
+        ensures found { IfSome result (λ peer. (route : Route) × IsNearest self.now.routes caller number.now route ×
+            (route.peer ≡ peer)) }
         ensures none { IfNone result (All (λ route. fits caller number.now route ≡ false) self.now.routes) }
         ensures place { IfSome result (λ peer. peer < length self.now.peers) }
     {

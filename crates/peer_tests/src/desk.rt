@@ -133,8 +133,8 @@ fn book_of(alloc: Global) -> Option<CallBook> {
     }
 }
 
-/// The peer at a place of the plan, without a leg, if there is memory for the shares of its credit. For the peer and the book memory
-/// is asked for once more, where it is refused.
+/// The peer at a place of the plan, without a leg, if there is memory for the shares of its credit. For the peer and the book
+/// memory is asked for once more, where it is refused.
 pub fn opened<
     O: Ledger + Send + Sync,
     S: Ledger + Send + Sync,

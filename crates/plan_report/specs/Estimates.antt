@@ -5,8 +5,8 @@ use Rattle.std.specs.Prelude.{ℕ, ◌+◌, ◌-◌, ◌*◌, ◌/◌, ◌==◌,
 abbrev pub silence_ms : ℕ → ℕ → ℕ
 silence_ms retry_ms max_retries = retry_ms * (max_retries + 1)
 
--- Three entries for each PING of ours, for each PING of an Asterisk (21 seconds) and for each of its LAGRQs (10 seconds), and three
--- for the voice full frames of each 65.5 seconds.
+-- Three entries for each PING of ours, for each PING of an Asterisk (21 seconds) and for each of its LAGRQs (10 seconds), and
+-- three for the voice full frames of each 65.5 seconds.
 abbrev pub entries_an_hour : ℕ → ℕ
 entries_an_hour ping_ms = if ping_ms == 0 then 1759 else (10800000 / ping_ms) + 1759
 

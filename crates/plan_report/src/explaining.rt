@@ -21,9 +21,9 @@ fn refuse<W: Write>(writer: &mut W) -> u8 {
     1
 }
 
-/// Writes what a plan means: each value, whether it was given or stands by default, what follows from it, and a line that begins with
-/// `warning:` for what may not be meant. Status 0; a fault is written as `check` writes it, status 1. A fault of the writer is status 1.
-/// No secret is written.
+/// Writes what a plan means: each value, whether it was given or stands by default, what follows from it, and a line that begins
+/// with `warning:` for what may not be meant. Status 0; a fault is written as `check` writes it, status 1. A fault of the writer
+/// is status 1. No secret is written.
 pub fn explain<W: Write>(alloc: Global, text: &[u8], writer: &mut W) -> u8 {
     let plan = match Plan::read(alloc, text) {
         Ok(plan) => plan,

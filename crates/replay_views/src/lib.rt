@@ -1,5 +1,5 @@
-//! A script is replayed, and shown otherwise than by its lines: as a ladder of the calls, as a capture of all datagrams, or as the
-//! records of its call legs.
+//! A script is replayed, and shown otherwise than by its lines: as a ladder of the calls, as a capture of all datagrams, or as
+//! the records of its call legs.
 #![tactic(auto)]
 
 mod capturing;

@@ -76,11 +76,11 @@ fn recorded<R: Wait>(
     Ok(viewer)
 }
 
-/// Replays a script on an exchange of its plan, and writes the record of each leg that was taken out, a row of CSV each, behind a line
-/// with the names of the columns. Answers the status.
+/// Replays a script on an exchange of its plan, and writes the record of each leg that was taken out, a row of CSV each, behind a
+/// line with the names of the columns. Answers the status.
 ///
-/// The moments `opened` and `ended` are the script's, in milliseconds. A plan or a script that is refused is told as `replay` tells it,
-/// and nothing else is written.
+/// The moments `opened` and `ended` are the script's, in milliseconds. A plan or a script that is refused is told as `replay`
+/// tells it, and nothing else is written.
 pub fn write_records<R: Wait, W: Write>(
     rt: &R,
     alloc: Global,

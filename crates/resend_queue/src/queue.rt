@@ -1,6 +1,7 @@
 //! The frames that wait, the oldest first.
 
-ghost use Rattle.std.specs.Prelude.{◌≡◌, ℕ, ◌≤◌, ◌<◌, ◌↔◌, ◌++◌, ◌∷◌, ◌==◌, [], length, drop, map, position, slice_get, option_copied, IfOk, IfSome, OnOk, IfErr, IsOk};
+ghost use Rattle.std.specs.Prelude.{◌≡◌, ℕ, ◌≤◌, ◌<◌, ◌↔◌, ◌++◌, ◌∷◌, ◌==◌, [], length, drop, map, position, slice_get};
+ghost use Rattle.std.specs.Prelude.{option_copied, IfOk, IfSome, OnOk, IfErr, IsOk};
 ghost use Rattle.resend_queue.specs.Timing.{is_due, marked, touched, changed_at};
 
 use crate::held_frame::Held;

@@ -107,8 +107,8 @@ fn said_by(line: &[u8]) -> Option<Line<'_>> {
     }
 }
 
-/// Whether the script ends before this line, since it begins with the octet 0. So a file can be written over from its beginning: what
-/// stands behind the last line that was written isn't looked at.
+/// Whether the script ends before this line, since it begins with the octet 0. So a file can be written over from its beginning:
+/// what stands behind the last line that was written isn't looked at.
 pub fn ends_script(line: &[u8]) -> bool
     ensures { result ≡ starts_with nat_eq line.now (0 ∷ []) }
 {

@@ -1,5 +1,6 @@
 -- Two sides that send each other datagrams over a network that may lose, repeat, delay and reorder them ("Message Transport").
-use Rattle.std.specs.Prelude.{◌≡◌, ℕ, ◌+◌, ◌≤◌, ◌&&◌, nat_lt, List, [], ◌∷◌, ◌++◌, length, Option, None, Some, IfSome, OnSome, slice_get, pos, if◌then◌else◌}
+use Rattle.std.specs.Prelude.{◌≡◌, ℕ, ◌+◌, ◌≤◌, ◌&&◌, nat_lt, List, [], ◌∷◌, ◌++◌, length, Option, None, Some, IfSome, OnSome}
+use Rattle.std.specs.Prelude.{slice_get, pos, if◌then◌else◌}
 use Rattle.std.specs.List.{flat_map}
 use Rattle.iax_frames.specs.declared.stored_frame.Frame.{Frame}
 use Rattle.seq_window.specs.Entry.{Entry, Sent}
@@ -24,7 +25,8 @@ pub record Side : Type 0 where
   pub history : List Entry
   pub datagrams : List Datagram
 
--- what a side may do. The datagrams that it judges are any that the other side ever sent; a loss is a datagram that is never judged
+-- what a side may do. The datagrams that it judges are any that the other side ever sent; a loss is a datagram that is never
+-- judged
 pub data Action : Type 0 where
   SendNumbered : (frame : Frame) → Action
   SendUnnumbered : Action
@@ -203,7 +205,8 @@ abbrev pub added_in_turn : Side → Datagram → Turn → List Entry
 added_in_turn own datagram turn =
     entries_in_turn own.history (byte_of datagram.acknowledgement) (byte_of datagram.number) datagram.frame turn
 
--- the datagram of a numbered reply: its number is the next of the record before the turn, and it acknowledges what is taken after it
+-- the datagram of a numbered reply: its number is the next of the record before the turn, and it acknowledges what is taken after
+-- it
 abbrev pub datagrams_of_reply : List Entry → List Entry → Option Frame → List Datagram
 datagrams_of_reply before history None = []
 datagrams_of_reply before history (Some frame) =

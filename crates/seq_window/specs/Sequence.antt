@@ -33,7 +33,8 @@ number_judged expected number = match_ordering (int_cmp number (pos expected)) R
 abbrev pub number_byte_judged : ℕ → ℕ → Received
 number_byte_judged expected byte = number_judged expected (reading_near expected byte)
 
--- What an acknowledgement, the next number that the other side expects, does where so many frames are acknowledged and so many sent.
+-- What an acknowledgement, the next number that the other side expects, does where so many frames are acknowledged and so many
+-- sent.
 abbrev pub acknowledgement_judged : ℕ → ℕ → ℕ → Acknowledged
 acknowledgement_judged acked sent number =
     if nat_le acked number && nat_le number sent then Acked (number - acked) else Ignored

@@ -32,7 +32,8 @@ abbrev pub entries_for_reply : Option Frame → List Entry
 entries_for_reply None = []
 entries_for_reply (Some frame) = Sent frame ∷ []
 
--- What a full frame with these octets adds to a record: an acknowledgement, then a taken frame, then a sent one, each at most once.
+-- What a full frame with these octets adds to a record: an acknowledgement, then a taken frame, then a sent one, each at most
+-- once.
 abbrev pub entries_in_turn : List Entry → ℕ → ℕ → Option Frame → Turn → List Entry
 entries_in_turn history iseq oseq frame turn =
     (if turn.acknowledges then entries_for_acknowledgement history iseq else [])

@@ -1,5 +1,6 @@
 -- What a window is, and what its calls do ("Message Transport").
-use Rattle.std.specs.Prelude.{ℕ, zero, suc, ◌+◌, ◌-◌, ◌<◌, ◌^◌, ◌&&◌, Bool, Option, None, Some, slice_get, map, position, min, List, [], ◌∷◌, ◌++◌, length, drop, nat_eq, nat_le, if◌then◌else◌}
+use Rattle.std.specs.Prelude.{ℕ, zero, suc, ◌+◌, ◌-◌, ◌<◌, ◌^◌, ◌&&◌, Bool, Option, None, Some, slice_get, map, position, min}
+use Rattle.std.specs.Prelude.{List, [], ◌∷◌, ◌++◌, length, drop, nat_eq, nat_le, if◌then◌else◌}
 use Rattle.iax_frames.specs.declared.stored_frame.Frame.{Frame}
 use Rattle.resend_queue.specs.declared.held_frame.Held.{Held}
 use Rattle.seq_window.specs.Entry.{Entry, Sent, Acked, Taken}
@@ -170,7 +171,8 @@ after_marking w place now = record {
 -- the first due frame goes out again, where it has tries left
 abbrev pub resent_if : Option ℕ → WindowState → ℕ → Resent
 resent_if None w max_retries = resents.Nothing
-resent_if (Some place) w max_retries = if nat_le max_retries (tries_at place w.sendings) then resents.Spent else resents.Again place
+resent_if (Some place) w max_retries = if nat_le max_retries (tries_at place w.sendings) then
+    resents.Spent else resents.Again place
 
 abbrev pub resent : WindowState → ℕ → ℕ → ℕ → Resent
 resent w now retry_ms max_retries = resent_if (first_due now retry_ms w.sendings) w max_retries

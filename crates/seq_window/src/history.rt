@@ -1,6 +1,7 @@
 //! The record of a leg: what it sent, what was acknowledged and what it took.
 
-ghost use Rattle.std.specs.Prelude.{◌≡◌, ◌+◌, ◌-◌, ◌*◌, ◌<◌, ◌≤◌, ◌==◌, [], ◌∷◌, ◌++◌, length, slice_get, IsOk, OnOk, OnErr, max, sum_by};
+ghost use Rattle.std.specs.Prelude.{◌≡◌, ◌+◌, ◌-◌, ◌*◌, ◌<◌, ◌≤◌, ◌==◌, [], ◌∷◌, ◌++◌, length, slice_get, IsOk, OnOk, OnErr, max};
+ghost use Rattle.std.specs.Prelude.{sum_by};
 ghost use Rattle.std.specs.Option.{option_map};
 ghost use Rattle.seq_window.specs.Entry.{Sent as EntrySent, Acked as EntryAcked, Taken as EntryTaken};
 ghost use Rattle.seq_window.specs.History.{sent_count, acked_count, taken_count};
@@ -169,7 +170,8 @@ impl Record {
     /// Adds the entry of a frame that is sent. Only where nothing is spare it may ask for memory.
     pub(crate) fn push_sent(&mut self, frame: &Frame) -> Result<(), AllocError>
         requires { length self.old.entries < 65536 }
-        ensures ok { OnOk result (self.new ≡ record { entries = self.old.entries ++ EntrySent frame.now ∷ []; spare = self.old.spare - 1 }) }
+        ensures ok { OnOk result (self.new ≡
+            record { entries = self.old.entries ++ EntrySent frame.now ∷ []; spare = self.old.spare - 1 }) }
         ensures memory { OnErr result (self.old.spare ≡ 0) }
         ensures err { OnErr result (self.new ≡ self.old) }
     {
@@ -183,7 +185,8 @@ impl Record {
     /// Adds the entry of an acknowledgement. Only where nothing is spare it may ask for memory.
     pub(crate) fn push_acked(&mut self, count: u32) -> Result<(), AllocError>
         requires { length self.old.entries < 65536 }
-        ensures ok { OnOk result (self.new ≡ record { entries = self.old.entries ++ EntryAcked count ∷ []; spare = self.old.spare - 1 }) }
+        ensures ok { OnOk result (self.new ≡
+            record { entries = self.old.entries ++ EntryAcked count ∷ []; spare = self.old.spare - 1 }) }
         ensures memory { OnErr result (self.old.spare ≡ 0) }
         ensures err { OnErr result (self.new ≡ self.old) }
     {
@@ -196,7 +199,8 @@ impl Record {
     /// Adds the entry of a frame that is taken. Only where nothing is spare it may ask for memory.
     pub(crate) fn push_taken(&mut self, frame: &Frame) -> Result<(), AllocError>
         requires { length self.old.entries < 65536 }
-        ensures ok { OnOk result (self.new ≡ record { entries = self.old.entries ++ EntryTaken frame.now ∷ []; spare = self.old.spare - 1 }) }
+        ensures ok { OnOk result (self.new ≡
+            record { entries = self.old.entries ++ EntryTaken frame.now ∷ []; spare = self.old.spare - 1 }) }
         ensures memory { OnErr result (self.old.spare ≡ 0) }
         ensures err { OnErr result (self.new ≡ self.old) }
     {

@@ -2,8 +2,11 @@
 
 ghost use Rattle.std.specs.Prelude.{◌≡◌, ◌↔◌, ◌<◌, ◌≤◌, ◌*◌, ℕ, ℤ, List, ◌++◌, length, slice_get, Some};
 ghost use Rattle.iax_frames.specs.declared.stored_frame.Frame.{Frame};
-ghost use Rattle.seq_window.specs.Sequence.{byte_of, number_byte_judged, acknowledgement_byte_judged, IsReadingNear, IsReadingFrom, reading_near, reading_from};
-ghost use Rattle.seq_window.specs.Network.{InEveryFreshRun, EachWay, TakesInOrder, AcksTaken, HasLegalRecord, BytesSayNumbers, Size, start, GetThrough, Side, Datagram, after_all, actions_in_turn, added_in_turn, datagrams_of_reply};
+ghost use Rattle.seq_window.specs.Sequence.{byte_of, number_byte_judged, acknowledgement_byte_judged, IsReadingNear};
+ghost use Rattle.seq_window.specs.Sequence.{IsReadingFrom, reading_near, reading_from};
+ghost use Rattle.seq_window.specs.Network.{InEveryFreshRun, EachWay, TakesInOrder, AcksTaken, HasLegalRecord, BytesSayNumbers};
+ghost use Rattle.seq_window.specs.Network.{Size, start, GetThrough, Side, Datagram, after_all, actions_in_turn, added_in_turn};
+ghost use Rattle.seq_window.specs.Network.{datagrams_of_reply};
 ghost use Rattle.seq_window.specs.History.{IsLegal};
 ghost use Rattle.seq_window.specs.Turn.{Turn};
 

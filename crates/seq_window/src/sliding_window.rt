@@ -3,7 +3,10 @@
 ghost use Rattle.std.specs.Prelude.{◌≡◌, ℕ, ◌+◌, ◌≤◌, ◌<◌, ◌↔◌, [], option_copied, IfOk, IfSome, OnOk, OnErr, IsOk, IsTrue, Some};
 ghost use Rattle.seq_window.specs.Sequence.{byte_of};
 ghost use Rattle.seq_window.specs.History.{sent_count, taken_count, acked_count, IsLegal};
-ghost use Rattle.seq_window.specs.Window.{held_count, entry_count, is_full, judged_acknowledgement, count_of, judged_number, after_sending, after_acknowledgement, after_receiving, held_at, after_touching, after_touching_all, first_due, tries_at, after_marking, resent, after_resent, IsPlaceBelow};
+ghost use Rattle.seq_window.specs.Window.{held_count, entry_count, is_full, judged_acknowledgement, count_of, judged_number};
+ghost use Rattle.seq_window.specs.Window.{after_sending, after_acknowledgement, after_receiving, held_at, after_touching};
+ghost use Rattle.seq_window.specs.Window.{after_touching_all, first_due, tries_at, after_marking, resent, after_resent};
+ghost use Rattle.seq_window.specs.Window.{IsPlaceBelow};
 
 use crate::errors::{RecordError, SendError};
 use crate::history::Record;
@@ -113,7 +116,8 @@ impl Window {
             self.new.spare + entry_count self.new.state ≡ self.old.spare + entry_count self.old.state) }
         ensures reserved { 0 < self.old.spare → entry_count self.old.state < self.old.state.limit → IsOk result }
         ensures record_full { (result ≡ Err RecordError.RecordFull) ↔
-            (0 < count_of (judged_acknowledgement self.old.state.history iseq)) × (entry_count self.old.state ≡ self.old.state.limit) }
+            (0 < count_of (judged_acknowledgement self.old.state.history iseq)) ×
+            (entry_count self.old.state ≡ self.old.state.limit) }
         ensures memory { result ≡ Err RecordError.Memory →
             (0 < count_of (judged_acknowledgement self.old.state.history iseq)) × (self.old.spare ≡ 0) }
         ensures err { OnErr result (self.new ≡ self.old) }

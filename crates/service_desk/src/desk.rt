@@ -19,7 +19,8 @@ use trace_writer::TraceLane;
 
 // What there is to ask, for whoever asks for `/`.
 const TABLE: &str =
-    "{\"commands\":[\"GET /\",\"GET /peers\",\"GET /calls\",\"GET /calls/<number>\",\"GET /accounts\",\"POST /calls\",\"DELETE /calls/<number>\",\"POST /stop\"]}";
+    "{\"commands\":[\"GET /\",\"GET /peers\",\"GET /calls\",\"GET /calls/<number>\",\"GET /accounts\",\"POST /calls\",\
+    \"DELETE /calls/<number>\",\"POST /stop\"]}";
 
 /// The exchange with a pass of its own, and what its workers tell.
 #[derive(Drop)]

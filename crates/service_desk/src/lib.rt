@@ -1,4 +1,5 @@
-//! What clients ask of a service, and what its workers tell of it: the exchange with a pass of its own, its legs, peers and accounts.
+//! What clients ask of a service, and what its workers tell of it: the exchange with a pass of its own, its legs, peers and
+//! accounts.
 #![tactic(auto)]
 
 mod desk;

@@ -147,8 +147,8 @@ fn count_one(count: &AtomicU64) {
 }
 
 impl ServiceWatch {
-    /// A service that serves, with the peers of a plan, of which nothing was heard. The rows of ended legs go to these outlets, if there
-    /// are some, and what the exchange is given is noted in the trace, if there is one.
+    /// A service that serves, with the peers of a plan, of which nothing was heard. The rows of ended legs go to these outlets,
+    /// if there are some, and what the exchange is given is noted in the trace, if there is one.
     pub fn new(
         alloc: Global,
         plan: &Plan,

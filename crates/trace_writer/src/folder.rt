@@ -4,8 +4,8 @@ use std::io::ErrorKind;
 use std::os::unix::fs::{DirBuilderExt, MetadataExt, OpenOptionsExt};
 use std::{fs, io};
 
-/// Where folders and files are made by their names. A thread may be given one, where its maker's file system is a type of its own: what
-/// has `Files` has this.
+/// Where folders and files are made by their names. A thread may be given one, where its maker's file system is a type of its
+/// own: what has `Files` has this.
 pub trait Folder {
     /// Makes a folder of this name, with the mode 0700, where there is none.
     fn make(&self, path: &str) -> io::Result<()>;

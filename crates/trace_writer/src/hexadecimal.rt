@@ -19,8 +19,8 @@ fn digit(value: u8) -> u8
     }
 }
 
-// Each octet as two digits. A digit is reckoned, so that the processor does many at once: `hex`, which looks each up, takes three times as
-// long, and that was two fifths of the writer's time.
+// Each octet as two digits. A digit is reckoned, so that the processor does many at once: `hex`, which looks each up, takes three
+// times as long, and that was two fifths of the writer's time.
 fn write_digits(octets: &[u8], digits: &mut [u8])
     requires { length digits.old ≡ 2 * length octets.now }
     ensures { digits.new ≡ encode_lower octets.now }
@@ -31,7 +31,8 @@ fn write_digits(octets: &[u8], digits: &mut [u8])
     }
 }
 
-/// Puts the octets behind a text, each as two digits. An error where there is no memory for them, or where there are 65,536 or more.
+/// Puts the octets behind a text, each as two digits. An error where there is no memory for them, or where there are 65,536 or
+/// more.
 pub(crate) fn push_hex(text: &mut Vec<u8>, octets: &[u8]) -> Result<(), AllocError>
     ensures { OnOk result (text.new.items ≡ text.old.items ++ encode_lower octets.now) }
 {

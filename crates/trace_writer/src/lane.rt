@@ -18,9 +18,9 @@ const NEEDED_OCTETS: usize = 2 * LONGEST;
 
 /// A thread's own end of the trace.
 ///
-/// A worker says when a turn begins, each datagram before it is handed to the exchange, that its peers are about to be ticked, what it
-/// sends, and when the turn has ended. A call of the exchange is open until the next of these. Whoever gives orders says of each when it
-/// begins and when it has ended.
+/// A worker says when a turn begins, each datagram before it is handed to the exchange, that its peers are about to be ticked,
+/// what it sends, and when the turn has ended. A call of the exchange is open until the next of these. Whoever gives orders says
+/// of each when it begins and when it has ended.
 #[derive(Drop)]
 pub struct TraceLane<'t> {
     trace: &'t Trace,
@@ -51,7 +51,8 @@ fn is_full(octets: &[u8]) -> bool {
     }
 }
 
-// The numbers of a peer that has no leg, each with when it was freed last, as they are given out: those first that never had a leg.
+// The numbers of a peer that has no leg, each with when it was freed last, as they are given out: those first that never had a
+// leg.
 fn free_numbers(
     alloc: Global,
     trace: &Trace,

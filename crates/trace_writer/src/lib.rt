@@ -1,5 +1,5 @@
-//! The trace of a service: what its threads hand to the exchange is written down, as a script that gives the same datagrams again where
-//! it is replayed. The threads note it without waiting for the disk, and a thread of its own writes it to a folder.
+//! The trace of a service: what its threads hand to the exchange is written down, as a script that gives the same datagrams again
+//! where it is replayed. The threads note it without waiting for the disk, and a thread of its own writes it to a folder.
 #![tactic(auto)]
 
 mod calls;

@@ -84,7 +84,8 @@ impl Batch {
 
     /// A mark more, with its octets. False where there is no room for it; then nothing has changed.
     pub(crate) fn push(&mut self, mark: Mark, octets: &[u8]) -> bool
-        ensures marks { self.new.marks.items ≡ (if result then self.old.marks.items ++ record mark { octets = length octets.now } ∷ [] else self.old.marks.items) }
+        ensures marks { self.new.marks.items ≡
+            (if result then self.old.marks.items ++ record mark { octets = length octets.now } ∷ [] else self.old.marks.items) }
         ensures octets { self.new.octets.items ≡ (if result then self.old.octets.items ++ octets.now else self.old.octets.items) }
     {
         let mut mark = mark;

@@ -61,8 +61,8 @@ impl TraceFolder<'_> {
         Ok(oldest)
     }
 
-    // Begins the file at a place anew. What it had is given up, and is written over: that takes the system half of what it takes to
-    // empty a file and to fill it again.
+    // Begins the file at a place anew. What it had is given up, and is written over: that takes the system half of what it takes
+    // to empty a file and to fill it again.
     fn begin<D: Folder>(&self, disk: &D, alloc: Global, place: u64) -> io::Result<TraceFile> {
         let path = self.path_of(alloc, place)?;
         let file = disk.begin(path.as_str())?;
@@ -78,8 +78,8 @@ impl TraceFolder<'_> {
         })
     }
 
-    /// Makes the folder, where there is none, and begins the file that was changed longest ago. Of those that are left a new one is
-    /// made first.
+    /// Makes the folder, where there is none, and begins the file that was changed longest ago. Of those that are left a new one
+    /// is made first.
     pub fn open<D: Folder>(&self, disk: &D, alloc: Global) -> io::Result<TraceFile> {
         disk.make(self.path)?;
         let place = self.oldest(disk, alloc)?;
@@ -117,8 +117,8 @@ impl TraceFile {
         let _ = self.tail.extend_from_slice(text.get(from..).unwrap_or(b""));
     }
 
-    // Puts whole lines, the first octet of which is given apart, behind those that there are. That octet comes last, over the end that
-    // stood there: whenever the service is killed, the file's lines are those of a time before or after this.
+    // Puts whole lines, the first octet of which is given apart, behind those that there are. That octet comes last, over the end
+    // that stood there: whenever the service is killed, the file's lines are those of a time before or after this.
     fn put(&self, first: u8, rest: &[u8]) -> io::Result<()> {
         let behind_first = self.length.saturating_add(1);
         let behind_all = behind_first.saturating_add(rest.len() as u64);
@@ -133,8 +133,8 @@ impl TraceFile {
         let _ = self.file.set_len(self.length);
     }
 
-    /// Writes whole lines behind those that there are. Where it fails, so many of these are cut off that there is room for one line,
-    /// which says why the trace ends.
+    /// Writes whole lines behind those that there are. Where it fails, so many of these are cut off that there is room for one
+    /// line, which says why the trace ends.
     pub(crate) fn write(&mut self, text: &[u8]) -> Result<(), Fault> {
         let Some((first, rest)) = text.split_first() else {
             return Ok(());

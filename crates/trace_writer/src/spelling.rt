@@ -163,8 +163,8 @@ impl<'p> Script<'p> {
         self.text.write_all(b"settle\n")
     }
 
-    /// The lines of a call of the exchange that a thread made, or handed to it. False where there was no memory for them: then none is
-    /// there, and the next ones say so.
+    /// The lines of a call of the exchange that a thread made, or handed to it. False where there was no memory for them: then
+    /// none is there, and the next ones say so.
     pub(crate) fn push(&mut self, thread: usize, mark: &Mark, octets: &[u8]) -> bool {
         let (length, now) = (self.text.len(), self.now);
         self.missing = self.missing.saturating_add(mark.lost);

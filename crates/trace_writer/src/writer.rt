@@ -11,8 +11,8 @@ use std::sync::Wait;
 use std::time::{Clock, Duration};
 use std::{mem, thread};
 
-// How long the writer rests after a round, in milliseconds; and where there is much to write, so that what a thread notes is still in the
-// processor's nearest memory when it is read, and when it is noted over.
+// How long the writer rests after a round, in milliseconds; and where there is much to write, so that what a thread notes is
+// still in the processor's nearest memory when it is read, and when it is noted over.
 const REST_MS: u64 = 20;
 
 const SHORT_REST_MS: u64 = 5;

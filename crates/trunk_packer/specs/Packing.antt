@@ -8,7 +8,8 @@ use Rattle.trunk_packer.specs.Stored.{first_stored}
 pub record AppendsFront (timed : Bool) (old new octets : List ℕ) (media : ℕ) (rest : List ℕ) : Type 0 where
   pub entry : QueueEntry
   pub first : first_stored octets ≡ Some (entry, rest)
-  pub spelled : (t : TrunkFrame) → SpellsTrunk old t → SpellsTrunk new (with_entry t (trunk_entry (is_timed t.command_data) entry))
+  pub spelled : (t : TrunkFrame) → SpellsTrunk old t →
+      SpellsTrunk new (with_entry t (trunk_entry (is_timed t.command_data) entry))
   pub size : length new ≡ length old + head_len timed + length entry.media
   pub fits : length new ≤ 1400
   pub counted : media ≡ length entry.media

@@ -1,5 +1,6 @@
 //! The trunk queue of a peer ("Meta Frames").
-ghost use Rattle.std.specs.Prelude.{◌≡◌, ℕ, ◌+◌, ◌<◌, ◌≤◌, ◌↔◌, ◌^◌, List, [], ◌∷◌, ◌++◌, length, slice_index, IsTrue, IsOk, IfOk, OnOk, OnErr, Some, IsNone, IfNone, IfSome};
+ghost use Rattle.std.specs.Prelude.{◌≡◌, ℕ, ◌+◌, ◌<◌, ◌≤◌, ◌↔◌, ◌^◌, List, [], ◌∷◌, ◌++◌, length, slice_index, IsTrue, IsOk};
+ghost use Rattle.std.specs.Prelude.{IfOk, OnOk, OnErr, Some, IsNone, IfNone, IfSome};
 ghost use Rattle.iax_frames.specs.TrunkFrame.{IsTrunk, head_len, is_timed};
 ghost use Rattle.trunk_packer.specs.Queue.{QueueEntry, media_octets, HasRoom, IsFull, PacksFront};
 ghost use Rattle.trunk_packer.specs.Stored.{stored, IsStored, first_stored};
@@ -94,7 +95,8 @@ impl Packer {
         ensures too_long { (result ≡ Err QueueError.TooLong) ↔ (1380 < length media.now) }
         ensures full { (result ≡ Err QueueError.QueueFull) ↔ ((length media.now ≤ 1380) × IsFull self.old (length media.now)) }
         ensures room { IsOk result ↔ ((length media.now ≤ 1380) × HasRoom self.old (length media.now)) }
-        ensures queued { OnOk result (self.new ≡ self.old ++ (record { number = number; timestamp = timestamp; media = media.now }) ∷ []) }
+        ensures queued { OnOk result (self.new ≡ self.old ++
+            (record { number = number; timestamp = timestamp; media = media.now }) ∷ []) }
         ensures counted { OnOk result (media_octets self.new ≡ media_octets self.old + length media.now) }
         ensures err { OnErr result (self.new ≡ self.old) }
     {
@@ -144,7 +146,8 @@ impl Packer {
 fn push_entry(octets: &mut HeapCircularBuffer<u8>, number: CallNumber, timestamp: u16, media: &[u8])
     requires room { length octets.old.items + 6 + length media.now ≤ octets.old.capacity }
     requires short { length media.now ≤ 1380 }
-    ensures octets { octets.new.items ≡ octets.old.items ++ stored (record { number = number; timestamp = timestamp; media = media.now }) }
+    ensures octets { octets.new.items ≡ octets.old.items ++
+        stored (record { number = number; timestamp = timestamp; media = media.now }) }
     ensures capacity { octets.new.capacity ≡ octets.old.capacity }
     ensures entry { IsStored (record { number = number; timestamp = timestamp; media = media.now }) }
 {
@@ -170,7 +173,8 @@ fn append_front<'a>(out: &mut Out, octets: &Pieces<'a>) -> Option<(usize, Pieces
     ensures none { IfNone result ((e : QueueEntry) (rest : List ℕ) → first_stored octets.now ≡ Some (e, rest)
         → 1400 < length out.old + head_len (is_timed (slice_index out.old 3)) + length e.media) }
     ensures same { IfNone result (out.new ≡ out.old) }
-    ensures some { IfSome result (λ found. AppendsFront (is_timed (slice_index out.old 3)) out.old out.new octets.now found.0 found.1) }
+    ensures some { IfSome result (λ found.
+        AppendsFront (is_timed (slice_index out.old 3)) out.old out.new octets.now found.0 found.1) }
 {
     match split_entry(octets) {
         Some((entry, rest)) => match entry.append_to(out) {

@@ -1,5 +1,6 @@
 //! The entries of a queue as they lie in a ring of octets.
-ghost use Rattle.std.specs.Prelude.{◌≡◌, ◌+◌, ◌<◌, ◌≤◌, ◌^◌, ◌↔◌, IsOk, OnOk, OnErr, IfNone, IfSome, length, slice_index, Some, None};
+ghost use Rattle.std.specs.Prelude.{◌≡◌, ◌+◌, ◌<◌, ◌≤◌, ◌^◌, ◌↔◌, IsOk, OnOk, OnErr, IfNone, IfSome, length, slice_index, Some};
+ghost use Rattle.std.specs.Prelude.{None};
 ghost use Rattle.iax_frames.specs.TrunkFrame.{TrunkFrame, SpellsTrunk, IsTrunk, with_entry, head_len, is_timed};
 ghost use Rattle.trunk_packer.specs.Queue.{trunk_entry};
 ghost use Rattle.trunk_packer.specs.Stored.{first_stored};
@@ -39,9 +40,12 @@ impl<'a> StoredEntry<'a> {
     // Appends the entry to a trunk frame, or changes nothing.
     pub(crate) fn append_to(&self, out: &mut Out) -> Result<(), TooLong>
         requires { IsTrunk out.old }
-        ensures variant { IsOk result ↔ (length out.old + head_len (is_timed (slice_index out.old 3)) + length self.now.media ≤ 1400) }
-        ensures size { OnOk result (length out.new ≡ length out.old + head_len (is_timed (slice_index out.old 3)) + length self.now.media) }
-        ensures spelled { OnOk result ((t : TrunkFrame) → SpellsTrunk out.old t → SpellsTrunk out.new (with_entry t (trunk_entry (is_timed t.command_data) self.now))) }
+        ensures variant { IsOk result ↔
+            (length out.old + head_len (is_timed (slice_index out.old 3)) + length self.now.media ≤ 1400) }
+        ensures size { OnOk result (length out.new ≡
+            length out.old + head_len (is_timed (slice_index out.old 3)) + length self.now.media) }
+        ensures spelled { OnOk result ((t : TrunkFrame) → SpellsTrunk out.old t →
+            SpellsTrunk out.new (with_entry t (trunk_entry (is_timed t.command_data) self.now))) }
         ensures err { OnErr result (out.new ≡ out.old) }
     {
         append_entry_in_two(

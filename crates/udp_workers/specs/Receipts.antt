@@ -9,4 +9,5 @@ use Rattle.udp_workers.specs.declared.watch.Event.TheVariants as events
 abbrev pub TellsReceipt : (Event → Type 0) → PlanView → Endpoint → ℕ → Type 0
 TellsReceipt told plan from now =
     (All (λ peer. peer.endpoint ≢ from) plan.peers × told (events.Stranger from))
-    ⊎ ((peer : ℕ) × (option_map (λ peer. peer.endpoint) (slice_get plan.peers peer) ≡ Some from) × told (events.Received peer now))
+    ⊎ ((peer : ℕ) × (option_map (λ peer. peer.endpoint) (slice_get plan.peers peer) ≡ Some from) ×
+    told (events.Received peer now))

@@ -13,7 +13,9 @@ IsLater old new = (steps : List Made) × (new.made ≡ old.made ++ steps)
 
 -- time went on at one peer of a plan: the pass has noted all steps of its tick at that moment, and none else
 abbrev pub Ticks : PlanView → ℕ → ℕ → Noted → Noted → Type 0
-Ticks plan now peer old new = MakesAll (moment plan now) (begun (of_tick peer (range_of (counts_of plan.peers) peer).first (range_of (counts_of plan.peers) peer).count)) old new
+Ticks plan now peer old new =
+    MakesAll (moment plan now)
+    (begun (of_tick peer (range_of (counts_of plan.peers) peer).first (range_of (counts_of plan.peers) peer).count)) old new
 
 -- time went on at each of these peers, at one and the same moment, in their order: a tick of each, and none else
 abbrev pub TicksAll : PlanView → ℕ → List ℕ → Noted → Noted → Type 0

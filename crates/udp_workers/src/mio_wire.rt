@@ -141,8 +141,8 @@ impl MioWire {
 
     /// A socket that is bound to this endpoint and may send to these peers. Nothing was given to it yet, and no call failed.
     ///
-    /// Workers of one endpoint are bound in the order of their places: what comes from one sender then comes to one of them, whichever the
-    /// system chooses. At an `Err` the list is dropped.
+    /// Workers of one endpoint are bound in the order of their places: what comes from one sender then comes to one of them,
+    /// whichever the system chooses. At an `Err` the list is dropped.
     pub fn bind<N: Net>(
         rt: &N,
         alloc: Global,

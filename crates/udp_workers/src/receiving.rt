@@ -49,7 +49,10 @@ fn hand_on<V: Watch, G: Gate, J: Naming, R: Wait>(
     ensures steps { pass.old.credit.steps + 1 + tally.old.report.refused ≤ pass.new.credit.steps + tally.new.report.refused }
     ensures later { IsLater pass.old pass.new }
     ensures handed { GivesAll (V.given tally.old.watch.now) pass.old pass.new }
-    ensures heard { IsHeard exchange.now from (record (moment exchange.now now) { octets = octets.now; challenge = Some challenge.now }) pass.old pass.new }
+    ensures heard { IsHeard exchange.now from (record (moment exchange.now now) {
+      octets = octets.now;
+      challenge = Some challenge.now;
+    }) pass.old pass.new }
 {
     let answer = exchange.datagram(rt, pass, from, octets, now, challenge);
     if let Some(refusal) = answer.refused {
@@ -85,8 +88,13 @@ fn hear<V: Watch, G: Gate, J: Naming, R: Wait>(
     ensures later { IsLater pass.old pass.new }
     ensures handed { GivesAll (V.given tally.old.watch.now) pass.old pass.new }
     // One that is turned away is refused, and makes none; any other is heard by the exchange.
-    ensures away { IsTurnedAway stage octets.now → (pass.new ≡ pass.old) × (tally.new.report.refused ≡ tally.old.report.refused + 1) }
-    ensures heard { (IsTurnedAway stage octets.now → ⊥) → IsHeard exchange.now from (record (moment exchange.now now) { octets = octets.now; challenge = Some challenge.now }) pass.old pass.new }
+    ensures away { IsTurnedAway stage octets.now →
+        (pass.new ≡ pass.old) × (tally.new.report.refused ≡ tally.old.report.refused + 1) }
+    ensures heard { (IsTurnedAway stage octets.now → ⊥) →
+        IsHeard exchange.now from (record (moment exchange.now now) {
+          octets = octets.now;
+          challenge = Some challenge.now;
+        }) pass.old pass.new }
 {
     let Some(peer) = exchange.plan().peer_of(from) else {
         tally.tell(Event::Stranger { from });
@@ -122,14 +130,16 @@ fn receive_one<W: Wire, V: Watch, G: Gate, J: Naming, R: Wait>(
     ensures received { tally.old.report.received ≤ tally.new.report.received }
     ensures one { tally.new.report.received ≤ tally.old.report.received + 1 }
     ensures refused { tally.old.report.refused ≤ tally.new.report.refused }
-    ensures few_refused { tally.new.report.refused + tally.old.report.received ≤ tally.old.report.refused + tally.new.report.received }
+    ensures few_refused { tally.new.report.refused + tally.old.report.received ≤ tally.old.report.refused +
+        tally.new.report.received }
     ensures sent { tally.new.report.sent ≡ tally.old.report.sent }
     ensures lost { tally.new.report.lost ≡ tally.old.report.lost }
     ensures faults { tally.old.report.faults ≤ tally.new.report.faults }
     ensures one_fault { tally.new.report.faults ≤ tally.old.report.faults + 1 }
     ensures last { IsTrue result → tally.new.report.faults ≡ tally.old.report.faults }
     ensures watch { tally.new.watch ≡ tally.old.watch }
-    ensures steps { pass.old.credit.steps + tally.new.report.received + tally.old.report.refused ≤ pass.new.credit.steps + tally.new.report.refused + tally.old.report.received }
+    ensures steps { pass.old.credit.steps + tally.new.report.received + tally.old.report.refused ≤ pass.new.credit.steps +
+        tally.new.report.refused + tally.old.report.received }
     ensures later { IsLater pass.old pass.new }
     ensures handed { GivesAll (V.given tally.old.watch.now) pass.old pass.new }
 {
@@ -173,12 +183,14 @@ pub(crate) fn receive_all<W: Wire, V: Watch, G: Gate, J: Naming, R: Wait>(
     ensures failures { RiseAlike (W.failures wire.old) (W.failures wire.new) tally.old.report.faults tally.new.report.faults }
     ensures peers { W.peers wire.new ≡ W.peers wire.old }
     ensures received { tally.new.report.received ≤ tally.old.report.received + 64 }
-    ensures refused { tally.new.report.refused + tally.old.report.received ≤ tally.old.report.refused + tally.new.report.received }
+    ensures refused { tally.new.report.refused + tally.old.report.received ≤ tally.old.report.refused +
+        tally.new.report.received }
     ensures sent { tally.new.report.sent ≡ tally.old.report.sent }
     ensures lost { tally.new.report.lost ≡ tally.old.report.lost }
     ensures one_fault { tally.new.report.faults ≤ tally.old.report.faults + 1 }
     ensures watch { tally.new.watch ≡ tally.old.watch }
-    ensures steps { pass.old.credit.steps + tally.new.report.received + tally.old.report.refused ≤ pass.new.credit.steps + tally.new.report.refused + tally.old.report.received }
+    ensures steps { pass.old.credit.steps + tally.new.report.received + tally.old.report.refused ≤ pass.new.credit.steps +
+        tally.new.report.refused + tally.old.report.received }
     ensures later { IsLater pass.old pass.new }
     ensures handed { GivesAll (V.given tally.old.watch.now) pass.old pass.new }
 {

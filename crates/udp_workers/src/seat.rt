@@ -54,9 +54,9 @@ pub struct Start {
     pub steps: u64,
 }
 
-/// What a worker's thread works on, and the sum of the reports of its last run. It has each datagram that the wire was given since
-/// that run began and each call of the wire that failed; and each datagram that it has as received, and not as refused, made a step
-/// under the pass.
+/// What a worker's thread works on, and the sum of the reports of its last run. It has each datagram that the wire was given
+/// since that run began and each call of the wire that failed; and each datagram that it has as received, and not as refused,
+/// made a step under the pass.
 #[derive(Drop)]
 pub struct Place<W: Wire + Drop, M: Moments + Drop, C: Challenges + Drop, J: Naming, P: Post> {
     pub worker: Worker,
@@ -129,7 +129,8 @@ impl<W: Wire + Drop, M: Moments + Drop, C: Challenges + Drop, J: Naming, P: Post
         ensures given { self.new.start.given ≡ W.given self.old.wire }
         ensures failures { self.new.start.failures ≡ W.failures self.old.wire }
         ensures steps { self.new.start.steps ≡ self.old.pass.credit.steps }
-        ensures turns { MakesTurns (V.answered watch.now ServiceStage.Ended) self.old.worker.turns self.new.worker.turns self.new.report }
+        ensures turns { MakesTurns
+            (V.answered watch.now ServiceStage.Ended) self.old.worker.turns self.new.worker.turns self.new.report }
         ensures told { ∥ Tells (V.told watch.now) self.new.report ∥₁ }
         ensures handed { GivesAll (V.given watch.now) self.old.pass self.new.pass }
     {

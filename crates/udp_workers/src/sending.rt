@@ -53,8 +53,8 @@ fn send_frame<W: Wire, V: Watch>(
     }
 }
 
-// Takes up to 256 frames from the outbox of a peer, one after another into the place that is lent, and sends each to its endpoint.
-// What the wire doesn't take is lost.
+// Takes up to 256 frames from the outbox of a peer, one after another into the place that is lent, and sends each to its
+// endpoint. What the wire doesn't take is lost.
 pub(crate) fn send_all<W: Wire, V: Watch, G: Gate, J: Naming, R: Wait>(
     rt: &R,
     wire: &mut W,
@@ -68,8 +68,10 @@ pub(crate) fn send_all<W: Wire, V: Watch, G: Gate, J: Naming, R: Wait>(
     requires peer { peer < length exchange.now.peers }
     requires to { Contains (W.peers wire.old) to }
     requires room { HasRoom 257 tally.old.report }
-    ensures given { RiseAlike (W.given wire.old) (W.given wire.new) (tally.old.report.sent + tally.old.report.lost) (tally.new.report.sent + tally.new.report.lost) }
-    ensures to { RiseAlike (W.given_to wire.old to) (W.given_to wire.new to) (tally.old.report.sent + tally.old.report.lost) (tally.new.report.sent + tally.new.report.lost) }
+    ensures given { RiseAlike (W.given wire.old) (W.given wire.new) (tally.old.report.sent + tally.old.report.lost)
+        (tally.new.report.sent + tally.new.report.lost) }
+    ensures to { RiseAlike (W.given_to wire.old to) (W.given_to wire.new to) (tally.old.report.sent + tally.old.report.lost)
+        (tally.new.report.sent + tally.new.report.lost) }
     ensures others { (other : Endpoint) → other ≢ to → W.given_to wire.new other ≡ W.given_to wire.old other }
     ensures failures { RiseAlike (W.failures wire.old) (W.failures wire.new) tally.old.report.faults tally.new.report.faults }
     ensures peers { W.peers wire.new ≡ W.peers wire.old }

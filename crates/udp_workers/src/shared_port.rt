@@ -1,5 +1,5 @@
-//! Sockets that are bound to one endpoint: the system shares out what comes by who sends it (`SO_REUSEPORT`), which neither `std::net` nor
-//! `mio` offers.
+//! Sockets that are bound to one endpoint: the system shares out what comes by who sends it (`SO_REUSEPORT`), which neither
+//! `std::net` nor `mio` offers.
 ghost use Rattle.std.specs.Prelude.{◌≡◌};
 ghost use Rattle.udp_workers.specs.SocketAddress.{socket_address};
 

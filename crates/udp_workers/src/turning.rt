@@ -48,7 +48,8 @@ impl Worker {
         ensures few_faults { result.faults ≤ result.lost + 1 }
         // Each datagram that isn't refused made a step at least.
         ensures steps { pass.old.credit.steps + result.received ≤ pass.new.credit.steps + result.refused }
-        // First what the datagrams led to, then a tick of each of its peers, in their order, at this moment; the sending makes no step.
+        // First what the datagrams led to, then a tick of each of its peers, in their order, at this moment; the sending makes no
+        // step.
         ensures ticked { (mid : Noted) × IsLater pass.old mid × TicksAll exchange.now now self.old.peers mid pass.new }
         ensures place { self.new.place ≡ self.old.place }
         ensures peers { self.new.peers ≡ self.old.peers }
@@ -80,16 +81,21 @@ impl Worker {
         requires asked { V.answered tally.old.watch.now stage }
         requires going { stage ≢ ServiceStage.Ended }
         requires room { HasRoom 10000 tally.old.report }
-        ensures given { RiseAlike (W.given wire.old) (W.given wire.new) (tally.old.report.sent + tally.old.report.lost) (tally.new.report.sent + tally.new.report.lost) }
+        ensures given { RiseAlike (W.given wire.old) (W.given wire.new) (tally.old.report.sent + tally.old.report.lost)
+            (tally.new.report.sent + tally.new.report.lost) }
         ensures faults { RiseAlike (W.failures wire.old) (W.failures wire.new) tally.old.report.faults tally.new.report.faults }
         ensures wire { W.peers wire.new ≡ W.peers wire.old }
         ensures received { tally.new.report.received ≤ tally.old.report.received + 64 }
-        ensures refused { tally.new.report.refused + tally.old.report.received ≤ tally.old.report.refused + tally.new.report.received }
-        ensures emptied { tally.new.report.sent + tally.new.report.lost ≤ tally.old.report.sent + tally.old.report.lost + 256 * length self.old.peers }
+        ensures refused { tally.new.report.refused + tally.old.report.received ≤ tally.old.report.refused +
+            tally.new.report.received }
+        ensures emptied { tally.new.report.sent + tally.new.report.lost ≤ tally.old.report.sent + tally.old.report.lost +
+            256 * length self.old.peers }
         ensures each { (to : Endpoint) → RisesByAtMost 256 (W.given_to wire.old to) (W.given_to wire.new to) }
-        ensures few_faults { tally.new.report.faults + tally.old.report.lost ≤ tally.old.report.faults + tally.new.report.lost + 1 }
+        ensures few_faults { tally.new.report.faults + tally.old.report.lost ≤ tally.old.report.faults + tally.new.report.lost +
+            1 }
         ensures watch { tally.new.watch ≡ tally.old.watch }
-        ensures steps { pass.old.credit.steps + tally.new.report.received + tally.old.report.refused ≤ pass.new.credit.steps + tally.new.report.refused + tally.old.report.received }
+        ensures steps { pass.old.credit.steps + tally.new.report.received + tally.old.report.refused ≤ pass.new.credit.steps +
+            tally.new.report.refused + tally.old.report.received }
         ensures handed { GivesAll (V.given tally.old.watch.now) pass.old pass.new }
         ensures ticked { (mid : Noted) × IsLater pass.old mid × TicksAll exchange.now now self.old.peers mid pass.new }
         ensures place { self.new.place ≡ self.old.place }
@@ -145,10 +151,12 @@ fn empty_all<W: Wire, V: Watch, G: Gate, J: Naming, R: Wait>(
     requires wire { AreEndpoints exchange.now peers.now (W.peers wire.old) }
     requires apart { AllPairs (λ one other. one ≢ other) (W.peers wire.old) }
     requires room { HasRoom 9000 tally.old.report }
-    ensures given { RiseAlike (W.given wire.old) (W.given wire.new) (tally.old.report.sent + tally.old.report.lost) (tally.new.report.sent + tally.new.report.lost) }
+    ensures given { RiseAlike (W.given wire.old) (W.given wire.new) (tally.old.report.sent + tally.old.report.lost)
+        (tally.new.report.sent + tally.new.report.lost) }
     ensures faults { RiseAlike (W.failures wire.old) (W.failures wire.new) tally.old.report.faults tally.new.report.faults }
     ensures wire { W.peers wire.new ≡ W.peers wire.old }
-    ensures emptied { tally.new.report.sent + tally.new.report.lost ≤ tally.old.report.sent + tally.old.report.lost + 256 * length peers.now }
+    ensures emptied { tally.new.report.sent + tally.new.report.lost ≤ tally.old.report.sent + tally.old.report.lost +
+        256 * length peers.now }
     ensures each { (to : Endpoint) → RisesByAtMost 256 (W.given_to wire.old to) (W.given_to wire.new to) }
     ensures some_lost { tally.new.report.faults + tally.old.report.lost ≤ tally.old.report.faults + tally.new.report.lost }
     ensures received { tally.new.report.received ≡ tally.old.report.received }

@@ -21,11 +21,13 @@ use udp_workers::{MioWire, Sharing, Wire, Worker};
 
 // A NEW for 200, for which the plan has no route.
 const NEW_FOR_200: &[u8] =
-    b"\x80\x07\x00\x00\x00\x00\x00\x00\x00\x00\x06\x01\x0b\x02\x00\x02\x01\x03\x32\x30\x30\x09\x04\x00\x00\x00\x04\x08\x04\x00\x00\x00\x04";
+    b"\x80\x07\x00\x00\x00\x00\x00\x00\x00\x00\x06\x01\x0b\x02\x00\x02\x01\x03\x32\x30\x30\x09\x04\x00\x00\x00\x04\x08\x04\x00\
+    \x00\x00\x04";
 
 // Its REJECT: unallocated number.
 const REJECT: &[u8] =
-    b"\x80\x01\x00\x07\x00\x00\x00\x00\x00\x01\x06\x06\x16\x12\x75\x6e\x61\x6c\x6c\x6f\x63\x61\x74\x65\x64\x20\x6e\x75\x6d\x62\x65\x72\x2a\x01\x01";
+    b"\x80\x01\x00\x07\x00\x00\x00\x00\x00\x01\x06\x06\x16\x12\x75\x6e\x61\x6c\x6c\x6f\x63\x61\x74\x65\x64\x20\x6e\x75\x6d\x62\
+    \x65\x72\x2a\x01\x01";
 
 fn address(of: Endpoint) -> SocketAddr {
     SocketAddr::new(IpAddr::V4(Ipv4Addr::from_octets(of.address)), of.port)
@@ -70,8 +72,8 @@ fn caller_at<R: Net>(rt: &R, at: Endpoint) -> Option<UdpSocket> {
     Some(caller)
 }
 
-// The only worker of a plan hears the caller. Gives whether the call was rejected, and how many datagrams the wire was given for the
-// peer in the west and for the one in the east.
+// The only worker of a plan hears the caller. Gives whether the call was rejected, and how many datagrams the wire was given for
+// the peer in the west and for the one in the east.
 fn call_worker<J: Naming, R: Net + Wait>(
     rt: &R,
     alloc: Global,
@@ -114,8 +116,10 @@ fn call_200<J: Naming, R: Net + Wait>(
     octets: Blank,
     steps: Blank,
 ) -> Option<(bool, u64, u64)>
-    requires octets { (octets.name ≡ J.Octets.name) × (octets.parts ≡ J.Octets.parts) × (octets.parts ≡ length plan.peers + plan.passes) }
-    requires steps { (steps.name ≡ J.Steps.name) × (steps.parts ≡ J.Steps.parts) × (steps.parts ≡ length plan.peers + plan.passes) }
+    requires octets { (octets.name ≡ J.Octets.name) × (octets.parts ≡ J.Octets.parts) ×
+        (octets.parts ≡ length plan.peers + plan.passes) }
+    requires steps { (steps.name ≡ J.Steps.name) × (steps.parts ≡ J.Steps.parts) ×
+        (steps.parts ≡ length plan.peers + plan.passes) }
     requires first { (J.first_octets ≡ 2 ^ 48) × (J.first_steps ≡ 2 ^ 48) }
 {
     match Exchange::<NoGate, J>::open(alloc, plan, NoGate, octets, steps) {

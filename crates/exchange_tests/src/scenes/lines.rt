@@ -215,8 +215,8 @@ fn give<R: Wait, G: Gate, J: Naming>(
     Some(())
 }
 
-/// Gives the lines of a script to an exchange, at the moments that it tells, and answers the last of them. `None` where a line isn't of
-/// these: `rx` of at most `LONGEST` octets, `call`, `tick`, `at`, or none at all.
+/// Gives the lines of a script to an exchange, at the moments that it tells, and answers the last of them. `None` where a line
+/// isn't of these: `rx` of at most `LONGEST` octets, `call`, `tick`, `at`, or none at all.
 pub fn give_all<R: Wait, G: Gate, J: Naming>(
     rt: &R,
     exchange: &Exchange<G, J>,

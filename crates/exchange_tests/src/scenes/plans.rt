@@ -1,6 +1,7 @@
 //! The texts of plans.
 
-/// A worker, a trunk peer `west` with the numbers 1 ..= 4, a peer `east` with 5 ..= 8, and a route to `east` for what begins with `3`.
+/// A worker, a trunk peer `west` with the numbers 1 ..= 4, a peer `east` with 5 ..= 8, and a route to `east` for what begins with
+/// `3`.
 pub const PLAN: &str = "format = 1\n\
 [[worker]]\n\
 address = \"127.0.0.1\"\n\

@@ -186,7 +186,8 @@ fn refused_for_a_pass<G: Gate, J: Naming>(
     }
 }
 
-// The accounts stay open where a pass is missing, and all is handed back. `None` where they didn't stay open, or there is no pass.
+// The accounts stay open where a pass is missing, and all is handed back. `None` where they didn't stay open, or there is no
+// pass.
 fn still_open<G: Gate, J: Naming>(
     exchange: Exchange<G, J>,
     passes: Vec<Pass<J>>,
@@ -239,8 +240,8 @@ pub struct Sums {
     pub steps: u64,
 }
 
-/// The accounts are asked for with a pass fewer, which is refused, then closed with all passes. `None` where they aren't refused first, or
-/// don't balance.
+/// The accounts are asked for with a pass fewer, which is refused, then closed with all passes. `None` where they aren't refused
+/// first, or don't balance.
 pub fn ended<G: Gate, J: Naming>(exchange: Exchange<G, J>, passes: Vec<Pass<J>>) -> Option<Sums> {
     let (exchange, passes) = still_open(exchange, passes)?;
     let settlement = settled(exchange, passes)?;

@@ -3,7 +3,8 @@ ghost use Rattle.std.specs.Prelude.{◌≡◌, ◌≤◌, []};
 ghost use Rattle.std.specs.List.{list_any};
 ghost use Rattle.toml.specs.View.{table_view, items_view};
 ghost use Rattle.peer_plan.specs.Fields.{Gives, each};
-ghost use Rattle.peer_plan.specs.Reading.{window_in, poke_in, peer_in, is_named, is_endpoint, has_same_name, has_same_endpoint, peers_in};
+ghost use Rattle.peer_plan.specs.Reading.{window_in, poke_in, peer_in, is_named, is_endpoint, has_same_name, has_same_endpoint};
+ghost use Rattle.peer_plan.specs.Reading.{peers_in};
 
 use crate::endpoint::Endpoint;
 use crate::error::PlanError;

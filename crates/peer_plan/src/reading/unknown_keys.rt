@@ -3,7 +3,8 @@ ghost use Rattle.std.specs.Prelude.{◌≡◌, option_map};
 ghost use Rattle.toml.specs.View.{view, table_view, items_view};
 ghost use Rattle.toml.specs.Data.{get_member};
 ghost use Rattle.peer_plan.specs.Keys.{key_name};
-ghost use Rattle.peer_plan.specs.UnknownKeys.{unknown_key, unknown_in_item, unknown_in_items, unknown_in_list, unknown_in, known_in};
+ghost use Rattle.peer_plan.specs.UnknownKeys.{unknown_key, unknown_in_item, unknown_in_items, unknown_in_list, unknown_in};
+ghost use Rattle.peer_plan.specs.UnknownKeys.{known_in};
 
 use crate::error::PlanError;
 use crate::key::{Key, Section, is_known};
