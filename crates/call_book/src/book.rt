@@ -47,8 +47,9 @@ impl CallBook {
     ghost use Rattle.call_book.specs.Book.{IsBook, IsNumberOf, IsCount, fresh_book, has_name, is_same, reserve_answer};
     ghost use Rattle.call_book.specs.Book.{after_reserve, bridge_answer, bridged, partner_of, released};
 
-    /// A book of as many peers as there are counts (1 to 32), in which the peer at place i has the next `counts[i]`
-    /// numbers (1 to 512), from 1 on. All of them are free. The first name has the serial `first_serial`.
+    /// A book of as many peers as there are counts (1 to 32), in which the peer at place i has the next `counts[i]` numbers (1 to
+    /// 512), from 1 on. All of them are free. The first name has the serial `first_serial`. `Err` comes only where memory was
+    /// refused.
     pub fn new(alloc: Global, counts: &[u16], first_serial: u64) -> Result<CallBook, AllocError>
         requires some { 1 ≤ length counts.now }
         requires peers { length counts.now ≤ 32 }
@@ -74,7 +75,8 @@ impl CallBook {
 
     /// Gives out the peer's number that was freed longest ago, at first in ascending order, under the next serial.
     ///
-    /// `SerialsSpent` is tested first.
+    /// Refusals are looked for in this order: `SerialsSpent` where the next serial would be 2^64 - 1, `NoNumber` where no number
+    /// of the peer is free, or the book doesn't know the peer.
     pub fn reserve(&mut self, peer: u16) -> Result<Lease, ReserveError>
         ensures answer { result ≡ reserve_answer self.old peer }
         ensures book { self.new ≡ after_reserve self.old peer }
@@ -115,7 +117,7 @@ impl CallBook {
         }
     }
 
-    /// The partner of a name, if the book has the name and it is bridged.
+    /// The partner of a name; `None` where the book hasn't the name, or it isn't bridged.
     pub fn partner(&self, name: LegName) -> Option<LegName>
         ensures partner { result ≡ partner_of self.now name }
         ensures mutual { IfSome result (λ partner. partner_of self.now partner ≡ Some name) }
@@ -130,7 +132,8 @@ impl CallBook {
 
     /// Makes two names partners of each other.
     ///
-    /// The refusals are tested in the order `Same`, `Stale`, `Bridged`.
+    /// Refusals are looked for in this order: `Same` where they are one name, `Stale` where the book hasn't one of them,
+    /// `Bridged` where one has a partner already; then nothing is changed.
     pub fn bridge(&mut self, a: LegName, b: LegName) -> Result<(), BridgeError>
         ensures answer { result ≡ bridge_answer self.old a b }
         ensures ok { OnOk result (self.new ≡ bridged self.old a b) }

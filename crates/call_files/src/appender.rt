@@ -97,7 +97,7 @@ impl<F: RowFile + Drop> Model for Appender<F> {
 }
 
 impl<F: RowFile + Drop> Appender<F> {
-    /// A file that isn't open, with the octets of an end of a line and of the header.
+    /// A file that isn't open, with the octets of an end of a line and of the header. No row is on its way.
     pub fn new(file: F, line_end: Vec<u8>, header: Vec<u8>) -> Appender<F>
         ensures { result ≡ None }
     {
@@ -114,7 +114,8 @@ impl<F: RowFile + Drop> Appender<F> {
         }
     }
 
-    /// What is wrong.
+    /// What is wrong: that the file can't be opened or written to; else that what was written isn't known to be on the disk.
+    /// None where nothing is.
     pub fn trouble(&self) -> Option<Trouble> {
         match (self.trouble, self.sync_fault) {
             (Some(trouble), _) => Some(trouble),
@@ -123,7 +124,10 @@ impl<F: RowFile + Drop> Appender<F> {
         }
     }
 
-    /// Opens the file that the name leads to.
+    /// Opens the file that the name leads to, at a moment in milliseconds. Before the next row go the header, where the file is
+    /// empty, or the end of a line that was cut; a row that is on its way is written whole.
+    ///
+    /// `Fault`: the system refuses it. Then the file isn't open, and `trouble` is `Open`.
     pub fn open(&mut self, now: u64) -> Result<(), Fault>
         ensures { is_some self.new ≡ is_some self.old }
     {
@@ -176,8 +180,8 @@ impl<F: RowFile + Drop> Appender<F> {
         }
     }
 
-    /// Whether the file is open, and is the one that the name leads to. It is looked at where something is to be written, or once
-    /// in three seconds; one that can't be opened is tried once a second.
+    /// Whether the file is open, and is the one that the name leads to, at a moment in milliseconds. It is looked at where
+    /// something is to be written, or once in three seconds; one that can't be opened is tried once a second.
     pub fn is_ready(&mut self, now: u64, is_wanted: bool) -> bool
         ensures { is_some self.new ≡ is_some self.old }
     {
@@ -198,7 +202,10 @@ impl<F: RowFile + Drop> Appender<F> {
         self.row.is_some() || !self.header.is_whole() || !self.line_end.is_whole()
     }
 
-    /// Writes the lines that are on their way, to a file that is ready. `Ok(true)`: a row was written to its end.
+    /// Writes the lines that are on their way, to a file that is ready, at a moment in milliseconds. `Ok(true)`: a row was
+    /// written to its end.
+    ///
+    /// `Fault`: the file doesn't take all of it. Then `trouble` is `Write`, and the next call goes on where this one stopped.
     pub fn go_on(&mut self, now: u64) -> Result<bool, Fault>
         ensures written { IfOk result (λ is_row. (is_row ≡ is_some self.old) × (self.new ≡ None)) }
         ensures kept { OnErr result (is_some self.new ≡ is_some self.old) }
@@ -232,7 +239,7 @@ impl<F: RowFile + Drop> Appender<F> {
         self.row.is_some()
     }
 
-    /// This row is the next.
+    /// The row of these octets is the next, and none of it is written. No row may be on its way.
     pub fn take(&mut self, octets: Vec<u8>)
         requires { self.old ≡ None }
         ensures { self.new ≡ Some (record { octets = octets.items; written = 0 }) }
@@ -259,7 +266,8 @@ impl<F: RowFile + Drop> Appender<F> {
         }
     }
 
-    /// The same, where that is due: once a second.
+    /// Has on the disk what was written, where the file is open and that is due: 900 milliseconds after the first of it was
+    /// written, or after the last try.
     pub fn sync_in_time(&mut self, now: u64)
         ensures { self.new ≡ self.old }
     {
@@ -270,7 +278,7 @@ impl<F: RowFile + Drop> Appender<F> {
         }
     }
 
-    /// The same, at the end.
+    /// Has on the disk what was written, where the file is open.
     pub fn end(&mut self, now: u64)
         ensures { self.new ≡ self.old }
     {

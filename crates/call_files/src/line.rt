@@ -31,7 +31,7 @@ impl Line {
         Line { octets, written: 0 }
     }
 
-    /// What wasn't written yet.
+    /// The octets that weren't written yet.
     pub fn rest(&self) -> &[u8]
         ensures { result.now ≡ rest_of self.now }
     {
@@ -45,7 +45,7 @@ impl Line {
         self.written == self.octets.len()
     }
 
-    /// So many more octets were written.
+    /// So many more octets were written, at most as many as are left.
     pub fn wrote(&mut self, count: usize)
         requires { self.old.written + count ≤ length self.old.octets }
         ensures { self.new ≡ record self.old { written = self.old.written + count } }

@@ -28,7 +28,7 @@ impl<T: Drop> Model for Outlet<T> {
 }
 
 impl<T: Drop> Outlet<T> {
-    /// A ring, and room for rows that are kept.
+    /// A ring, and room for rows that are kept. Rows that are there already count as kept.
     pub fn new(ring: Producer<T>, kept: Backlog<T>) -> Outlet<T>
         ensures { result ≡ record { gone = sent ring; kept = kept.waiting } }
     {
@@ -77,7 +77,7 @@ impl<T: Drop> Outlet<T> {
         }
     }
 
-    /// How many rows are kept.
+    /// How many rows are kept since the ring had no room for them.
     pub fn kept(&self) -> usize
         ensures { result ≡ length self.now.kept }
     {

@@ -38,17 +38,18 @@ pub trait RowFile {
     ghost contents: { Self → Option (List ℕ) } = { λ _. None };
 
     /// Opens the file that the name leads to, and makes it where there is none. What was open before is closed.
+    /// `Fault`: the system refuses it.
     fn open(&mut self) -> Result<Beginning, Fault>;
 
     /// Where the name leads now.
     fn look(&mut self) -> Whereabouts;
 
-    /// Writes octets to the end, as many as the system takes. Gives how many these were.
+    /// Writes octets to the end, as many as the system takes. Gives how many these were. `Fault`: the system took none.
     fn append(&mut self, octets: &[u8]) -> Result<usize, Fault>
         ensures within { IfOk result (λ count. count ≤ length octets.now) }
         ensures taken { IfOk result (λ count. contents self.new ≡ followed_by (take count octets.now) (contents self.old)) }
         ensures refused { OnErr result (contents self.new ≡ contents self.old) };
 
-    /// Has all that was written on the disk.
+    /// Has all that was written on the disk. `Fault`: the system refuses it.
     fn sync(&mut self) -> Result<(), Fault>;
 }

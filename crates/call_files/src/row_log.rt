@@ -37,7 +37,7 @@ impl<F: RowFile + Drop, T: Drop> Model for RowLog<F, T> {
 }
 
 impl<F: RowFile + Drop, T: Drop> RowLog<F, T> {
-    /// Rows for this file, of which none waits yet.
+    /// The rows that wait, and the file, with the row that is on its way to it, if one is.
     pub fn new(alloc: Global, appender: Appender<F>, waiting: Backlog<T>) -> RowLog<F, T>
         ensures { result ≡ record { backlog = waiting; row = appender } }
     {
@@ -48,7 +48,9 @@ impl<F: RowFile + Drop, T: Drop> RowLog<F, T> {
         }
     }
 
-    /// Opens the file.
+    /// Opens the file, at a moment in milliseconds.
+    ///
+    /// `Fault`: the system refuses it. The rows are kept, and `write` tries again.
     pub fn open(&mut self, now: u64) -> Result<(), Fault>
         ensures waiting { self.new.backlog ≡ self.old.backlog }
         ensures row { is_some self.new.row ≡ is_some self.old.row }
@@ -85,7 +87,7 @@ impl<F: RowFile + Drop, T: Drop> RowLog<F, T> {
         self.waiting.lost()
     }
 
-    /// What is wrong with the file.
+    /// What is wrong with the file; none where nothing is.
     pub fn trouble(&self) -> Option<Trouble> {
         self.appender.trouble()
     }
@@ -126,8 +128,8 @@ impl<F: RowFile + Drop, T: Drop> RowLog<F, T> {
         count
     }
 
-    /// Writes what waits, as far as the file takes it, and gives how many rows were written to their ends. What was written is on
-    /// the disk within a second where this is called every tenth of one.
+    /// Writes what waits, as far as the file takes it, at a moment in milliseconds, and gives how many rows were written to
+    /// their ends. What was written is on the disk within a second where this is called every tenth of one.
     pub fn write<S: Spelling<T>>(&mut self, spelling: &S, now: u64) -> u64
         // No row is lost: each that was there is written, or there still.
         ensures { result + row_count self.new ≡ row_count self.old }
@@ -141,7 +143,8 @@ impl<F: RowFile + Drop, T: Drop> RowLog<F, T> {
         count
     }
 
-    /// The same, at the end: all that was written is on the disk, as far as the system lets it.
+    /// Writes what waits as `write` does, and gives how many rows were written to their ends; then all that was written is on
+    /// the disk, as far as the system lets it.
     pub fn end<S: Spelling<T>>(&mut self, spelling: &S, now: u64) -> u64
         ensures { result + row_count self.new ≡ row_count self.old }
     {

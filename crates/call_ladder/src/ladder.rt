@@ -38,7 +38,7 @@ pub struct Ladder {
 }
 
 impl Ladder {
-    /// A ladder without a peer.
+    /// A ladder without a peer and without a row. It takes no memory.
     pub fn new(alloc: Global) -> Ladder {
         Ladder {
             alloc,
@@ -50,12 +50,17 @@ impl Ladder {
     }
 
     /// One peer more, with its name in ASCII, the first of its call numbers at the exchange, and how many it has.
+    ///
+    /// An error is a refused request for memory.
     pub fn peer(&mut self, name: &str, first: u16, count: u16) -> io::Result<()> {
         let name = String::from_str(self.alloc, name)?;
         Ok(self.peers.push(Peer { name, first, count })?)
     }
 
-    /// A datagram. Media that isn't refused is folded into the run of its call.
+    /// A datagram ("Frame Types"). Media that isn't refused is folded into the run of its call; what is no frame has a row that
+    /// says so.
+    ///
+    /// An error is a refused request for memory.
     pub fn datagram(&mut self, event: &DatagramEvent<'_>) -> io::Result<()> {
         match read(event.octets) {
             Ok(Datagram::Full(frame)) => self.full(event, &frame),
@@ -72,7 +77,9 @@ impl Ladder {
         }
     }
 
-    /// What the script asked for, of the leg of a local number or of none.
+    /// What the script asked for at a moment in milliseconds, of the leg of a local number or of none.
+    ///
+    /// An error is a refused request for memory.
     pub fn order(&mut self, moment: u64, text: &[u8], number: Option<u16>) -> io::Result<()> {
         self.end_runs()?;
         let mut row = Row::new(self.alloc, RowKind::Order, moment);
@@ -81,7 +88,10 @@ impl Ladder {
         Ok(self.rows.push(row)?)
     }
 
-    /// What was asked for last was refused, by this name.
+    /// What was asked for last at this moment, in milliseconds, was refused, by this name. Where nothing was asked for then, it
+    /// was a tick.
+    ///
+    /// An error is a refused request for memory.
     pub fn refused(&mut self, moment: u64, name: &str) -> io::Result<()> {
         self.end_runs()?;
         if let Some(row) = self.rows.last_mut() {
@@ -96,7 +106,9 @@ impl Ladder {
         }
     }
 
-    /// The leg of a local number has come to a stage, or the number is free again.
+    /// The leg of a local number has come to the stage of this name at a moment in milliseconds, or the number is free again.
+    ///
+    /// An error is a refused request for memory.
     pub fn stage(&mut self, moment: u64, number: u16, name: &str, is_free: bool) -> io::Result<()> {
         self.end_runs()?;
         let mut row = Row::new(self.alloc, RowKind::Stage, moment);
@@ -109,14 +121,18 @@ impl Ladder {
         Ok(self.rows.push(row)?)
     }
 
-    /// The ladder as SVG: of all, or of the leg of one local number.
+    /// The ladder as the octets of an SVG: of all, or of the leg of one local number.
+    ///
+    /// An error is a refused request for memory.
     pub fn into_svg(mut self, leg: Option<u16>) -> io::Result<Vec<u8>> {
         self.end_runs()?;
         let sides = Sides::of(self.alloc, &self.rows, self.peers.len(), leg)?;
         write_svg(self.alloc, &self.peers, &sides, &self.rows, leg)
     }
 
-    /// The ladder as plain text, of at most 100 columns.
+    /// The ladder as plain text, of at most 100 columns: of all, or of the leg of one local number.
+    ///
+    /// An error is a refused request for memory.
     pub fn into_text(mut self, leg: Option<u16>) -> io::Result<Vec<u8>> {
         self.end_runs()?;
         let sides = Sides::of(self.alloc, &self.rows, self.peers.len(), leg)?;

@@ -44,11 +44,11 @@ pub struct MediaPiece {
     pub octets: u64,
 }
 
-/// Frames of one key.
+/// Frames of one key, and when they came.
 #[derive(Clone, Copy, Debug, PartialEq, Eq)]
 pub struct MediaRun {
     pub key: RunKey,
-    /// The moments of the first and of the last frame.
+    /// The moments of the first and of the last frame, in milliseconds.
     pub first: u64,
     pub last: u64,
     pub frames: u64,
@@ -125,7 +125,7 @@ fn extended(runs: &[MediaRun], piece: MediaPiece) -> Option<(usize, MediaRun)>
 }
 
 impl MediaRuns {
-    /// No run.
+    /// No run. It takes no memory.
     pub fn new(alloc: Global) -> MediaRuns
         ensures { result ≡ [] }
     {
@@ -134,7 +134,9 @@ impl MediaRuns {
         }
     }
 
-    /// Folds a frame into the run of its key, or begins one. Where memory fails, all stay as they were.
+    /// Folds a frame into the run of its key, or begins one.
+    ///
+    /// `AllocError`: a request for memory was refused. Then all runs stay as they were.
     #[tactic(auto, using(crate::proofs::FoldLemmas::frames_in_place, crate::proofs::FoldLemmas::octets_in_place))]
     pub fn fold(&mut self, piece: MediaPiece) -> Result<(), AllocError>
         // Whichever keys are chosen, their frames and octets are those from before, and this one's where its key is chosen.
@@ -153,14 +155,14 @@ impl MediaRuns {
         }
     }
 
-    /// The runs.
+    /// The runs, in the order in which they began.
     pub fn as_slice(&self) -> &[MediaRun]
         ensures { result.now ≡ self.now }
     {
         &self.runs
     }
 
-    /// Leaves no run.
+    /// Drops all runs.
     pub fn clear(&mut self)
         ensures { self.new ≡ [] }
     {

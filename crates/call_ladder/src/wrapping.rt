@@ -33,8 +33,8 @@ fn split_at_blank(text: &[u8], place: usize) -> (&[u8], &[u8])
     }
 }
 
-/// The first line of a text, of at most so many octets, and what follows it. It ends at the last blank that lets it fit, and
-/// is cut where there is none.
+/// The first line of a text, of at most so many octets, 1 or more, and what follows it. A text that fits is whole. Else the line
+/// ends at the last blank that lets it fit, which is left out, and is cut where there is none.
 pub fn split_line(text: &[u8], width: usize) -> (&[u8], &[u8])
     requires { 0 < width }
     ensures whole { Splits text.now result.0.now result.1.now }

@@ -19,6 +19,8 @@ fn push_octet(out: &mut Vec<u8>, octet: u8) -> Result<(), AllocError>
 }
 
 /// Adds a text, in which nothing is read as markup.
+///
+/// `AllocError`: a request for memory was refused. Then a part of the text may have been added.
 pub fn push_escaped(out: &mut Vec<u8>, text: &[u8]) -> Result<(), AllocError>
     ensures { OnOk result (out.new.items ≡ out.old.items ++ flat_map xml_octet text.now) }
 {

@@ -26,7 +26,9 @@ impl<T: Drop> Model for Backlog<T> {
 }
 
 impl<T: Drop> Backlog<T> {
-    /// No rows, with room for so many.
+    /// No rows, with room for so many, and none lost.
+    ///
+    /// `AllocError`: a request for memory was refused.
     pub fn new(alloc: Global, capacity: usize) -> Result<Backlog<T>, AllocError>
         ensures { IfOk result (λ backlog. backlog ≡ record { waiting = []; capacity = capacity; lost = 0 }) }
     {
@@ -36,7 +38,7 @@ impl<T: Drop> Backlog<T> {
         })
     }
 
-    /// How many rows wait.
+    /// How many rows wait, at most as many as there is room for.
     pub fn len(&self) -> usize
         ensures { result ≡ length self.now.waiting }
     {
@@ -57,7 +59,7 @@ impl<T: Drop> Backlog<T> {
         self.lost
     }
 
-    /// Adds a row as the last, or loses and counts it where there is no room. Says which.
+    /// Adds a row as the last, or loses and counts it where there is no room. True: it was added.
     pub fn push(&mut self, row: T) -> bool
         ensures kept { IsTrue result ↔ (length self.old.waiting < self.old.capacity) }
         ensures after { self.new ≡ with_row self.old row }
@@ -71,14 +73,14 @@ impl<T: Drop> Backlog<T> {
         }
     }
 
-    /// The oldest row.
+    /// The oldest row, which stays; none where no row waits.
     pub fn front(&self) -> Option<&T>
         ensures { option_copied result ≡ slice_get self.now.waiting 0 }
     {
         self.ring.front()
     }
 
-    /// Takes the oldest row off, if there is one.
+    /// Takes the oldest row off, and gives it; none where no row waits.
     pub fn take(&mut self) -> Option<T>
         ensures row { result ≡ slice_get self.old.waiting 0 }
         ensures after { self.new ≡ without_front self.old }

@@ -6,7 +6,7 @@ use call_book::LegName;
 use std::alloc::{AllocError, Global};
 use std::marker::Model;
 
-/// A leg, and its call.
+/// A leg, and the serial of its call.
 #[derive(Clone, Copy, Debug, PartialEq, Eq)]
 pub struct NotedLeg {
     pub name: LegName,
@@ -34,6 +34,8 @@ impl Model for CallNumbering {
 
 impl CallNumbering {
     /// No leg is noted. The local numbers of the exchange are 1 ..= `numbers`, and the first call has the serial `first`.
+    ///
+    /// `AllocError`: a request for memory was refused.
     pub fn new(alloc: Global, numbers: u16, first: u64) -> Result<CallNumbering, AllocError>
         ensures { IfOk result (λ n. n ≡ record { noted = replicate (numbers + 1) None; next = first }) }
     {

@@ -51,7 +51,8 @@ fn text_of(text: Option<&[u8]>) -> Option<ElementText>
 }
 
 impl CallRecord {
-    /// What the record says, by the frames that both sides sent each other and by nothing else.
+    /// What the record says, by the frames that both sides sent each other and by nothing else ("Call Setup", "Call Tear
+    /// Down"). Moments are in milliseconds since the leg was opened.
     pub fn of(history: &Record) -> CallRecord
         ensures opened_by { result.opened_by ≡ course.opener_of (frames_of history.now.entries) }
         ensures called { result.called ≡ (new_elements (course.new_data (frames_of history.now.entries))).called }
@@ -85,7 +86,8 @@ impl CallRecord {
         }
     }
 
-    /// The milliseconds from the answer to the end, where one clock tells both: so the called side hung up.
+    /// The milliseconds from the answer to the end, where one clock tells both: so the called side hung up. None where the call
+    /// wasn't answered or hasn't ended, where two clocks tell, or where the end is told as earlier.
     pub fn talk_ms(&self) -> Option<u32>
         ensures { result ≡ course.talk_ms self.now.answered self.now.end }
     {

@@ -194,6 +194,8 @@ impl CallRow {
 }
 
 /// Adds the line with the names of the columns, or changes nothing.
+///
+/// `AllocError`: a request for memory was refused.
 pub fn push_header(alloc: Global, out: &mut Vec<u8>) -> Result<(), AllocError>
     ensures ok { OnOk result (out.new.items ≡ out.old.items ++ row_text default_writer columns.column_names) }
     ensures err { OnErr result (out.new.items ≡ out.old.items) }
@@ -203,6 +205,8 @@ pub fn push_header(alloc: Global, out: &mut Vec<u8>) -> Result<(), AllocError>
 }
 
 /// Adds the text of a row as a record of CSV (RFC 4180, with a line feed at its end), or changes nothing.
+///
+/// `AllocError`: a request for memory was refused.
 pub fn push_row(
     alloc: Global,
     out: &mut Vec<u8>,

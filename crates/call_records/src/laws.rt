@@ -9,10 +9,10 @@ ghost use Rattle.call_records.specs.Numbering.{Numbering, noted_call, call_of, a
 ghost use Rattle.call_records.specs.declared.call_end.CallEnd.{CallEnd};
 ghost use Rattle.call_records.specs.declared.side.Side.{Side};
 
-/// A call counts as accepted exactly where an ACCEPT of the called side stands among its frames, and as answered exactly where an
-/// ANSWER of that side stands behind such an ACCEPT, with nothing up to there that ends the call. What is answered is accepted.
-/// A call ends by a HANGUP of either side, before which there is no other, or by a REJECT; where nothing ended it there is no
-/// HANGUP ("Call Setup", "Call Tear Down").
+/// A call counts as accepted exactly where an ACCEPT of the called side stands among its frames, and as answered exactly where
+/// an ANSWER of that side stands behind such an ACCEPT, with nothing up to there that ends the call. What is answered is
+/// accepted. A call ends by a HANGUP of either side, before which there is no other, or by a REJECT; where nothing ended it
+/// there is no HANGUP ("Call Setup", "Call Tear Down"). A law about definitions, for provers; the call does nothing.
 pub fn moments_are_those_of_frames()
     ensures accepted { (opener : Option Side) (frames : List SideFrame) →
         IsSome (accepted_of opener frames) ↔ HasAccept opener frames }
@@ -26,7 +26,8 @@ pub fn moments_are_those_of_frames()
 {}
 
 /// Two partners have one serial, whichever of them is told first, and whatever other legs are told between them, where none of
-/// these has the local number of the one that is taken out later, or a partner of that number. That one has no partner any more.
+/// these has the local number of the one that is taken out later, or a partner of that number. That one has no partner any
+/// more. A law about definitions, for provers; the call does nothing.
 pub fn partners_share_a_call()
     ensures first_told_first { (n : Numbering) (first later : LegName) (between : List TakenOut) →
         later.number < length n.noted → AllHaveOtherNumbers later.number between →

@@ -71,7 +71,7 @@ fn frame_in(entry: EntryView<'_>) -> Option<SideFrameView<'_>>
 }
 
 impl<'a> SideFrames<'a> {
-    /// The frames of a record.
+    /// The frames of a record, at most 65,536, from the first on.
     pub fn of(history: &'a Record) -> SideFrames<'a>
         ensures frames { result ≡ frames_of history.now.entries }
         ensures few { length result ≤ 65536 }
@@ -80,7 +80,7 @@ impl<'a> SideFrames<'a> {
         SideFrames { history, place: 0 }
     }
 
-    /// The next frame.
+    /// The next frame; none where none is left.
     pub fn next(&mut self) -> Option<SideFrameView<'a>>
         ensures { MatchOption result ((self.old ≡ []) × (self.new ≡ [])) (λ frame. self.old ≡ side_frame_of frame ∷ self.new) }
     {

@@ -10,7 +10,7 @@ ghost use Rattle.call_runs.specs.StoredSteps.{after_bridge, after_release, relea
 use call_book::{CallBook, Lease, LegName};
 use call_steps::Reply;
 
-/// A new name of a peer, with its lease.
+/// The book gives a new name of a peer, with its lease where it does. The answer has the refusals of `CallBook::reserve`.
 pub fn reserve(book: &mut CallBook, peer: u16) -> (Reply, Option<Lease>)
     ensures book { book.new ≡ after_reserve book.old peer }
     ensures answer { result.0 ≡ replies.Reserve (reserve_answer book.old peer) }
@@ -22,7 +22,7 @@ pub fn reserve(book: &mut CallBook, peer: u16) -> (Reply, Option<Lease>)
     }
 }
 
-/// Two names become partners.
+/// The book makes two names partners. The answer has the refusals of `CallBook::bridge`.
 pub fn bridge(book: &mut CallBook, a: LegName, b: LegName) -> Reply
     ensures book { book.new ≡ after_bridge book.old a b (bridge_answer book.old a b) }
     ensures answer { result ≡ replies.Bridge (bridge_answer book.old a b) }
@@ -30,14 +30,14 @@ pub fn bridge(book: &mut CallBook, a: LegName, b: LegName) -> Reply
     Reply::Bridge(book.bridge(a, b))
 }
 
-/// The partner of a name.
+/// The book tells the partner of a name, where it has one.
 pub fn partner(book: &CallBook, name: LegName) -> Reply
     ensures { result ≡ replies.Partner (partner_of book.now name) }
 {
     Reply::Partner(book.partner(name))
 }
 
-/// A lease goes back. One that the book refuses is dropped.
+/// A lease goes back to the book. One that the book refuses, as `Stale`, is dropped.
 pub fn release(book: &mut CallBook, lease: Lease) -> Reply
     ensures book { book.new ≡ after_release book.old lease (has_name book.old lease) }
     ensures answer { result ≡ replies.Release (release_answer book.old lease (has_name book.old lease)) }

@@ -18,7 +18,8 @@ use iax_frames::Full;
 use leg_machine::{Caller, Format, Order};
 use peer_lock::{Naming, Onwards, Pass, PeerState};
 
-/// A datagram comes to a peer, at most 2,048 octets. What is handed up is written to the list, which is empty.
+/// A datagram comes to a peer, at most 2,048 octets. What is handed up is written to the list, which is empty. The answer has the
+/// refusals of `PeerState::datagram`.
 pub fn hear<J: Naming>(
     peer: &mut PeerState<J>,
     pass: &mut Pass<J>,
@@ -39,7 +40,7 @@ pub fn hear<J: Naming>(
 }
 
 /// A NEW that came opens a leg of a peer, under the lease, which comes back where it opens none. It is one that a datagram's call
-/// answers by `NeedsNumber`.
+/// answers by `NeedsNumber`. The answer has the refusals of `PeerState::open_in`.
 pub fn hear_new<J: Naming>(
     peer: &mut PeerState<J>,
     pass: &mut Pass<J>,
@@ -66,7 +67,8 @@ pub fn hear_new<J: Naming>(
     }
 }
 
-/// A call goes out at a peer under the lease, which comes back where it doesn't, for a number of at most 255 octets.
+/// A call goes out at a peer under the lease, which comes back where it doesn't, for a number of at most 255 octets. The answer
+/// has the refusals of `PeerState::open_out`.
 pub fn call<J: Naming>(
     peer: &mut PeerState<J>,
     pass: &mut Pass<J>,
@@ -86,7 +88,8 @@ pub fn call<J: Naming>(
     }
 }
 
-/// The leg of a name gets the order of an act. Media is 1 to 1,380 octets, for which the pass has the credit.
+/// The leg of a name gets the order of an act. Media is 1 to 1,380 octets, for which the pass has the credit. The answer has the
+/// refusals of `PeerState::order`. The act is there for the contract alone.
 pub fn order<J: Naming>(
     peer: &mut PeerState<J>,
     pass: &mut Pass<J>,
@@ -106,7 +109,7 @@ pub fn order<J: Naming>(
     }
 }
 
-/// Time goes on at a peer.
+/// Time goes on at a peer. The answer tells whether no leg has ended and none owes, or that the peer's steps are spent.
 pub fn tick<J: Naming>(peer: &mut PeerState<J>, pass: &mut Pass<J>, now: u64) -> Reply
     ensures { GoesOn peer.old peer.new result }
 {
@@ -116,7 +119,7 @@ pub fn tick<J: Naming>(peer: &mut PeerState<J>, pass: &mut Pass<J>, now: u64) ->
     }
 }
 
-/// The leg of a name is taken out, where it has ended and owes nothing; its lease comes with it.
+/// The leg of a name is taken out, where it has ended and owes nothing; its lease comes with it. The answer tells whether it was.
 pub fn retire<J: Naming>(peer: &mut PeerState<J>, name: LegName) -> (Reply, Option<Lease>)
     ensures made { Retires name peer.old peer.new result.0 }
     ensures leases { leases_in result.1 ≡ leases_after (needs.Retire name) result.0 [] }

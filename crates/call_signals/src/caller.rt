@@ -88,7 +88,7 @@ impl Caller {
         Caller { octets: copy }
     }
 
-    /// The number that calls, at most 255 octets, and nothing else.
+    /// The number that calls, at most 255 octets, and nothing else of who calls; no element where there is no number.
     pub fn numbered(number: Option<&[u8]>) -> Caller
         requires { ForSome number (λ text. length text.now ≤ 255) }
         ensures { result ≡ caller.numbered (option_copied number.entry) }
@@ -98,7 +98,8 @@ impl Caller {
         Caller::holding(payload.as_slice())
     }
 
-    /// Who calls by the elements of a NEW; its number alone, where the rest isn't carried on.
+    /// Who calls by the elements of a NEW, whose number and name have at most 255 octets each: all of it where it is carried on,
+    /// else its number alone ("Information Elements").
     pub fn of(elements: &NewElements, carried: bool) -> Caller
         requires number { ForSome elements.now.calling (λ text. length text.now ≤ 255) }
         requires name { ForSome elements.now.name (λ text. length text.now ≤ 255) }
@@ -113,7 +114,7 @@ impl Caller {
         Caller::holding(payload.as_slice())
     }
 
-    /// The elements.
+    /// The octets of the elements, at most 524.
     pub fn as_slice(&self) -> &[u8]
         ensures value { result.now ≡ self.now }
         ensures short { length self.now ≤ 524 }

@@ -22,7 +22,7 @@ pub enum Cause {
     NoChannelAvailable,
     /// The other side has no room for the call.
     Congestion,
-    /// Another one, by its code.
+    /// Another one, by its code, 0 ..= 255.
     Other(u8),
 }
 
@@ -75,7 +75,8 @@ fn unnamed_text(code: u8) -> ElementText
 }
 
 impl Cause {
-    /// The cause of this code of a CAUSECODE.
+    /// The cause of this code of a CAUSECODE ("Information Elements"): `Other` where the code is none of those that have a name
+    /// here.
     pub fn of_code(code: u8) -> Cause
         ensures { result ≡ cause_of_code code }
     {
@@ -91,7 +92,7 @@ impl Cause {
         }
     }
 
-    /// The code of a CAUSECODE.
+    /// The code of a CAUSECODE, 0 ..= 255 ("Information Elements").
     pub fn code(self) -> u8
         ensures { result ≡ cause_code self }
     {

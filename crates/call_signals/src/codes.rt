@@ -27,7 +27,7 @@ pub const CONTROL_PROCEEDING: u8 = 0x0f;
 
 /// A call is asked for.
 pub const IAX_NEW: u8 = 1;
-/// Is the other side there?
+/// Is the other side there? A PONG answers it.
 pub const IAX_PING: u8 = 2;
 /// It is: the answer to a PING and to a POKE.
 pub const IAX_PONG: u8 = 3;
@@ -41,25 +41,25 @@ pub const IAX_REJECT: u8 = 6;
 pub const IAX_ACCEPT: u8 = 7;
 /// The caller is to say who it is.
 pub const IAX_AUTHREQ: u8 = 8;
-/// The answer to that.
+/// The answer to an AUTHREQ.
 pub const IAX_AUTHREP: u8 = 9;
 /// There is no such call.
 pub const IAX_INVAL: u8 = 0x0a;
-/// How long is the way there and back?
+/// How long is the way there and back? A LAGRP answers it.
 pub const IAX_LAGRQ: u8 = 0x0b;
-/// The answer to that.
+/// The answer to a LAGRQ.
 pub const IAX_LAGRP: u8 = 0x0c;
 /// What is from ISeqno on is to be sent again.
 pub const IAX_VNAK: u8 = 0x12;
 /// The other side of a transfer can be reached.
 pub const IAX_TXCNT: u8 = 0x17;
-/// The answer to that.
+/// The answer to a TXCNT.
 pub const IAX_TXACC: u8 = 0x18;
-/// No media, please.
+/// The sender wants no media.
 pub const IAX_QUELCH: u8 = 0x1c;
-/// Media again.
+/// The sender wants media again.
 pub const IAX_UNQUELCH: u8 = 0x1d;
-/// Is anyone there? Outside of calls.
+/// Is anyone there? It belongs to no call; a PONG answers it.
 pub const IAX_POKE: u8 = 0x1e;
 /// A frame came that isn't known here.
 pub const IAX_UNSUPPORT: u8 = 0x21;

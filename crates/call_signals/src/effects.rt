@@ -30,6 +30,7 @@ impl Answering {
 /// What a leg notes of a taken frame.
 #[derive(Clone, Copy, Debug, PartialEq, Eq)]
 pub enum Mark {
+    /// Nothing is noted.
     Nothing,
     /// The other side wants no media.
     Quelches,
@@ -48,6 +49,7 @@ pub struct Effect {
     pub mark: Mark,
 }
 
+/// A row that notes nothing: the answer, the stage after, and what is handed up.
 pub fn row(answer: Answering, stage: Stage, signal: Option<Signal>) -> Effect
     ensures { result ≡ effects.row answer stage signal }
 {
@@ -59,6 +61,7 @@ pub fn row(answer: Answering, stage: Stage, signal: Option<Signal>) -> Effect
     }
 }
 
+/// A row that hands nothing up: the answer, the stage after, and what is noted.
 pub fn marking(answer: Answering, stage: Stage, mark: Mark) -> Effect
     ensures { result ≡ effects.marking answer stage mark }
 {
@@ -70,14 +73,14 @@ pub fn marking(answer: Answering, stage: Stage, mark: Mark) -> Effect
     }
 }
 
-/// A frame that has no row of its own.
+/// The row of a frame that has none of its own: it is acknowledged, and the leg stays in its stage.
 pub fn no_effect(stage: Stage) -> Effect
     ensures { result ≡ effects.no_effect stage }
 {
     row(Answering::Acknowledged, stage, None)
 }
 
-/// A numbered frame that is the answer; nothing else happens.
+/// A numbered frame is the answer, and nothing else happens; where the call is over, the frame is only acknowledged.
 pub fn reply_alone(stage: Stage, reply: Reply) -> Effect
     ensures { result ≡ effects.reply_alone stage reply }
 {
@@ -88,7 +91,7 @@ pub fn reply_alone(stage: Stage, reply: Reply) -> Effect
     }
 }
 
-/// The call is given up.
+/// The call is given up: a HANGUP for this cause is the answer, the leg is closing after it, and `Hangup` is handed up.
 pub fn hung_up(cause: Cause) -> Effect
     ensures { result ≡ effects.hung_up cause }
 {
@@ -99,7 +102,7 @@ pub fn hung_up(cause: Cause) -> Effect
     )
 }
 
-/// The call isn't let in.
+/// The call isn't let in: a REJECT for this cause is the answer, the leg is closing after it, and nothing is handed up.
 pub fn rejected(cause: Cause) -> Effect
     ensures { result ≡ effects.rejected cause }
 {
@@ -110,14 +113,14 @@ pub fn rejected(cause: Cause) -> Effect
     )
 }
 
-/// The frame is acknowledged, and something is handed up.
+/// The frame is acknowledged, the leg is in this stage after it, and this is handed up.
 pub fn goes_on(stage: Stage, signal: Signal) -> Effect
     ensures { result ≡ effects.goes_on stage signal }
 {
     row(Answering::Acknowledged, stage, Some(signal))
 }
 
-/// Handed up where the call wasn't over.
+/// What is handed up: this, where the call isn't over in that stage, else nothing.
 pub fn unless_over(stage: Stage, signal: Signal) -> Option<Signal>
     ensures { result ≡ effects.unless_over stage signal }
 {

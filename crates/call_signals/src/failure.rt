@@ -16,7 +16,7 @@ pub enum Failure {
 }
 
 impl Failure {
-    /// Its cause, for the leg's partner: the other side was silent where retries are spent, else normal clearing.
+    /// Its cause, for the leg's partner: `NoUserResponding` where retries are spent, else `NormalClearing`.
     pub fn cause(self) -> Cause
         ensures { result ≡ failure_cause self }
     {

@@ -3,7 +3,7 @@ ghost use Rattle.std.specs.Prelude.{◌≡◌};
 ghost use Rattle.call_signals.specs.Formats.{format_bit, format_of_bit, has_format, lowest_format, same_format, formats_of_both};
 ghost use Rattle.call_signals.specs.Formats.{format_alone, format_among};
 
-/// A format of voice.
+/// A format of voice ("Media Formats").
 #[derive(Clone, Copy, Debug, PartialEq, Eq)]
 pub enum Format {
     /// GSM.
@@ -26,7 +26,7 @@ impl Format {
         }
     }
 
-    /// The format of this bit.
+    /// The format of this bit, 0x02, 0x04 or 0x08; `None` of any other number.
     pub fn of_bit(bit: u64) -> Option<Format>
         ensures { result ≡ format_of_bit bit }
     {
@@ -41,7 +41,7 @@ impl Format {
         }
     }
 
-    /// Whether both are one.
+    /// Whether both are the same format.
     pub fn is(self, other: Format) -> bool
         ensures { result ≡ same_format self other }
     {
@@ -52,7 +52,7 @@ impl Format {
     }
 }
 
-/// Which formats there are.
+/// Which formats there are ("Media Formats"), maybe none.
 #[derive(Clone, Copy, Debug, PartialEq, Eq)]
 pub struct Formats {
     pub gsm: bool,
@@ -72,7 +72,7 @@ impl Formats {
         }
     }
 
-    /// The one of the lowest bit.
+    /// The one of the lowest bit; `None` where there is no format.
     pub fn lowest(self) -> Option<Format>
         ensures { result ≡ lowest_format self }
     {
@@ -87,7 +87,7 @@ impl Formats {
         }
     }
 
-    /// This one alone.
+    /// This format and no other.
     pub fn alone(format: Format) -> Formats
         ensures { result ≡ format_alone format }
     {
@@ -98,7 +98,7 @@ impl Formats {
         }
     }
 
-    /// Those that both have.
+    /// The formats that both have.
     pub fn of_both(self, other: Formats) -> Formats
         ensures { result ≡ formats_of_both self other }
     {
@@ -109,7 +109,7 @@ impl Formats {
         }
     }
 
-    /// This format where it is one of them, else the one of the lowest bit.
+    /// This format where it is one of them, else the one of the lowest bit; `None` where there is no format.
     pub fn among(self, format: Format) -> Option<Format>
         ensures { result ≡ format_among self format }
     {

@@ -49,14 +49,15 @@ pub enum Message {
 }
 
 impl Message {
-    /// What the frame means.
+    /// What the frame means ("Frame Types", "Control Frames", "IAX Frames").
     pub fn of(frame: &Full) -> Message
         ensures { result ≡ meaning.message_of frame.now.head }
     {
         Message::of_octets(frame.frame_type(), frame.subclass())
     }
 
-    /// What a full frame of this type means whose octet of C and subclass is this.
+    /// What a full frame of this type means whose octet of C and subclass is this ("Frame Types", "Control Frames", "IAX
+    /// Frames").
     pub fn of_octets(frame_type: u8, octet: u8) -> Message
         ensures { result ≡ meaning.message_by frame_type (subclass_meaning octet) }
     {
@@ -145,7 +146,7 @@ impl Message {
         }
     }
 
-    /// Whether it advances the sequence numbers ("Message Transport").
+    /// Whether it advances the sequence numbers ("Message Transport"): all but ACK, INVAL, VNAK, TXCNT and TXACC do.
     pub fn is_numbered(&self) -> bool
         ensures { result ≡ meaning.is_numbered self.now }
     {
@@ -155,21 +156,21 @@ impl Message {
         )
     }
 
-    /// INVAL.
+    /// Whether it is an INVAL ("IAX Frames").
     pub fn is_inval(&self) -> bool
         ensures { result ≡ meaning.is_inval self.now }
     {
         matches!(self, Message::Inval)
     }
 
-    /// VNAK.
+    /// Whether it is a VNAK ("IAX Frames").
     pub fn is_vnak(&self) -> bool
         ensures { result ≡ meaning.is_vnak self.now }
     {
         matches!(self, Message::Vnak)
     }
 
-    /// Voice in this format.
+    /// Whether it is voice in this format.
     pub fn is_voice_in(&self, format: Format) -> bool
         ensures { result ≡ meaning.is_voice_in format self.now }
     {

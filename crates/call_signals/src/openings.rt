@@ -13,7 +13,7 @@ use crate::signals::Signal;
 use crate::stages::Stage;
 use call_auth::Challenge;
 
-/// What becomes of a NEW.
+/// What becomes of a NEW that came ("Call Setup").
 #[derive(Clone, Copy, Debug, PartialEq, Eq)]
 pub enum Opening {
     /// VERSION is absent or not 2, or there is no common format.
@@ -63,7 +63,9 @@ fn chosen_format(common: Formats, wanted: u32) -> Option<Format>
     }
 }
 
-/// The format of the call that a NEW asks for, by its elements.
+/// The format of the call that a NEW asks for, by its elements ("Call Setup"): FORMAT where that is the bit of exactly one common
+/// format, else the common format of the lowest bit; `None` where no format is common. Common are those formats of the peer that
+/// FORMAT or CAPABILITY has.
 pub fn call_format(formats: Formats, elements: &NewElements) -> Option<Format>
     ensures { result ≡ opening.format_by formats (named elements.now) }
 {
@@ -72,7 +74,8 @@ pub fn call_format(formats: Formats, elements: &NewElements) -> Option<Format>
     chosen_format(common_formats(formats, wanted, capable), wanted)
 }
 
-/// The formats that the call of a NEW may have: all that are common where it is routed by them, else the one that is chosen.
+/// The formats that the call of a NEW may have: all that are common where the peer's rules have the call routed by them, else the
+/// one that is chosen.
 pub fn offered_formats(rules: &PeerRules, elements: &NewElements, format: Format) -> Formats
     ensures { result ≡ opening.offered_formats rules.now (named elements.now) format }
 {
@@ -93,7 +96,7 @@ fn is_version_2(version: Option<u16>) -> bool
     }
 }
 
-/// What becomes of a NEW, by its elements.
+/// What becomes of a NEW, by its elements ("Call Setup"). `Refused` is looked for first, then whether the peer has a secret.
 pub fn opening_of(rules: &PeerRules, elements: &NewElements) -> Opening
     ensures { result ≡ opening.opening_by rules.now (named elements.now) }
 {
@@ -111,7 +114,7 @@ pub fn opening_of(rules: &PeerRules, elements: &NewElements) -> Opening
 }
 
 impl Opening {
-    /// The row of the table.
+    /// The row of the table: the answer, the stage after, and what is handed up.
     pub fn effect(self) -> Effect
         ensures { result ≡ opening.opening_effect self }
     {
@@ -126,7 +129,7 @@ impl Opening {
         }
     }
 
-    /// The challenge that goes out, if one does.
+    /// The challenge that goes out: this one where the peer is challenged, else `None`.
     pub fn challenge(self, challenge: &Challenge) -> Option<Challenge>
         ensures { result ≡ opening.challenge_sent self challenge.now }
     {

@@ -46,11 +46,13 @@ pub struct TickOutcome {
 /// Whether media of the other side counts.
 #[derive(Clone, Copy, Debug, PartialEq, Eq)]
 pub enum MediaIn {
+    /// It counts.
     Accepted,
+    /// It doesn't count: the leg isn't talking, took no voice of its format yet, or the media hasn't 1 to 1,380 octets.
     NotYet,
 }
 
-/// Why a full frame is refused.
+/// Why a full frame is refused, in the order in which causes are looked for.
 #[derive(Clone, Copy, Debug, PartialEq, Eq)]
 pub enum StepError {
     /// Fewer than four entries of the record are free.

@@ -37,7 +37,7 @@ pub enum Reply {
 }
 
 impl Reply {
-    /// The type of the frame.
+    /// The type of the frame ("Frame Types").
     pub fn frame_type(&self) -> u8
         ensures { result ≡ type_of self.now }
     {
@@ -49,7 +49,7 @@ impl Reply {
         }
     }
 
-    /// The subclass, below 128.
+    /// The subclass of the frame, below 128.
     pub fn subclass(&self) -> u8
         ensures { result ≡ subclass_of self.now }
     {
@@ -69,7 +69,7 @@ impl Reply {
         }
     }
 
-    /// Its own timestamp, or the present one.
+    /// The timestamp that it has of its own, as a PONG and a LAGRP have, or else the present one; milliseconds, modulo 2^32.
     pub fn timestamp(&self, present: u32) -> u32
         ensures { result ≡ timestamp_of self.now present }
     {
@@ -82,7 +82,7 @@ impl Reply {
 }
 
 impl Indication {
-    /// The subclass of the control frame.
+    /// The subclass of the control frame, below 128 ("Control Frames").
     pub fn subclass(self) -> u8
         ensures { result ≡ indication_subclass self }
     {
@@ -111,7 +111,7 @@ impl Model for Replies {
 }
 
 impl Replies {
-    /// No datagrams.
+    /// An empty list of datagrams.
     pub fn new() -> Replies
         ensures { result ≡ [] }
     {
@@ -120,7 +120,7 @@ impl Replies {
         }
     }
 
-    /// Writes a full frame behind the others.
+    /// Writes a full frame, of at most 1,388 octets of data, behind fewer than 128 others.
     pub fn write(&mut self, head: &FullHead, payload: &[u8])
         requires room { length self.old < 128 }
         requires short { length payload.now ≤ 1388 }
@@ -132,7 +132,7 @@ impl Replies {
         }
     }
 
-    /// Adds a datagram behind the others.
+    /// Adds a datagram behind fewer than 128 others.
     pub fn push(&mut self, out: Out)
         requires { length self.old < 128 }
         ensures { self.new ≡ self.old ++ out ∷ [] }
@@ -147,21 +147,21 @@ impl Replies {
         self.outs.clear();
     }
 
-    /// How many datagrams there are.
+    /// How many datagrams there are, at most 128.
     pub fn len(&self) -> usize
         ensures { result ≡ length self.now }
     {
         self.outs.len()
     }
 
-    /// Whether there are none.
+    /// Whether there are no datagrams.
     pub fn is_empty(&self) -> bool
         ensures { result ≡ (length self.now == 0) }
     {
         self.outs.len() == 0
     }
 
-    /// The datagram at a place.
+    /// The datagram at a place, 0 for the first; `None` where there is none.
     pub fn get(&self, place: usize) -> Option<&Out>
         ensures { option_copied result ≡ slice_get self.now place }
     {

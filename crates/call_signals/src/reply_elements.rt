@@ -24,7 +24,7 @@ fn append_user(payload: &mut Payload, user: &Option<Credential>)
     }
 }
 
-/// One element, whose value has at most 255 octets.
+/// The data of one element alone, whose value has at most 255 octets.
 pub fn one_element(number: u8, value: &[u8]) -> Payload
     requires { length value.now ≤ 255 }
     ensures { result ≡ replies.element_of number value.now }
@@ -34,7 +34,7 @@ pub fn one_element(number: u8, value: &[u8]) -> Payload
     payload
 }
 
-/// The data of a REJECT and a HANGUP: CAUSE and CAUSECODE.
+/// The data of a REJECT and a HANGUP: CAUSE and CAUSECODE, in this order.
 pub fn cause_elements(cause: Cause) -> Payload
     ensures { result ≡ replies.cause_elements cause }
 {
@@ -44,7 +44,7 @@ pub fn cause_elements(cause: Cause) -> Payload
     payload
 }
 
-/// The data of a NEW; the number that is called has at most 255 octets.
+/// The data of a NEW ("Call Setup"); the number that is called has at most 255 octets.
 pub fn new_elements(
     user: &Option<Credential>,
     called: &[u8],
@@ -64,7 +64,7 @@ pub fn new_elements(
     payload
 }
 
-/// The data of an AUTHREQ; the challenge has at most 255 octets.
+/// The data of an AUTHREQ ("Call Setup"); the challenge has at most 255 octets.
 pub fn auth_req_elements(user: &Option<Credential>, challenge: &[u8]) -> Payload
     requires { length challenge.now ≤ 255 }
     ensures { result ≡ replies.auth_req_elements user.now challenge.now }

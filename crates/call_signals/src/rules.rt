@@ -25,7 +25,8 @@ impl Model for Credential {
 }
 
 impl Credential {
-    /// The credential of these octets, where they may be one. Takes no memory.
+    /// The credential of these octets; `None` exactly where they aren't 1 to 64 octets, each of them 0x20 ..= 0x7e. It takes no
+    /// memory.
     pub fn new(octets: &[u8]) -> Option<Credential>
         ensures found { IsSome result ↔ IsCredential octets.now }
         ensures value { IfSome result (λ credential. credential ≡ octets.now) }
@@ -46,7 +47,7 @@ impl Credential {
         self.octets.as_slice()
     }
 
-    /// The same once more. Takes no memory.
+    /// The same credential once more. It takes no memory.
     pub fn copied(&self) -> Credential
         ensures { result ≡ self.now }
     {
@@ -99,7 +100,7 @@ pub struct PeerRules {
 }
 
 impl PeerRules {
-    /// The same once more. Takes no memory.
+    /// The same rules once more. It takes no memory.
     pub fn copied(&self) -> PeerRules
         ensures { result ≡ self.now }
     {

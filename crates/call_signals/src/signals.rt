@@ -24,7 +24,7 @@ impl Model for Digit {
 }
 
 impl Digit {
-    /// The digit of this number.
+    /// The digit of this number, 0 ..= 127.
     pub fn new(digit: u8) -> Digit
         requires { digit < 128 }
         ensures { result ≡ digit }
@@ -52,7 +52,7 @@ pub enum Indication {
 impl Indication {
     ghost use Rattle.call_signals.specs.Signals.{indication_name};
 
-    /// Its name ("Control Frames").
+    /// Its name, as RFC 5456 writes it ("Control Frames"): ASCII.
     pub fn name(&self) -> &'static str
         ensures { result.now ≡ indication_name self.now }
     {
@@ -74,14 +74,14 @@ pub struct MediaSpan {
 impl MediaSpan {
     ghost use Rattle.call_signals.specs.Signals.{span_len};
 
-    /// How many octets.
+    /// How many octets the span has.
     pub fn len(self) -> usize
         ensures { result ≡ span_len self }
     {
         self.end.saturating_sub(self.start)
     }
 
-    /// Whether there are no octets.
+    /// Whether the span has no octets.
     pub fn is_empty(self) -> bool
         ensures { result ≡ (span_len self == 0) }
     {

@@ -2,7 +2,7 @@
 ghost use Rattle.std.specs.Prelude.{◌≡◌};
 ghost use Rattle.call_signals.specs.Stages as stages;
 
-/// Where a leg stands.
+/// Where a leg stands in its call ("Call Setup").
 #[derive(Clone, Copy, Debug, PartialEq, Eq)]
 pub enum Stage {
     /// It sent a NEW, and the other side hasn't accepted the call yet.
@@ -22,42 +22,42 @@ pub enum Stage {
 }
 
 impl Stage {
-    /// Closing or Ended.
+    /// Whether the call is over: `Closing` or `Ended`.
     pub fn is_over(self) -> bool
         ensures { result ≡ stages.is_over self }
     {
         matches!(self, Stage::Closing | Stage::Ended)
     }
 
-    /// Linked or Up.
+    /// Whether the call is accepted and not over: `Linked` or `Up`.
     pub fn is_talking(self) -> bool
         ensures { result ≡ stages.is_talking self }
     {
         matches!(self, Stage::Linked | Stage::Up)
     }
 
-    /// Offered.
+    /// Whether the stage is `Offered`.
     pub fn is_offered(self) -> bool
         ensures { result ≡ stages.is_offered self }
     {
         matches!(self, Stage::Offered)
     }
 
-    /// Linked.
+    /// Whether the stage is `Linked`.
     pub fn is_linked(self) -> bool
         ensures { result ≡ stages.is_linked self }
     {
         matches!(self, Stage::Linked)
     }
 
-    /// Closing.
+    /// Whether the stage is `Closing`.
     pub fn is_closing(self) -> bool
         ensures { result ≡ stages.is_closing self }
     {
         matches!(self, Stage::Closing)
     }
 
-    /// Ended.
+    /// Whether the stage is `Ended`.
     pub fn is_ended(self) -> bool
         ensures { result ≡ stages.is_ended self }
     {

@@ -30,7 +30,7 @@ impl Act {
     ghost use Rattle.leg_machine.specs.Seen.{kind_of};
     ghost use Rattle.call_steps.specs.Acts.{act_kind, act_media, order_media, LiesWithin};
 
-    /// The order without the octets of its media.
+    /// The order's kind, without the octets of its media.
     pub fn kind(&self) -> OrderKind
         ensures { result ≡ act_kind self.now }
     {

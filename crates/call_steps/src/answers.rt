@@ -14,7 +14,7 @@ use leg_machine::{Cause, Format};
 use peer_lock::{OrderError, PeerError, Status};
 
 impl Work {
-    /// The step that `next` names was answered.
+    /// Takes the answer to the step that `next` names.
     ///
     /// Another answer than that to this step is taken as a refusal.
     pub fn told(&mut self, reply: Reply)

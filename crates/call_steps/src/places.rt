@@ -68,7 +68,7 @@ pub enum Place {
 impl Place {
     ghost use Rattle.call_steps.specs.Work.{next_at, place_for};
 
-    /// The step that is to be made here.
+    /// The step that is to be made here; `None` where there is none.
     pub fn next(&self) -> Option<Need>
         ensures { result ≡ next_at self.now }
     {

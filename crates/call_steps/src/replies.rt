@@ -14,9 +14,13 @@ pub struct Heard {
 /// The answer to a step: one for each that a call can need.
 #[derive(Drop)]
 pub enum Reply {
+    /// What a datagram's step told.
     Datagram(Result<Heard, PeerError>),
+    /// What the opening by the NEW that came told.
     OpenIn(Result<Heard, OpenError>),
+    /// Whether a leg was opened by a NEW of ours.
     OpenOut(Result<(), OpenError>),
+    /// Whether the leg obeyed.
     Order(Result<(), OrderError>),
     /// Whether no leg of the peer has ended and none owes.
     Tick(Result<bool, StepsSpent>),
@@ -24,10 +28,14 @@ pub enum Reply {
     Look(Option<Status>),
     /// Whether the leg was taken out.
     Retire(bool),
+    /// The name that the book gave.
     Reserve(Result<LegName, ReserveError>),
+    /// Whether the names are partners now.
     Bridge(Result<(), BridgeError>),
+    /// The partner of the name, if it has one.
     Partner(Option<LegName>),
     /// The former partner.
     Release(Result<Option<LegName>, Stale>),
+    /// Where the offered call leads.
     Route(Route),
 }

@@ -43,14 +43,14 @@ impl Model for Work {
 impl Work {
     ghost use Rattle.call_steps.specs.WorkState.{begun, offer_in, first_of, without_first};
 
-    /// A datagram of this peer came.
+    /// The steps of a datagram that came from this peer, which is its place in the plan.
     pub fn of_datagram(peer: u16) -> Work
         ensures { result ≡ begun (work.of_datagram peer) }
     {
         Work::at(Place::Datagram(peer))
     }
 
-    /// Time goes on at this peer, whose call numbers are the next `count` from `first` on.
+    /// The steps of a tick at this peer, its place in the plan, whose call numbers are the next `count` from `first` on.
     pub fn of_tick(peer: u16, first: u16, count: u16) -> Work
         requires { first + count ≤ 2 ^ 16 }
         ensures { result ≡ begun (work.of_tick peer first count) }
@@ -63,14 +63,14 @@ impl Work {
         }
     }
 
-    /// A call to this peer is made from outside.
+    /// The steps of a call to this peer, its place in the plan, that is made from outside.
     pub fn of_call(peer: u16) -> Work
         ensures { result ≡ begun (work.of_call peer) }
     {
         Work::at(Place::ReserveCall(peer))
     }
 
-    /// The leg of this name is hung up from outside.
+    /// The steps by which the leg of this name is hung up from outside.
     pub fn of_hang_up(name: LegName) -> Work
         ensures { result ≡ begun (work.of_hang_up name) }
     {
@@ -95,14 +95,14 @@ impl Work {
         }
     }
 
-    /// The step that is to be made next; none at the end.
+    /// The step that is to be made next; `None` at the end.
     pub fn next(&self) -> Option<Need>
         ensures { result ≡ work.next_of self.now.work }
     {
         self.place.next()
     }
 
-    /// What the offered call asks for, where the last step of a peer handed one up.
+    /// What the offered call asks for; `None` where the last step of a peer handed no offer up.
     pub fn offer(&self) -> Option<&Offer>
         ensures { option_copied result ≡ offer_in self.now.onwards }
     {
@@ -112,7 +112,7 @@ impl Work {
         }
     }
 
-    /// The list that the last step of a peer wrote, for the next one.
+    /// The list that the last step of a peer wrote, for the next one, where the work is given up; `None` where there is none.
     pub fn into_onwards(self) -> Option<Onwards>
         ensures { result ≡ self.onwards }
     {

@@ -150,7 +150,7 @@ impl CallOutlets {
         }
     }
 
-    /// How the file is.
+    /// How the file is, by what the writer told last. Contracts don't speak of it.
     pub fn state(&self) -> FileState {
         let lost = self.lost.load(Ordering::Relaxed);
         FileState {

@@ -39,7 +39,9 @@ struct Writer<'a, D: Disk> {
 
 impl CallRows {
     /// The outlets of a plan's workers and of one thread more, and what the writer needs. The serials of calls begin with the
-    /// date, so that those of a later run are greater.
+    /// date, in microseconds since the beginning of 1970, so that those of a later run are greater.
+    ///
+    /// `AllocError`: a request for memory was refused.
     pub fn new(
         alloc: Global,
         plan: &Plan,

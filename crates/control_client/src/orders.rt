@@ -30,7 +30,8 @@ fn plain_order<'w>(word: &str) -> Option<Order<'w>> {
     }
 }
 
-/// The order that these words name; none where they name none.
+/// The order that these words name: `peers`, `calls`, `accounts`, `call <peer> <number>`, `hangup <number>` or `stop`. None
+/// where they name none. Names and numbers aren't judged here.
 pub fn order_of<'w>(words: &'w [String]) -> Option<Order<'w>> {
     match words {
         [word] => plain_order(word.as_str()),

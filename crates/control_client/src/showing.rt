@@ -78,11 +78,11 @@ fn ask_order<N: Net>(rt: &N, alloc: Global, path: &str, order: Order<'_>) -> io:
     ask(rt, alloc, path, &request)
 }
 
-/// Gives a running service an order at its control socket, and writes the answer: tables of peers, calls and accounts, a line for
-/// each other order. Answers the status: 0, or 1 after `refused <name>`.
+/// Gives a running service an order at its control socket, and writes the answer: tables of peers, calls and accounts, a line
+/// for each other order. Answers the status: 0, or 1 after `refused <name>`.
 ///
-/// `refused Control`: nobody answers at that path, or not as a service does; `refused Memory`; any other name is the service's
-/// own.
+/// `refused Memory`: a request for memory was refused before the answer was there. `refused Control`: nobody answers at that
+/// path, or not as a service does, or there is no memory to show the answer. Any other name is the service's own.
 pub fn give_order<N: Net, W: Write>(
     rt: &N,
     alloc: Global,

@@ -28,7 +28,7 @@ pub enum Status {
 }
 
 impl Status {
-    /// The number of the status (RFC 9110, section 15).
+    /// The number of the status, 200 ..= 503 (RFC 9110, section 15).
     pub fn code(self) -> u16
         ensures { result ≡ code_of self }
     {
@@ -124,6 +124,8 @@ pub struct Answer {
 
 impl Answer {
     /// An answer that names what is wrong: `{"error": why}`.
+    ///
+    /// `AllocError`: a request for memory was refused.
     pub fn error(alloc: Global, status: Status, why: &str) -> Result<Answer, AllocError>
         ensures status { IfOk result (λ answer. answer.status ≡ status) }
         ensures body { IfOk result (λ answer. string_bytes answer.body ≡ compact_text (error_data why.now)) }
@@ -134,6 +136,8 @@ impl Answer {
 
     /// The octets that go to the client: the status line, the fields `Content-Type`, `Content-Length` (the octets of the body),
     /// `Connection: close`, and of 405 `Allow`; an empty line; the body.
+    ///
+    /// `AllocError`: a request for memory was refused.
     pub fn octets(&self, alloc: Global) -> Result<Vec<u8>, AllocError>
         ensures { IfOk result (λ octets. octets.items ≡ answer_text self.now.status (string_bytes self.now.body)) }
     {

@@ -126,6 +126,8 @@ fn methods_of(row: Row) -> Methods
 }
 
 /// The command that a method and a path name, by the table of rows, one for each path.
+///
+/// `NotFound`: there is no such path, or it has a query. `NotAllowed`: the path has other methods, which it names.
 pub fn command_of(method: &str, path: &str) -> Result<Command, NoCommand>
     ensures table { result ≡ command_at method.now path.now }
 {

@@ -74,8 +74,11 @@ fn order_of(alloc: Global, peer: &str, number: &str) -> Result<PlaceOrder, Alloc
     })
 }
 
-/// Reads the body of `POST /calls`, `{"peer": NAME, "number": DIGITS}`. Other members aren't looked at; of two with one name the
-/// last counts.
+/// Reads the body of `POST /calls`, `{"peer": NAME, "number": DIGITS}`. Other members aren't looked at; of two with one name
+/// the last counts.
+///
+/// `NotJson`, then `NoPeer`, then `NoNumber`, then `NumberTooLong`. `Memory`: a request for memory was refused, while the body
+/// was read or for what it says.
 pub fn place_of(alloc: Global, body: &[u8]) -> Result<PlaceOrder, PlaceFault>
     ensures ok { IfOk result (λ order. Says body.now (Ok (string_bytes order.peer, string_bytes order.number))) }
     ensures err { IfErr result (IsFaultOf body.now) }

@@ -106,7 +106,8 @@ fn without_head<'b>(octets: &[u8]) -> Reading<'b>
     }
 }
 
-/// Reads the request that these octets begin with.
+/// Reads the request that these octets begin with (RFC 9112). What is too large, or no request, comes as a variant of
+/// `Reading`.
 pub fn read_request<'b>(octets: &'b [u8]) -> Reading<'b>
     ensures reads { Reads octets.now result }
     ensures bounded { result ≡ Part → length octets.now < 12288 }

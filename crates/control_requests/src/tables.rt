@@ -156,19 +156,31 @@ fn table_of(alloc: Global, rows: Option<&[Value]>, columns: &[&str]) -> Result<S
     }
 }
 
-/// The table of the answer to `GET /peers`: a head line, and a line for each peer.
+/// The table of the answer to `GET /peers`: a head line, and a line for each peer. Columns are as wide as their longest cell,
+/// in characters; `-` stands where there is no value.
+///
+/// `NotJson`: the text is no JSON. `NoRows`: the JSON has no list `peers`. `Memory`: a request for memory was refused, at any
+/// time.
 pub fn peers_table(alloc: Global, body: &str) -> Result<String, TableFault> {
     let value = value_of(alloc, body)?;
     table_of(alloc, list_of(&value, "peers"), &PEER_COLUMNS)
 }
 
-/// The table of the answer to `GET /calls` or `GET /calls/<number>`: a head line, and a line for each call.
+/// The table of the answer to `GET /calls` or `GET /calls/<number>`: a head line, and a line for each call. Columns are as wide
+/// as their longest cell, in characters; `-` stands where there is no value.
+///
+/// `NotJson`: the text is no JSON. `NoRows`: the JSON has no list `calls`, and no member `number`. `Memory`: a request for
+/// memory was refused, at any time.
 pub fn calls_table(alloc: Global, body: &str) -> Result<String, TableFault> {
     let value = value_of(alloc, body)?;
     table_of(alloc, calls_of(&value), &CALL_COLUMNS)
 }
 
-/// The table of the answer to `GET /accounts`: a head line, and one line.
+/// The table of the answer to `GET /accounts`: a head line, and one line. Columns are as wide as their longest cell, in
+/// characters; `-` stands where there is no value.
+///
+/// `NotJson`: the text is no JSON. `NoRows`: the JSON has no member `accepted`. `Memory`: a request for memory was refused, at
+/// any time.
 pub fn accounts_table(alloc: Global, body: &str) -> Result<String, TableFault> {
     let value = value_of(alloc, body)?;
     table_of(alloc, accounts_of(&value), &ACCOUNTS_COLUMNS)

@@ -26,9 +26,9 @@ pub struct PeerRow<'a> {
     pub numbers: u16,
     /// Milliseconds since its last datagram; none where it was never heard.
     pub silent_ms: Option<u64>,
-    /// Datagrams that came from it and were taken.
+    /// Datagrams that came from it, whatever became of them.
     pub received: u64,
-    /// Datagrams that came from it and were refused.
+    /// Those of them that were refused, or turned away.
     pub refused: u64,
     /// Datagrams that went to it.
     pub sent: u64,
@@ -255,14 +255,18 @@ fn accounts_value(alloc: Global, row: AccountsRow) -> Result<Value, AllocError>
     Ok(Value::Object(members))
 }
 
-/// The JSON of one call.
+/// The JSON of one call, an object; `null` stands where there is no value.
+///
+/// `AllocError`: a request for memory was refused.
 pub fn call_body(alloc: Global, row: CallRow<'_>) -> Result<String, AllocError>
     ensures { IfOk result (λ body. string_bytes body ≡ compact_text (call_data row.entry)) }
 {
     text_of(alloc, &call_value(alloc, row)?)
 }
 
-/// The JSON of the accounts.
+/// The JSON of the accounts, an object of numbers of octets.
+///
+/// `AllocError`: a request for memory was refused.
 pub fn accounts_body(alloc: Global, row: AccountsRow) -> Result<String, AllocError>
     ensures { IfOk result (λ body. string_bytes body ≡ compact_text (accounts_data row)) }
 {
@@ -302,7 +306,7 @@ impl Model for Rows {
 impl Rows {
     ghost use Rattle.std.specs.Prelude.{[]};
 
-    /// No rows yet.
+    /// No rows yet. It takes no memory.
     pub fn new(alloc: Global) -> Rows
         ensures { result ≡ [] }
     {
@@ -311,7 +315,9 @@ impl Rows {
         }
     }
 
-    /// One more peer. Where memory fails, the rows stay as they were.
+    /// One more peer, behind the others.
+    ///
+    /// `AllocError`: a request for memory was refused. Then the rows stay as they were.
     pub fn push_peer(&mut self, alloc: Global, row: PeerRow<'_>) -> Result<(), AllocError>
         ensures ok { OnOk result (self.new ≡ followed self.old (compact_text (peer_data row.entry))) }
         ensures err { OnErr result (self.new ≡ self.old) }
@@ -321,7 +327,9 @@ impl Rows {
         self.text.push_str(&piece)
     }
 
-    /// One more call. Where memory fails, the rows stay as they were.
+    /// One more call, behind the others.
+    ///
+    /// `AllocError`: a request for memory was refused. Then the rows stay as they were.
     pub fn push_call(&mut self, alloc: Global, row: CallRow<'_>) -> Result<(), AllocError>
         ensures ok { OnOk result (self.new ≡ followed self.old (compact_text (call_data row.entry))) }
         ensures err { OnErr result (self.new ≡ self.old) }
@@ -332,6 +340,8 @@ impl Rows {
     }
 
     /// The rows as the list of peers: `{"peers":[..]}`.
+    ///
+    /// `AllocError`: a request for memory was refused. Then the rows are dropped.
     pub fn into_peers(self, alloc: Global) -> Result<String, AllocError>
         ensures { IfOk result (λ body. string_bytes body ≡ list_text (codes "peers") self) }
     {
@@ -339,6 +349,8 @@ impl Rows {
     }
 
     /// The rows as the list of calls: `{"calls":[..]}`.
+    ///
+    /// `AllocError`: a request for memory was refused. Then the rows are dropped.
     pub fn into_calls(self, alloc: Global) -> Result<String, AllocError>
         ensures { IfOk result (λ body. string_bytes body ≡ list_text (codes "calls") self) }
     {

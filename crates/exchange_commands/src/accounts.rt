@@ -36,7 +36,11 @@ pub(crate) fn close<J: Naming>(
     }
 }
 
-/// Closes the accounts of an exchange with all its passes, and writes them.
+/// Closes the accounts of an exchange with all its passes, and writes them: `octets <accepted> <packed> <queued> <dropped>`,
+/// and `quelched <n>` where that isn't 0. All are octets of media.
+///
+/// First the `AllocError`: a request for memory was refused, or a pass is missing; nothing is written then. Then the
+/// `io::Error`: the writer can't write.
 pub fn settle<J: Naming, W: Write, S: From<io::Error> + From<AllocError>>(
     exchange: Exchange<NoGate, J>,
     passes: Vec<Pass<J>>,

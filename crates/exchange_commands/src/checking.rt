@@ -3,8 +3,8 @@ use peer_plan::Plan;
 use std::alloc::Global;
 use std::io::Write;
 
-/// Writes how many peers, routes and numbers a plan has, status 0, or its first fault, status 1. A fault of the writer is
-/// status 1.
+/// Writes how many peers, routes and numbers a plan has, `ok <peers> <routes> <numbers>`, status 0, or its first fault,
+/// `refused <fault>`, status 1. A fault of the writer is status 1.
 pub fn check<W: Write>(alloc: Global, plan: &[u8], writer: &mut W) -> u8 {
     match Plan::read(alloc, plan) {
         Ok(plan) => {

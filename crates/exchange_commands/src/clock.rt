@@ -2,7 +2,7 @@
 use std::time::{Clock, Instant};
 use udp_workers::Moments;
 
-/// Tells the milliseconds since an exchange was opened.
+/// Tells the milliseconds since an exchange was opened. Where the clock can't be read, it tells the last ones again.
 #[derive(Drop)]
 pub struct SinceOpening<'r, R: Clock> {
     pub rt: &'r R,

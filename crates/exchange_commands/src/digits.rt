@@ -7,7 +7,7 @@ use rand::rngs::StdRng;
 use rand_core::Rng;
 use udp_workers::Challenges;
 
-/// Draws challenges from a generator.
+/// Draws challenges of ten decimal digits from a generator ("Authentication").
 #[derive(Drop)]
 pub struct Digits {
     pub generator: StdRng,

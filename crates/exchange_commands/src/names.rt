@@ -3,7 +3,7 @@ use exchange_core::{CallError, Refusal};
 use leg_machine::Stage;
 use peer_lock::OrderError;
 
-/// The stage of a number: `Free` where it has no leg.
+/// The name of a number's stage, as its variant is written; `Free` where it has no leg.
 pub fn stage_name(stage: Option<Stage>) -> &'static str {
     match stage {
         None => "Free",
@@ -17,7 +17,7 @@ pub fn stage_name(stage: Option<Stage>) -> &'static str {
     }
 }
 
-/// Why a datagram or a tick did nothing.
+/// The name of why a datagram or a tick did nothing, as its variant is written.
 pub fn refusal_name(refusal: Refusal) -> &'static str {
     match refusal {
         Refusal::Stranger => "Stranger",
@@ -38,7 +38,7 @@ pub fn refusal_name(refusal: Refusal) -> &'static str {
     }
 }
 
-/// Why no call went out.
+/// The name of why no call went out, as its variant is written.
 pub fn call_error_name(error: CallError) -> &'static str {
     match error {
         CallError::BadNumber => "BadNumber",
@@ -50,7 +50,7 @@ pub fn call_error_name(error: CallError) -> &'static str {
     }
 }
 
-/// Why a leg doesn't hang up.
+/// The name of why a leg doesn't hang up, as its variant is written.
 pub fn order_error_name(error: OrderError) -> &'static str {
     match error {
         OrderError::StepsSpent => "StepsSpent",

@@ -13,7 +13,7 @@ use script_lines::Line;
 use std::alloc::Global;
 use std::sync::Wait;
 
-/// What is known between two lines.
+/// What is known between two lines of a script.
 #[derive(Drop)]
 pub struct Player {
     now: u64,
@@ -35,7 +35,7 @@ fn is_full(octets: &[u8]) -> bool {
 }
 
 impl Player {
-    /// At the beginning: moment 0, challenge `0`, no leg. `None` where memory was refused.
+    /// At the beginning: moment 0, in milliseconds, challenge `0`, no leg. None where memory was refused.
     pub fn new(alloc: Global, plan: &Plan) -> Option<Player> {
         let challenge = Challenge::new(b"0")?;
         Some(Player {
@@ -47,7 +47,11 @@ impl Player {
         })
     }
 
-    /// What a line asks for is done, and the viewer is told what came of it.
+    /// Does what a line asks for, and tells the viewer what came of it. An empty line and `settle` do nothing here.
+    ///
+    /// `Script`: no peer has the name that the line gives, `at` goes back or `back` goes on, what should be a challenge, an
+    /// endpoint, a datagram or a list of numbers is none, or a stranger's endpoint is a peer's. `Memory`: a request for memory
+    /// was refused. What the viewer answers by `Err` is handed on.
     pub fn line<J: Naming, R: Wait, V: Viewer>(
         &mut self,
         rt: &R,

@@ -44,7 +44,8 @@ fn stopped_at(line: usize, stop: Stop) -> ReplayError {
     }
 }
 
-/// Writes why a replay ended, and answers the status: 0 where its script did, else 1.
+/// Writes why a replay ended, and answers the status: 0 where its script did, else 1. It writes `refused <fault>`, `refused
+/// Script <line>` or `refused Memory`; of a writer that can't write, nothing.
 pub fn tell_outcome<W: Write>(outcome: Result<(), ReplayError>, writer: &mut W) -> u8 {
     let _ = match outcome {
         Ok(()) => return 0,
@@ -159,10 +160,13 @@ fn play_named<O: Ledger + Send + Sync, S: Ledger + Send + Sync, R: Wait, V: View
     play::<Service<O, S>, R, V>(rt, alloc, plan, script, viewer, octets, steps)
 }
 
-/// Replays a script on an exchange of its plan, and tells the viewer what each line makes, up to the end of the script or to the
-/// first line that is refused.
+/// Replays a script on an exchange of its plan, and tells the viewer what each line makes, up to the end of the script or to
+/// the first line that is refused.
 ///
 /// Plan and script are the octets of the files. `tell_outcome` tells what comes of it as `replay` does.
+///
+/// `Plan`: the plan is refused, with its first fault. `Memory`: a request for memory was refused. `Script`: the line of this
+/// number is refused, from 1 on; 0 where the viewer answers so when the exchange is opened. `Writer`: the viewer answers so.
 pub fn replay_with<R: Wait, V: Viewer>(
     rt: &R,
     alloc: Global,

@@ -73,7 +73,7 @@ impl From<io::Error> for ServiceError {
     }
 }
 
-/// What is printed after `refused`; nothing where the writer can't write.
+/// What is printed after `refused`: the name of the variant; none where the writer can't write.
 pub fn service_error_name(error: ServiceError) -> Option<&'static str> {
     match error {
         ServiceError::Bind => Some("Bind"),
@@ -138,9 +138,11 @@ fn wire_of<N: Net, S: Sockets>(
     Ok(wire)
 }
 
-/// The socket of a worker of the plan, and the digits for its challenges.
+/// The socket of a worker of the plan, and the digits for its challenges. The socket is bound to the endpoint of the worker at
+/// this place, by `MioWire::bind`: shared with others where these sockets are, else alone.
 ///
-/// `Bind`, `Entropy`, `Memory`: the socket isn't bound, the system gives no random octets, a request for memory was refused.
+/// `Memory`: a request for memory was refused. `Bind`: the socket isn't bound. `Entropy`, which is looked for last: the system
+/// gives no random octets.
 pub fn wire_and_digits_of<R: Net + RandomSource, S: Sockets>(
     rt: &R,
     alloc: Global,
@@ -218,7 +220,9 @@ fn report_of<W: Wire + Drop, M: Moments + Drop, C: Challenges + Drop, J: Naming,
     (report, pass)
 }
 
-/// The reports of the seats, in order. Their passes go back to the others.
+/// The reports of the seats, in order. Their passes go back to the others, behind them.
+///
+/// `Memory`: a request for memory was refused. Then the pass of that seat and the seats behind it are dropped.
 pub fn reports_of<W: Wire + Drop, M: Moments + Drop, C: Challenges + Drop, J: Naming, P: Post>(
     alloc: Global,
     seats: Vec<Seat<W, M, C, J, P>>,
@@ -234,7 +238,10 @@ pub fn reports_of<W: Wire + Drop, M: Moments + Drop, C: Challenges + Drop, J: Na
     Ok(reports)
 }
 
-/// Writes `worker <place> <received> <sent> <lost> <faults>` for each worker, in order.
+/// Writes `worker <place> <received> <sent> <lost> <faults>` for each worker, in order: places from 0 on, counts of datagrams,
+/// and of calls of the wire that failed.
+///
+/// An error is the writer's, at the first line that it doesn't take.
 pub fn write_reports<W: Write>(reports: &[TurnReport], writer: &mut W) -> io::Result<()> {
     for (place, report) in reports.iter().enumerate() {
         writeln!(

@@ -44,7 +44,7 @@ pub struct PeerOfPlan<'a> {
 }
 
 impl<'a> PeerOfPlan<'a> {
-    /// The peer at a place of the plan.
+    /// The peer at a place of the plan, with its endpoint and that of its worker.
     pub fn at(plan: &'a Plan, place: u16) -> PeerOfPlan<'a>
         requires { place < length plan.now.peers }
         ensures place { result.place ≡ place }

@@ -7,7 +7,7 @@ use std::alloc::Global;
 use std::net::SocketAddrV4;
 use std::str;
 
-/// The place in the plan of the peer of a name; none where no peer has it.
+/// The place in the plan of the first peer of a name, from 0 on; none where no peer has it.
 pub fn peer_named(plan: &Plan, name: &[u8]) -> Option<u16>
     ensures { IfSome result (λ peer. peer < length plan.now.peers) }
 {

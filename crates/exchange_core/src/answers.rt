@@ -90,6 +90,7 @@ impl From<ReserveError> for Refusal {
 /// A leg that was taken out, and its history, which is one that a window may have.
 #[derive(Drop)]
 pub struct Retired {
+    /// Its name.
     pub name: LegName,
     /// What it tells beside its history.
     pub facts: LegFacts,
@@ -98,11 +99,12 @@ pub struct Retired {
     /// The leg that it was bridged with until then. None where it never was, or where that one was taken out before it: its own
     /// `partner` is this leg then.
     pub partner: Option<LegName>,
+    /// Its record: what it sent, what was acknowledged and what it took.
     pub history: Record,
     ghost legal: { ∥ IsHistory history.entries ∥₁ },
 }
 
-/// What a call made.
+/// What a call of the exchange made.
 #[derive(Drop)]
 pub struct Answer {
     /// How many steps were made under the pass.

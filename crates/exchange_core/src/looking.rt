@@ -9,7 +9,7 @@ use peer_lock::{Description, Naming, Status, Sums};
 use std::sync::Wait;
 
 impl<G: Gate, J: Naming> Exchange<G, J> {
-    /// How the leg of a local number of a peer of the plan stands, where there is one.
+    /// How the leg of a local number of a peer of the plan stands; `None` where there is none.
     pub fn status<R: Wait>(
         &self,
         rt: &R,
@@ -25,7 +25,7 @@ impl<G: Gate, J: Naming> Exchange<G, J> {
         state.status(number)
     }
 
-    /// The leg of a local number of a peer of the plan, with what its call is about, where there is one.
+    /// The leg of a local number of a peer of the plan, with what its call is about; `None` where there is none.
     pub fn describe<R: Wait>(
         &self,
         rt: &R,
@@ -53,7 +53,7 @@ impl<G: Gate, J: Naming> Exchange<G, J> {
         state.sums()
     }
 
-    /// The leg that a leg is bridged with, where it is bridged.
+    /// The leg that a leg is bridged with; `None` where it isn't bridged.
     pub fn partner_of<R: Wait>(&self, rt: &R, _pass: &mut Pass<J>, name: LegName) -> Option<LegName>
         ensures { _pass.new ≡ _pass.old }
     {

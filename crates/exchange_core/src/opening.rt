@@ -21,9 +21,10 @@ const FIRST_CREDIT: u64 = 1 << 48;
 
 impl<G: Gate, J: Naming> Exchange<G, J> {
     /// An exchange with all its passes: as many as the plan says, each without credit, and nothing made under it. No peer has a
-    /// leg, and every number is free. Each peer may accept 2^48 octets of media and make 2^48 steps.
+    /// leg, and every number is free. Each peer may accept 2^48 octets of media and make 2^48 steps. Each blank has a part for
+    /// each peer and each pass.
     ///
-    /// Where memory is refused, all that was handed in is dropped.
+    /// `Err` comes only where memory was refused; then all that was handed in is dropped.
     pub fn open(
         alloc: Global,
         plan: Plan,

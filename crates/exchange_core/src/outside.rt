@@ -81,9 +81,10 @@ fn hung_up(denial: Option<Denial>) -> Result<(), OrderError>
 }
 
 impl<G: Gate, J: Naming> Exchange<G, J> {
-    /// A datagram comes from an endpoint: the step of its peer, then what follows from it.
+    /// A datagram comes from an endpoint at the moment `now`, in milliseconds: the step of its peer, then what follows from it.
+    /// The challenge is for a NEW whose peer has a secret.
     ///
-    /// Where it is refused, no step was made.
+    /// Where it is refused, for one of the causes of `Refusal`, no step was made.
     pub fn datagram<R: Wait>(
         &self,
         rt: &R,
@@ -131,7 +132,8 @@ impl<G: Gate, J: Naming> Exchange<G, J> {
         answer_since(pass, first, refused, hands.leavers.into_legs())
     }
 
-    /// Time goes on at a peer of the plan: its step, then each of its legs that has ended is finished, by ascending number.
+    /// Time goes on at a peer of the plan, up to the moment `now`, in milliseconds: its step, then each of its legs that has
+    /// ended is finished, by ascending number.
     ///
     /// Where it is refused, no step was made.
     pub fn tick<R: Wait>(&self, rt: &R, pass: &mut Pass<J>, peer: u16, now: u64) -> Answer
@@ -157,10 +159,11 @@ impl<G: Gate, J: Naming> Exchange<G, J> {
         answer_since(pass, first, refused, hands.leavers.into_legs())
     }
 
-    /// A call goes out to a peer of the plan, for a number of 1 to 64 octets 0x21 ..= 0x7e: one step. Its format is the lowest of
-    /// the peer's.
+    /// A call goes out to a peer of the plan, for a number of 1 to 64 octets 0x21 ..= 0x7e, at the moment `now`, in milliseconds:
+    /// one step. Its format is the lowest of the peer's.
     ///
-    /// Refusals are looked for in the order of `CallError`; then no step was made.
+    /// Refusals are looked for in this order: `BadNumber`, `SerialsSpent`, `NoNumber`, `StepsSpent`, `NumberBusy`, `Memory`; then
+    /// no step was made.
     pub fn call<R: Wait>(
         &self,
         rt: &R,
@@ -190,9 +193,10 @@ impl<G: Gate, J: Naming> Exchange<G, J> {
         Ok(hands.named.unwrap())
     }
 
-    /// Hangs up the leg of a name, whose peer is of the plan, and finishes it.
+    /// Hangs up the leg of a name, whose peer is of the plan, at the moment `now`, in milliseconds, and finishes it.
     ///
-    /// Where it is refused, no step was made.
+    /// Refusals are looked for in this order: `StepsSpent`, `Gone` where no leg has the name, `WrongStage`, `WindowFull`,
+    /// `RecordFull`, `Memory`; then no step was made.
     pub fn hang_up<R: Wait>(
         &self,
         rt: &R,

@@ -43,7 +43,7 @@ impl<G: Gate, J: Naming> Exchange<G, J> {
         state
     }
 
-    /// The oldest datagram for a peer of the plan: a frame that was written for it.
+    /// Takes the oldest datagram for a peer of the plan, a frame that was written for it; `None` where none waits.
     pub fn take_out<R: Wait>(&self, rt: &R, _pass: &mut Pass<J>, peer: u16) -> Option<Out>
         requires { peer < length self.now.peers }
         ensures { _pass.new ≡ _pass.old }

@@ -149,10 +149,11 @@ fn gathered<L: Ledger>(supply: &Supply<L>, shares: Vec<Share<L>>) -> u64
 }
 
 impl<G: Gate, J: Naming> Exchange<G, J> {
-    /// Ends the exchange, once every pass is back. At an `Err` all is handed back.
+    /// Ends the exchange, once every pass is back: the book, the peers, and the sums over all peers and passes. The passes are
+    /// those of its `open`, by their type.
     ///
-    /// The passes are those of its `open`, by their type. Memory for them and the peers is asked for first; then `Missing` is the
-    /// answer exactly where they aren't all.
+    /// Refusals are looked for in this order: `Memory` where memory for the passes and the peers was refused, `Missing` where the
+    /// passes aren't all. The exchange and the passes come back.
     pub fn settle(
         self,
         passes: Vec<Pass<J>>,

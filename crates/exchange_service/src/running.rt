@@ -35,9 +35,9 @@ pub struct Settings<'a> {
     pub version: &'a str,
     /// The file of the plan, as the log tells it.
     pub plan_path: &'a str,
-    /// The path of the control socket.
+    /// The path of the control socket, if there is to be one.
     pub control: Option<&'a str>,
-    /// Where the metrics are.
+    /// The address at which the metrics are, if they are wanted.
     pub metrics: Option<SocketAddr>,
     /// Whether the end of standard input stops the service, where that is a pipe, a socket or a terminal.
     pub stops_with_input: bool,
@@ -296,7 +296,7 @@ fn status_of<W: Write>(served: Result<(), ServiceError>, writer: &mut W) -> u8 {
 /// after a refusal.
 ///
 /// The plan is the octets of its file; a refused one is told as `check` tells it. `refused Control`: the control socket isn't
-/// bound, since somebody answers there, what lies there is no socket, or the system doesn't let it; `refused Metrics`: the
+/// bound, since somebody answers there, a plain file or a folder lies there, or the system doesn't let it; `refused Metrics`: the
 /// address of the metrics isn't bound; the others as `serve` has them. A stop hangs up each leg, and the workers end once none is
 /// left, or after `drain_ms` milliseconds, or at a second stop. The file of the control socket is gone afterwards.
 ///

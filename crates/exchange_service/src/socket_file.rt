@@ -29,10 +29,11 @@ fn is_free<R: Files + Net>(rt: &R, path: &str) -> io::Result<bool> {
     }
 }
 
-/// Binds a listener at the path, to which its owner alone may connect. The socket of a process that has ended is replaced.
+/// Binds a listener at the path, to which its owner alone may connect. The socket of a process that has ended is replaced, as is
+/// a link or a pipe at which nobody answers. A file of the same name with `.new` behind it is removed.
 ///
-/// `AddrInUse`: somebody answers there, or what lies there is no socket. Other errors are those of the system, as for a path of
-/// 108 octets or more, or one in a folder that isn't there.
+/// `AddrInUse`: somebody answers there, or a plain file or a folder lies there. Other errors are those of the system, as for a
+/// path of 108 octets or more, or one in a folder that isn't there.
 pub fn bind<R: Files + Net>(rt: &R, alloc: Global, path: &str) -> io::Result<UnixListener> {
     if !is_free(rt, path)? {
         return Err(io::Error::from(ErrorKind::AddrInUse));

@@ -22,7 +22,7 @@ impl Model for CallNumber {
 }
 
 impl CallNumber {
-    /// The call number of these 15 bits.
+    /// The call number of these 15 bits, 0 ..= 32,767 ("Full Frames").
     pub fn new(number: u16) -> CallNumber
         requires { number < 2 ^ 15 }
         ensures { result ≡ number }

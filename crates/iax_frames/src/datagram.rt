@@ -4,22 +4,26 @@ use crate::mini_frame::Mini;
 use crate::trunk_frame::Trunk;
 use crate::video_frame::Video;
 
-/// What a datagram spells.
+/// The frame that a datagram spells ("Full Frames", "Mini Frames", "Meta Frames").
 #[derive(Debug, Drop)]
 pub enum Datagram<'a> {
+    /// A full frame.
     Full(Full<'a>),
+    /// A mini frame.
     Mini(Mini<'a>),
+    /// A meta frame of video.
     Video(Video<'a>),
+    /// A meta frame of a trunk.
     Trunk(Trunk<'a>),
 }
 
-/// Why a datagram spells no frame.
+/// Why a datagram spells no frame. `read` says in which order the causes are looked for.
 #[derive(Clone, Copy, Debug, PartialEq, Eq)]
 pub enum FrameError {
-    /// Too few octets.
+    /// Fewer octets than the shortest frame of its kind.
     Short,
-    /// A meta command other than that of a trunk.
+    /// A meta command, 0 ..= 127, other than that of a trunk.
     MetaCommand(u8),
-    /// The place of the first entry that passes the end.
+    /// The place, in octets of the datagram, of the first entry that passes the end.
     EntryCut(usize),
 }

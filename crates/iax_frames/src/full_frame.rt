@@ -16,8 +16,11 @@ pub struct FullHead {
     pub destination: CallNumber,
     /// Milliseconds since the sender's side of the call began, modulo 2^32.
     pub timestamp: u32,
+    /// OSeqno: the frame's sequence number, modulo 256 ("Message Transport").
     pub oseqno: u8,
+    /// ISeqno: the sequence number that the sender expects next, modulo 256 ("Message Transport").
     pub iseqno: u8,
+    /// The type ("Frame Types").
     pub frame_type: u8,
     /// The octet of C and subclass.
     pub subclass: u8,
@@ -38,7 +41,8 @@ impl<'a> Model for Full<'a> {
     ghost view = { λ f. record { head = f.head; payload = f.payload.now } };
 }
 
-/// What an octet of C and subclass means, if that is below 2^64.
+/// The subclass that an octet of C and subclass means ("Full Frames"): where C is clear, the seven bits behind it; where C is
+/// set, 2 to the power of them, if that is below 2^64, and else `None`.
 pub fn subclass_meaning(octet: u8) -> Option<u64>
     ensures { result ≡ subclass_meaning octet }
 {
@@ -58,7 +62,7 @@ impl<'a> Full<'a> {
         Full { head, payload }
     }
 
-    /// The twelve octets in front of the data.
+    /// The fields of the twelve octets in front of the data.
     pub fn head(&self) -> FullHead
         ensures { result ≡ self.now.head }
     {
@@ -66,7 +70,7 @@ impl<'a> Full<'a> {
         *head
     }
 
-    /// The sender's number of the call.
+    /// The sender's number of the call, 0 ..= 32,767.
     pub fn source(&self) -> CallNumber
         ensures { result ≡ self.now.head.source }
     {
@@ -108,7 +112,7 @@ impl<'a> Full<'a> {
         self.head.iseqno
     }
 
-    /// The type ("Frame Types").
+    /// The type of the frame ("Frame Types").
     pub fn frame_type(&self) -> u8
         ensures { result ≡ self.now.head.frame_type }
     {
@@ -129,7 +133,7 @@ impl<'a> Full<'a> {
         subclass_meaning(self.head.subclass)
     }
 
-    /// The data behind the head.
+    /// The data behind the head, which may be no octets.
     pub fn payload(&self) -> &'a [u8]
         ensures { result.now ≡ self.now.payload }
     {

@@ -44,7 +44,7 @@ impl Default for Out {
 }
 
 impl Out {
-    /// The octets, which spell a frame.
+    /// The octets of the frame, at most 1,400.
     pub fn octets(&self) -> &[u8]
         ensures octets { result.now ≡ self.now }
         ensures frame { IsFrame self.now }
@@ -62,7 +62,7 @@ impl Out {
         Out { octets }
     }
 
-    /// Writes over the frame one of at most 1,400 octets, which lie in two pieces.
+    /// Writes over the frame another one of at most 1,400 octets, which lie in two pieces, the front first.
     pub fn replace(&mut self, front: &[u8], back: &[u8])
         requires frame { IsFrame (front.now ++ back.now) }
         requires fits { length front.now + length back.now ≤ 1400 }
@@ -73,14 +73,14 @@ impl Out {
         extend(&mut self.octets, back);
     }
 
-    /// How many more octets fit.
+    /// How many more octets fit, 0 ..= 1,400.
     pub fn room(&self) -> usize
         ensures { result + length self.now ≡ 1400 }
     {
         self.octets.remaining_capacity()
     }
 
-    /// Appends to the data of a full frame.
+    /// Appends octets to the data of a full frame, at most as many as fit (`room`).
     pub fn append_data(&mut self, more: &[u8])
         requires full { (f : FullFrame) × SpellsFull self.old f }
         requires fits { length self.old + length more.now ≤ 1400 }
@@ -128,7 +128,9 @@ fn head_octets(head: FullHead) -> [u8; 12]
     ]
 }
 
-/// The full frame of a head and data of at most 1,388 octets.
+/// The full frame of a head and data ("Full Frames").
+///
+/// `TooLong` comes exactly where the data has more than 1,388 octets.
 pub fn write_full(head: &FullHead, payload: &[u8]) -> Result<Out, TooLong>
     ensures spelled { IfOk result (λ out. SpellsFull out (record { head = head.now; payload = payload.now })) }
     ensures too_long { IsErr result ↔ (1388 < length payload.now) }
@@ -142,7 +144,8 @@ pub fn write_full(head: &FullHead, payload: &[u8]) -> Result<Out, TooLong>
     Ok(Out { octets })
 }
 
-/// The first four octets of a mini frame, before its media.
+/// The four octets in front of the media of a mini frame ("Mini Frames"): the sender's number of the call, 1 ..= 32,767, and the
+/// low 16 bits of the timestamp, in milliseconds.
 pub fn mini_head(number: CallNumber, timestamp: u16) -> [u8; 4]
     ensures octets { result ≡ to_be_bytes w16 number ++ to_be_bytes w16 timestamp }
     ensures spelled { 0 < number → (media : List ℕ)
@@ -165,7 +168,10 @@ fn mini_out(number: CallNumber, timestamp: u16, media: &[u8]) -> Out
     Out { octets }
 }
 
-/// The mini frame of media of at most 1,396 octets.
+/// The mini frame of media ("Mini Frames"), from call number 1 ..= 32,767, with the low 16 bits of the timestamp, in
+/// milliseconds.
+///
+/// `TooLong` comes exactly where the media has more than 1,396 octets.
 pub fn write_mini(number: CallNumber, timestamp: u16, media: &[u8]) -> Result<Out, TooLong>
     requires { 0 < number }
     ensures spelled { IfOk result (λ out. SpellsMini out (record { source = number; timestamp = timestamp; media = media.now })) }
@@ -177,7 +183,8 @@ pub fn write_mini(number: CallNumber, timestamp: u16, media: &[u8]) -> Result<Ou
     Ok(mini_out(number, timestamp, media))
 }
 
-/// A trunk frame with no entries, whose entries have timestamps where `timed` says so.
+/// A trunk frame with no entries ("Meta Frames"), with its timestamp in milliseconds. Its entries have timestamps of their own
+/// where `timed` says so.
 pub fn write_trunk(timestamp: u32, timed: bool) -> Out
     ensures { SpellsTrunk result (record { command_data = if timed then 1 else 0; timestamp = timestamp; entries = [] }) }
 {
@@ -236,7 +243,9 @@ fn extend_entry(
     extend(octets, back);
 }
 
-/// Appends an entry whose media lies in two pieces, or changes nothing.
+/// Appends an entry to a trunk frame as `append_entry` does, of media that lies in two pieces, the front first.
+///
+/// `TooLong` comes exactly where the frame would have more than 1,400 octets; then nothing is changed.
 pub fn append_entry_in_two(
     out: &mut Out,
     number: CallNumber,
@@ -264,7 +273,10 @@ pub fn append_entry_in_two(
     Ok(())
 }
 
-/// Appends an entry to a trunk frame, or changes nothing.
+/// Appends an entry to a trunk frame ("Meta Frames"): the call number, the low 16 bits of the timestamp, in milliseconds, where
+/// the frame's entries have timestamps, and the media.
+///
+/// `TooLong` comes exactly where the frame would have more than 1,400 octets; then nothing is changed.
 pub fn append_entry(
     out: &mut Out,
     number: CallNumber,

@@ -78,10 +78,12 @@ fn datagram_of(bytes: &[u8]) -> Result<Datagram<'_>, FrameError>
     meta_of(bytes)
 }
 
-/// The datagram that the octets spell, in one pass over the heads of its entries. Nothing is copied.
+/// The frame that the octets spell ("Full Frames", "Mini Frames", "Meta Frames"), in one pass over the heads of its entries.
+/// Nothing is copied.
 ///
-/// The causes of a refusal are looked for in this order: too few octets for any frame or for a full frame; then, of a meta
-/// frame, too few for video, a meta command that isn't trunk, too few for a trunk, an entry that passes the end.
+/// The causes of a refusal are looked for in this order: `Short` where there are too few octets for any frame, or for a full
+/// frame; then, of a meta frame, `Short` where there are too few for video, `MetaCommand` where the command isn't that of a
+/// trunk, `Short` where there are too few for a trunk, and `EntryCut` where an entry passes the end.
 pub fn read(bytes: &[u8]) -> Result<Datagram<'_>, FrameError>
     // A datagram that is read spells the octets, and an error holds of them.
     ensures exact { MatchResult result (Spells bytes.now) (Refuses bytes.now) }

@@ -21,7 +21,7 @@ impl Model for Payload {
 }
 
 impl Payload {
-    /// A copy of at most 1,388 octets.
+    /// The data of these octets, at most 1,388. They are copied.
     pub fn new(octets: &[u8]) -> Self
         requires { length octets.now ≤ 1388 }
         ensures { result ≡ octets.now }
@@ -31,7 +31,7 @@ impl Payload {
         Payload { octets: copy }
     }
 
-    /// No octets.
+    /// Data of no octets.
     pub fn empty() -> Self
         ensures { result ≡ [] }
     {
@@ -40,7 +40,7 @@ impl Payload {
         }
     }
 
-    /// Appends octets for which there is room.
+    /// Appends octets to the data, which then has at most 1,388.
     pub fn append(&mut self, more: &[u8])
         requires { length self.old + length more.now ≤ 1388 }
         ensures { self.new ≡ self.old ++ more.now }
@@ -60,10 +60,13 @@ impl Payload {
 /// A full frame without call numbers and sequence numbers.
 #[derive(Debug, Drop)]
 pub struct Frame {
+    /// Milliseconds since the sender's side of the call began, modulo 2^32.
     pub ts: u32,
+    /// The type ("Frame Types").
     pub kind: u8,
     /// The octet of C and subclass.
     pub subclass: u8,
+    /// The data, at most 1,388 octets.
     pub payload: Payload,
 }
 

@@ -82,7 +82,7 @@ impl<'a> Trunk<'a> {
         self.timestamp
     }
 
-    /// The entries in order.
+    /// The entries in order, each with its number, its timestamp where it has one, and its media.
     pub fn entries(&self) -> Entries<'a>
         ensures { result ≡ self.now.entries }
     {

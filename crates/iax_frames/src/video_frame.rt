@@ -35,7 +35,7 @@ impl<'a> Video<'a> {
         }
     }
 
-    /// The sender's number of the call.
+    /// The sender's number of the call, 0 ..= 32,767.
     pub fn source(&self) -> CallNumber
         ensures { result ≡ self.now.source }
     {

@@ -6,7 +6,7 @@ ghost use Rattle.info_elements.specs.Element.{elements_of};
 
 use std::marker::Model;
 
-/// The place of the element that is cut off by the end of the data.
+/// The place, in octets from the front of the data, of the element that is cut off by its end.
 #[derive(Clone, Copy, Debug, PartialEq, Eq)]
 pub struct Cut(pub usize);
 
@@ -44,7 +44,8 @@ fn split_element(octets: &[u8]) -> Option<(u8, &[u8], &[u8])>
     }
 }
 
-/// The number and the value of the element at the front, and the octets behind it. `None` where no whole element stands there.
+/// The number and the value, at most 255 octets, of the element at the front, and the octets behind it ("Information Elements").
+/// `None` where no whole element stands there.
 ///
 /// Who goes from one to the next meets each element of the text once, in their order.
 pub fn next_element(octets: &[u8]) -> Option<(u8, &[u8], &[u8])>
@@ -83,7 +84,7 @@ impl<'a> Elements<'a> {
         Elements { octets }
     }
 
-    /// The value of the last element of that number.
+    /// The value, at most 255 octets, of the last element of that number; `None` where there is none.
     pub fn last(&self, number: u8) -> Option<&'a [u8]>
         ensures last { option_copied result ≡ last_of number self.now }
         ensures short { IfSome result (λ value. length value.now ≤ 255) }
@@ -91,14 +92,14 @@ impl<'a> Elements<'a> {
         last_in(self.octets, number)
     }
 
-    /// The number in the last element of that number, where that has two octets.
+    /// The number in the last element of that number; `None` where there is none, or its value hasn't two octets.
     pub fn u16_of(&self, number: u8) -> Option<u16>
         ensures { result ≡ u16_in (last_of number self.now) }
     {
         u16_in(self.octets, number)
     }
 
-    /// The number in the last element of that number, where that has four octets.
+    /// The number in the last element of that number; `None` where there is none, or its value hasn't four octets.
     pub fn u32_of(&self, number: u8) -> Option<u32>
         ensures { result ≡ u32_in (last_of number self.now) }
     {
@@ -106,7 +107,8 @@ impl<'a> Elements<'a> {
     }
 }
 
-/// The value of the last element of that number. Octets that are no whole element end the text.
+/// The value, at most 255 octets, of the last element of that number; `None` where there is none. Octets that are no whole
+/// element end the text.
 pub fn last_in(octets: &[u8], number: u8) -> Option<&[u8]>
     ensures last { option_copied result ≡ last_of number (elements_of octets.now) }
     ensures short { IfSome result (λ value. length value.now ≤ 255) }
@@ -122,7 +124,8 @@ pub fn last_in(octets: &[u8], number: u8) -> Option<&[u8]>
     found
 }
 
-/// The number in the last element of that number, where that has two octets.
+/// The number in the last element of that number; `None` where there is none, or its value hasn't two octets. Octets that are no
+/// whole element end the text.
 pub fn u16_in(octets: &[u8], number: u8) -> Option<u16>
     ensures { result ≡ u16_in (last_of number (elements_of octets.now)) }
 {
@@ -132,7 +135,8 @@ pub fn u16_in(octets: &[u8], number: u8) -> Option<u16>
     }
 }
 
-/// The number in the last element of that number, where that has four octets.
+/// The number in the last element of that number; `None` where there is none, or its value hasn't four octets. Octets that are no
+/// whole element end the text.
 pub fn u32_in(octets: &[u8], number: u8) -> Option<u32>
     ensures { result ≡ u32_in (last_of number (elements_of octets.now)) }
 {

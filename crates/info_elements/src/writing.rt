@@ -5,7 +5,10 @@ ghost use Rattle.info_elements.specs.Element.{element};
 
 use iax_frames::{Out, Payload, TooLong};
 
-/// Appends an element to the data of a full frame, or changes nothing.
+/// Appends an element to the data of a full frame ("Information Elements").
+///
+/// `TooLong` comes exactly where the value has more than 255 octets, or the frame would have more than 1,400; then nothing is
+/// changed.
 pub fn append(out: &mut Out, number: u8, value: &[u8]) -> Result<(), TooLong>
     requires { (f : FullFrame) × SpellsFull out.old f }
     ensures variant { IsOk result ↔ ((length value.now ≤ 255) × (length out.old + 2 + length value.now ≤ 1400)) }
@@ -23,7 +26,7 @@ pub fn append(out: &mut Out, number: u8, value: &[u8]) -> Result<(), TooLong>
     Ok(())
 }
 
-/// Appends an element of at most 255 octets to data that has room for it.
+/// Appends an element with a value of at most 255 octets to data that has room for the value and two octets more.
 pub fn append_to(payload: &mut Payload, number: u8, value: &[u8])
     requires short { length value.now ≤ 255 }
     requires fits { length payload.old + 2 + length value.now ≤ 1388 }

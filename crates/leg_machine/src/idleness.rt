@@ -33,7 +33,8 @@ impl Machine {
         }
     }
 
-    /// The first moment at which a tick has something to do, or the largest.
+    /// The first moment, in milliseconds, at which a tick has something to do. The largest moment stands for all later ones, and
+    /// for none.
     pub fn idle_until(&self) -> u64
         ensures before { (now : ℕ) → now < result → ticks.is_idle (leg_of self.now) now ≡ true }
         ensures then { result + 1 < 2 ^ 64 → ticks.is_idle (leg_of self.now) result ≡ false }

@@ -21,7 +21,8 @@ use info_elements::{CALLED_NUMBER, CALLING_NUMBER, last_in};
 use seq_window::{EntryView, Record, Window};
 
 impl Leg {
-    /// Whether media of the other side counts now: `Accepted` in a talking leg that took voice of its format.
+    /// Whether media of the other side counts now ("Mini Frames"): `Accepted` where the leg is talking, took voice of its format,
+    /// and the span has 1 to 1,380 octets, else `NotYet`.
     pub fn media_in(&self, span: MediaSpan) -> MediaIn
         ensures { result ≡ (if accepts_media self.now.state span then MediaIn.Accepted else MediaIn.NotYet) }
     {
@@ -32,14 +33,14 @@ impl Leg {
         }
     }
 
-    /// Where the leg stands.
+    /// The stage in which the leg is.
     pub fn stage(&self) -> Stage
         ensures { result ≡ self.now.state.stage }
     {
         self.machine.stage
     }
 
-    /// Whether the layer above isn't done with the end of the call.
+    /// Whether the layer above isn't done yet with the end of the call.
     pub fn owes(&self) -> bool
         ensures { result ≡ self.now.state.owes }
     {
@@ -53,8 +54,8 @@ impl Leg {
         self.machine.doomed
     }
 
-    /// The first moment at which a tick has something to do: the leg is idle before it. The largest moment stands for
-    /// all later ones, and for none.
+    /// The first moment, in milliseconds, at which a tick has something to do: the leg is idle before it. The largest moment
+    /// stands for all later ones, and for none.
     pub fn idle_until(&self) -> u64
         ensures before { (now : ℕ) → now < result → is_idle self.now.state now ≡ true }
         ensures then { result + 1 < 2 ^ 64 → is_idle self.now.state result ≡ false }
@@ -83,7 +84,7 @@ impl Leg {
         self.machine.format
     }
 
-    /// The other side's number, once it is known.
+    /// The other side's number of the call, once it is known.
     pub fn remote(&self) -> Option<CallNumber>
         ensures { result ≡ self.now.state.remote }
     {
@@ -126,7 +127,7 @@ impl Leg {
         self.machine.window.spare()
     }
 
-    /// The record, whole.
+    /// The record, whole, where the leg is given up.
     pub fn into_record(self) -> Record
         ensures entries { result.entries ≡ self.state.window.history }
         ensures legal { IsLegal self.state.window.width self.state.window.limit self.state.window.history }
@@ -179,7 +180,7 @@ impl Leg {
         }
     }
 
-    /// The number from which an offered call comes, at most 255 octets.
+    /// The number from which an offered call comes, at most 255 octets; `None` where the NEW has none.
     pub fn calling(&self) -> Option<&[u8]>
         ensures value { option_copied result ≡ calling_of self.now.state }
         ensures short { IfSome result (λ text. length text.now ≤ 255) }
@@ -250,7 +251,7 @@ impl Leg {
         }
     }
 
-    /// A signal with what it speaks of.
+    /// A signal with what it speaks of: of an offer, the called number, the calling number and the format.
     pub fn onward(&self, signal: Signal) -> Onward
         ensures { result ≡ onward_of self.now.state signal }
     {

@@ -201,7 +201,7 @@ impl Machine {
         }
     }
 
-    /// What a frame does that is taken.
+    /// What a frame does that is taken: the row of the leg's stage and of what the frame means ("IAX Frames", "Control Frames").
     pub fn effect_of(&self, frame: &Full, message: &Message) -> Effect
         ensures { result ≡ rows.effect_of (leg_of self.now) frame.now message.now }
     {

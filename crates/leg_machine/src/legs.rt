@@ -30,9 +30,10 @@ use std::marker::Model;
 
 /// One end of a call with one peer.
 ///
-/// Events come by `full` and `tick`, orders by `order` and `media`; `accepts_media` and the readers only look. Each call
-/// that can send has a form that writes its datagrams to a list that the caller lends, empty, and one that gives them in
-/// what it answers. No call waits or looks at a clock: moments are milliseconds that are handed in.
+/// It begins by `open_in` or `open_out`. Events come by `full` and `tick`, orders by `order`; the readers, `media_in` among them,
+/// only look. Each of these calls that can send gives its datagrams in what it answers, and has a form, by its name and `_into`,
+/// that writes them to a list that the caller lends, empty. Media of the layer above has only such a form, `media_into`. No call
+/// waits or looks at a clock: moments are milliseconds that are handed in.
 ///
 /// Contracts see the leg's state, and how many more entries its record takes without asking for memory.
 #[derive(Drop)]
@@ -53,10 +54,11 @@ impl Model for Leg {
 }
 
 impl Leg {
-    /// A leg for a NEW that came, under this local number, 1 ..= 32,767. What is sent is written to the empty list.
+    /// A leg for a NEW that came ("Call Setup"), under this local number, 1 ..= 32,767, at the moment `now`, in milliseconds.
+    /// What is sent is written to the empty list.
     ///
-    /// The NEW has OSeqno 0 and at most 1,388 octets of data. The challenge goes out where the peer has a secret.
-    /// `Err` comes only where memory was refused.
+    /// The NEW has OSeqno 0 and at most 1,388 octets of data. The challenge goes out where the peer has a secret. `Err` comes
+    /// only where memory was refused; then nothing is written.
     pub fn open_in_into(
         alloc: Global,
         rules: &PeerRules,
@@ -111,9 +113,10 @@ impl Leg {
         Ok((Leg { machine }, heard))
     }
 
-    /// A leg for a NEW that goes out, under this local number, 1 ..= 32,767. What is sent is written to the empty list.
+    /// A leg for a NEW that goes out ("Call Setup"), under this local number, 1 ..= 32,767, for a number of at most 255 octets,
+    /// at the moment `now`, in milliseconds. What is sent is written to the empty list.
     ///
-    /// `Err` comes only where memory was refused.
+    /// `Err` comes only where memory was refused; then nothing is written.
     pub fn open_out_into(
         alloc: Global,
         rules: &PeerRules,
@@ -164,9 +167,12 @@ impl Leg {
         Ok(Leg { machine })
     }
 
-    /// A full frame comes, with at most 1,388 octets of data. What is sent is written to the empty list.
+    /// A full frame comes, with at most 1,388 octets of data, at the moment `now`, in milliseconds ("Full Frames", "Message
+    /// Transport"). What is sent is written to the empty list.
     ///
-    /// `RecordFull` comes where fewer than four entries of the record are free, whatever the frame is.
+    /// Refusals are looked for in this order: `RecordFull` where fewer than four entries of the record are free, whatever the
+    /// frame is; `Memory` where memory was refused, which never comes with four spare entries. Then nothing is changed or
+    /// written.
     pub fn full_into(
         &mut self,
         frame: &Full,
@@ -192,10 +198,13 @@ impl Leg {
         self.machine.full_if_room(frame, now, replies)
     }
 
-    /// Media of 1 to 1,380 octets goes out. A full frame is written to the empty list; of later media the caller writes
-    /// the mini frame or the trunk entry. Quelched media goes nowhere.
+    /// Media of 1 to 1,380 octets goes out, at the moment `now`, in milliseconds. A full frame is written to the empty list; of
+    /// later media the caller writes the mini frame or the trunk entry. Quelched media goes nowhere ("Mini Frames", "Meta
+    /// Frames").
     ///
-    /// Refusals are looked for in the order of `OrderError`; only a full frame can meet others than `WrongStage`.
+    /// Refusals are looked for in this order: `WrongStage` where the leg isn't talking; then, only of media that goes out as a
+    /// full frame, `WindowFull`, `RecordFull` where fewer than four entries of the record are free, and `Memory`, which never
+    /// comes with a spare entry. Then nothing is changed or written.
     pub fn media_into(
         &mut self,
         media: &[u8],
@@ -223,9 +232,12 @@ impl Leg {
         self.machine.media(media, now, replies)
     }
 
-    /// An order is carried out; media has 1 to 1,380 octets. What is sent is written to the empty list.
+    /// An order is carried out, at the moment `now`, in milliseconds; media has 1 to 1,380 octets. What is sent is written to the
+    /// empty list.
     ///
-    /// Refusals are looked for in the order of `OrderError`. Doom and Paid are never refused.
+    /// Refusals are looked for in this order: `WrongStage` where the leg's stage has no such order; then, only of what goes out
+    /// as a full frame, `WindowFull`, `RecordFull` where fewer than four entries of the record are free, and `Memory`, which
+    /// never comes with a spare entry. Then nothing is changed or written. Doom and Paid are never refused.
     pub fn order_into(
         &mut self,
         order: &Order,
@@ -254,8 +266,10 @@ impl Leg {
         self.machine.order(order, now, replies)
     }
 
-    /// Time goes on. What is sent is written to the empty list. The answer is how many frames were due and had no memory;
-    /// they stay due.
+    /// Time goes on, up to the moment `now`, in milliseconds ("Message Transport": retransmission; "PING"). What is sent is
+    /// written to the empty list.
+    ///
+    /// The answer is how many frames were due and had no memory; they stay due. With two spare entries it is 0.
     pub fn tick_into(&mut self, now: u64, replies: &mut Replies) -> u32
         requires { replies.old ≡ [] }
         ensures leg { self.new.state ≡ (tick_step (result == 0) self.old.state now).leg }

@@ -38,7 +38,7 @@ impl Leg {
         }
     }
 
-    /// A leg for a NEW that came: `open_in_into` with its datagrams in the outcome.
+    /// A leg for a NEW that came: `open_in_into` with its datagrams in the outcome. `Err` comes only where memory was refused.
     pub fn open_in(
         alloc: Global,
         rules: &PeerRules,
@@ -79,7 +79,8 @@ impl Leg {
         ))
     }
 
-    /// A leg for a NEW that goes out: `open_out_into` with its datagrams in the outcome.
+    /// A leg for a NEW that goes out, with no more of who calls than a number of at most 255 octets: `open_out_into` with its
+    /// datagrams in the outcome. `Err` comes only where memory was refused.
     pub fn open_out(
         alloc: Global,
         rules: &PeerRules,
@@ -124,6 +125,8 @@ impl Leg {
     }
 
     /// A full frame comes: `full_into` with its datagrams in the outcome.
+    ///
+    /// Refusals are looked for in this order: `RecordFull` where fewer than four entries of the record are free, then `Memory`.
     pub fn full(&mut self, frame: &Full, now: u64) -> Result<Outcome, StepError>
         requires { length frame.now.payload ≤ 1388 }
         ensures leg { OnOk result (self.new.state ≡ (full_step self.old.state frame.now now).leg) }
@@ -147,7 +150,11 @@ impl Leg {
         })
     }
 
-    /// An order is carried out: `order_into` with its datagrams in the outcome.
+    /// An order is carried out: `order_into` with its datagrams in the outcome. Media that goes out as a mini frame is among
+    /// them.
+    ///
+    /// Refusals are looked for in this order: `WrongStage`, `WindowFull`, `RecordFull`, `Memory`. Doom and Paid are never
+    /// refused.
     pub fn order(&mut self, order: &Order, now: u64) -> Result<Outcome, OrderError>
         requires { IsShortMedia order.now }
         ensures leg { OnOk result (self.new.state ≡ (order_carried self.old.state order.now now).leg) }

@@ -39,7 +39,7 @@ pub struct Machine {
     pub window: Window,
 }
 
-/// The frame as the record keeps it.
+/// The frame as the record keeps it, without its call numbers and sequence numbers; its data has at most 1,388 octets.
 pub fn stored(frame: &Full) -> Frame
     requires { length frame.now.payload ≤ 1388 }
     ensures { result ≡ steps.stored frame.now }
@@ -55,7 +55,7 @@ pub fn stored(frame: &Full) -> Frame
 impl Machine {
     ghost use Rattle.leg_machine.specs.Legs.{leg_of, whole_leg, capacity_of, entered, failed, HasRoom};
 
-    /// The other side's number is learnt from the first frame.
+    /// The other side's number is learnt from the first frame; once it is known it stays.
     pub fn learn(&mut self, source: CallNumber)
         ensures leg { leg_of self.new ≡ steps.learnt (leg_of self.old) source }
         ensures window { self.new.window ≡ self.old.window }
@@ -72,7 +72,7 @@ impl Machine {
         self.stage = stage;
     }
 
-    /// Why the leg ends is noted, where it ends by entering this stage, with this frame.
+    /// Why the leg ends is noted, where it ends by entering this stage, with this frame, and its rules carry causes.
     pub fn note_end(&mut self, stage: Stage, frame: &Full, message: &Message)
         ensures leg { leg_of self.new ≡ steps.end_noted (leg_of self.old) stage frame.now message.now }
         ensures window { self.new.window ≡ self.old.window }
@@ -82,7 +82,7 @@ impl Machine {
         }
     }
 
-    /// An ACCEPT agrees on its format.
+    /// An ACCEPT agrees on its format; another reply changes nothing.
     pub fn agree(&mut self, reply: &Reply)
         ensures leg { leg_of self.new ≡ steps.agreed (leg_of self.old) reply.now }
         ensures window { self.new.window ≡ self.old.window }
@@ -92,7 +92,7 @@ impl Machine {
         }
     }
 
-    /// The leg ends since it can't go on. What ended before stays as it ended.
+    /// The leg ends since it can't go on, and notes why. What ended before stays as it ended.
     pub fn fail(&mut self, failure: Failure)
         ensures leg { leg_of self.new ≡ failed (leg_of self.old) failure }
         ensures window { self.new.window ≡ self.old.window }
@@ -116,7 +116,10 @@ impl Machine {
         }
     }
 
-    /// Makes room for what a full frame can add to the record.
+    /// Makes room for what a full frame can add to the record: four entries.
+    ///
+    /// Refusals are looked for in this order: `RecordFull` where fewer than four entries are free, `Memory` where memory was
+    /// refused, which never comes with four spare entries. Then nothing is changed.
     pub fn room_for_frame(&mut self) -> Result<(), StepError>
         ensures leg { leg_of self.new ≡ leg_of self.old }
         ensures room { OnOk result (HasRoom 4 self.new) }
@@ -132,7 +135,8 @@ impl Machine {
         Ok(())
     }
 
-    /// Judges the acknowledgement of a frame, and answers whether it counts.
+    /// Judges the acknowledgement of a frame, ISeqno, and answers whether it counts ("Message Transport"). There is room for four
+    /// entries.
     pub fn acknowledge(&mut self, iseqno: u8) -> bool
         requires { HasRoom 4 self.old }
         ensures leg { leg_of self.new ≡ steps.acknowledged (leg_of self.old) iseqno }
@@ -143,7 +147,8 @@ impl Machine {
         matches!(self.window.acknowledge(iseqno), Ok(Acknowledged::Acked(_)))
     }
 
-    /// Records the next frame. What is missing after it is another one than before.
+    /// Records the next frame, of at most 1,388 octets of data; there is room for three entries. What is missing after it is
+    /// another one than before.
     pub fn record(&mut self, frame: &Full)
         requires room { HasRoom 3 self.old }
         requires short { length frame.now.payload ≤ 1388 }
@@ -155,7 +160,7 @@ impl Machine {
         self.vnak_sent = None;
     }
 
-    /// Notes voice of the leg's format.
+    /// Notes that voice of the leg's format was taken, where the message is such voice.
     pub fn hear(&mut self, message: &Message)
         ensures leg { leg_of self.new ≡ steps.heard (leg_of self.old) message.now }
         ensures window { self.new.window ≡ self.old.window }
@@ -163,7 +168,8 @@ impl Machine {
         self.voice_taken = self.voice_taken || message.is_voice_in(self.format);
     }
 
-    /// Writes a frame as this leg sends it.
+    /// Writes a frame as this leg sends it, with the octet of its number, behind fewer than 128 others; `again` says that it is
+    /// sent again.
     pub fn spell(&self, again: bool, oseqno: u8, frame: &Frame, outs: &mut Replies)
         requires { length outs.old < 128 }
         ensures { outs.new ≡ outs.old ++ spelling (replies.outgoing (leg_of self.now) again oseqno frame.now) ∷ [] }
@@ -202,7 +208,7 @@ impl Machine {
         );
     }
 
-    /// Writes an ACK of the frame.
+    /// Writes an ACK of the frame behind fewer than 128 others ("IAX Frames").
     pub fn ack(&self, frame: &Full, outs: &mut Replies)
         requires { length outs.old < 128 }
         ensures { outs.new ≡ outs.old ++ spelling (replies.ack (leg_of self.now) frame.now) ∷ [] }
@@ -210,7 +216,7 @@ impl Machine {
         self.unnumbered(IAX_ACK, frame.timestamp(), outs);
     }
 
-    /// Writes a VNAK, since a frame before this one is missing.
+    /// Writes a VNAK behind fewer than 128 others, since a frame before this one is missing ("IAX Frames").
     pub fn vnak(&self, frame: &Full, outs: &mut Replies)
         requires { length outs.old < 128 }
         ensures { outs.new ≡ outs.old ++ spelling (replies.vnak (leg_of self.now) frame.now) ∷ [] }
@@ -218,14 +224,15 @@ impl Machine {
         self.unnumbered(IAX_VNAK, frame.timestamp(), outs);
     }
 
-    /// Milliseconds since the opening, modulo 2^32.
+    /// Milliseconds from the opening to the moment `now`, modulo 2^32: the timestamp of a frame that is sent then.
     pub fn present(&self, now: u64) -> u32
         ensures { result ≡ replies.present_of (leg_of self.now) now }
     {
         (now.saturating_sub(self.opened) % 0x1_0000_0000) as u32
     }
 
-    /// Sends a numbered frame: it goes out, is recorded, and is held.
+    /// Sends a numbered frame at the moment `now`, in milliseconds: it goes out, is recorded, and is held ("Message Transport").
+    /// There is room for it in the window, in the record and in the list.
     pub fn send_frame(&mut self, frame: Frame, now: u64, outs: &mut Replies)
         requires room { HasRoom 1 self.old }
         requires more { length outs.old < 128 }
@@ -240,7 +247,7 @@ impl Machine {
         let _ = self.window.send(frame, now);
     }
 
-    /// Sends a reply.
+    /// Sends a reply at the moment `now`, in milliseconds, as a numbered frame (`send_frame`).
     pub fn send(&mut self, reply: Reply, now: u64, outs: &mut Replies)
         requires room { HasRoom 1 self.old }
         requires more { length outs.old < 128 }
@@ -255,7 +262,8 @@ impl Machine {
         self.send_frame(frame, now, outs);
     }
 
-    /// How many frames may be held before a frame goes out that no frame of the other side asks for.
+    /// How many frames may be held before a frame goes out that no frame of the other side asks for: the window's width less a
+    /// quarter of it, rounded down.
     pub fn local_room(&self) -> usize
         ensures room { result ≡ local_room self.now.window.state.width }
         ensures most { result ≤ self.now.window.state.width }

@@ -10,14 +10,14 @@ use crate::machine::Machine;
 use call_signals::{MediaSpan, OrderError, Replies};
 use iax_frames::write_mini;
 
-/// How media went out.
+/// How media went out ("Mini Frames", "Voice Frames").
 #[derive(Clone, Copy, Debug, PartialEq, Eq)]
 pub enum MediaSent {
     /// Not at all: the other side wants none.
     Quelched,
     /// As a full frame of voice.
     Voice,
-    /// It may go as a mini frame or a trunk entry, with this timestamp.
+    /// It may go as a mini frame or a trunk entry, with this timestamp: the low 16 bits of the milliseconds since the opening.
     Mini(u16),
 }
 
@@ -34,7 +34,7 @@ fn is_other_half(last: Option<u32>, present: u32) -> bool
 impl Machine {
     ghost use Rattle.leg_machine.specs.Legs.{leg_of, whole_leg, capacity_of};
 
-    /// Whether media of the other side counts.
+    /// Whether media of the other side counts: the leg is talking, took voice of its format, and the span has 1 to 1,380 octets.
     pub fn accepts_media(&self, span: MediaSpan) -> bool
         ensures { result ≡ rules.accepts_media (leg_of self.now) span }
     {
@@ -48,7 +48,9 @@ impl Machine {
         is_other_half(self.voice_sent, self.present(now))
     }
 
-    /// How media goes out at this moment.
+    /// How media goes out at the moment `now`, in milliseconds ("Mini Frames"): not at all where the other side wants none; as a
+    /// full frame where it is the first, or the high half of the timestamp has changed since the last such frame; else as a mini
+    /// frame.
     pub fn media_sent(&self, now: u64) -> MediaSent
         ensures { result ≡ rules.media_sent (leg_of self.now) now }
     {
@@ -83,7 +85,11 @@ impl Machine {
         Ok(())
     }
 
-    /// Media goes out: a full frame is written, and a mini frame or trunk entry is left to the caller.
+    /// Media of at most 1,380 octets goes out at the moment `now`, in milliseconds: a full frame is written to the empty list,
+    /// and a mini frame or trunk entry is left to the caller.
+    ///
+    /// Refusals are looked for in this order: `WrongStage`; then, only of a full frame, `WindowFull`, `RecordFull`, and `Memory`,
+    /// which never comes with a spare entry. Then nothing is changed or written.
     pub fn media(
         &mut self,
         media: &[u8],
@@ -127,7 +133,11 @@ impl Machine {
         }
     }
 
-    /// Media goes out, as a full frame or as a mini frame.
+    /// Media of at most 1,380 octets goes out at the moment `now`, in milliseconds: a full frame or a mini frame is written to
+    /// the empty list.
+    ///
+    /// Refusals are looked for in this order: `WrongStage`; then, only of a full frame, `WindowFull`, `RecordFull`, and `Memory`,
+    /// which never comes with a spare entry. Then nothing is changed or written.
     pub fn media_order(
         &mut self,
         media: &[u8],

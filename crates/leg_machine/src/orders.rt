@@ -29,7 +29,7 @@ fn when(holds: bool, reply: Reply, stage: Stage, most: usize) -> Option<Ordered>
 impl Machine {
     ghost use Rattle.leg_machine.specs.Legs.{leg_of, whole_leg, capacity_of, HasRoom};
 
-    /// The row of an order; `None` where the stage is a wrong one.
+    /// The row of an order that sends a numbered frame; `None` where the stage is a wrong one, and of the other orders.
     pub fn order_row(&self, order: &Order) -> Option<Ordered>
         ensures row { result ≡ orders.order_row (leg_of self.now) order.now }
         ensures most { IfSome result (λ row. row.most ≤ self.now.window.state.width) }
@@ -70,7 +70,8 @@ impl Machine {
         }
     }
 
-    /// Why a numbered frame can't go out now: its window, then its record.
+    /// Why a numbered frame can't go out now, memory aside: `WindowFull` where no fewer than `most` frames are held, then
+    /// `RecordFull` where fewer than four entries of the record are free.
     pub fn sending_refused(&self, most: usize) -> Option<OrderError>
         ensures refused { result ≡ orders.sending_refused (leg_of self.now) most }
         ensures room { IfNone result ((held_count self.now.window.state < most) ×
@@ -85,7 +86,10 @@ impl Machine {
         }
     }
 
-    /// Makes room for a numbered frame, which goes out while fewer frames than this are held.
+    /// Makes room in the record for a numbered frame, which goes out while fewer than `most` frames are held.
+    ///
+    /// Refusals are looked for in this order: `WindowFull`, `RecordFull` where fewer than four entries are free, and `Memory`,
+    /// which never comes with a spare entry. Then nothing is changed.
     pub fn room_for_sending(&mut self, most: usize) -> Result<(), OrderError>
         ensures leg { leg_of self.new ≡ leg_of self.old }
         ensures room { OnOk result (HasRoom 1 self.new) }
@@ -160,7 +164,11 @@ impl Machine {
         self.owes = self.owes && !self.stage.is_over();
     }
 
-    /// An order is carried out.
+    /// An order is carried out at the moment `now`, in milliseconds; media has 1 to 1,380 octets. What is sent is written to the
+    /// empty list.
+    ///
+    /// Refusals are looked for in this order: `WrongStage`, `WindowFull`, `RecordFull`, and `Memory`, which never comes with a
+    /// spare entry. Then nothing is changed or written. Doom and Paid are never refused.
     pub fn order(&mut self, order: &Order, now: u64, outs: &mut Replies) -> Result<(), OrderError>
         requires media { orders.IsShortMedia order.now }
         requires empty { outs.old ≡ [] }

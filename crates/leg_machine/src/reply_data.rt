@@ -43,7 +43,7 @@ impl Machine {
         }
     }
 
-    /// A reply as a frame of the present moment.
+    /// A reply as a frame of the moment `now`, in milliseconds, with its data.
     pub fn reply_frame(&self, reply: Reply, now: u64) -> Frame
         ensures { result ≡ replies.reply_frame (leg_of self.now) now reply }
     {
@@ -59,7 +59,8 @@ impl Machine {
         }
     }
 
-    /// The NEW of a call from here.
+    /// The NEW of a call from here, at the moment `now`, in milliseconds ("Call Setup"). The number that is called has at most
+    /// 255 octets.
     pub fn new_frame(&self, called: &[u8], caller: &Caller, now: u64) -> Frame
         requires { length called.now ≤ 255 }
         ensures { result ≡ replies.new_frame (leg_of self.now) now called.now caller.now }
@@ -72,7 +73,8 @@ impl Machine {
         }
     }
 
-    /// Media as a full frame.
+    /// Media of at most 1,388 octets as a full frame of voice in the leg's format, at the moment `now`, in milliseconds ("Voice
+    /// Frames").
     pub fn voice_frame(&self, media: &[u8], now: u64) -> Frame
         requires { length media.now ≤ 1388 }
         ensures { result ≡ replies.voice_frame (leg_of self.now) now media.now }

@@ -36,7 +36,8 @@ impl Machine {
         self.spell(true, held.number, &held.frame, outs);
     }
 
-    /// The held frames that are due go out again, each counted, in at most so many turns. Answers whether one was spent.
+    /// The held frames that are due at the moment `now`, in milliseconds, go out again, each counted, in at most so many turns
+    /// ("Message Transport": retransmission). Answers whether one was spent. The list has at most 127 datagrams then.
     pub fn try_again(&mut self, turns: usize, now: u64, outs: &mut Replies) -> bool
         requires { length outs.old + turns ≤ 127 }
         ensures leg { leg_of self.new ≡ (tries.tries turns (leg_of self.old) now).leg }
@@ -62,7 +63,8 @@ impl Machine {
         false
     }
 
-    /// All held frames go out again, and are counted, which is no try.
+    /// All held frames go out again at the moment `now`, in milliseconds, the oldest first, and are counted, which is no try. The
+    /// list is empty before.
     pub fn resend(&mut self, now: u64, outs: &mut Replies) -> Heard
         requires { outs.old ≡ [] }
         ensures leg { leg_of self.new ≡ (steps.resend_step (leg_of self.old) now).leg }

@@ -11,7 +11,7 @@ use call_signals::{Failure, Replies, Reply, Stage};
 impl Machine {
     ghost use Rattle.leg_machine.specs.Legs.{leg_of, whole_leg, capacity_of, HasRoom};
 
-    /// A doomed leg that isn't over, and has room for one frame more.
+    /// Whether a HANGUP is due: the leg is doomed, isn't over, and its window has room for one frame more.
     pub fn must_hang_up(&self) -> bool
         ensures due { result ≡ ticks.must_hang_up (leg_of self.now) }
         ensures room { result ≡ true → held_count self.now.window.state < self.now.window.state.width }
@@ -27,7 +27,8 @@ impl Machine {
         ping_ms != 0 && is_due
     }
 
-    /// A talking leg with local room whose last PING was long ago.
+    /// Whether a PING is due at the moment `now`, in milliseconds ("PING"): the leg is talking with local room, and `ping_ms`,
+    /// which isn't 0, is over since the last PING or the opening.
     pub fn must_ping(&self, now: u64) -> bool
         ensures { result ≡ ticks.must_ping (leg_of self.now) now }
     {
@@ -36,7 +37,7 @@ impl Machine {
         self.stage.is_talking() && has_room && is_ping_time
     }
 
-    /// Makes room where a HANGUP or a PING is due. Answers whether it did.
+    /// Makes room for two entries where a HANGUP or a PING is due at the moment `now`, in milliseconds. Answers whether it did.
     pub fn grow(&mut self, now: u64) -> bool
         ensures leg { leg_of self.new ≡ leg_of self.old }
         ensures room { result ≡ true → is_short_of_entries (leg_of self.new) ≡ false → HasRoom 2 self.new }
@@ -132,7 +133,10 @@ impl Machine {
         unsent + self.after_tries(grown, spent, now, outs)
     }
 
-    /// Time goes on. Answers how many frames were due and had no memory.
+    /// Time goes on, up to the moment `now`, in milliseconds: a doomed leg's HANGUP, then the held frames that are due, then a
+    /// PING that is due; `grown` says that there is memory for a HANGUP or a PING. What is sent is written to the empty list.
+    ///
+    /// The answer is how many frames were due and had no memory.
     pub fn tick(&mut self, grown: bool, now: u64, outs: &mut Replies) -> u32
         requires room { grown ≡ true → is_short_of_entries (leg_of self.old) ≡ false → HasRoom 2 self.old }
         requires empty { outs.old ≡ [] }

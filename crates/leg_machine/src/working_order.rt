@@ -63,7 +63,9 @@ impl Machine {
         }
     }
 
-    /// The next frame comes, with this effect.
+    /// The next frame comes at the moment `now`, in milliseconds, with this effect. Its data has at most 1,388 octets, there is
+    /// room for three entries, and what is sent is written behind fewer than 128 others. Where a numbered answer finds no room in
+    /// the window, the frame isn't taken.
     pub fn take(
         &mut self,
         effect: &Effect,
@@ -240,7 +242,11 @@ impl Machine {
         }
     }
 
-    /// A full frame comes, where there is room for what it can add to the record.
+    /// A full frame comes at the moment `now`, in milliseconds, with at most 1,388 octets of data, where there is room for what
+    /// it can add to the record. What is sent is written to the empty list.
+    ///
+    /// Refusals are looked for in this order: `RecordFull` where fewer than four entries of the record are free, `Memory` where
+    /// memory was refused, which never comes with four spare entries. Then nothing is changed or written.
     pub fn full_if_room(
         &mut self,
         frame: &Full,

@@ -21,7 +21,10 @@ fn sum_of(amounts: &[u64]) -> Option<u64>
     Some(total)
 }
 
-/// Supplies these amounts: one share for each, in order. At an `Err` the blank is dropped.
+/// Supplies these amounts, at least one: one share for each, in order. The blank is of this ledger, with one part for each.
+///
+/// `TooMuch` comes exactly where the amounts add up to 2^64 or more, `Memory` only where memory was refused. At an `Err` the
+/// blank is dropped.
 pub fn supply<L: Ledger>(
     alloc: Global,
     blank: Blank,
@@ -102,8 +105,9 @@ pub fn pass_on<L: Ledger>(from: &mut Share<L>, to: &mut Share<L>, n: u64)
     to.amount += n;
 }
 
-/// The sum of all shares, which is what was supplied. It is refused exactly where one is absent, and hands the shares
-/// back. It takes no memory.
+/// The sum of all shares, which is what was supplied. It takes no memory.
+///
+/// `Missing` comes exactly where one is absent; the shares come back.
 pub fn gather<L: Ledger>(
     supply: &Supply<L>,
     shares: Vec<Share<L>>,

@@ -47,6 +47,7 @@ impl<L: Ledger> Supply<L> {
 pub enum SupplyError {
     /// The amounts add up to 2^64 or more.
     TooMuch,
+    /// A request for memory was refused.
     Memory,
 }
 
@@ -61,6 +62,6 @@ impl From<AllocError> for SupplyError {
     }
 }
 
-/// A share is absent.
+/// A share of the supply is absent.
 #[derive(Clone, Copy, Debug, PartialEq, Eq)]
 pub struct Missing;

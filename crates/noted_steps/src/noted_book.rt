@@ -39,15 +39,17 @@ fn named(answer: &Result<Lease, ReserveError>) -> Result<LegName, ReserveError>
 }
 
 impl NotedBook {
+    /// The book, whose every step is noted from now on.
     pub fn new(book: CallBook) -> NotedBook
         ensures { result ≡ book }
     {
         NotedBook { book }
     }
 
-    /// Gives out the peer's number that was freed longest ago, at first in ascending order, under the next serial.
+    /// Gives out the peer's number that was freed longest ago, at first in ascending order, under the next serial, and notes it.
     ///
-    /// `SerialsSpent` is tested first.
+    /// Refusals are looked for in this order: `SerialsSpent` where the next serial would be 2^64 - 1, `NoNumber` where no number
+    /// of the peer is free, or the book doesn't know the peer.
     #[tactic(auto, using(crate::proofs::Counted::steps_in_longer))]
     pub fn reserve<J: Naming>(
         &mut self,
@@ -67,7 +69,7 @@ impl NotedBook {
         answer
     }
 
-    /// The partner of a name, if the book has the name and it is bridged.
+    /// The partner of a name; `None` where the book hasn't the name, or it isn't bridged. It is noted.
     #[tactic(auto, using(crate::proofs::Counted::steps_in_longer))]
     pub fn partner<J: Naming>(&self, pass: &mut Pass<J>, name: LegName) -> Option<LegName>
         ensures partner { result ≡ partner_of self.now name }
@@ -80,9 +82,10 @@ impl NotedBook {
         answer
     }
 
-    /// Makes two names partners of each other.
+    /// Makes two names partners of each other, and notes it.
     ///
-    /// The refusals are tested in the order `Same`, `Stale`, `Bridged`.
+    /// Refusals are looked for in this order: `Same` where they are one name, `Stale` where the book hasn't one of them,
+    /// `Bridged` where one has a partner already; then the book is as before.
     #[tactic(auto, using(crate::proofs::Counted::steps_in_longer))]
     pub fn bridge<J: Naming>(
         &mut self,
@@ -102,10 +105,10 @@ impl NotedBook {
         answer
     }
 
-    /// Takes a name back: its number is free again, behind the peer's other free numbers, and its bridge ends on both
-    /// sides. Gives the former partner.
+    /// Takes a name back: its number is free again, behind the peer's other free numbers, and its bridge ends on both sides.
+    /// Gives the former partner. It is noted.
     ///
-    /// `Stale` exactly where the book hasn't the name; the lease comes back.
+    /// `Stale` comes exactly where the book hasn't the name; the lease comes back, and the book is as before.
     #[tactic(auto, using(crate::proofs::Counted::steps_in_longer))]
     pub fn release<J: Naming>(
         &mut self,
@@ -128,7 +131,8 @@ impl NotedBook {
         answer
     }
 
-    /// The partner of a name, if the book has the name and it is bridged, for whoever asks from outside: it isn't noted.
+    /// The partner of a name, for whoever asks from outside: it isn't noted. `None` where the book hasn't the name, or it isn't
+    /// bridged.
     pub fn partner_of(&self, name: LegName) -> Option<LegName>
         ensures partner { result ≡ partner_of self.now name }
         ensures mutual { IfSome result (λ partner. partner_of self.now partner ≡ Some name) }
@@ -136,7 +140,7 @@ impl NotedBook {
         self.book.partner(name)
     }
 
-    /// Gives the book back.
+    /// Gives the book itself back.
     pub fn into_book(self) -> CallBook
         ensures { result ≡ self }
     {

@@ -27,7 +27,7 @@ impl<J: Naming> Model for NotedPeer<J> {
 }
 
 impl<J: Naming> NotedPeer<J> {
-    /// The state of the peer at this place of the plan.
+    /// The state of the peer that is at this place of the plan, whose every step is noted from now on.
     pub fn new(number: u16, state: PeerState<J>) -> NotedPeer<J>
         requires { state.legs.peer ≡ number }
         ensures number { result.number ≡ number }
@@ -36,14 +36,14 @@ impl<J: Naming> NotedPeer<J> {
         NotedPeer { number, state }
     }
 
-    /// Its place in the plan.
+    /// The peer's place in the plan, from 0 on.
     pub fn number(&self) -> u16
         ensures { result ≡ self.now.number }
     {
         self.number
     }
 
-    /// The oldest datagram of the outbox.
+    /// Takes the oldest datagram of the outbox; `None` where none waits. It isn't noted.
     pub fn take_out(&mut self) -> Option<Out>
         ensures oldest { MatchOption result ((self.old.state.outbox ≡ []) × (self.new.state ≡ self.old.state))
             (λ out. (self.old.state.outbox ≡ out ∷ self.new.state.outbox)
@@ -53,7 +53,8 @@ impl<J: Naming> NotedPeer<J> {
         self.state.take_out()
     }
 
-    /// Takes the oldest datagram of the outbox, and writes it over this one, or changes nothing where none waits.
+    /// Takes the oldest datagram of the outbox, and writes it over this one; false, and nothing is changed, where none waits. It
+    /// isn't noted.
     pub fn take_into(&mut self, out: &mut Out) -> bool
         ensures taken { OnTrue result ((self.old.state.outbox ≡ out.new ∷ self.new.state.outbox)
             × (self.new.state ≡ record self.old.state { outbox = self.new.state.outbox })) }
@@ -64,14 +65,15 @@ impl<J: Naming> NotedPeer<J> {
         self.state.take_into(out)
     }
 
-    /// How the leg of a local number stands, for whoever asks from outside: it isn't noted.
+    /// How the leg of a local number stands, for whoever asks from outside: it isn't noted. `None` where there is none.
     pub fn status(&self, number: u16) -> Option<Status>
         ensures { result ≡ option_map status_of (leg_at self.now.state.legs number) }
     {
         self.state.look(number)
     }
 
-    /// The leg of a local number, with what its call is about, for whoever asks from outside: it isn't noted.
+    /// The leg of a local number, with what its call is about, for whoever asks from outside: it isn't noted. `None` where there
+    /// is none.
     pub fn describe(&self, number: u16) -> Option<Description>
         ensures { result ≡ option_map description_of (leg_at self.now.state.legs number) }
     {
@@ -86,7 +88,7 @@ impl<J: Naming> NotedPeer<J> {
         self.state.sums()
     }
 
-    /// Gives the state back.
+    /// Gives the state of the peer itself back.
     pub fn into_state(self) -> PeerState<J>
         ensures { result ≡ self.state }
     {

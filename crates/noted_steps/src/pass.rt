@@ -35,7 +35,7 @@ impl<J: Naming> Pass<J> {
     ghost use Rattle.noted_steps.specs.Notes.{note, steps_in};
     ghost use Rattle.noted_steps.specs.declared.made.Made.TheVariants as mades;
 
-    /// A pass under which nothing was made.
+    /// A pass with this credit, under which nothing was made.
     pub fn new(octets: Share<J::Octets>, steps: Share<J::Steps>) -> Pass<J>
         ensures octets { result.credit.octets ≡ octets }
         ensures steps { result.credit.steps ≡ steps }
@@ -51,12 +51,14 @@ impl<J: Naming> Pass<J> {
         }
     }
 
+    /// The media octets for which it has credit: those that peers accepted and that aren't carried yet.
     pub fn octets(&self) -> u64
         ensures { result ≡ self.now.credit.octets }
     {
         self.credits.octets()
     }
 
+    /// Its step credit: what it began with, and one for each step of a peer that was made under it.
     pub fn steps(&self) -> u64
         ensures { result ≡ self.now.credit.steps }
     {
@@ -87,6 +89,8 @@ impl<J: Naming> Pass<J> {
         push(&mut self.made, Made::Unasked);
     }
 
+    /// Gives up the share of octets and that of steps. That of steps is what the pass began with, and one for each step of a peer
+    /// among what was made under it.
     pub fn part(self) -> (Share<J::Octets>, Share<J::Steps>)
         ensures octets { result.0 ≡ self.credit.octets }
         ensures steps { result.1 ≡ self.credit.steps }

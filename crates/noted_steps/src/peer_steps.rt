@@ -56,10 +56,12 @@ fn seen_of(answer: &Option<(Lease, EndedLeg)>) -> Option<Seen<EndedLeg>>
 }
 
 impl<J: Naming> NotedPeer<J> {
-    /// A datagram comes from the peer, at most 2,048 octets: one step, at the leg that it concerns, if any. What is handed up is
-    /// written to the list, which is empty.
+    /// A datagram comes from the peer, at most 2,048 octets, at the moment `now`, in milliseconds: one step, at the leg that it
+    /// concerns, if any. What is handed up is written to the list, which is empty. It is noted, with the answer.
     ///
-    /// Refusals are looked for in the order of `PeerError`. `Memory` comes only where memory was refused.
+    /// Refusals are looked for in this order, as `PeerError` says them: `StepsSpent`, `TooLong`, `Short`, `MetaCommand`,
+    /// `EntryCut`, `NoSource`, `Cut`, `NeedsNumber`, `NoCall`, `RecordFull`, `Memory`. `Memory` comes only where memory was
+    /// refused. Then the peer and the credit are as before.
     pub fn datagram(
         &mut self,
         pass: &mut Pass<J>,
@@ -87,9 +89,9 @@ impl<J: Naming> NotedPeer<J> {
         self.datagram_read(pass, &ReadDatagram::of(octets), now, onwards)
     }
 
-    /// A datagram that was read comes from the peer: `datagram` without the reading.
+    /// A datagram that was read comes from the peer, at the moment `now`, in milliseconds: `datagram` without the reading.
     ///
-    /// Refusals are looked for in the order of `PeerError`. `Memory` comes only where memory was refused.
+    /// Refusals are looked for in the order of `PeerError`, as by `datagram`. `Memory` comes only where memory was refused.
     #[tactic(auto, using(crate::proofs::Counted::steps_in_longer))]
     pub fn datagram_read(
         &mut self,
@@ -125,10 +127,12 @@ impl<J: Naming> NotedPeer<J> {
         answer
     }
 
-    /// A NEW that came opens a leg, under the lease: one step. It is one that `datagram` answers by `NeedsNumber`. What is handed
-    /// up is written to the list, which is empty.
+    /// A NEW that came opens a leg, under the lease, at the moment `now`, in milliseconds: one step ("Call Setup"). It is one
+    /// that `datagram` answers by `NeedsNumber`. What is handed up is written to the list, which is empty. It is noted, with the
+    /// answer.
     ///
-    /// Refusals are looked for in the order of `OpenError`; the lease comes back. `Memory` comes only where memory was refused.
+    /// Refusals are looked for in this order: `StepsSpent`, `NumberBusy`, `RemoteBusy`, `Memory`. `Memory` comes only where
+    /// memory was refused. The lease comes back, and the peer and the credit are as before.
     #[tactic(auto, using(crate::proofs::Counted::steps_in_longer))]
     pub fn open_in(
         &mut self,
@@ -176,10 +180,11 @@ impl<J: Naming> NotedPeer<J> {
         answer
     }
 
-    /// A call goes out under the lease, for a number of at most 255 octets: one step.
+    /// A call goes out under the lease, for a number of at most 255 octets, at the moment `now`, in milliseconds: one step ("Call
+    /// Setup"). It is noted, with the answer.
     ///
-    /// Refusals are looked for in the order of `OpenError`, of which `RemoteBusy` never comes; the lease comes back. `Memory`
-    /// comes only where memory was refused.
+    /// Refusals are looked for in this order: `StepsSpent`, `NumberBusy`, `Memory`. `Memory` comes only where memory was refused.
+    /// The lease comes back, and the peer and the credit are as before.
     #[tactic(auto, using(crate::proofs::Counted::steps_in_longer))]
     pub fn open_out(
         &mut self,
@@ -219,10 +224,12 @@ impl<J: Naming> NotedPeer<J> {
         answer
     }
 
-    /// The leg of a name obeys an order: one step. Media is 1 to 1,380 octets, for which the pass has the credit; the credit
-    /// comes back to the peer, which counts what became of the media.
+    /// The leg of a name obeys an order at the moment `now`, in milliseconds: one step. Media is 1 to 1,380 octets, for which the
+    /// pass has the credit; the credit comes back to the peer, which counts what became of the media. It is noted, with the
+    /// answer.
     ///
-    /// Refusals are looked for in the order of `OrderError`. `Memory` comes only where memory was refused.
+    /// Refusals are looked for in this order: `StepsSpent`, `Gone`, `WrongStage`, `WindowFull`, `RecordFull`, `Memory`. `Memory`
+    /// comes only where memory was refused. Then the peer and the credit are as before.
     #[tactic(auto, using(crate::proofs::Counted::steps_in_longer))]
     pub fn order(
         &mut self,
@@ -260,8 +267,10 @@ impl<J: Naming> NotedPeer<J> {
         answer
     }
 
-    /// Time goes on: one step. Each leg's tick by ascending number, then the trunk queue is packed while the outbox has room.
-    /// Tells, too, whether a leg is to be finished then.
+    /// Time goes on, up to the moment `now`, in milliseconds: one step. Each leg's tick by ascending number, then the trunk queue
+    /// is packed while the outbox has room. Tells, too, whether a leg is to be finished then. It is noted, with the answer.
+    ///
+    /// `StepsSpent` comes exactly where the peer has no step credit left; then the peer and the credit are as before.
     #[tactic(auto, using(crate::proofs::Counted::steps_in_longer))]
     pub fn tick(&mut self, pass: &mut Pass<J>, now: u64) -> Result<TickReport, StepsSpent>
         ensures noted { Notes (mades.Tick self.old.number now result) pass.old pass.new }
@@ -278,7 +287,7 @@ impl<J: Naming> NotedPeer<J> {
         answer
     }
 
-    /// How the leg of a local number stands.
+    /// How the leg of a local number stands; `None` where there is none. It is noted, and is no step of the peer.
     #[tactic(auto, using(crate::proofs::Counted::steps_in_longer))]
     pub fn look(&self, pass: &mut Pass<J>, number: u16) -> Option<Status>
         ensures status { result ≡ option_map status_of (leg_at self.now.state.legs number) }
@@ -289,9 +298,10 @@ impl<J: Naming> NotedPeer<J> {
         answer
     }
 
-    /// Gives up the leg of a name that has ended and owes nothing: its lease and its record. That is no step.
+    /// Gives up the leg of a name that has ended and owes nothing: its lease, its record and what it tells beside that. It is
+    /// noted, and is no step of the peer.
     ///
-    /// `None` exactly where no such leg has that name.
+    /// `None` exactly where no such leg has that name; then the peer is as before.
     #[tactic(auto, using(crate::proofs::Counted::steps_in_longer))]
     pub fn retire(&mut self, pass: &mut Pass<J>, name: LegName) -> Option<(Lease, EndedLeg)>
         ensures noted { pass.new ≡ note (mades.Retire self.old.number name (given_up result)) pass.old }

@@ -41,7 +41,7 @@ impl Model for Outbox {
 }
 
 impl Outbox {
-    /// An empty outbox, with room for 256 datagrams of 1,400 octets.
+    /// An empty outbox, with room for 256 datagrams of 1,400 octets. `Err` comes only where memory was refused.
     pub fn new(alloc: Global) -> Result<Outbox, AllocError>
         ensures { IfOk result (λ outbox. outbox ≡ []) }
     {
@@ -51,7 +51,7 @@ impl Outbox {
         })
     }
 
-    /// How many datagrams wait.
+    /// How many datagrams wait, 0 ..= 256.
     #[tactic(auto, using(crate::proofs::StoredLaws::as_many))]
     pub fn len(&self) -> usize
         ensures len { result ≡ length self.now }
@@ -67,7 +67,7 @@ impl Outbox {
         self.len() == 0
     }
 
-    /// Whether no datagram more fits.
+    /// Whether no datagram more fits: 256 wait.
     #[tactic(auto, using(crate::proofs::StoredLaws::as_many))]
     pub fn is_full(&self) -> bool
         ensures full { IsTrue result ↔ (256 ≤ length self.now) }
@@ -83,7 +83,8 @@ impl Outbox {
         self.put_in_two(datagram.octets(), &[]);
     }
 
-    /// One mini frame more, of media of at most 1,396 octets; a full outbox loses it.
+    /// One mini frame more ("Mini Frames"), from call number 1 ..= 32,767, with the low 16 bits of the timestamp, in
+    /// milliseconds, and media of at most 1,396 octets; a full outbox loses it.
     pub fn put_mini(&mut self, number: CallNumber, timestamp: u16, media: &[u8])
         requires some { 0 < number }
         requires fits { length media.now ≤ 1396 }
@@ -106,7 +107,7 @@ impl Outbox {
         }
     }
 
-    /// Takes the oldest datagram, and writes it over this one, or changes nothing where none waits.
+    /// Takes the oldest datagram, and writes it over this one; false, and nothing is changed, where none waits.
     pub fn take_into(&mut self, out: &mut Out) -> bool
         ensures taken { OnTrue result (self.old ≡ out.new ∷ self.new) }
         ensures empty { OnFalse result (self.old ≡ []) }
@@ -121,7 +122,7 @@ impl Outbox {
         }
     }
 
-    /// Takes the oldest datagram.
+    /// Takes the oldest datagram; `None` where none waits.
     pub fn take_out(&mut self) -> Option<Out>
         ensures { MatchOption result ((self.old ≡ []) × (self.new ≡ [])) (λ out. self.old ≡ out ∷ self.new) }
     {

@@ -47,7 +47,9 @@ const FILE_HEADER: [u8; 24] = [
 ];
 
 impl Capture {
-    /// A capture of no packet.
+    /// A capture of no packet: the 24 octets of the file's header.
+    ///
+    /// `AllocError`: a request for memory was refused.
     pub fn new(alloc: Global) -> Result<Capture, AllocError>
         ensures { IfOk result (λ capture. capture ≡ file_header) }
     {
@@ -56,7 +58,9 @@ impl Capture {
         Ok(Capture { file })
     }
 
-    /// One more packet. A capture that refuses it stays as it was.
+    /// One more packet, behind the others. A capture that refuses it stays as it was.
+    ///
+    /// `TooLong`: its payload has more than 65,507 octets. `Memory`: a request for memory was refused.
     pub fn push(&mut self, alloc: Global, packet: &Packet<'_>) -> Result<(), CaptureError>
         ensures ok { OnOk result (self.new ≡ self.old ++ octets_of packet.now) }
         ensures long { (result ≡ Err CaptureError.TooLong) ↔ (65507 < length packet.now.payload.now) }
@@ -69,7 +73,7 @@ impl Capture {
         Ok(self.file.extend_from_slice(&octets)?)
     }
 
-    /// The octets of the file.
+    /// The octets of the file: its header, and the packets in their order.
     pub fn octets(&self) -> &[u8]
         ensures { result.now ≡ self.now }
     {

@@ -31,7 +31,7 @@ fn kept(sum: u64) -> u16
     }
 }
 
-/// The checksum of octets: the one's complement of their one's complement sum.
+/// The checksum of fewer than 2^32 octets (RFC 1071): the one's complement of their one's complement sum.
 pub fn checksum(octets: &[u8]) -> u16
     requires { length octets.now < 2 ^ 32 }
     ensures { result ≡ checksum_of octets.now }

@@ -63,6 +63,7 @@ impl<J: Naming> Model for Account<J> {
 }
 
 impl<J: Naming> Account<J> {
+    /// The accounts of a peer that has done nothing yet, with the first shares of a peer.
     pub fn new(octets: Share<J::Octets>, steps: Share<J::Steps>) -> Account<J>
         requires octets { octets ≡ J.first_octets }
         requires steps { steps ≡ J.first_steps }
@@ -84,14 +85,14 @@ impl<J: Naming> Account<J> {
         }
     }
 
-    /// Whether no step credit is left.
+    /// Whether no step credit is left, so that no step can be made.
     pub fn is_spent(&self) -> bool
         ensures { IsTrue result ↔ (self.now.steps ≡ J.first_steps) }
     {
         self.steps.amount() == 0
     }
 
-    /// The sums, as they are now.
+    /// The sums of the accounts, as they are now.
     pub fn sums(&self) -> Sums
         ensures sums { result ≡ shown self.now }
         ensures part { result.quelched ≤ result.dropped }
@@ -106,7 +107,8 @@ impl<J: Naming> Account<J> {
         }
     }
 
-    /// Takes in media of n octets, and passes their credit on. Refused where the peer has less unspent credit.
+    /// Takes in media of n octets, and passes their credit on. False, and nothing is changed, exactly where the peer has less
+    /// unspent credit.
     pub fn accept(&mut self, pass: &mut Pass<J>, n: u64) -> bool
         ensures exactly { IsTrue result ↔ (self.old.accepted + n ≤ J.first_octets) }
         ensures counted { OnTrue result (self.new ≡ with_accepted self.old n) }
@@ -122,7 +124,8 @@ impl<J: Naming> Account<J> {
         true
     }
 
-    /// Takes the credit of n octets back from the pass, and counts what became of them.
+    /// Takes the credit of n octets back from the pass, which has it, and counts what became of them. Quelched octets are counted
+    /// among the dropped ones, too.
     pub fn carry(&mut self, pass: &mut Pass<J>, n: u64, outcome: Carried)
         requires { n ≤ pass.old.octets }
         ensures credit { pass.new.octets + n ≡ pass.old.octets }
@@ -141,7 +144,7 @@ impl<J: Naming> Account<J> {
         }
     }
 
-    /// Writes n queued octets into frames.
+    /// Counts n queued octets, no more than are queued, as written into frames.
     pub fn pack(&mut self, n: u64)
         requires { n ≤ self.old.queued }
         ensures packed { self.new.packed ≡ self.old.packed + n }
@@ -153,7 +156,7 @@ impl<J: Naming> Account<J> {
         self.packed += n;
     }
 
-    /// Counts one step, and passes its credit on.
+    /// Counts one step, and passes its credit on. There is step credit left.
     pub fn count_step(&mut self, pass: &mut Pass<J>)
         requires { self.old.steps ≢ J.first_steps }
         ensures counted { self.new ≡ stepped self.old }
@@ -163,7 +166,8 @@ impl<J: Naming> Account<J> {
         self.made += 1;
     }
 
-    /// Takes in what a leg hands up: media only where there is credit for all of it, which is passed on.
+    /// Takes in what a leg hands up: media only where there is credit for all of its octets, which is passed on; without it
+    /// nothing is handed up. Other signals are handed up as they are.
     pub fn grant(&mut self, pass: &mut Pass<J>, signal: Option<Signal>) -> Option<Signal>
         ensures signal { result ≡ (granted J.first_octets self.old.accepted signal).signal }
         ensures counted { self.new ≡ with_accepted self.old (granted J.first_octets self.old.accepted signal).octets }
@@ -182,7 +186,8 @@ impl<J: Naming> Account<J> {
         }
     }
 
-    /// Gives the shares up.
+    /// Gives the shares up: the accounts without them, the share of octets and that of steps. They have the credit that is left,
+    /// and that of octets what was carried to the peer, too.
     pub fn part(self) -> (ClosedAccount<J>, Share<J::Octets>, Share<J::Steps>)
         ensures same { result.0 ≡ self }
         ensures octets { result.1 + self.accepted ≡ J.first_octets + carried self }

@@ -42,24 +42,28 @@ impl<J: Naming> Model for ClosedAccount<J> {
 }
 
 impl<J: Naming> ClosedAccount<J> {
+    /// The media octets that the peer brought and that were taken in.
     pub fn accepted(&self) -> u64
         ensures { result ≡ self.now.accepted }
     {
         self.accepted
     }
 
+    /// The media octets that were carried to the peer and written into frames.
     pub fn packed(&self) -> u64
         ensures { result ≡ self.now.packed }
     {
         self.packed
     }
 
+    /// The media octets that were carried to the peer and wait for a trunk frame.
     pub fn queued(&self) -> u64
         ensures { result ≡ self.now.queued }
     {
         self.queued
     }
 
+    /// The media octets that were carried to the peer and dropped, the quelched ones among them.
     pub fn dropped(&self) -> u64
         ensures { result ≡ self.now.dropped }
     {
@@ -74,6 +78,7 @@ impl<J: Naming> ClosedAccount<J> {
         self.quelched
     }
 
+    /// How many steps the peer made.
     pub fn steps(&self) -> u64
         ensures { result ≡ self.now.steps }
     {

@@ -50,7 +50,7 @@ impl Model for Onwards {
 impl Onwards {
     ghost use Rattle.peer_accounts.specs.HandedUp.{nothing};
 
-    /// Nothing, and no memory.
+    /// An empty list, which has no memory yet.
     pub fn new(alloc: Global) -> Onwards
         ensures { result ≡ nothing 0 }
     {
@@ -60,7 +60,7 @@ impl Onwards {
         }
     }
 
-    /// Takes all of it out. The room stays.
+    /// Takes all signals and the offer out.
     pub fn clear(&mut self)
         ensures signals { self.new.signals ≡ [] }
         ensures offer { self.new.offer ≡ None }
@@ -69,7 +69,8 @@ impl Onwards {
         self.offers.clear();
     }
 
-    /// Room for so many signals more, and for what an offered call asks for.
+    /// Room for so many signals more, and for what an offered call asks for. `Err` comes only where memory was refused; the
+    /// signals and the offer stay as they are.
     pub fn reserve(&mut self, signals: usize) -> Result<(), AllocError>
         ensures signals { self.new.signals ≡ self.old.signals }
         ensures offer { self.new.offer ≡ self.old.offer }
@@ -86,14 +87,14 @@ impl Onwards {
         self.signals.len()
     }
 
-    /// Whether there are none.
+    /// Whether there are no signals.
     pub fn is_empty(&self) -> bool
         ensures { result ≡ (length self.now.signals == 0) }
     {
         self.signals.len() == 0
     }
 
-    /// The signal at a place, and the name of its leg.
+    /// The signal at a place, 0 for the first, and the name of its leg; `None` where there is none.
     pub fn get(&self, place: usize) -> Option<(LegName, Signal)>
         ensures { result ≡ slice_get self.now.signals place }
     {
@@ -107,7 +108,7 @@ impl Onwards {
         self.offers.first()
     }
 
-    /// Adds a signal behind the others.
+    /// Adds a signal behind the others; there is room for it.
     pub fn push(&mut self, name: LegName, signal: Signal)
         requires { 1 ≤ self.old.room }
         ensures signals { self.new.signals ≡ self.old.signals ++ (name, signal) ∷ [] }
@@ -117,7 +118,7 @@ impl Onwards {
         self.signals.push_reserved((name, signal));
     }
 
-    /// Says what the offered call asks for.
+    /// Says what the offered call asks for; there is room for a signal more.
     pub fn set_offer(&mut self, offer: Offer)
         requires { 1 ≤ self.old.room }
         ensures { self.new ≡ record self.old { offer = Some offer } }

@@ -27,6 +27,7 @@ impl<J: Naming> Model for Pass<J> {
 }
 
 impl<J: Naming> Pass<J> {
+    /// A pass with this credit.
     pub fn new(octets: Share<J::Octets>, steps: Share<J::Steps>) -> Pass<J>
         ensures octets { result.octets ≡ octets }
         ensures steps { result.steps ≡ steps }
@@ -38,12 +39,14 @@ impl<J: Naming> Pass<J> {
         }
     }
 
+    /// The media octets for which it has credit: those that peers accepted and that aren't carried yet.
     pub fn octets(&self) -> u64
         ensures { result ≡ self.now.octets }
     {
         self.octets.amount()
     }
 
+    /// The step credit that it has.
     pub fn steps(&self) -> u64
         ensures { result ≡ self.now.steps }
     {
@@ -71,6 +74,7 @@ impl<J: Naming> Pass<J> {
         self.onwards = Some(onwards);
     }
 
+    /// Gives up the share of octets and that of steps.
     pub fn part(self) -> (Share<J::Octets>, Share<J::Steps>)
         ensures octets { result.0 ≡ self.octets }
         ensures steps { result.1 ≡ self.steps }

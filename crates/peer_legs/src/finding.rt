@@ -15,7 +15,12 @@ use iax_frames::{CallNumber, Full};
 use leg_machine::{Heard, Replies, StepError};
 
 impl PeerLegs {
-    /// As `full`; the leg stands under its number still.
+    /// A full frame comes to the leg of a local number, at the moment `now`, in milliseconds, as `Leg::full_into` takes it; the
+    /// leg stands under its number still. The frame's source can reach that leg, and its data has at most 1,388 octets. What is
+    /// sent is written to the empty list.
+    ///
+    /// Refusals are looked for in this order: `RecordFull` where fewer than four entries of the leg's record are free, then
+    /// `Memory`. Then the legs are as before.
     pub fn full_kept(
         &mut self,
         number: u16,
@@ -57,7 +62,7 @@ impl PeerLegs {
         }
     }
 
-    /// Whether fewer than four entries are free in the record of a number's leg.
+    /// Whether fewer than four entries are free in the record of the leg that has this local number.
     pub fn is_short(&self, number: u16) -> bool
         requires { IsSome (leg_at self.now number) }
         ensures { (named : NamedLegValue) → leg_at self.now number ≡ Some named → result ≡ is_short_of_entries named.leg }
@@ -65,7 +70,9 @@ impl PeerLegs {
         self.get(number).unwrap().leg().window().free_entries() < 4
     }
 
-    /// The local number of the leg to which a full frame goes.
+    /// The local number of the leg to which a full frame goes ("Full Frames", "Call Setup"): that of its destination, where the
+    /// leg there has the frame's source as its remote number, or has none yet and no other leg has it; of a frame with
+    /// destination 0 that of the leg whose remote number is the source. `None` where no leg is found.
     pub fn find(&self, frame: &Full) -> Option<u16>
         ensures some { IfSome result (λ number. leg_at self.now number ≡ found self.now frame.now) }
         ensures reached { IfSome result (λ number. can_reach self.now frame.now.head.source (leg_at self.now number) ≡ true) }

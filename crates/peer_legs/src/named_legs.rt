@@ -29,7 +29,7 @@ impl NamedLeg {
         self.lease.name()
     }
 
-    /// The leg, to be read.
+    /// The leg, which can only be read.
     pub fn leg(&self) -> &Leg
         ensures { result.now.state ≡ self.now.leg }
     {
@@ -72,7 +72,7 @@ impl NamedLeg {
         }
     }
 
-    /// The lease and the leg, where the leg has gone.
+    /// The lease and the leg, each by itself.
     pub fn into_parts(self) -> (Lease, Leg)
         ensures lease { result.0 ≡ self.name }
         ensures leg { result.1.state ≡ self.leg }

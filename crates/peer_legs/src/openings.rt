@@ -11,10 +11,10 @@ use iax_frames::{CallNumber, Full};
 use leg_machine::{Heard, Leg, PeerRules, Replies};
 use std::alloc::{AllocError, Global};
 
-/// A leg for a NEW that came, under this local number, 1 ..= 32,767, as `Leg::open_in_into` opens it. Its remote number is the
-/// NEW's source. What is sent is written to the empty list.
+/// A leg for a NEW that came, under this local number, 1 ..= 32,767, at the moment `now`, in milliseconds, as `Leg::open_in_into`
+/// opens it ("Call Setup"). Its remote number is the NEW's source. What is sent is written to the empty list.
 ///
-/// The NEW has OSeqno 0 and at most 1,388 octets of data. `Err` comes only where memory was refused.
+/// The NEW has OSeqno 0 and at most 1,388 octets of data. `Err` comes only where memory was refused; then nothing is written.
 pub fn open_in(
     alloc: Global,
     rules: &PeerRules,

@@ -64,7 +64,8 @@ impl PeerLegs {
     ghost use Rattle.peer_legs.specs.Legs.{AreLegs, IsLegOf, AreLegsOf, leg_at, leg_named, leg_of_remote, has_remote, is_from};
     ghost use Rattle.peer_legs.specs.Legs.{filled, with_place, with_leg};
 
-    /// A peer without a leg, whose local numbers are so many, 1 ..= 512, from the first on.
+    /// A peer without a leg, whose local numbers are so many, 1 ..= 512, from the first on, all of them 1 ..= 32,767. `Err` comes
+    /// only where memory was refused.
     pub fn new(alloc: Global, peer: u16, first: u16, count: u16) -> Result<PeerLegs, AllocError>
         requires first { 1 ≤ first }
         requires some { 1 ≤ count }
@@ -83,14 +84,14 @@ impl PeerLegs {
         })
     }
 
-    /// The peer's place in the plan.
+    /// The peer's place in the plan, from 0 on.
     pub fn peer(&self) -> u16
         ensures { result ≡ self.now.peer }
     {
         self.peer
     }
 
-    /// The first of the peer's local numbers.
+    /// The first of the peer's local numbers, 1 ..= 32,767.
     pub fn first(&self) -> u16
         ensures { result ≡ self.now.first }
     {
@@ -104,7 +105,7 @@ impl PeerLegs {
         self.first <= number && usize::from(number - self.first) < self.places.len()
     }
 
-    /// How many local numbers there are.
+    /// How many local numbers there are, 1 ..= 512.
     pub fn count(&self) -> usize
         ensures count { result ≡ length self.now.places }
         ensures sound { AreLegs self.now }
@@ -124,7 +125,7 @@ impl PeerLegs {
         }
     }
 
-    /// The leg of a local number.
+    /// The leg of a local number; `None` where there is none.
     pub fn get(&self, number: u16) -> Option<&NamedLeg>
         ensures leg { option_copied result ≡ leg_at self.now number }
         ensures sound { AreLegs self.now }
@@ -136,7 +137,7 @@ impl PeerLegs {
         }
     }
 
-    /// The call number of a leg.
+    /// The call number of the leg that has this local number, 1 ..= 32,767.
     pub fn call_number(&self, number: u16) -> CallNumber
         requires { IsSome (leg_at self.now number) }
         ensures number { result ≡ number }
@@ -147,7 +148,7 @@ impl PeerLegs {
         CallNumber::new(number)
     }
 
-    /// The leg of a name.
+    /// The leg of a name; `None` where there is none.
     pub fn named(&self, name: LegName) -> Option<&NamedLeg>
         ensures leg { option_copied result ≡ leg_named self.now name }
         ensures at { IfSome result (λ named. leg_at self.now name.number ≡ Some named.now) }
@@ -166,7 +167,7 @@ impl PeerLegs {
         }
     }
 
-    /// The local number of the leg that has a remote number.
+    /// The local number of the leg that has a remote number; `None` where no leg has it.
     pub fn of_remote(&self, remote: CallNumber) -> Option<u16>
         ensures found { IfSome result (λ number. leg_at self.now number ≡ leg_of_remote self.now remote) }
         ensures remote { IfSome result (λ number. has_remote (leg_at self.now number) remote ≡ true) }
@@ -186,7 +187,8 @@ impl PeerLegs {
         usize::from(number - self.first)
     }
 
-    /// A leg comes, under the name that its lease is for.
+    /// A leg comes, under the name that its lease is for. The name is one of this peer's, its number is the leg's and has no leg
+    /// yet, and no leg has the remote number.
     pub fn insert(&mut self, lease: Lease, leg: Leg)
         requires peer { lease.peer ≡ self.old.peer }
         requires first { self.old.first ≤ lease.number }
@@ -206,7 +208,7 @@ impl PeerLegs {
         self.places[usize::from(number - self.first)] = Some(named);
     }
 
-    /// The leg of a local number goes.
+    /// The leg of a local number, which has one, goes.
     pub fn take(&mut self, number: u16) -> NamedLeg
         requires { IsSome (leg_at self.old number) }
         ensures leg { leg_at self.old number ≡ Some result }
@@ -268,10 +270,11 @@ impl PeerLegs {
         heard
     }
 
-    /// An order to the leg of a local number; media of an order has 1 to 1,380 octets.
+    /// An order to the leg that has this local number, at the moment `now`, in milliseconds, as `Leg::order_into` carries it out;
+    /// media has 1 to 1,380 octets. What is sent is written to the empty list.
     ///
-    /// What is sent is written to the empty list. Refusals are looked for in the order of `OrderError`. Doom and Paid are
-    /// never refused.
+    /// Refusals are looked for in this order: `WrongStage`, `WindowFull`, `RecordFull`, `Memory`; then nothing is changed or
+    /// written. Doom and Paid are never refused.
     pub fn order(
         &mut self,
         number: u16,
@@ -311,9 +314,11 @@ impl PeerLegs {
         obeyed
     }
 
-    /// Media of 1 to 1,380 octets goes out at the leg of a local number, as `Leg::media_into` sends it.
+    /// Media of 1 to 1,380 octets goes out at the leg that has this local number, at the moment `now`, in milliseconds, as
+    /// `Leg::media_into` sends it. A full frame is written to the empty list.
     ///
-    /// A full frame is written to the empty list. Refusals are looked for in the order of `OrderError`.
+    /// Refusals are looked for in this order: `WrongStage`; then, only of a full frame, `WindowFull`, `RecordFull`, `Memory`.
+    /// Then nothing is changed or written.
     pub fn media(
         &mut self,
         number: u16,
@@ -355,7 +360,8 @@ impl PeerLegs {
         sent
     }
 
-    /// Time goes on for the leg at a place, the first number's being 0. What is sent is written to the empty list.
+    /// Time goes on, up to the moment `now`, in milliseconds, for the leg at a place, the first number's being 0. What is sent is
+    /// written to the empty list.
     ///
     /// The answer is how many frames were due and had no memory; they stay due. Where there is no leg, it is 0.
     pub fn tick(&mut self, index: usize, now: u64, replies: &mut Replies) -> u32

@@ -37,14 +37,14 @@ impl PeerLegs {
         0 < self.rest_until || self.places.iter().all(is_quiet_place)
     }
 
-    /// Whether it is known that a tick at this moment has nothing to do.
+    /// Whether it is known that a tick at this moment, in milliseconds, has nothing to do. False says nothing.
     pub fn are_resting(&self, now: u64) -> bool
         ensures { result ≡ true → All (λ place. is_resting place now ≡ true) self.now.places }
     {
         now < self.rest_until
     }
 
-    /// Finds out until when the legs rest.
+    /// Finds out until when the legs rest, for `are_resting`. Contracts see no change.
     pub fn settle(&mut self)
         ensures { self.new ≡ self.old }
     {

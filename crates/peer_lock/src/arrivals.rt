@@ -284,10 +284,12 @@ impl<J: Naming> PeerState<J> {
         }
     }
 
-    /// A datagram comes from the peer, at most 2,048 octets: one step, at the leg that it concerns, if any. What is handed up is
-    /// written to the list, which is empty.
+    /// A datagram comes from the peer, at most 2,048 octets, at the moment `now`, in milliseconds: one step, at the leg that it
+    /// concerns, if any. What is handed up is written to the list, which is empty.
     ///
-    /// Refusals are looked for in the order of `PeerError`. `Memory` comes only where memory was refused.
+    /// Refusals are looked for in this order, as `PeerError` says them: `StepsSpent`, `TooLong`, `Short`, `MetaCommand`,
+    /// `EntryCut`, `NoSource`, `Cut`, `NeedsNumber`, `NoCall`, `RecordFull`, `Memory`. `Memory` comes only where memory was
+    /// refused. Then nothing is changed.
     pub fn datagram(
         &mut self,
         pass: &mut Pass<J>,
@@ -312,9 +314,10 @@ impl<J: Naming> PeerState<J> {
         self.datagram_read(pass, &ReadDatagram::of(octets), now, onwards)
     }
 
-    /// A datagram that was read comes from the peer: `datagram` without the reading.
+    /// A datagram that was read comes from the peer, at the moment `now`, in milliseconds: `datagram` without the reading.
     ///
-    /// Refusals are looked for in the order of `PeerError`. `Memory` comes only where memory was refused.
+    /// Refusals are looked for in the order of `PeerError`, as by `datagram`. `Memory` comes only where memory was refused. Then
+    /// nothing is changed.
     pub fn datagram_read(
         &mut self,
         pass: &mut Pass<J>,

@@ -41,14 +41,14 @@ impl<J: Naming> Model for ClosedPeer<J> {
 }
 
 impl<J: Naming> ClosedPeer<J> {
-    /// The peer's place in the plan.
+    /// The peer's place in the plan, from 0 on.
     pub fn peer(&self) -> u16
         ensures { result ≡ self.now.legs.peer }
     {
         self.legs.peer()
     }
 
-    /// How the leg of a local number stands.
+    /// How the leg of a local number stands; `None` where there is none.
     pub fn look(&self, number: u16) -> Option<Status>
         ensures status { result ≡ option_map status_of (leg_at self.now.legs number) }
         ensures sound { IsSoundPeer self.now }
@@ -70,7 +70,7 @@ impl<J: Naming> ClosedPeer<J> {
         self.account.packed()
     }
 
-    /// The media octets in the trunk queue.
+    /// The media octets for the peer that wait in the trunk queue.
     pub fn queued(&self) -> u64
         ensures { result ≡ self.now.accounts.queued }
     {
@@ -92,7 +92,7 @@ impl<J: Naming> ClosedPeer<J> {
         self.account.quelched()
     }
 
-    /// The steps that the peer made.
+    /// How many steps the peer made.
     pub fn steps(&self) -> u64
         ensures { result ≡ self.now.accounts.steps }
     {

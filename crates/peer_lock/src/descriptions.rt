@@ -57,7 +57,7 @@ fn description_of(named: &NamedLeg) -> Description
 }
 
 impl<J: Naming> PeerState<J> {
-    /// The leg of a local number, with what its call is about. That is no step.
+    /// The leg of a local number, with what its call is about; `None` where there is none. That is no step.
     pub fn describe(&self, number: u16) -> Option<Description>
         ensures { result ≡ option_map description_of (leg_at self.now.legs number) }
     {

@@ -128,10 +128,12 @@ impl<J: Naming> PeerState<J> {
         Ok(opened)
     }
 
-    /// A NEW that came opens a leg, under the lease: one step. It is one that `datagram` answers by `NeedsNumber`. What is handed
-    /// up is written to the list, which is empty.
+    /// A NEW that came opens a leg, under the lease, at the moment `now`, in milliseconds: one step ("Call Setup"). It is one
+    /// that `datagram` answers by `NeedsNumber`. What is handed up is written to the list, which is empty.
     ///
-    /// Refusals are looked for in the order of `OpenError`; the lease comes back. `Memory` comes only where memory was refused.
+    /// Refusals are looked for in this order: `StepsSpent`; `NumberBusy` where a leg has the lease's number or the lease isn't of
+    /// this peer; `RemoteBusy` where a leg has the NEW's source; `Memory`, which comes only where memory was refused. The lease
+    /// comes back, and nothing is changed.
     pub fn open_in(
         &mut self,
         pass: &mut Pass<J>,
@@ -246,10 +248,11 @@ impl<J: Naming> PeerState<J> {
         Ok(leg)
     }
 
-    /// A call goes out under the lease, for a number of at most 255 octets: one step.
+    /// A call goes out under the lease, for a number of at most 255 octets, at the moment `now`, in milliseconds: one step ("Call
+    /// Setup").
     ///
-    /// Refusals are looked for in the order of `OpenError`, of which `RemoteBusy` never comes; the lease comes back. `Memory`
-    /// comes only where memory was refused.
+    /// Refusals are looked for in this order: `StepsSpent`; `NumberBusy` where a leg has the lease's number or the lease isn't of
+    /// this peer; `Memory`, which comes only where memory was refused. The lease comes back, and nothing is changed.
     pub fn open_out(
         &mut self,
         pass: &mut Pass<J>,

@@ -181,10 +181,11 @@ impl<J: Naming> PeerState<J> {
         None
     }
 
-    /// The leg of a name obeys an order: one step. Media is 1 to 1,380 octets, for which the pass has the credit; the credit
-    /// comes back to the peer, which counts what became of the media.
+    /// The leg of a name obeys an order at the moment `now`, in milliseconds: one step. Media is 1 to 1,380 octets, for which the
+    /// pass has the credit; the credit comes back to the peer, which counts what became of the media.
     ///
-    /// Refusals are looked for in the order of `OrderError`. `Memory` comes only where memory was refused.
+    /// Refusals are looked for in this order: `StepsSpent`, `Gone` where no leg has the name, `WrongStage`, `WindowFull`,
+    /// `RecordFull`, `Memory`. `Memory` comes only where memory was refused. Then nothing is changed.
     pub fn order(
         &mut self,
         pass: &mut Pass<J>,

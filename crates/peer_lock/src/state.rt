@@ -26,9 +26,10 @@ use trunk_packer::Packer;
 
 /// One peer: its legs, its outbox, its trunk queue and its accounts.
 ///
-/// Events come by `datagram` and `tick`, openings by `open_in` and `open_out`, orders by `order`; each is one step, which takes
-/// one step credit and gives it to the pass. `take_into` and `take_out` empty the outbox, `retire` gives up a leg that is over,
-/// and `look` only looks. All room but that of the legs' records is made by `new`. No call waits or looks at a clock.
+/// Events come by `datagram`, `datagram_read` and `tick`, openings by `open_in` and `open_out`, orders by `order`; each is one
+/// step, which takes one step credit and gives it to the pass. `take_into` and `take_out` empty the outbox, `retire` gives up a
+/// leg that is over, `part` gives up the shares, and `look`, `describe` and `sums` only look. All room but that of the legs'
+/// records is made by `new`. No call waits or looks at a clock.
 #[derive(Drop)]
 pub struct PeerState<J: Naming> {
     pub(crate) alloc: Global,
@@ -81,7 +82,7 @@ fn rooms(
 
 impl<J: Naming> PeerState<J> {
     /// A peer without a leg, at this place of the plan. Its local numbers are so many, 1 ..= 512, from the first on, all of them
-    /// 1 ..= 32,767. The shares are the first ones of a peer; they come back where memory was refused.
+    /// 1 ..= 32,767. The shares are the first ones of a peer. `Err` comes only where memory was refused; the shares come back.
     pub fn new(
         alloc: Global,
         peer: u16,
@@ -120,7 +121,7 @@ impl<J: Naming> PeerState<J> {
         }
     }
 
-    /// Takes the oldest datagram of the outbox, and writes it over this one, or changes nothing where none waits.
+    /// Takes the oldest datagram of the outbox, and writes it over this one; false, and nothing is changed, where none waits.
     pub fn take_into(&mut self, out: &mut Out) -> bool
         ensures taken { OnTrue result ((self.old.outbox ≡ out.new ∷ self.new.outbox)
             × (self.new ≡ record self.old { outbox = self.new.outbox })) }
@@ -130,7 +131,7 @@ impl<J: Naming> PeerState<J> {
         self.outbox.take_into(out)
     }
 
-    /// The oldest datagram of the outbox.
+    /// Takes the oldest datagram of the outbox; `None` where none waits.
     pub fn take_out(&mut self) -> Option<Out>
         ensures { MatchOption result ((self.old.outbox ≡ []) × (self.new ≡ self.old))
             (λ out. (self.old.outbox ≡ out ∷ self.new.outbox) × (self.new ≡ record self.old { outbox = self.new.outbox })) }
@@ -138,7 +139,7 @@ impl<J: Naming> PeerState<J> {
         self.outbox.take_out()
     }
 
-    /// How the leg of a local number stands.
+    /// How the leg of a local number stands; `None` where there is none.
     pub fn look(&self, number: u16) -> Option<Status>
         ensures status { result ≡ option_map status_of (leg_at self.now.legs number) }
         ensures sound { IsSoundPeer self.now }
@@ -174,7 +175,7 @@ impl<J: Naming> PeerState<J> {
         Some((lease, EndedLeg { facts, history }))
     }
 
-    /// Gives the shares up.
+    /// Gives the shares up: the peer without them, the share of octets and that of steps.
     pub fn part(self) -> (ClosedPeer<J>, Share<J::Octets>, Share<J::Steps>)
         ensures same { result.0 ≡ self }
         ensures octets { result.1 + self.accounts.accepted ≡ J.first_octets + carried self.accounts }

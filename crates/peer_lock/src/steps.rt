@@ -20,7 +20,9 @@ pub struct Step {
 /// How a leg stands.
 #[derive(Clone, Copy, Debug, PartialEq, Eq)]
 pub struct Status {
+    /// Its name.
     pub name: LegName,
+    /// The stage in which it is.
     pub stage: Stage,
     /// Whether the layer above isn't done with the end of the call.
     pub owes: bool,
@@ -83,12 +85,13 @@ impl LegFacts {
 /// A leg that was given up.
 #[derive(Drop)]
 pub struct EndedLeg {
+    /// What it tells beside its record.
     pub facts: LegFacts,
     /// Its record, whole.
     pub history: Record,
 }
 
-/// What a tick did.
+/// What a tick of a peer did.
 #[derive(Clone, Copy, Debug, PartialEq, Eq)]
 pub struct TickReport {
     /// How many frames were due and had no memory. They stay due.

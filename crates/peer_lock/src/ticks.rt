@@ -99,8 +99,10 @@ impl<J: Naming> PeerState<J> {
         packed
     }
 
-    /// Time goes on: one step. Each leg's tick by ascending number, then the trunk queue is packed while the outbox has room.
-    /// Tells, too, whether a leg is to be finished then.
+    /// Time goes on, up to the moment `now`, in milliseconds: one step. Each leg's tick by ascending number, then the trunk queue
+    /// is packed while the outbox has room. Tells, too, whether a leg is to be finished then.
+    ///
+    /// `StepsSpent` comes exactly where the peer has no step credit left; then nothing is changed.
     pub fn tick(&mut self, pass: &mut Pass<J>, now: u64) -> Result<TickReport, StepsSpent>
         ensures spent { IsErr result ↔ (self.old.accounts.steps ≡ J.first_steps) }
         ensures ticked { IfOk result (λ report. Ticks self.old now report self.new) }

@@ -47,7 +47,7 @@ pub enum Key {
 impl Key {
     ghost use Rattle.peer_plan.specs.Keys.{key_name};
 
-    /// The name as the text of a plan has it.
+    /// The name as the text of a plan has it: ASCII letters in lower case and `_`.
     pub fn name(self) -> &'static str
         ensures { result.now ≡ key_name self }
     {

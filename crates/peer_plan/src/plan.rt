@@ -53,6 +53,10 @@ impl Plan {
     ///
     /// Any octets may come. The keys are judged in the order of `Key`, lists in their order, and in format 3 last whether there
     /// are others.
+    ///
+    /// `NotToml` comes before all others but `Memory`, which may come at any time. `Missing` and `Range` come key by key;
+    /// `SameName`, then `SameEndpoint`, once all peers are read; at each route `UnknownPeer`, of its target and then of its
+    /// source, then `SameRoute`; `Unknown` last.
     pub fn read(alloc: Global, text: &[u8]) -> Result<Plan, PlanError>
         ensures plan { Gives (λ plan. plan) result (plan_of text.now) }
         ensures sound { IfOk result IsPlan }
@@ -108,7 +112,7 @@ impl Plan {
         self.peers.len() as u16
     }
 
-    /// How many routes there are.
+    /// How many routes there are, 0 or more.
     pub fn route_count(&self) -> usize
         ensures { result ≡ length self.now.routes }
     {
@@ -123,7 +127,7 @@ impl Plan {
         self.routes[route].prefix.as_str()
     }
 
-    /// The peer whose calls alone a route is for; none where it is for those of all.
+    /// The place of the peer whose calls alone a route is for; none where it is for those of all.
     pub fn source(&self, route: usize) -> Option<u16>
         requires { route < length self.now.routes }
         ensures value { option_map (λ route. route.source) (slice_get self.now.routes route) ≡ Some result }
@@ -132,7 +136,7 @@ impl Plan {
         self.routes[route].source
     }
 
-    /// The peer that a route leads to.
+    /// The place of the peer that a route leads to.
     pub fn target(&self, route: usize) -> u16
         requires { route < length self.now.routes }
         ensures value { option_map (λ route. route.peer) (slice_get self.now.routes route) ≡ Some result }
@@ -141,7 +145,7 @@ impl Plan {
         self.routes[route].peer
     }
 
-    /// How many numbers each peer has, 1 to 512.
+    /// How many numbers each peer has, 1 to 512, in the order of the plan.
     pub fn counts(&self) -> &[u16]
         ensures value { result.now ≡ counts_of self.now.peers }
         ensures counts { All (IsWithin 1 512) result.now }
@@ -179,7 +183,7 @@ impl Plan {
         self.peers[usize::from(peer)].name.as_str()
     }
 
-    /// The endpoint of a peer.
+    /// The IPv4 address and the UDP port of a peer.
     pub fn endpoint(&self, peer: u16) -> Endpoint
         requires { peer < length self.now.peers }
         ensures { option_map (λ peer. peer.endpoint) (slice_get self.now.peers peer) ≡ Some result }
@@ -187,7 +191,7 @@ impl Plan {
         self.peers[usize::from(peer)].endpoint
     }
 
-    /// The place of the worker that serves a peer.
+    /// The place of the worker that serves a peer, from 0 on.
     pub fn worker(&self, peer: u16) -> u16
         requires { peer < length self.now.peers }
         ensures value { option_map (λ peer. peer.worker) (slice_get self.now.peers peer) ≡ Some result }
@@ -196,7 +200,7 @@ impl Plan {
         self.peers[usize::from(peer)].worker
     }
 
-    /// What the legs of a peer go by.
+    /// What the legs of a peer go by: the rules that the plan gives it.
     pub fn rules(&self, peer: u16) -> &PeerRules
         requires { peer < length self.now.peers }
         ensures value { option_map (λ peer. peer.rules) (slice_get self.now.peers peer) ≡ Some result.now }
@@ -205,7 +209,7 @@ impl Plan {
         &self.peers[usize::from(peer)].rules
     }
 
-    /// The peer at an endpoint. Takes the time of a look at the endpoint of each peer.
+    /// The place of the peer at an endpoint; none where no peer has it. Takes the time of a look at the endpoint of each peer.
     pub fn peer_of(&self, endpoint: Endpoint) -> Option<u16>
         ensures found { IfSome result (λ peer. option_map (λ peer. peer.endpoint) (slice_get self.now.peers peer) ≡
             Some endpoint) }
@@ -217,7 +221,8 @@ impl Plan {
     }
 
     /// Where a call of a peer leads: to the peer of the longest prefix that begins the called number, among the routes for all
-    /// and those for this caller; of two of one length the latter's. Takes the time of a comparison with each prefix.
+    /// and those for this caller; of two of one length the latter's. None where no prefix of these begins it. Takes the time of
+    /// a comparison with each prefix.
     pub fn route(&self, caller: u16, number: &[u8]) -> Option<u16>
         ensures found { IfSome result (λ peer. (route : Route) × IsNearest self.now.routes caller number.now route ×
             (route.peer ≡ peer)) }

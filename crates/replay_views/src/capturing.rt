@@ -89,8 +89,8 @@ fn captured<R: Wait>(
     Ok(viewer)
 }
 
-/// Replays a script on an exchange of its plan, and writes a capture of all datagrams, in both directions, in the order in which
-/// the exchange took and gave them. Answers the status.
+/// Replays a script on an exchange of its plan, and writes a capture of all datagrams, in both directions, in the order in
+/// which the exchange took and gave them. Answers the status: 0, or 1 after a refusal or where the writer can't write.
 ///
 /// Moments of the script are counted from the beginning of 1970 on. A datagram of more than 65,507 octets, which a script can
 /// have but UDP can't carry, is left out, and how many were is said on standard error. A plan or a script that is refused is

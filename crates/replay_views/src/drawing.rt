@@ -126,7 +126,7 @@ fn draw<R: Wait>(rt: &R, alloc: Global, plan: &[u8], script: &[u8]) -> Result<La
 }
 
 /// Replays a script on an exchange of its plan, and writes its ladder: of all, or of the leg of one local number. Answers the
-/// status.
+/// status: 0, or 1 after a refusal or where the writer can't write.
 ///
 /// A plan or a script that is refused is told as `replay` tells it, and nothing else is written.
 pub fn write_ladder<R: Wait, W: Write>(

@@ -76,8 +76,8 @@ fn recorded<R: Wait>(
     Ok(viewer)
 }
 
-/// Replays a script on an exchange of its plan, and writes the record of each leg that was taken out, a row of CSV each, behind a
-/// line with the names of the columns. Answers the status.
+/// Replays a script on an exchange of its plan, and writes the record of each leg that was taken out, a row of CSV each, behind
+/// a line with the names of the columns. Answers the status: 0, or 1 after a refusal or where the writer can't write.
 ///
 /// The moments `opened` and `ended` are the script's, in milliseconds. A plan or a script that is refused is told as `replay`
 /// tells it, and nothing else is written.

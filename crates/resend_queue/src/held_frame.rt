@@ -7,9 +7,10 @@ use iax_frames::Frame;
 pub struct Held {
     /// The octet of its sequence number, OSeqno.
     pub number: u8,
+    /// The frame, without its call numbers and sequence numbers.
     pub frame: Frame,
     /// The moment when it was last sent, in milliseconds.
     pub last: u64,
-    /// How often it was sent again because it was due.
+    /// How often it was sent again because it was due, at most 2^32 - 1 times.
     pub tries: u32,
 }

@@ -9,7 +9,7 @@ use circular_buffer::HeapCircularBuffer;
 use std::alloc::{AllocError, Global};
 use std::marker::Model;
 
-/// The queue holds as many frames as it can.
+/// The queue holds as many frames as its width.
 #[derive(Clone, Copy, Debug, PartialEq, Eq)]
 pub struct NoPlace;
 
@@ -30,7 +30,7 @@ impl Model for Resend {
 }
 
 impl Resend {
-    /// A queue with room for `width` frames, 1..=127.
+    /// A queue without a frame, with room for `width` of them, 1 ..= 127. `Err` comes only where memory was refused.
     pub fn new(alloc: Global, width: u8) -> Result<Self, AllocError>
         requires some { 1 ≤ width }
         requires most { width ≤ 127 }
@@ -40,7 +40,7 @@ impl Resend {
         Ok(Resend { ring })
     }
 
-    /// How many frames wait.
+    /// How many frames wait, 0 ..= the queue's width.
     pub fn len(&self) -> usize
         ensures len { result ≡ length self.now.held }
         ensures within { result ≤ self.now.width }
@@ -55,7 +55,9 @@ impl Resend {
         self.ring.is_empty()
     }
 
-    /// Adds a frame as the youngest. A full queue hands it back.
+    /// Adds a frame as the youngest.
+    ///
+    /// `NoPlace` comes exactly where as many frames wait as the queue's width; the frame comes back, and nothing is changed.
     pub fn push(&mut self, held: Held) -> Result<(), (Held, NoPlace)>
         ensures variant { IsOk result ↔ (length self.old.held < self.old.width) }
         ensures ok { OnOk result (self.new ≡ record { held = self.old.held ++ held ∷ []; width = self.old.width }) }
@@ -67,7 +69,7 @@ impl Resend {
         }
     }
 
-    /// Drops the `count` oldest frames.
+    /// Drops the `count` oldest frames; so many have to be there.
     pub fn drop_front(&mut self, count: usize)
         requires { count ≤ length self.old.held }
         ensures { self.new ≡ record { held = drop count self.old.held; width = self.old.width } }
@@ -76,7 +78,8 @@ impl Resend {
         self.ring.truncate_front(len - count);
     }
 
-    /// The first place whose frame was last sent `retry_ms` milliseconds before `now`, or earlier.
+    /// The place, 0 for the oldest, of the first frame that was last sent `retry_ms` milliseconds before `now`, or earlier;
+    /// `None` where no frame is due ("Message Transport": retransmission).
     pub fn due(&self, now: u64, retry_ms: u64) -> Option<usize>
         ensures first { result ≡ position (is_due now retry_ms) self.now.held }
         ensures place { IfSome result (λ place. place < length self.now.held) }
@@ -86,14 +89,15 @@ impl Resend {
             .position(|held| now >= held.last && now - held.last >= retry_ms)
     }
 
-    /// The frame at a place, 0 for the oldest.
+    /// The frame at a place, 0 for the oldest; `None` where there is none.
     pub fn get(&self, place: usize) -> Option<&Held>
         ensures { option_copied result ≡ slice_get self.now.held place }
     {
         self.ring.get(place)
     }
 
-    /// The frame at a place is sent again at this moment, and counts it as a try, up to 2^32 - 1 tries.
+    /// The frame at a place, 0 for the oldest, is sent again at the moment `now`, in milliseconds. That counts as a try, up to
+    /// 2^32 - 1 tries.
     #[tactic(auto, using(crate::proofs::Changes::changed_none))]
     pub fn mark(&mut self, place: usize, now: u64)
         requires { place < length self.old.held }
@@ -106,7 +110,7 @@ impl Resend {
         held.tries = held.tries.saturating_add(1);
     }
 
-    /// The frame at a place is sent again at this moment, which is no try.
+    /// The frame at a place, 0 for the oldest, is sent again at the moment `now`, in milliseconds, which is no try.
     #[tactic(auto, using(crate::proofs::Changes::changed_none))]
     pub fn touch(&mut self, place: usize, now: u64)
         requires { place < length self.old.held }
@@ -118,7 +122,7 @@ impl Resend {
         waiting.last = now;
     }
 
-    /// Each frame is sent again at this moment, which is no try.
+    /// Each frame is sent again at the moment `now`, in milliseconds, which is no try.
     pub fn touch_all(&mut self, now: u64)
         ensures { self.new ≡ record { held = map (touched now) self.old.held; width = self.old.width } }
     {

@@ -38,7 +38,7 @@ pub enum Line<'a> {
     Settle,
 }
 
-/// A number in decimal digits that fits 64 bits.
+/// The number that decimal digits say. None where there is no octet, where one is no digit, or where it doesn't fit 64 bits.
 pub fn decimal(digits: &[u8]) -> Option<u64> {
     if digits.is_empty() {
         return None;
@@ -115,7 +115,8 @@ pub fn ends_script(line: &[u8]) -> bool
     line.starts_with(&[0])
 }
 
-/// What a line says; `None` where it isn't of these forms.
+/// What a line says, without its line feed: words with one space between each two. None where it isn't of these forms, or has a
+/// number that doesn't fit 64 bits. Of names, digits and lists nothing is judged here.
 pub fn line_of(line: &[u8]) -> Option<Line<'_>>
     ensures empty { length line.now ≡ 0 → result ≡ Some Nothing }
 {

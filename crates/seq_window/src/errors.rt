@@ -2,7 +2,7 @@
 
 use std::alloc::AllocError;
 
-/// Why a frame was not sent.
+/// Why a frame was not sent, in the order in which causes are looked for.
 #[derive(Clone, Copy, Debug, PartialEq, Eq)]
 pub enum SendError {
     /// As many frames are held as the window is wide.
@@ -13,7 +13,7 @@ pub enum SendError {
     Memory,
 }
 
-/// Why what came was not recorded.
+/// Why what came was not recorded, in the order in which causes are looked for.
 #[derive(Clone, Copy, Debug, PartialEq, Eq)]
 pub enum RecordError {
     /// The record has as many entries as it may.

@@ -29,6 +29,7 @@ pub enum EntryView<'a> {
 pub struct FrameView<'a> {
     /// In milliseconds from the opening of the call.
     pub ts: u32,
+    /// The type ("Frame Types").
     pub kind: u8,
     /// The octet of C and subclass.
     pub subclass: u8,
@@ -126,7 +127,7 @@ impl Record {
         }
     }
 
-    /// How many entries there are.
+    /// How many entries there are, at most 65,536.
     pub fn len(&self) -> usize
         ensures len { result ≡ length self.now.entries }
         ensures most { result ≤ 65536 }
@@ -211,7 +212,7 @@ impl Record {
         Ok(())
     }
 
-    /// The entry at a place, 0 for the first.
+    /// The entry at a place, 0 for the first; `None` where there is none.
     pub fn entry(&self, place: usize) -> Option<EntryView<'_>>
         ensures { option_map entry_of result ≡ slice_get self.now.entries place }
     {

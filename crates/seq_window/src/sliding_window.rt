@@ -49,7 +49,8 @@ impl Model for Window {
 impl Window {
     ghost use Rattle.seq_window.specs.declared.judgements.Received.TheVariants as received;
 
-    /// A window that holds at most `width` frames, 1..=127, and records at most `record_limit` entries, 64..=65,536.
+    /// A window that holds at most `width` frames, 1 ..= 127, and records at most `record_limit` entries, 64 ..= 65,536. `Err`
+    /// comes only where memory was refused.
     pub fn new(alloc: Global, width: u8, record_limit: u32) -> Result<Window, AllocError>
         requires some { 1 ≤ width }
         requires narrow { width ≤ 127 }
@@ -69,9 +70,12 @@ impl Window {
         })
     }
 
-    /// Records a frame as sent at the moment `now`, in milliseconds, and holds it. The answer is the octet of its number.
+    /// Records a frame as sent at the moment `now`, in milliseconds, and holds it ("Message Transport"). The answer is the octet
+    /// of its number, OSeqno.
     ///
-    /// A refused frame is dropped. With a reserved entry it isn't refused for memory.
+    /// Refusals are looked for in this order: `WindowFull` where as many frames are held as the width, `RecordFull` where the
+    /// record has as many entries as its limit, `Memory` where memory was refused, which never comes with a reserved entry. A
+    /// refused frame is dropped, and nothing is changed.
     pub fn send(&mut self, frame: Frame, now: u64) -> Result<u8, SendError>
         ensures ok { IfOk result (λ number. number ≡ byte_of (sent_count self.old.state.history)) }
         ensures state { OnOk result (self.new.state ≡ after_sending self.old.state frame now) }
@@ -106,8 +110,11 @@ impl Window {
         Ok(number)
     }
 
-    /// Takes the frames off that the other side says by ISeqno that it has, where the octet can be such a number
-    /// ("Message Transport"). What takes nothing off has no entry and isn't refused.
+    /// Takes the frames off that the other side says by ISeqno that it has, where the octet can be such a number ("Message
+    /// Transport"). What takes nothing off has no entry and isn't refused.
+    ///
+    /// Refusals are looked for in this order: `RecordFull` where the record has as many entries as its limit, `Memory` where
+    /// memory was refused, which never comes with a reserved entry. Then nothing is changed.
     pub fn acknowledge(&mut self, iseq: u8) -> Result<Acknowledged, RecordError>
         ensures ok { IfOk result (λ answer. answer ≡ judged_acknowledgement self.old.state.history iseq) }
         ensures state { OnOk result (self.new.state ≡ after_acknowledgement self.old.state iseq) }
@@ -150,7 +157,8 @@ impl Window {
         }
     }
 
-    /// What a numbered frame is whose OSeqno is this octet.
+    /// What a numbered frame is whose OSeqno is this octet ("Message Transport"). The octet stands for the number nearest to the
+    /// one that is expected, 128 below it up to 127 above it.
     pub fn judge(&self, oseq: u8) -> Received
         ensures { result ≡ judged_number self.now.state.history oseq }
     {
@@ -161,8 +169,11 @@ impl Window {
         }
     }
 
-    /// Judges a numbered frame by its OSeqno, and records it where it is the next one. A frame that isn't is dropped, and isn't
-    /// refused.
+    /// Judges a numbered frame by its OSeqno, and records it where it is the next one ("Message Transport"). A frame that isn't
+    /// is dropped, and isn't refused.
+    ///
+    /// Refusals are looked for in this order: `RecordFull` where the record has as many entries as its limit, `Memory` where
+    /// memory was refused, which never comes with a reserved entry. Then nothing is changed.
     pub fn receive(&mut self, oseq: u8, frame: Frame) -> Result<Received, RecordError>
         ensures ok { IfOk result (λ received. received ≡ judged_number self.old.state.history oseq) }
         ensures state { OnOk result (self.new.state ≡ after_receiving self.old.state oseq frame) }
@@ -188,7 +199,8 @@ impl Window {
         Ok(Received::Taken)
     }
 
-    /// The first held frame that is due goes out again, where it was sent again less than `max_retries` times.
+    /// The first held frame that was last sent `retry_ms` milliseconds before `now`, or earlier, goes out again, where it was
+    /// sent again less than `max_retries` times ("Message Transport": retransmission).
     pub fn resend(&mut self, now: u64, retry_ms: u64, max_retries: u32) -> Resent
         ensures resent { result ≡ resent self.old.state now retry_ms max_retries }
         ensures state { self.new.state ≡ after_resent (resent self.old.state now retry_ms max_retries) self.old.state now }
@@ -234,7 +246,7 @@ impl Window {
         self.held.mark(place, now);
     }
 
-    /// The frame at a place is sent again at the moment `now`, which is no try.
+    /// The held frame at a place, 0 for the oldest, is sent again at the moment `now`, in milliseconds, which is no try.
     pub fn touch(&mut self, place: usize, now: u64)
         requires { place < held_count self.old.state }
         ensures state { self.new.state ≡ after_touching self.old.state place now }
@@ -243,7 +255,7 @@ impl Window {
         self.held.touch(place, now);
     }
 
-    /// Each held frame is sent again at the moment `now`, which is no try.
+    /// Each held frame is sent again at the moment `now`, in milliseconds, which is no try.
     pub fn touch_all(&mut self, now: u64)
         ensures state { self.new.state ≡ after_touching_all self.old.state now }
         ensures spare { self.new.spare ≡ self.old.spare }
@@ -251,7 +263,8 @@ impl Window {
         self.held.touch_all(now);
     }
 
-    /// Room for `count` more entries: so many calls of `send`, `acknowledge` and `receive` aren't refused for memory.
+    /// Room for `count` more entries: so many calls of `send`, `acknowledge` and `receive` aren't refused for memory. `Err` comes
+    /// only where memory was refused, never where there is that room already; then nothing is changed.
     pub fn reserve(&mut self, count: usize) -> Result<(), AllocError>
         ensures state { self.new.state ≡ self.old.state }
         ensures ok { OnOk result (count ≤ self.new.spare) }
@@ -262,14 +275,14 @@ impl Window {
         self.history.reserve(count)
     }
 
-    /// The held frame at a place, 0 for the oldest.
+    /// The held frame at a place, 0 for the oldest; `None` where there is none.
     pub fn held(&self, place: usize) -> Option<&Held>
         ensures { option_copied result ≡ held_at self.now.state place }
     {
         self.held.get(place)
     }
 
-    /// The held frame at a place below `held_len`.
+    /// The held frame at a place, 0 for the oldest, which is below `held_len`.
     pub fn held_frame(&self, place: usize) -> &Held
         requires { place < held_count self.now.state }
         ensures { held_at self.now.state place ≡ Some result.now }
@@ -277,7 +290,7 @@ impl Window {
         self.held.get(place).unwrap()
     }
 
-    /// How many frames are held.
+    /// How many frames are held, 0 ..= the window's width.
     pub fn held_len(&self) -> usize
         ensures value { result ≡ held_count self.now.state }
         // They are those that the record has as sent and not acknowledged.
@@ -288,14 +301,14 @@ impl Window {
         self.held.len()
     }
 
-    /// Whether as many frames are held as may be.
+    /// Whether as many frames are held as the window's width.
     pub fn is_full(&self) -> bool
         ensures { result ≡ is_full self.now.state }
     {
         self.width as usize <= self.held_len()
     }
 
-    /// How many entries the record may still have.
+    /// How many entries the record may still have, 0 ..= its limit.
     pub fn free_entries(&self) -> usize
         ensures { result + entry_count self.now.state ≡ self.now.state.limit }
     {
@@ -323,7 +336,7 @@ impl Window {
         self.expected
     }
 
-    /// How many frames may be held, 1..=127.
+    /// How many frames may be held, 1 ..= 127.
     pub fn width(&self) -> u8
         ensures width { result ≡ self.now.state.width }
         ensures some { 1 ≤ result }
@@ -332,7 +345,7 @@ impl Window {
         self.width
     }
 
-    /// The record.
+    /// The record: what was sent, what was acknowledged and what was taken.
     pub fn record(&self) -> &Record
         ensures entries { result.now.entries ≡ self.now.state.history }
         ensures legal { IsLegal self.now.state.width self.now.state.limit self.now.state.history }
@@ -340,7 +353,7 @@ impl Window {
         &self.history
     }
 
-    /// The record, whole.
+    /// The record, whole, where the window is given up.
     pub fn into_record(self) -> Record
         ensures entries { result.entries ≡ self.state.history }
         ensures legal { IsLegal self.state.width self.state.limit self.state.history }

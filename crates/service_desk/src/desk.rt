@@ -37,13 +37,15 @@ pub struct Desk<'x, J: Naming> {
 }
 
 impl<'x, J: Naming> Desk<'x, J> {
-    /// Hangs up all legs that are still up. Gives how many legs there are.
+    /// Hangs up all legs that are still up, at a moment in milliseconds since the exchange was opened ("Call Tear Down"). Gives
+    /// how many legs there are, those that end already among them.
     pub fn hang_up_all<R: Wait>(&mut self, rt: &R, now: u64) -> u32 {
         let (exchange, watch) = (self.exchange, self.watch);
         hang_up_all(rt, exchange, &mut self.pass, watch, &mut self.lane, now)
     }
 
-    /// Where the trace would begin a new file: looks whether any leg is up.
+    /// Where the trace would begin a new file: looks whether any leg is up, at a moment in milliseconds since the exchange was
+    /// opened.
     pub fn look_for_rest<R: Wait>(&mut self, rt: &R, alloc: Global, now: u64) {
         if let Some(lane) = &mut self.lane {
             if lane.begin_look() {
@@ -68,12 +70,15 @@ impl<'x, J: Naming> Desk<'x, J> {
         self.watch.stop();
     }
 
-    /// Has the workers end.
+    /// Has the workers end: none of them begins a further turn.
     pub fn end(&self) {
         self.watch.end();
     }
 
-    /// Does what a request asks, and answers it.
+    /// Does what a request asks, at a moment in milliseconds since the exchange was opened, and answers it. What is refused is
+    /// an answer too, with its name.
+    ///
+    /// `AllocError`: a request for memory was refused. What was asked may have been done.
     pub fn answer<R: Wait>(
         &mut self,
         rt: &R,

@@ -13,7 +13,7 @@ pub struct Drain {
 }
 
 impl Drain {
-    /// A drain that hasn't begun.
+    /// A drain that hasn't begun, and lasts at most so many milliseconds.
     pub fn new(limit: u64) -> Drain {
         Drain { limit, since: None }
     }
@@ -25,7 +25,8 @@ impl Drain {
         now.saturating_sub(since)
     }
 
-    /// Where the service drains: hangs up what is still up, and ends the workers once no leg is left or its time is over.
+    /// Where the service drains, at a moment in milliseconds: hangs up what is still up, and ends the workers once no leg is
+    /// left or the time is over. The first such call begins the time.
     pub fn go_on<R: Wait, J: Naming>(&mut self, rt: &R, desk: &mut Desk<'_, J>, now: u64) {
         if !desk.is_draining() {
             return;

@@ -100,7 +100,7 @@ pub(crate) fn hang_up_all<J: Naming, R: Wait>(
     legs
 }
 
-/// How many legs a peer has.
+/// How many legs the peer at this place of the plan has, 0 ..= 512. Takes the time of a look at each of its numbers.
 pub fn count_legs<J: Naming, R: Wait>(
     rt: &R,
     exchange: &Exchange<NoGate, J>,

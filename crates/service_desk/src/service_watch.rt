@@ -18,10 +18,10 @@ const DRAINING: u64 = 1;
 
 const ENDED: u64 = 2;
 
-/// How many strangers are kept until the log takes them.
+/// How many endpoints of strangers are kept until the log takes them.
 pub const STRANGERS: usize = 256;
 
-/// Why a datagram of a peer is refused.
+/// Why a datagram of a peer is refused: all reasons but `Stranger`.
 pub const REFUSALS: [Refusal; 14] = [
     Refusal::StepsSpent,
     Refusal::TooLong,
@@ -62,7 +62,7 @@ struct PeerMarks {
     legs_ended: AtomicU64,
 }
 
-/// What is counted of a peer since the service began, modulo 2^64.
+/// What is counted of a peer since the service began, modulo 2^64: its datagrams, and its legs that have ended.
 #[derive(Clone, Copy, Debug, Default, PartialEq, Eq)]
 pub struct PeerMarksRead {
     /// The moment at which it was last heard, in milliseconds since the exchange was opened.
@@ -149,6 +149,8 @@ fn count_one(count: &AtomicU64) {
 impl ServiceWatch {
     /// A service that serves, with the peers of a plan, of which nothing was heard. The rows of ended legs go to these outlets,
     /// if there are some, and what the exchange is given is noted in the trace, if there is one.
+    ///
+    /// `AllocError`: a request for memory was refused.
     pub fn new(
         alloc: Global,
         plan: &Plan,
@@ -183,7 +185,8 @@ impl ServiceWatch {
         }
     }
 
-    /// How many datagrams of a peer were refused for this reason.
+    /// How many datagrams of a peer, by its place in the plan, were refused for this reason, modulo 2^64; 0 of a place where
+    /// there is none.
     pub fn refused_for(&self, peer: u16, refusal: Refusal) -> u64 {
         match self.peers.get(usize::from(peer)) {
             Some(marks) => match marks.refused_for(refusal) {
@@ -204,17 +207,18 @@ impl ServiceWatch {
         self.trace.as_ref()
     }
 
-    /// How many datagrams came from strangers.
+    /// How many datagrams came from strangers, modulo 2^64.
     pub fn strangers(&self) -> u64 {
         self.strangers.load(Ordering::Relaxed)
     }
 
-    /// How many calls of the sockets failed.
+    /// How many calls of the sockets failed, modulo 2^64.
     pub fn faults(&self) -> u64 {
         self.faults.load(Ordering::Relaxed)
     }
 
-    /// Gives the strangers that came since they were taken, at most as many as the list that takes their place has room for.
+    /// Gives the endpoints of the strangers that came since they were taken, at most as many as the list had room for. The list
+    /// `spare` takes its place, as it is.
     pub fn take_strangers<R: Wait>(&self, rt: &R, spare: Vec<Endpoint>) -> Vec<Endpoint> {
         let mut seen = self.seen.lock(rt);
         mem::replace(&mut *seen, spare)
@@ -229,7 +233,7 @@ impl ServiceWatch {
         }
     }
 
-    /// Has the workers end.
+    /// Has the workers end: none of them begins a further turn.
     pub fn end(&self) {
         self.stage.store(ENDED, Ordering::SeqCst);
     }

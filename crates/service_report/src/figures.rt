@@ -56,7 +56,7 @@ pub enum Figure {
 }
 
 impl Figure {
-    /// The name of its family.
+    /// The name of its family: ASCII letters in lower case and `_`.
     pub fn name(self) -> &'static str
         ensures { result.now ≡ name_of self }
     {
@@ -77,7 +77,7 @@ impl Figure {
         }
     }
 
-    /// What its values do.
+    /// Whether its values only grow, or grow and shrink.
     pub fn kind(self) -> Kind
         ensures { result ≡ kind_of self }
     {
@@ -87,7 +87,7 @@ impl Figure {
         }
     }
 
-    /// What its values mean.
+    /// What its values mean, in a sentence of ASCII.
     pub fn help(self) -> &'static str {
         match self {
             Figure::Received => "Datagrams that came from the peer.",

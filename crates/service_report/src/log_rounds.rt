@@ -12,7 +12,8 @@ pub struct Rounds {
 }
 
 impl Rounds {
-    /// How many milliseconds this round has lasted, where it is over at this moment; then the next begins.
+    /// How many milliseconds this round has lasted, where it is over at this moment, in milliseconds; then the next begins.
+    /// None where it goes on.
     pub fn due(&mut self, now: u64) -> Option<u64>
         ensures due { result ≡ due self.old.period self.old.since now }
         ensures next { self.new ≡ record self.old { since = begun self.old.period self.old.since now } }

@@ -51,7 +51,7 @@ pub struct Family<'a> {
 }
 
 impl Kind {
-    /// Its name in the text form.
+    /// Its name in the text form: `counter` or `gauge`.
     pub fn as_str(self) -> &'static str
         ensures { result.now ≡ kind_text self }
     {
@@ -77,7 +77,7 @@ impl Model for Metrics {
 }
 
 impl Metrics {
-    /// No families yet.
+    /// No families yet. It takes no memory.
     pub fn new(alloc: Global) -> Metrics
         ensures { result ≡ [] }
     {
@@ -86,7 +86,9 @@ impl Metrics {
         }
     }
 
-    /// One more family. Where memory fails, the others stay as they were.
+    /// One more family, behind the others.
+    ///
+    /// `AllocError`: a request for memory was refused. Then the others stay as they were.
     pub fn push(&mut self, alloc: Global, family: &Family<'_>) -> Result<(), AllocError>
         ensures ok { OnOk result (self.new ≡ self.old ++ family_text family.now) }
         ensures err { OnErr result (self.new ≡ self.old) }
@@ -96,6 +98,8 @@ impl Metrics {
     }
 
     /// The octets that go to the client: the head of an answer in HTTP/1.1, an empty line, the families.
+    ///
+    /// `AllocError`: a request for memory was refused. Then the families are dropped.
     pub fn into_answer(self, alloc: Global) -> Result<Vec<u8>, AllocError>
         ensures { IfOk result (λ octets. octets.items ≡ scrape_text self) }
     {

@@ -13,7 +13,8 @@ pub enum Scrape {
     NotFound,
 }
 
-/// What a method and a path ask for.
+/// What a method and a path ask for: `NotFound` where the path isn't `/metrics`, then `NotAllowed` where the method isn't
+/// `GET`.
 pub fn scrape_of(method: &str, path: &str) -> Scrape
     ensures { result ≡ scrape_of method.now path.now }
 {

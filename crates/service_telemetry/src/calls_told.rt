@@ -67,7 +67,7 @@ impl CallsTold {
     }
 }
 
-/// Tells what became of the file of this name, at the end.
+/// Warns, at the end, of how many rows couldn't be written to the file of this name; tells nothing where there are none.
 pub fn tell_end<L: Log>(log: &L, path: &str, state: FileState) {
     if state.waiting > 0 {
         let waiting = state.waiting;

@@ -312,7 +312,10 @@ fn metrics_answer<J: Naming, R: Wait>(
     metrics.into_answer(alloc)
 }
 
-/// Answers a request to the address of the metrics: `GET /metrics`, and nothing else.
+/// Answers a request to the address of the metrics, at a moment in milliseconds since the exchange was opened: `GET /metrics`,
+/// and nothing else. Gives the octets that go to the client; what is refused is an answer too, 404 or 405.
+///
+/// `AllocError`: a request for memory was refused.
 pub fn answer_scrape<J: Naming, R: Wait>(
     rt: &R,
     alloc: Global,

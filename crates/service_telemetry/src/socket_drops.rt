@@ -22,7 +22,7 @@ pub struct SocketTable {
 }
 
 impl SocketTable {
-    /// The table, where the system has one.
+    /// The table `/proc/net/udp`, where the system has one. Where it can't be opened, nothing is known of drops.
     pub fn open<R: Files<File = File>>(rt: &R) -> SocketTable {
         SocketTable {
             file: File::open(rt, "/proc/net/udp").ok(),

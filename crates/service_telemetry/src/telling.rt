@@ -172,7 +172,9 @@ fn tell_drops_of<L: Log>(log: &L, worker: &str, drops: u64, seconds: u64) {
 }
 
 impl Told {
-    /// Nothing was told yet of a service that began at this moment.
+    /// Nothing was told yet of a service that began at this moment, in milliseconds since the exchange was opened.
+    ///
+    /// `AllocError`: a request for memory was refused.
     pub fn new(alloc: Global, plan: &Plan, now: u64) -> Result<Told, AllocError> {
         let mut peers = Vec::new(alloc);
         for _ in 0..plan.peer_count() {
@@ -335,7 +337,8 @@ impl Told {
         }
     }
 
-    /// Tells what is to be told at this moment.
+    /// Tells the log what is to be told at this moment, in milliseconds since the exchange was opened: the stage, peers, the
+    /// files of records and of the trace; legs once a second; refusals, strangers, faults, lost rows and drops once in ten.
     pub fn look<L: Log, J: Naming, R: Wait>(
         &mut self,
         rt: &R,
@@ -363,7 +366,7 @@ impl Told {
         }
     }
 
-    /// Tells the rest, at the end.
+    /// Tells the log the rest, at the end: all that `look` tells, whether it is due or not.
     pub fn end<L: Log, J: Naming, R: Wait>(
         &mut self,
         rt: &R,

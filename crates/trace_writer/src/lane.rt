@@ -98,7 +98,9 @@ fn push_run(octets: &mut Vec<u8>, first: u16, last: u16) {
 }
 
 impl<'t> TraceLane<'t> {
-    /// That of the thread at this place. Nothing is noted.
+    /// The end of the thread at this place, from 0 on. Nothing is noted.
+    ///
+    /// `AllocError`: a request for memory was refused.
     pub fn new(
         alloc: Global,
         trace: &'t Trace,
@@ -199,7 +201,8 @@ impl<'t> TraceLane<'t> {
         self.lost = 0;
     }
 
-    /// The worker is in a turn. Its moment and its challenge are those that the trace was told last.
+    /// The worker is in a turn. Its moment, in milliseconds since the exchange was opened, and its challenge are those that the
+    /// trace was told last. Where it is in one already, nothing changes.
     pub fn be_in_turn<R: Wait>(&mut self, rt: &R) {
         if self.is_in_turn {
             return;
@@ -216,7 +219,8 @@ impl<'t> TraceLane<'t> {
         self.untaken = 0;
     }
 
-    /// A datagram is handed to the exchange next: of the peer at this place of the plan, or of an endpoint that no peer has.
+    /// A datagram is handed to the exchange next: of the peer at this place of the plan, or, where there is none, of an
+    /// endpoint that no peer has. The challenge is noted with a peer's full frame alone ("Full Frames").
     pub fn datagram<R: Wait>(&mut self, rt: &R, peer: Option<u16>, from: Endpoint, octets: &[u8]) {
         self.has_received = true;
         let challenge = match peer {
@@ -256,7 +260,7 @@ impl<'t> TraceLane<'t> {
         }
     }
 
-    /// A datagram went out to the peer at this place of the plan. The socket took it, or it is lost.
+    /// A datagram went out to the peer at this place of the plan, 0 ..= 31. The socket took it, or it is lost.
     pub fn send<R: Wait>(&mut self, rt: &R, peer: u16, is_taken: bool) {
         if self.peers == 0 {
             self.tick_if_none(rt);
@@ -297,7 +301,8 @@ impl<'t> TraceLane<'t> {
         }
     }
 
-    /// A call goes out to a peer next, at this moment.
+    /// A call goes out to the peer at this place of the plan next, at this moment, in milliseconds since the exchange was
+    /// opened. A number of more than 2,081 octets is noted as an empty one.
     pub fn begin_call<R: Wait>(&mut self, rt: &R, now: u64, peer: u16, number: &[u8]) {
         self.now = now;
         self.begin(rt, Input::Call { peer });
@@ -306,18 +311,19 @@ impl<'t> TraceLane<'t> {
         }
     }
 
-    /// The leg of this number hangs up next, at this moment.
+    /// The leg of this local number hangs up next, at this moment, in milliseconds since the exchange was opened.
     pub fn begin_hang_up<R: Wait>(&mut self, rt: &R, now: u64, number: u16) {
         self.now = now;
         self.begin(rt, Input::HangUp { number });
     }
 
-    /// The call or the hang-up was made.
+    /// The call or the hang-up that was begun last was made, or refused.
     pub fn end_order<R: Wait>(&mut self, rt: &R) {
         self.end(rt);
     }
 
-    /// Whether it is to be looked next if any leg is up, since there may be a new file where none is.
+    /// Whether it is to be looked next if any leg is up, since there may be a new file where none is. It isn't while a call of
+    /// the exchange or a turn is open.
     pub fn begin_look(&mut self) -> bool {
         self.look = None;
         if self.trace.wants_rest() {
@@ -330,7 +336,8 @@ impl<'t> TraceLane<'t> {
         self.look.is_some()
     }
 
-    /// It was looked, at this moment: no leg of the plan's peers is up, and no media waits, or some are.
+    /// It was looked, at this moment, in milliseconds since the exchange was opened: no leg of the plan's peers is up, and no
+    /// media waits, or some are. Nothing is noted where some are, or where no `begin_look` answered true before it.
     pub fn end_look<R: Wait>(
         &mut self,
         rt: &R,

@@ -78,8 +78,10 @@ impl TraceFolder<'_> {
         })
     }
 
-    /// Makes the folder, where there is none, and begins the file that was changed longest ago. Of those that are left a new one
-    /// is made first.
+    /// Makes the folder, where there is none, and begins the one of its eight files that was changed longest ago. Of those that
+    /// are left a new one is made first.
+    ///
+    /// Errors are the system's, of the folder and then of the file; `OutOfMemory`: a request for memory was refused.
     pub fn open<D: Folder>(&self, disk: &D, alloc: Global) -> io::Result<TraceFile> {
         disk.make(self.path)?;
         let place = self.oldest(disk, alloc)?;

@@ -50,7 +50,9 @@ pub struct Trace {
 }
 
 impl Trace {
-    /// Nothing is noted, by so many threads, of an exchange of so many numbers.
+    /// Nothing is noted, by so many threads, of an exchange of the local numbers 1 ..= `numbers`.
+    ///
+    /// `AllocError`: a request for memory was refused.
     pub fn new(alloc: Global, threads: usize, numbers: u16) -> Result<Trace, AllocError> {
         let mut lanes = Vec::new(alloc);
         for _ in 0..threads {
@@ -80,14 +82,14 @@ impl Trace {
         })
     }
 
-    /// The next turn of a worker has this moment, in milliseconds since the exchange was opened.
+    /// The next turn of the worker at this place has this moment, in milliseconds since the exchange was opened.
     pub fn tell_moment(&self, thread: usize, now: u64) {
         if let Some(notes) = self.lanes.get(thread) {
             notes.now.store(now, Ordering::SeqCst);
         }
     }
 
-    /// The next turn of a worker has this challenge.
+    /// The next turn of the worker at this place has this challenge.
     pub fn tell_challenge<R: Wait>(&self, rt: &R, thread: usize, challenge: &Challenge) {
         if let Some(notes) = self.lanes.get(thread) {
             *notes.challenge.lock(rt) = Some(challenge.copied());
@@ -105,14 +107,14 @@ impl Trace {
         }
     }
 
-    /// The datagram that a thread has in its hands isn't handed to the exchange.
+    /// The datagram that the thread at this place has in its hands isn't handed to the exchange.
     pub fn turn_away(&self, thread: u16) {
         if let Some(notes) = self.lanes.get(usize::from(thread)) {
             notes.is_turned_away.store(true, Ordering::SeqCst);
         }
     }
 
-    /// A leg of this number was taken out by a thread.
+    /// A leg of this local number was taken out by the thread at this place.
     pub fn retire(&self, thread: u16, number: u16) {
         if let Some(notes) = self.lanes.get(usize::from(thread)) {
             notes.has_retired.store(true, Ordering::SeqCst);
@@ -123,7 +125,7 @@ impl Trace {
         }
     }
 
-    /// How the trace is.
+    /// How the trace is, by what the threads and the writer told last. Contracts don't speak of it.
     pub fn state(&self) -> TraceState {
         TraceState {
             written: self.written.load(Ordering::SeqCst),
@@ -132,7 +134,7 @@ impl Trace {
         }
     }
 
-    /// Whether the writer would begin a new file, were no call up.
+    /// Whether the writer would begin a new file, were no call up. It wouldn't once the trace has ended.
     pub fn wants_rest(&self) -> bool {
         self.wants_rest.load(Ordering::SeqCst) && !self.has_ended()
     }

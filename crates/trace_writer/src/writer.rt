@@ -88,6 +88,8 @@ pub struct TraceSettings<'a> {
 
 impl TraceNotes {
     /// Room for what so many threads note.
+    ///
+    /// `AllocError`: a request for memory was refused.
     pub fn new(alloc: Global, threads: usize) -> Result<TraceNotes, AllocError> {
         let mut taken = Vec::new(alloc);
         for _ in 0..threads {

@@ -140,7 +140,9 @@ impl<'t, R: Wait> Challenges for TracedDigits<'t, R> {
     }
 }
 
-/// The lane of a thread, where there is a trace.
+/// The lane of the thread at this place, where there is a trace.
+///
+/// `Memory`: a request for memory was refused.
 pub fn lane_of<'t>(
     alloc: Global,
     trace: Option<&'t Trace>,
@@ -212,7 +214,11 @@ fn seat_of<'t, J: Naming, P: Post, R: Clock + Net + RandomSource + Wait, S: Sock
     Ok(Seat::new(worker, wire, pass, moments, digits))
 }
 
-/// The seats of all workers of the plan, in its order, at most 8, with what each tells the trace. Each takes the next pass.
+/// The seats of all workers of the plan, in its order, at most 8, with what each tells the trace. Each takes the next pass, so
+/// the first worker has the first.
+///
+/// `Memory`: a request for memory was refused. `Bind`: a socket isn't bound. `Entropy`: the system gives no random octets. They
+/// are looked for worker by worker; then the passes that were taken are gone.
 pub fn traced_seats_of<'t, J: Naming, P: Post, R: Clock + Net + RandomSource + Wait, S: Sockets>(
     rt: &'t R,
     alloc: Global,

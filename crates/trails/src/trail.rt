@@ -36,7 +36,7 @@ impl<T> Model for Trail<T> {
 }
 
 impl<T> Trail<T> {
-    /// A list without an item.
+    /// A list without an item, for proofs.
     pub fn new() -> Trail<T>
         ensures { result ≡ [] }
     {
@@ -45,7 +45,7 @@ impl<T> Trail<T> {
         }
     }
 
-    /// The list of these items.
+    /// The list of these items, for proofs.
     pub fn of(items: &[T]) -> Trail<T>
         ensures { result ≡ items.now }
     {

@@ -22,7 +22,7 @@ const MAX_MEDIA: usize = 1380;
 /// The octets of a full queue: 6 before the media of each of its 256 entries, and the media.
 const CAPACITY: usize = 17920;
 
-/// Why media isn't queued.
+/// Why media isn't queued, in the order in which causes are looked for.
 #[derive(Clone, Copy, Debug, PartialEq, Eq)]
 pub enum QueueError {
     /// The media has more than 1,380 octets.
@@ -56,7 +56,7 @@ impl Model for Packer {
 }
 
 impl Packer {
-    /// An empty queue, with room for 256 entries and 16,384 octets of media.
+    /// An empty queue, with room for 256 entries and 16,384 octets of media. `Err` comes only where memory was refused.
     pub fn new(alloc: Global) -> Result<Packer, AllocError>
         ensures { IfOk result (λ packer. packer ≡ []) }
     {
@@ -67,7 +67,7 @@ impl Packer {
         })
     }
 
-    /// How many entries are queued, and the octets of their media.
+    /// How many entries are queued, 0 ..= 256, and the octets of their media, 0 ..= 16,384.
     pub fn queued(&self) -> (usize, u64)
         ensures entries { result.0 ≡ length self.now }
         ensures octets { result.1 ≡ media_octets self.now }
@@ -84,8 +84,10 @@ impl Packer {
         self.entries == 0
     }
 
-    /// Queues media of a call with the low 16 bits of its timestamp, whole, or changes nothing.
-    /// It takes no memory.
+    /// Queues media of a call with the low 16 bits of its timestamp, in milliseconds. It takes no memory.
+    ///
+    /// Refusals are looked for in this order: `TooLong` where the media has more than 1,380 octets, `QueueFull` where it has no
+    /// room; then nothing is changed.
     pub fn queue(
         &mut self,
         number: CallNumber,

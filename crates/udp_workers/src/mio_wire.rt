@@ -139,10 +139,19 @@ fn readable<N: Net>(
 impl MioWire {
     ghost use Rattle.udp_workers.specs.MioWire.{given_of, given_to_of, failures_of, peers_of};
 
-    /// A socket that is bound to this endpoint and may send to these peers. Nothing was given to it yet, and no call failed.
+    /// A UDP socket that is bound to this IPv4 endpoint and may send to these peers. Nothing was given to it yet, and no call
+    /// failed.
+    ///
+    /// The socket doesn't block; the system tells of what comes where it is polled. `Alone`: it is bound with no option set, so
+    /// nobody else can be bound there. `First`: it is bound so, and then `SO_REUSEPORT` is set. `Beside`: `SO_REUSEPORT` is set
+    /// before it is bound. Contracts speak of the peers and of the counts alone: of the endpoint, the options and the polling
+    /// they say nothing.
     ///
     /// Workers of one endpoint are bound in the order of their places: what comes from one sender then comes to one of them,
-    /// whichever the system chooses. At an `Err` the list is dropped.
+    /// whichever the system chooses.
+    ///
+    /// `Memory`: a request for memory was refused. `Bind`: the system gives no socket or no poll, doesn't set the option, or
+    /// doesn't bind the socket to that endpoint. At an `Err` the list is dropped.
     pub fn bind<N: Net>(
         rt: &N,
         alloc: Global,
@@ -162,7 +171,7 @@ impl MioWire {
         Ok(MioWire::over(socket, poll, events, peers, sharing))
     }
 
-    /// The descriptor of its socket, for whoever sets what the system does with it.
+    /// The descriptor of its socket, for whoever sets what the system does with it. Contracts don't speak of it.
     pub fn descriptor(&self) -> RawFd {
         self.socket.as_raw_fd()
     }

@@ -19,7 +19,9 @@ pub struct PeerCounts {
 impl PeerCounts {
     ghost use Rattle.udp_workers.specs.PeerCounts.{count_of};
 
-    /// No datagram was for any of them yet. At an `Err` the list is dropped.
+    /// No datagram was for any of these endpoints yet.
+    ///
+    /// `AllocError`: a request for memory was refused. Then the list is dropped.
     pub fn new(alloc: Global, endpoints: Vec<Endpoint>) -> Result<PeerCounts, AllocError>
         ensures endpoints { IfOk result (λ made. made.endpoints ≡ endpoints) }
         ensures none { IfOk result (λ made. (to : Endpoint) → count_of made to ≡ 0) }
@@ -28,7 +30,7 @@ impl PeerCounts {
         Ok(PeerCounts { endpoints, counts })
     }
 
-    /// Counts a datagram for an endpoint.
+    /// Counts a datagram for an endpoint, modulo 2^64. Where no peer has it nothing is counted.
     pub fn count(&mut self, to: Endpoint)
         ensures to { Contains self.old.endpoints.items to → RisesBy (count_of self.old to) (count_of self.new to) 1 }
         ensures others { (other : Endpoint) → other ≢ to → count_of self.new other ≡ count_of self.old other }

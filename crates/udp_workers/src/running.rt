@@ -34,8 +34,8 @@ fn pause<W: Wire>(wire: &mut W, turn: u64)
 }
 
 impl Worker {
-    /// Makes so many turns, each with its own moment and challenge, and waits for a datagram between them, at most 20 ms. Gives
-    /// the sum of their reports.
+    /// Makes so many turns, each with its own moment, in milliseconds since the exchange was opened, and its own challenge, and
+    /// waits for a datagram between them, at most 20 ms. Gives the sum of their reports.
     pub fn run<W: Wire, G: Gate, J: Naming, M: Moments, C: Challenges, R: Wait>(
         &mut self,
         rt: &R,

@@ -160,7 +160,8 @@ impl<W: Wire + Drop, M: Moments + Drop, C: Challenges + Drop, J: Naming, P: Post
     J,
     P,
 > {
-    /// A worker with all that its run needs, and an empty report.
+    /// A worker with all that its run needs, and an empty report. What was counted of its wire and of its pass so far is its
+    /// start.
     pub fn new(worker: Worker, wire: W, pass: Pass<J>, moments: M, challenges: C) -> Self
         requires peers { worker.peers ≡ peers_of P.plan worker.place }
         requires ends { AreEndpoints P.plan worker.peers (W.peers wire) }

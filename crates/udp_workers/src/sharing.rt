@@ -37,7 +37,8 @@ impl Sharing {
         }
     }
 
-    /// Of the worker at a place among all workers of a plan.
+    /// Whether other workers of the plan have the endpoint of the worker at this place, before it or behind it. At the place
+    /// behind the last worker: `Alone`.
     pub fn of(workers: &[Endpoint], place: u16) -> Sharing
         requires { place ≤ length workers.now }
         ensures { result ≡ sharing_of workers.now place }

@@ -12,7 +12,7 @@ use std::sync::Wait;
 use std::thread;
 use std::thread::{Scope, Threads};
 
-/// A thread was refused.
+/// The system refused a thread.
 #[derive(Clone, Copy, Debug, PartialEq, Eq)]
 pub struct NoThread;
 
@@ -57,8 +57,8 @@ fn run_shared<
     })
 }
 
-/// Makes the run of each seat, so many turns, on a thread of its own, and puts the sum of its reports into it. All threads have
-/// ended when it returns.
+/// Makes the run of each seat, so many turns, on a thread of its own, and puts the sum of its reports into it. There are at
+/// most 8 seats. All threads have ended when it returns.
 ///
 /// `NoThread`: a thread was refused. Seats without a thread are unchanged, the others have run.
 pub fn run_all<

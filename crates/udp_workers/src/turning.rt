@@ -22,8 +22,8 @@ use peer_lock::Naming;
 use std::sync::Wait;
 
 impl Worker {
-    /// One turn: receives what is there, at most 64 datagrams; then lets time go on at each of its peers; then sends what is in
-    /// their outboxes, up to 256 datagrams each.
+    /// One turn, at a moment in milliseconds since the exchange was opened: receives what is there, at most 64 datagrams; then
+    /// lets time go on at each of its peers; then sends what is in their outboxes, up to 256 datagrams each.
     ///
     /// A call of the wire that fails ends the receiving; the rest of the turn follows. A datagram that the wire doesn't take is
     /// lost and counted. Histories of legs are dropped.

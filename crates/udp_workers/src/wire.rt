@@ -27,7 +27,7 @@ pub trait Wire {
     ghost peers: { Self → List Endpoint };
 
     /// Writes the next datagram, if one is there, to the front of `octets`; gives its length in octets and its sender. Of a
-    /// datagram that is longer than `octets` the rest is lost.
+    /// datagram that is longer than `octets` the rest is lost. `WireFault`: the call failed.
     fn receive(&mut self, octets: &mut [u8]) -> Result<Option<(usize, Endpoint)>, WireFault>
         ensures within { IfOk result (λ found. IfSome found (λ datagram. datagram.0 ≤ length octets.new)) }
         ensures given { given self.new ≡ given self.old }
@@ -35,7 +35,7 @@ pub trait Wire {
         ensures failures { RisesBy (failures self.old) (failures self.new) (if is_ok result then 0 else 1) }
         ensures peers { peers self.new ≡ peers self.old };
 
-    /// Sends a frame to one of the peers. False: it would have to wait, and doesn't send it.
+    /// Sends a frame to one of the peers. False: it would have to wait, and doesn't send it. `WireFault`: the call failed.
     fn send(&mut self, to: Endpoint, octets: &[u8]) -> Result<bool, WireFault>
         requires frame { IsFrame octets.now }
         requires peer { Contains (peers self.old) to }

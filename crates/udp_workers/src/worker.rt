@@ -52,14 +52,14 @@ impl Worker {
         }
     }
 
-    /// Its place among the workers of the plan.
+    /// Its place among the workers of the plan, from 0 on.
     pub fn place(&self) -> u16
         ensures { result ≡ self.now.place }
     {
         self.place
     }
 
-    /// The peers that it serves, by their places in the plan, in plan order.
+    /// The peers that it serves, at most 32, by their places in the plan, in plan order.
     pub fn peers(&self) -> &[u16]
         ensures peers { result.now ≡ self.now.peers }
         ensures few { length result.now ≤ 32 }
@@ -75,6 +75,8 @@ impl Worker {
     }
 
     /// The endpoints of its peers, in their order: those that its wire may send to.
+    ///
+    /// `AllocError`: a request for memory was refused.
     pub fn endpoints(&self, alloc: Global, plan: &Plan) -> Result<Vec<Endpoint>, AllocError>
         requires { self.now.peers ≡ peers_of plan.now self.now.place }
         ensures { IfOk result (λ endpoints. AreEndpoints plan.now self.now.peers endpoints.items) }
