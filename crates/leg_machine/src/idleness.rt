@@ -42,7 +42,7 @@ impl Machine {
         if self.stage.is_ended() {
             return u64::MAX;
         }
-        if self.window.free_entries() < 4 || self.must_hang_up() {
+        if self.is_short_of_entries() || self.must_hang_up() {
             return 0;
         }
         self.due_from().min(self.pings_from())

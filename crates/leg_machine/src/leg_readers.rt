@@ -2,6 +2,7 @@
 ghost use Rattle.std.specs.Prelude.{◌≡◌, ℕ, ◌+◌, ◌^◌, ◌<◌, ◌≤◌, true, false, length, option_copied, if◌then◌else◌, IfSome};
 ghost use Rattle.std.specs.Option.{ForSome};
 ghost use Rattle.seq_window.specs.History.{IsLegal};
+ghost use Rattle.leg_machine.specs.Legs.{is_short_of_entries};
 ghost use Rattle.leg_machine.specs.Media.{accepts_media};
 ghost use Rattle.leg_machine.specs.Onward.{onward_of};
 ghost use Rattle.leg_machine.specs.Openings.{opening_data, new_data, called_of, calling_of, caller_of, formats_of};
@@ -118,6 +119,13 @@ impl Leg {
         ensures { result.now.state ≡ self.now.state.window }
     {
         &self.machine.window
+    }
+
+    /// Whether the record is short of entries: fewer than four are free, which is what one event can need.
+    pub fn is_short_of_entries(&self) -> bool
+        ensures { result ≡ is_short_of_entries self.now.state }
+    {
+        self.machine.is_short_of_entries()
     }
 
     /// How many more entries the record takes without asking for memory.

@@ -116,9 +116,16 @@ impl Machine {
         }
     }
 
+    /// Whether the record is short of entries: fewer than four are free, which is what one event can need.
+    pub fn is_short_of_entries(&self) -> bool
+        ensures { result ≡ is_short_of_entries (leg_of self.now) }
+    {
+        self.window.free_entries() < 4
+    }
+
     /// Makes room for what a full frame can add to the record: four entries.
     ///
-    /// Refusals are looked for in this order: `RecordFull` where fewer than four entries are free, `Memory` where memory was
+    /// Refusals are looked for in this order: `RecordFull` where the record is short of entries, `Memory` where memory was
     /// refused, which never comes with four spare entries. Then nothing is changed.
     pub fn room_for_frame(&mut self) -> Result<(), StepError>
         ensures leg { leg_of self.new ≡ leg_of self.old }
@@ -128,7 +135,7 @@ impl Machine {
         ensures err { OnErr result (self.new ≡ self.old) }
         ensures capacity { capacity_of (whole_leg self.old) ≤ capacity_of (whole_leg self.new) }
     {
-        if self.window.free_entries() < 4 {
+        if self.is_short_of_entries() {
             return Err(StepError::RecordFull);
         }
         self.window.reserve(4)?;

@@ -79,7 +79,7 @@ impl Machine {
     {
         if most <= self.window.held_len() {
             Some(OrderError::WindowFull)
-        } else if self.window.free_entries() < 4 {
+        } else if self.is_short_of_entries() {
             Some(OrderError::RecordFull)
         } else {
             None

@@ -148,7 +148,7 @@ impl Machine {
         if self.stage.is_ended() {
             return 0;
         }
-        if self.window.free_entries() < 4 {
+        if self.is_short_of_entries() {
             self.fail(Failure::RecordFull);
             return 0;
         }

@@ -62,12 +62,12 @@ impl PeerLegs {
         }
     }
 
-    /// Whether fewer than four entries are free in the record of the leg that has this local number.
+    /// Whether the record of the leg that has this local number is short of entries.
     pub fn is_short(&self, number: u16) -> bool
         requires { IsSome (leg_at self.now number) }
         ensures { (named : NamedLegValue) → leg_at self.now number ≡ Some named → result ≡ is_short_of_entries named.leg }
     {
-        self.get(number).unwrap().leg().window().free_entries() < 4
+        self.get(number).unwrap().leg().is_short_of_entries()
     }
 
     /// The local number of the leg to which a full frame goes ("Full Frames", "Call Setup"): that of its destination, where the
