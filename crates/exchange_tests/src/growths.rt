@@ -4,7 +4,6 @@
 
 use crate::opened::{Scene, is_ended, play_on};
 use crate::same::{holds, same};
-use crate::scenes::plans::PLAN;
 use crate::scenes::{give_all, recovers, status_of};
 use exchange_core::{Exchange, NoGate, Pass};
 use leg_machine::Stage;
@@ -13,6 +12,7 @@ use peer_plan::PlanError;
 use std::process::Abort;
 use std::sync::Wait;
 use std::test::*;
+use test_plans::plans::ONE_WORKER;
 
 /// A call until both legs are up, a voice frame, a mini frame and a digit, and a tick.
 const CALL: &str = "rx west 8007000000000000000006010b0200020103333030090400000004080400000004\n\
@@ -70,7 +70,7 @@ pub fn call<R: Abort + Wait, J: Naming>(
 // All its media went out.
 #[test]
 fn no_growth_refused(rt: HostRuntime) {
-    let played = play_on(&rt, rt.alloc(), PLAN, Scene::Call).expect(&rt, "an exchange");
+    let played = play_on(&rt, rt.alloc(), ONE_WORKER, Scene::Call).expect(&rt, "an exchange");
     let sums = played.expect(&rt, "balanced accounts");
     same(&rt, &(sums.accepted, sums.packed), &(4, 4));
 }
@@ -78,9 +78,9 @@ fn no_growth_refused(rt: HostRuntime) {
 // An exchange that couldn't be opened is opened again.
 #[test]
 fn any_growth_refused(rt: HostRuntime) {
-    let mut played = play_on(&rt, rt.alloc(), PLAN, Scene::CallAndEnd);
+    let mut played = play_on(&rt, rt.alloc(), ONE_WORKER, Scene::CallAndEnd);
     if played == Err(PlanError::Memory) {
-        played = play_on(&rt, rt.alloc(), PLAN, Scene::CallAndEnd);
+        played = play_on(&rt, rt.alloc(), ONE_WORKER, Scene::CallAndEnd);
     }
     holds(&rt, "balanced accounts", is_ended(played));
 }

@@ -2,7 +2,6 @@
 
 use crate::opened::{Scene, is_ended, play_on};
 use crate::same::{holds, same};
-use crate::scenes::plans::PLAN;
 use crate::scenes::{Told, WEST_PLACE, heard, heard_from, status_of, take_out};
 use exchange_core::{Exchange, NoGate, Pass, Refusal};
 use peer_lock::Naming;
@@ -11,6 +10,8 @@ use std::alloc::Global;
 use std::process::Abort;
 use std::sync::Wait;
 use std::test::*;
+use test_plans::plans::ONE_WORKER;
+use test_plans::west_and_east;
 
 /// A trunk frame with timestamps, of entries with three octets and one.
 const TRUNK: [u8; 24] = [
@@ -38,7 +39,7 @@ pub fn from_nobody<R: Abort + Wait, J: Naming>(
 
 #[test]
 fn stranger(rt: HostRuntime) {
-    let played = play_on(&rt, rt.alloc(), PLAN, Scene::FromNobody);
+    let played = play_on(&rt, rt.alloc(), ONE_WORKER, Scene::FromNobody);
     holds(&rt, "balanced accounts", is_ended(played));
 }
 
@@ -106,7 +107,7 @@ pub fn outbox_filled<R: Abort + Wait, J: Naming>(
 
 #[test]
 fn full_outbox(rt: HostRuntime) {
-    let played = play_on(&rt, rt.alloc(), PLAN, Scene::OutboxFilled);
+    let played = play_on(&rt, rt.alloc(), ONE_WORKER, Scene::OutboxFilled);
     holds(&rt, "balanced accounts", is_ended(played));
 }
 
@@ -161,17 +162,15 @@ pub fn poked<R: Abort + Wait, J: Naming>(
     holds(rt, "the first number", leg.is_some());
 }
 
-// The plan in format 3, where a POKE is answered.
-fn in_format_3(alloc: Global) -> Option<String> {
-    let mut text = String::new(alloc);
-    text.push_str("format = 3\n").ok()?;
-    text.push_str(PLAN.strip_prefix("format = 1\n")?).ok()?;
-    Some(text)
-}
+/// The same plan in format 3, where a POKE is answered.
+const FORMAT_3: &str = west_and_east!(
+    format 3;
+    west "trunk = true" "trunk_timestamps = true";
+    east;
+);
 
 #[test]
 fn flood_of_pokes(rt: HostRuntime) {
-    let plan = in_format_3(rt.alloc()).expect(&rt, "a plan");
-    let played = play_on(&rt, rt.alloc(), plan.as_str(), Scene::Poked);
+    let played = play_on(&rt, rt.alloc(), FORMAT_3, Scene::Poked);
     holds(&rt, "balanced accounts", is_ended(played));
 }

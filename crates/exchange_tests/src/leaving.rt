@@ -2,7 +2,6 @@
 
 use crate::opened::{Scene, is_ended, play_on};
 use crate::same::{holds, same};
-use crate::scenes::plans::PLAN;
 use crate::scenes::{EAST_PLACE, WEST_PLACE, hear, status_of};
 use crate::settling::accepted_call;
 use exchange_core::{Exchange, NoGate, Pass, Retired};
@@ -11,6 +10,7 @@ use peer_lock::Naming;
 use std::process::Abort;
 use std::sync::Wait;
 use std::test::*;
+use test_plans::plans::ONE_WORKER;
 
 // The west hangs up, and acknowledges the ACCEPT and the voice.
 const HANGUP: &[u8] = b"\x80\x07\x00\x01\x00\x00\x00\x64\x01\x02\x06\x05";
@@ -83,6 +83,6 @@ pub fn left<R: Abort + Wait, J: Naming>(
 
 #[test]
 fn legs_leave_with_what_they_were(rt: HostRuntime) {
-    let played = play_on(&rt, rt.alloc(), PLAN, Scene::Left);
+    let played = play_on(&rt, rt.alloc(), ONE_WORKER, Scene::Left);
     holds(&rt, "balanced accounts", is_ended(played));
 }

@@ -2,7 +2,6 @@
 
 use crate::opened::{Scene, is_ended, play_on};
 use crate::same::{holds, same};
-use crate::scenes::plans::PLAN;
 use crate::scenes::{EAST_PLACE, WEST_PLACE, status_of, take_out};
 use crate::settling::accepted_call;
 use exchange_core::{Exchange, NoGate, Pass};
@@ -12,6 +11,7 @@ use peer_lock::{Description, Naming};
 use std::process::Abort;
 use std::sync::Wait;
 use std::test::*;
+use test_plans::plans::ONE_WORKER;
 
 // The leg of a number is that of a call to 300, from nobody, in mu-law, opened at the start.
 fn is_of_the_call(rt: &impl Abort, leg: &Description, number: u16, remote: u16) {
@@ -118,6 +118,6 @@ pub fn looked<R: Abort + Wait, J: Naming>(
 
 #[test]
 fn seen_from_outside(rt: HostRuntime) {
-    let played = play_on(&rt, rt.alloc(), PLAN, Scene::Looked);
+    let played = play_on(&rt, rt.alloc(), ONE_WORKER, Scene::Looked);
     holds(&rt, "balanced accounts", is_ended(played));
 }

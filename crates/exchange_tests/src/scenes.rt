@@ -1,8 +1,7 @@
-//! What tests of an exchange share: plans, lines that are given to an exchange, and its recovery: every leg is got rid of, and
+//! What tests of an exchange share: lines that are given to an exchange, and its recovery: every leg is got rid of, and
 //! the accounts are closed.
 
 mod lines;
-pub mod plans;
 mod recovery;
 
 pub use crate::scenes::lines::{

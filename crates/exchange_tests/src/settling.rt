@@ -2,13 +2,13 @@
 
 use crate::opened::{Scene, play_on};
 use crate::same::{holds, same};
-use crate::scenes::plans::TWO_PASSES;
 use crate::scenes::{EAST_PLACE, give_all, heard};
 use exchange_core::{Exchange, NoGate, Pass};
 use peer_lock::Naming;
 use std::process::Abort;
 use std::sync::Wait;
 use std::test::*;
+use test_plans::plans::TWO_PASSES;
 
 /// A call from the west to the east, until it is accepted, and a voice frame from the east.
 const ACCEPTED: &str =

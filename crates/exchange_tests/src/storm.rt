@@ -4,7 +4,6 @@ ghost use Rattle.std.specs.Prelude.{◌≡◌, ◌+◌, ◌^◌, length};
 
 use crate::datagrams::{Call, Dice, Sent, new_call};
 use crate::legs::Legs;
-use crate::scenes::plans::PLAN;
 use crate::scenes::{EAST_PLACE, Sums, Told, WEST_PLACE, ended, heard, recovers, take_out, ticked};
 use exchange_core::{Exchange, NoGate, Pass, Refusal};
 use media_ledger::Blank;
@@ -16,6 +15,7 @@ use std::process::Abort;
 use std::sync::Wait;
 use std::sync::ledger::Ledger;
 use std::test::*;
+use test_plans::plans::ONE_WORKER;
 
 /// How many datagrams the storm has.
 const DATAGRAMS: u64 = 100_000;
@@ -333,7 +333,7 @@ fn storm_named<R: Abort + Wait, O: Ledger + Send + Sync, T: Ledger + Send + Sync
 
 // Opens an exchange of the plan, for the storm.
 fn storm_on_plan<R: Abort + Wait>(rt: &R, alloc: Global) -> Result<Option<Sums>, PlanError> {
-    let plan = match Plan::read(alloc, PLAN.as_bytes()) {
+    let plan = match Plan::read(alloc, ONE_WORKER.as_bytes()) {
         Ok(plan) => plan,
         Err(error) => return Err(error),
     };

@@ -3,7 +3,6 @@ ghost use Rattle.std.specs.Prelude.{◌≡◌, ◌+◌, ◌^◌, length};
 
 use crate::opened::is_ended;
 use crate::same::holds;
-use crate::scenes::plans::TWO_PASSES;
 use crate::scenes::{EAST_PLACE, Sums, WEST_PLACE, ended, ticked};
 use exchange_core::{Exchange, Gate, Pass};
 use media_ledger::Blank;
@@ -19,6 +18,7 @@ use std::test::*;
 use std::thread;
 use std::thread::Threads;
 use std::time::{Clock, Duration};
+use test_plans::plans::TWO_PASSES;
 
 /// How far two ticks at once have come.
 #[derive(Drop)]

@@ -2,7 +2,6 @@
 
 use crate::opened::{Scene, play_on};
 use crate::same::{holds, same};
-use crate::scenes::plans::TWO_PASSES;
 use crate::scenes::{EAST_PLACE, WEST_PLACE, ticked};
 use exchange_core::{Exchange, NoGate, Pass};
 use peer_lock::Naming;
@@ -11,6 +10,7 @@ use std::sync::Wait;
 use std::test::*;
 use std::thread;
 use std::thread::Threads;
+use test_plans::plans::TWO_PASSES;
 
 // Whether a tick is one step, and isn't refused.
 fn is_one_step<R: Wait, J: Naming>(

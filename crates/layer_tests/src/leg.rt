@@ -14,70 +14,15 @@ use leg_machine::{
     Caller, Cause, Digit, Format, Heard, Judged, Leg, Order, OrderError, Replies, Signal, Stage,
     StepError,
 };
-use peer_plan::{Plan, PlanError};
-use std::alloc::{AllocError, Global};
+use peer_plan::Plan;
+use std::alloc::Global;
 use std::process::Abort;
+use test_plans::frames::NEW_300;
+use test_plans::plans::NO_TRUNK;
 
-/// A NEW for 200 from call number 7.
-pub const NEW_200: &str = "8007000000000000000006010b0200020103323030090400000004080400000004";
-
-/// A NEW for 300 from call number 7.
-pub const NEW_300: &str = "8007000000000000000006010b0200020103333030090400000004080400000004";
-
-/// A worker and a peer in the west, whose further lines come next.
-const WORKER_AND_WEST: &str = "[[worker]]\n\
-address = \"127.0.0.1\"\n\
-port = 4569\n\
-[[peer]]\n\
-name = \"west\"\n\
-address = \"127.0.0.1\"\n\
-port = 5001\n\
-worker = 0\n\
-formats = [\"ulaw\"]\n\
-numbers = 4\n";
-
-/// A peer in the east, whose further lines come next.
-const EAST: &str = "\n[[peer]]\n\
-name = \"east\"\n\
-address = \"127.0.0.1\"\n\
-port = 5002\n\
-worker = 0\n\
-formats = [\"ulaw\"]\n\
-numbers = 4\n";
-
-/// A route to the east.
-const ROUTE: &str = "\n[[route]]\n\
-prefix = \"3\"\n\
-peer = \"east\"\n";
-
-// The text of such a plan.
-fn plan_text(alloc: Global, parts: &[&str]) -> Result<String, AllocError> {
-    let mut text = String::new(alloc);
-    for part in parts {
-        text.push_str(part)?;
-    }
-    Ok(text)
-}
-
-/// A plan of a peer in the west and one in the east, with further lines at its top and for each of both.
-pub fn plan_of(alloc: Global, top: &str, west: &str, east: &str) -> Result<Plan, PlanError> {
-    let parts = [
-        "format = 2\n",
-        top,
-        "\n",
-        WORKER_AND_WEST,
-        west,
-        EAST,
-        east,
-        ROUTE,
-    ];
-    let text = plan_text(alloc, &parts)?;
-    Plan::read(alloc, text.as_bytes())
-}
-
-// The same, where there must be memory.
-fn planned(rt: &impl Abort, alloc: Global, west: &str, east: &str) -> Plan {
-    plan_of(alloc, "", west, east).expect(rt, "a plan")
+// The plan of a text, where there must be memory.
+fn planned(rt: &impl Abort, alloc: Global, text: &str) -> Plan {
+    Plan::read(alloc, text.as_bytes()).expect(rt, "a plan")
 }
 
 // The octets of a text, if there is memory for them.
@@ -159,21 +104,21 @@ pub fn opened(alloc: Global, plan: &Plan, new: &str, challenge: &[u8]) -> Option
     opened_by(alloc, plan, &frame, &challenge)
 }
 
-/// The same, where there must be memory, under a plan with further lines for the peer in the west.
+/// The same, where there must be memory, under the plan of a text.
 pub fn called(
     rt: &impl Abort,
     alloc: Global,
-    west: &str,
+    plan: &str,
     new: &str,
     challenge: &[u8],
 ) -> (Tested, Heard) {
-    let plan = planned(rt, alloc, west, "");
+    let plan = planned(rt, alloc, plan);
     opened(alloc, &plan, new, challenge).expect(rt, "a leg")
 }
 
 /// The leg of a NEW for 300, under such a plan.
-pub fn called_for_300(rt: &impl Abort, alloc: Global, west: &str) -> Tested {
-    let (tested, _) = called(rt, alloc, west, NEW_300, b"0");
+pub fn called_for_300(rt: &impl Abort, alloc: Global, plan: &str) -> Tested {
+    let (tested, _) = called(rt, alloc, plan, NEW_300, b"0");
     tested
 }
 
@@ -198,9 +143,9 @@ fn opened_out(alloc: Global, plan: &Plan, replies: &mut Replies) -> Option<Leg>
 }
 
 /// The leg of the peer in the east that a call for 300 opens at moment 0, under local number 5, where there must be memory, under
-/// a plan with further lines for that peer.
-pub fn calling(rt: &impl Abort, alloc: Global, east: &str) -> Tested {
-    let plan = planned(rt, alloc, "", east);
+/// the plan of a text.
+pub fn calling(rt: &impl Abort, alloc: Global, plan: &str) -> Tested {
+    let plan = planned(rt, alloc, plan);
     let mut replies = Box::new(alloc, Replies::new()).expect(rt, "memory");
     let leg = opened_out(alloc, &plan, &mut replies).expect(rt, "a leg");
     Tested {
@@ -368,7 +313,7 @@ pub const ANSWERING: [Line<'static>; 3] = [
 
 /// The leg of a NEW for 300 that answered the call.
 pub fn answered(rt: &impl Abort, alloc: Global) -> Tested {
-    let mut tested = called_for_300(rt, alloc, "");
+    let mut tested = called_for_300(rt, alloc, NO_TRUNK);
     tested.plays(rt, &ANSWERING);
     tested
 }

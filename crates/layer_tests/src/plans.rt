@@ -6,38 +6,19 @@ use call_signals::PeerRules;
 use peer_plan::{Endpoint, Key, NumberRange, Plan, PlanError};
 use std::alloc::Global;
 use std::process::Abort;
+use test_plans::plan;
 
 /// Two peers, the first with a secret and a narrow window; what begins with `30` leads to it, else what begins with `3` to the
 /// second.
-const PLAN: &str = "format = 2\n\
-[[worker]]\n\
-address = \"127.0.0.1\"\n\
-port = 4569\n\
-[[peer]]\n\
-name = \"west\"\n\
-address = \"127.0.0.1\"\n\
-port = 5001\n\
-worker = 0\n\
-formats = [\"ulaw\"]\n\
-trunk = true\n\
-trunk_timestamps = true\n\
-numbers = 4\n\
-user = \"alpha\"\n\
-secret = \"bc\"\n\
-window = 1\n\
-[[peer]]\n\
-name = \"east\"\n\
-address = \"127.0.0.1\"\n\
-port = 5002\n\
-worker = 0\n\
-formats = [\"ulaw\"]\n\
-numbers = 4\n\
-[[route]]\n\
-prefix = \"3\"\n\
-peer = \"east\"\n\
-[[route]]\n\
-prefix = \"30\"\n\
-peer = \"west\"\n";
+const PLAN: &str = plan!(
+    format 2;
+    worker "127.0.0.1" 4569;
+    peer "west" 5001 worker 0
+        "trunk = true" "trunk_timestamps = true" "numbers = 4" "user = \"alpha\"" "secret = \"bc\"" "window = 1";
+    peer "east" 5002 worker 0 "numbers = 4";
+    route "3" "east";
+    route "30" "west";
+);
 
 // The endpoint of a port on this machine.
 fn local(port: u16) -> Endpoint {
@@ -71,42 +52,17 @@ fn routes(rt: HostRuntime) {
 
 /// Three peers: what begins with `3` leads to the second one, of the third's calls to the first one, and with `30` so of all
 /// calls; what begins with `4` leads there of the second's calls alone.
-const SOURCES: &str = "format = 3\n\
-[[worker]]\n\
-address = \"127.0.0.1\"\n\
-port = 4569\n\
-[[peer]]\n\
-name = \"west\"\n\
-address = \"127.0.0.1\"\n\
-port = 5001\n\
-worker = 0\n\
-formats = [\"ulaw\"]\n\
-[[peer]]\n\
-name = \"east\"\n\
-address = \"127.0.0.1\"\n\
-port = 5002\n\
-worker = 0\n\
-formats = [\"ulaw\"]\n\
-[[peer]]\n\
-name = \"north\"\n\
-address = \"127.0.0.1\"\n\
-port = 5003\n\
-worker = 0\n\
-formats = [\"ulaw\"]\n\
-[[route]]\n\
-prefix = \"3\"\n\
-source = \"north\"\n\
-peer = \"west\"\n\
-[[route]]\n\
-prefix = \"3\"\n\
-peer = \"east\"\n\
-[[route]]\n\
-prefix = \"30\"\n\
-peer = \"west\"\n\
-[[route]]\n\
-prefix = \"4\"\n\
-peer = \"west\"\n\
-source = \"east\"\n";
+const SOURCES: &str = plan!(
+    format 3;
+    worker "127.0.0.1" 4569;
+    peer "west" 5001 worker 0;
+    peer "east" 5002 worker 0;
+    peer "north" 5003 worker 0;
+    route "3" "west" "source = \"north\"";
+    route "3" "east";
+    route "30" "west";
+    route "4" "west" "source = \"east\"";
+);
 
 #[test]
 fn routes_of_some_callers(rt: HostRuntime) {

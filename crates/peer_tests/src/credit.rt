@@ -1,7 +1,7 @@
 //! Steps and octets that run out.
 ghost use Rattle.std.specs.Prelude.{◌≡◌};
 
-use crate::desk::{Desk, PLENTY, desk_of, plan_of};
+use crate::desk::{Desk, PLENTY, desk_of};
 use crate::same::{holds, same};
 use leg_machine::{Caller, Format, MediaSpan, Signal, Stage};
 use media_ledger::Blank;
@@ -12,6 +12,7 @@ use std::marker::Brand;
 use std::process::Abort;
 use std::sync::ledger::Ledger;
 use std::test::*;
+use test_plans::plans::NO_TRUNK;
 
 // A tick is answered.
 fn ticks<J: Naming>(desk: &mut Desk<J>, at: u64) -> bool {
@@ -44,7 +45,7 @@ fn two_steps<O: Ledger + Send + Sync, S: Ledger + Send + Sync, R: Abort>(
 
 #[test]
 fn two_steps_of_credit(rt: HostRuntime) {
-    let plan = plan_of(rt.alloc(), "").expect(&rt, "a plan");
+    let plan = Plan::read(rt.alloc(), NO_TRUNK.as_bytes()).expect(&rt, "a plan");
     two_steps::<Brand, Brand, HostRuntime>(&rt, rt.alloc(), &plan, Blank::new(2), Blank::new(2));
 }
 
@@ -131,6 +132,6 @@ fn three_octets<O: Ledger + Send + Sync, S: Ledger + Send + Sync, R: Abort>(
 
 #[test]
 fn three_octets_of_credit(rt: HostRuntime) {
-    let plan = plan_of(rt.alloc(), "").expect(&rt, "a plan");
+    let plan = Plan::read(rt.alloc(), NO_TRUNK.as_bytes()).expect(&rt, "a plan");
     three_octets::<Brand, Brand, HostRuntime>(&rt, rt.alloc(), &plan, Blank::new(2), Blank::new(2));
 }

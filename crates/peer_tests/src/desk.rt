@@ -11,17 +11,11 @@ use info_elements::elements;
 use leg_machine::{Judged, Message, Stage};
 use media_ledger::{Blank, Share, supply};
 use peer_lock::{Naming, Onwards, OpenError, Pass, PeerError, PeerState, Step};
-use peer_plan::{Plan, PlanError};
+use peer_plan::Plan;
 use std::alloc::Global;
 use std::marker::PhantomData;
 use std::process::Abort;
 use std::sync::ledger::Ledger;
-
-/// A NEW for 200 from call number 7.
-pub const NEW_200: &str = "8007000000000000000006010b0200020103323030090400000004080400000004";
-
-/// A NEW for 300 from call number 7.
-pub const NEW_300: &str = "8007000000000000000006010b0200020103333030090400000004080400000004";
 
 /// More credit than any test needs.
 pub const PLENTY: u64 = 1 << 48;
@@ -51,37 +45,6 @@ pub struct Desk<J: Naming> {
     pub state: PeerState<J>,
     pub pass: Pass<J>,
     pub onwards: Onwards,
-}
-
-/// A plan of a peer in the west, whose further lines come next.
-const UNTIL_WEST: &str = "format = 1\n\
-[[worker]]\n\
-address = \"127.0.0.1\"\n\
-port = 4569\n\
-[[peer]]\n\
-name = \"west\"\n\
-address = \"127.0.0.1\"\n\
-port = 5001\n\
-worker = 0\n\
-formats = [\"ulaw\"]\n\
-numbers = 4\n";
-
-/// A peer in the east.
-const EAST: &str = "\n[[peer]]\n\
-name = \"east\"\n\
-address = \"127.0.0.1\"\n\
-port = 5002\n\
-worker = 0\n\
-formats = [\"ulaw\"]\n\
-numbers = 4\n";
-
-/// A plan of a peer in the west and one in the east, with further lines for the first.
-pub fn plan_of(alloc: Global, west: &str) -> Result<Plan, PlanError> {
-    let mut text = String::new(alloc);
-    for part in [UNTIL_WEST, west, EAST] {
-        text.push_str(part)?;
-    }
-    Plan::read(alloc, text.as_bytes())
 }
 
 // The two shares of a supply, of which the first has all.

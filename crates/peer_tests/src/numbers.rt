@@ -1,7 +1,7 @@
 //! Numbers that are busy, unknown or spent, and answers that nobody takes out.
 ghost use Rattle.std.specs.Prelude.{◌≡◌};
 
-use crate::desk::{Desk, NEW_200, NEW_300, PLENTY, desk_of, plan_of};
+use crate::desk::{Desk, PLENTY, desk_of};
 use crate::same::{holds, same};
 use call_book::{CallBook, Lease, ReserveError};
 use leg_machine::{Judged, Stage};
@@ -13,12 +13,11 @@ use std::marker::Brand;
 use std::process::Abort;
 use std::sync::ledger::Ledger;
 use std::test::*;
+use test_plans::frames::{NEW_200, NEW_200_AGAIN, NEW_300};
+use test_plans::plans::{ALPHA_IN_THE_WEST, NO_TRUNK};
 
 /// A NEW for 300 from call number 8.
 const NEW_300_OF_8: &str = "8008000000000000000006010b0200020103333030090400000004080400000004";
-
-/// The NEW for 300 from call number 7 once more, with R.
-const NEW_AGAIN: &str = "8007800000000000000006010b0200020103323030090400000004080400000004";
 
 /// A HANGUP for local number 99, which no leg has.
 const UNKNOWN_CALL: &str = "800700630000000a05030605";
@@ -60,9 +59,9 @@ fn plays<O: Ledger + Send + Sync, S: Ledger + Send + Sync, R: Abort>(
     plays_row(rt, &mut desk, row);
 }
 
-// The same, with ledgers of its own and these further lines for the peer in the plan.
-fn played<R: Abort>(rt: &R, alloc: Global, west: &str, row: Row) {
-    let plan = plan_of(alloc, west).expect(rt, "a plan");
+// The same, with ledgers of its own, under the plan of a text.
+fn played<R: Abort>(rt: &R, alloc: Global, text: &str, row: Row) {
+    let plan = Plan::read(alloc, text.as_bytes()).expect(rt, "a plan");
     plays::<Brand, Brand, R>(rt, alloc, &plan, row, Blank::new(2), Blank::new(2));
 }
 
@@ -98,7 +97,7 @@ fn first_of_another(rt: &impl Abort, alloc: Global) -> Lease {
 
 #[test]
 fn busy_numbers(rt: HostRuntime) {
-    played(&rt, rt.alloc(), "", Row::BusyNumbers);
+    played(&rt, rt.alloc(), NO_TRUNK, Row::BusyNumbers);
 }
 
 // A numbered frame for an unknown call gets INVAL; an ACK gets nothing.
@@ -118,7 +117,7 @@ fn answers_unknown_calls<J: Naming>(rt: &impl Abort, desk: &mut Desk<J>) {
 
 #[test]
 fn inval_for_unknown_call(rt: HostRuntime) {
-    played(&rt, rt.alloc(), "", Row::UnknownCall);
+    played(&rt, rt.alloc(), NO_TRUNK, Row::UnknownCall);
 }
 
 // A NEW that comes again, with R, is acknowledged, and opens no second leg.
@@ -126,7 +125,7 @@ fn acknowledges_a_repeated_new<J: Naming>(rt: &impl Abort, desk: &mut Desk<J>) {
     same(rt, &desk.opens_next(NEW_200, b"a"), &Some(1));
     desk.says(rt, "8001000700000000000106080605616c7068610e0200020f0161");
     holds(rt, "one answer", desk.is_silent());
-    let again = desk.judged(0, NEW_AGAIN);
+    let again = desk.judged(0, NEW_200_AGAIN);
     same(rt, &again, &Some(Judged::Repeat));
     desk.says(rt, "800100070000000001010604");
     holds(rt, "one answer", desk.is_silent());
@@ -136,8 +135,7 @@ fn acknowledges_a_repeated_new<J: Naming>(rt: &impl Abort, desk: &mut Desk<J>) {
 
 #[test]
 fn repeated_new(rt: HostRuntime) {
-    let west = "user = \"alpha\"\nsecret = \"bc\"";
-    played(&rt, rt.alloc(), west, Row::RepeatedNew);
+    played(&rt, rt.alloc(), ALPHA_IN_THE_WEST, Row::RepeatedNew);
 }
 
 // A NEW needs a number of the book, which has none left.
@@ -158,7 +156,7 @@ fn finds_no_number<J: Naming>(rt: &impl Abort, desk: &mut Desk<J>) {
 
 #[test]
 fn no_number_left(rt: HostRuntime) {
-    played(&rt, rt.alloc(), "", Row::NoNumber);
+    played(&rt, rt.alloc(), NO_TRUNK, Row::NoNumber);
 }
 
 // Of so many answers that nobody takes out, the outbox keeps so many.
@@ -174,5 +172,5 @@ fn keeps_answers<J: Naming>(rt: &impl Abort, desk: &mut Desk<J>, answers: u32, k
 
 #[test]
 fn three_hundred_answers(rt: HostRuntime) {
-    played(&rt, rt.alloc(), "", Row::ThreeHundredAnswers);
+    played(&rt, rt.alloc(), NO_TRUNK, Row::ThreeHundredAnswers);
 }

@@ -7,7 +7,7 @@ ghost use Rattle.leg_machine.specs.OrderTable.{IsShortMedia};
 ghost use Rattle.peer_lock.specs.Openings.{IsOpening};
 ghost use Rattle.peer_lock.specs.Orders.{order_octets};
 
-use crate::desk::{Desk, NEW_300, PLENTY, octets_of, opened, opening_of, plan_of};
+use crate::desk::{Desk, PLENTY, octets_of, opened, opening_of};
 use crate::same::{holds, same};
 use call_book::Lease;
 use iax_frames::Full;
@@ -20,6 +20,8 @@ use std::marker::Brand;
 use std::process::Abort;
 use std::sync::ledger::Ledger;
 use std::test::*;
+use test_plans::frames::NEW_300;
+use test_plans::plans::NO_TRUNK;
 
 /// What is seen of a peer with one leg, and of the pass.
 #[derive(Clone, Copy, Debug, PartialEq, Eq)]
@@ -185,11 +187,11 @@ fn played<R: Abort>(rt: &R, alloc: Global, plan: &Plan) -> Option<()> {
 
 // A plan, asked for once more where memory is refused.
 fn plan_at_last(rt: &impl Abort, alloc: Global) -> Plan {
-    match plan_of(alloc, "") {
+    match Plan::read(alloc, NO_TRUNK.as_bytes()) {
         Ok(plan) => plan,
         Err(error) => {
             same(rt, &error, &PlanError::Memory);
-            plan_of(alloc, "").expect(rt, "a plan")
+            Plan::read(alloc, NO_TRUNK.as_bytes()).expect(rt, "a plan")
         }
     }
 }

@@ -5,9 +5,7 @@ use call_records::{CallEnd, CallRecord, Ending, LegMoment, Side};
 use call_signals::Cause;
 use std::alloc::Global;
 use std::process::Abort;
-
-/// A NEW for 200 from call number 7.
-const NEW_200: &str = "8007000000000000000006010b0200020103323030090400000004080400000004";
+use test_plans::frames::NEW_200;
 
 // The record ends so, by the exchange's clock.
 fn ended_here(rt: &impl Abort, record: &CallRecord, how: Ending, ms: u32, cause: u8) {

@@ -4,9 +4,7 @@ use crate::same::{same, same_octets};
 use call_records::{CallEnd, CallRecord, Ending, LegMoment, Side};
 use std::alloc::Global;
 use std::process::Abort;
-
-/// A NEW for 300 from call number 7.
-const NEW_300: &str = "8007000000000000000006010b0200020103333030090400000004080400000004";
+use test_plans::frames::NEW_300;
 
 /// The leg of the peer that calls: it is accepted at 0, answered at 20, and the peer hangs up at 100.
 const CALLED: [(u64, Event<'static>); 5] = [

@@ -7,55 +7,31 @@ use std::process::Abort;
 use std::test::*;
 use std::thread;
 use std::time::{Clock, Duration, Instant};
+use test_plans::frames::{EAST_ACCEPT, EAST_ANSWER, WEST_ACK, WEST_NEW};
+use test_plans::plan;
 
 // One worker at port 4591; a peer in the west at 5591, whose calls that begin with 3 lead to a peer in the east at 5592.
-const PLAN: &[u8] = b"format = 1\n\
-[[worker]]\n\
-address = \"127.0.0.1\"\n\
-port = 4591\n\
-[[peer]]\n\
-name = \"west\"\n\
-address = \"127.0.0.1\"\n\
-port = 5591\n\
-worker = 0\n\
-formats = [\"ulaw\"]\n\
-numbers = 4\n\
-[[peer]]\n\
-name = \"east\"\n\
-address = \"127.0.0.1\"\n\
-port = 5592\n\
-worker = 0\n\
-formats = [\"ulaw\"]\n\
-numbers = 4\n\
-[[route]]\n\
-prefix = \"3\"\n\
-peer = \"east\"\n";
+const PLAN: &str = plan!(
+    format 1;
+    worker "127.0.0.1" 4591;
+    peer "west" 5591 worker 0 "numbers = 4";
+    peer "east" 5592 worker 0 "numbers = 4";
+    route "3" "east";
+);
 
-// The same at an endpoint that no machine has of its own.
-const ELSEWHERE: &[u8] = b"format = 1\n\
-[[worker]]\n\
-address = \"192.0.2.1\"\n\
-port = 4592\n\
-[[peer]]\n\
-name = \"west\"\n\
-address = \"127.0.0.1\"\n\
-port = 5591\n\
-worker = 0\n\
-formats = [\"ulaw\"]\n";
+// A peer in the west, and a worker at an endpoint that no machine has of its own.
+const ELSEWHERE: &str = plan!(
+    format 1;
+    worker "192.0.2.1" 4592;
+    peer "west" 5591 worker 0;
+);
 
 // One worker at port 4593; a peer at 5593 whose callers are challenged.
-const WITH_SECRET: &[u8] = b"format = 1\n\
-[[worker]]\n\
-address = \"127.0.0.1\"\n\
-port = 4593\n\
-[[peer]]\n\
-name = \"west\"\n\
-address = \"127.0.0.1\"\n\
-port = 5593\n\
-worker = 0\n\
-formats = [\"ulaw\"]\n\
-user = \"alpha\"\n\
-secret = \"bc\"\n";
+const WITH_SECRET: &str = plan!(
+    format 1;
+    worker "127.0.0.1" 4593;
+    peer "west" 5593 worker 0 "user = \"alpha\"" "secret = \"bc\"";
+);
 
 // Alpha calls 300, from call number 7.
 const ALPHA_NEW: &[u8] =
@@ -66,21 +42,6 @@ const ALPHA_NEW: &[u8] =
 const OTHER_ALPHA_NEW: &[u8] =
     b"\x80\x08\x00\x00\x00\x00\x00\x00\x00\x00\x06\x01\x0b\x02\x00\x02\x06\x05alpha\x01\x03\x33\x30\x30\x09\x04\x00\x00\x00\x04\
     \x08\x04\x00\x00\x00\x04";
-
-// The west calls 300.
-const WEST_NEW: &[u8] =
-    b"\x80\x07\x00\x00\x00\x00\x00\x00\x00\x00\x06\x01\x0b\x02\x00\x02\x01\x03\x33\x30\x30\x09\x04\x00\x00\x00\x04\x08\x04\x00\
-    \x00\x00\x04";
-
-// The east accepts.
-const EAST_ACCEPT: &[u8] =
-    b"\x80\x09\x00\x05\x00\x00\x00\x03\x00\x01\x06\x07\x09\x04\x00\x00\x00\x04";
-
-// The east answers.
-const EAST_ANSWER: &[u8] = b"\x80\x09\x00\x05\x00\x00\x00\x0d\x01\x01\x04\x04";
-
-// The west has the ACCEPT and the ANSWER.
-const WEST_ACK: &[u8] = b"\x80\x07\x00\x01\x00\x00\x00\x14\x01\x02\x06\x04";
 
 // The first voice frame from the west: 1 octet of media.
 const WEST_VOICE: &[u8] = b"\x80\x07\x00\x01\x00\x00\x00\x20\x01\x02\x02\x04\xff";
@@ -199,7 +160,11 @@ fn call<R: Net + Abort>(rt: &R, west: &UdpSocket, east: &UdpSocket) {
 #[test]
 fn nobody_sends_then_a_call_between_two_sockets(rt: HostRuntime) {
     let mut out = Vec::new(rt.alloc());
-    same(&rt, &serve(&rt, rt.alloc(), PLAN, 3, &mut out), &0);
+    same(
+        &rt,
+        &serve(&rt, rt.alloc(), PLAN.as_bytes(), 3, &mut out),
+        &0,
+    );
     same_octets(&rt, &out, b"worker 0 0 0 0 0\noctets 0 0 0 0\n");
 
     // Bound before the exchange is, so nothing that is sent to them is lost.
@@ -208,7 +173,7 @@ fn nobody_sends_then_a_call_between_two_sockets(rt: HostRuntime) {
     let mut out = Vec::new(rt.alloc());
     let (status, ()) = thread::join(
         &rt,
-        || serve(&rt, rt.alloc(), PLAN, 300, &mut out),
+        || serve(&rt, rt.alloc(), PLAN.as_bytes(), 300, &mut out),
         || {
             let _ = thread::sleep(&rt, Duration::from_millis(500));
             call(&rt, &west, &east)
@@ -263,7 +228,7 @@ fn challenges_differ_and_are_sent_again_after_a_second(rt: HostRuntime) {
     let mut out = Vec::new(rt.alloc());
     let (status, ()) = thread::join(
         &rt,
-        || serve(&rt, rt.alloc(), WITH_SECRET, 150, &mut out),
+        || serve(&rt, rt.alloc(), WITH_SECRET.as_bytes(), 150, &mut out),
         || {
             let _ = thread::sleep(&rt, Duration::from_millis(500));
             two_challenges(&rt, &west)
@@ -275,6 +240,10 @@ fn challenges_differ_and_are_sent_again_after_a_second(rt: HostRuntime) {
 #[test]
 fn nothing_is_bound(rt: HostRuntime) {
     let mut out = Vec::new(rt.alloc());
-    same(&rt, &serve(&rt, rt.alloc(), ELSEWHERE, 3, &mut out), &1);
+    same(
+        &rt,
+        &serve(&rt, rt.alloc(), ELSEWHERE.as_bytes(), 3, &mut out),
+        &1,
+    );
     same_octets(&rt, &out, b"refused Bind\n");
 }

@@ -3,7 +3,6 @@ ghost use Rattle.std.specs.Prelude.{◌≡◌, ◌+◌, ◌^◌, ◌<◌, length
 ghost use Rattle.udp_workers.specs.Served.{AreEndpoints, peers_of};
 
 use crate::memory_wire::MemoryWire;
-use crate::plans::TWO_WORKERS;
 use crate::same::{holds, same};
 use call_auth::Challenge;
 use exchange_core::{Exchange, Gate, Pass};
@@ -19,6 +18,7 @@ use std::test::*;
 use std::thread;
 use std::thread::Threads;
 use std::time::{Clock, Duration};
+use test_plans::plans::TWO_WORKERS;
 use udp_workers::{Challenges, Moments, Post, Seat, Worker, run_all};
 
 // Which peers' sections were entered, and whether one waited in vain for the other.
@@ -194,7 +194,7 @@ fn turn_named<
 
 #[test]
 fn two_peers_at_once(rt: HostRuntime) {
-    let plan = Plan::read(rt.alloc(), TWO_WORKERS).expect(&rt, "a plan");
+    let plan = Plan::read(rt.alloc(), TWO_WORKERS.as_bytes()).expect(&rt, "a plan");
     let parts = u64::from(plan.peer_count()) + u64::from(plan.passes());
     let entered = Entered {
         west: AtomicBool::new(false),

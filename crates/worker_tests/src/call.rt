@@ -1,6 +1,7 @@
 //! A call from its first datagram to its last: a peer in the west calls 300, which leads east.
-use crate::plans::{EAST, WEST};
+use crate::endpoints::{EAST, WEST};
 use peer_plan::Endpoint;
+use test_plans::frames::{EAST_ACCEPT, EAST_ANSWER, WEST_ACK, WEST_NEW};
 
 /// A datagram that comes from a peer, and its moment.
 #[derive(Clone, Copy)]
@@ -15,8 +16,7 @@ pub const ARRIVALS: [Arrival; 7] = [
     Arrival {
         at: 0,
         from: WEST,
-        octets: b"\x80\x07\x00\x00\x00\x00\x00\x00\x00\x00\x06\x01\x0b\x02\x00\x02\x01\x03\x33\x30\x30\x09\x04\x00\x00\x00\x04\
-        \x08\x04\x00\x00\x00\x04",
+        octets: WEST_NEW,
     },
     Arrival {
         at: 10,
@@ -26,17 +26,17 @@ pub const ARRIVALS: [Arrival; 7] = [
     Arrival {
         at: 10,
         from: EAST,
-        octets: b"\x80\x09\x00\x05\x00\x00\x00\x03\x00\x01\x06\x07\x09\x04\x00\x00\x00\x04",
+        octets: EAST_ACCEPT,
     },
     Arrival {
         at: 20,
         from: EAST,
-        octets: b"\x80\x09\x00\x05\x00\x00\x00\x0d\x01\x01\x04\x04",
+        octets: EAST_ANSWER,
     },
     Arrival {
         at: 20,
         from: WEST,
-        octets: b"\x80\x07\x00\x01\x00\x00\x00\x14\x01\x02\x06\x04",
+        octets: WEST_ACK,
     },
     Arrival {
         at: 100,

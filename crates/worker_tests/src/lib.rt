@@ -8,13 +8,13 @@ mod call;
 #[cfg(test)]
 mod counting_watch;
 #[cfg(test)]
+mod endpoints;
+#[cfg(test)]
 mod failing_wire;
 #[cfg(test)]
 mod loopback;
 #[cfg(test)]
 mod memory_wire;
-#[cfg(test)]
-mod plans;
 #[cfg(test)]
 mod same;
 #[cfg(test)]

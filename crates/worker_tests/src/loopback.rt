@@ -3,7 +3,7 @@ ghost use Rattle.std.specs.Prelude.{◌≡◌, ◌+◌, ◌^◌, length};
 ghost use Rattle.udp_workers.specs.MioWire.{peers_of as wire_peers};
 ghost use Rattle.udp_workers.specs.Served.{AreEndpoints, peers_of};
 
-use crate::plans::{EAST, ONE_WORKER, WEST};
+use crate::endpoints::{EAST, WEST};
 use crate::same::same;
 use call_auth::Challenge;
 use exchange_core::{Exchange, NoGate, Pass};
@@ -17,6 +17,7 @@ use std::net::{IpAddr, Ipv4Addr, Net, SocketAddr};
 use std::sync::Wait;
 use std::sync::ledger::Ledger;
 use std::test::*;
+use test_plans::plans::ONE_WORKER;
 use udp_workers::{MioWire, Sharing, Wire, Worker};
 
 // A NEW for 200, for which the plan has no route.
@@ -144,7 +145,7 @@ fn call_named<O: Ledger + Send + Sync, S: Ledger + Send + Sync, R: Net + Wait>(
 
 #[test]
 fn reject_on_loopback(rt: HostRuntime) {
-    let plan = Plan::read(rt.alloc(), ONE_WORKER).expect(&rt, "a plan");
+    let plan = Plan::read(rt.alloc(), ONE_WORKER.as_bytes()).expect(&rt, "a plan");
     let parts = u64::from(plan.peer_count()) + u64::from(plan.passes());
     let (octets, steps) = (Blank::new(parts), Blank::new(parts));
     let called = call_named::<Brand, Brand, HostRuntime>(&rt, rt.alloc(), plan, octets, steps);

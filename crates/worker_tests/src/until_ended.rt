@@ -4,8 +4,8 @@ ghost use Rattle.std.specs.Prelude.{◌≡◌, ◌+◌, ◌^◌, length};
 use crate::both_at_once::Zero;
 use crate::call::{ARRIVALS, Arrival, SECOND_NEW, TO_EAST, TO_WEST};
 use crate::counting_watch::{CountingWatch, read};
+use crate::endpoints::{EAST, WEST};
 use crate::memory_wire::{MemoryWire, Sent};
-use crate::plans::{EAST, ONE_WORKER, WEST};
 use crate::same::{holds, same};
 use crate::whole_call::{balances, went};
 use call_auth::Challenge;
@@ -19,6 +19,7 @@ use std::process::Abort;
 use std::sync::Wait;
 use std::sync::ledger::Ledger;
 use std::test::*;
+use test_plans::plans::ONE_WORKER;
 use udp_workers::{Moments, TurnReport, Worker};
 
 // No peer of the plan.
@@ -160,7 +161,7 @@ fn run_over<R: Wait>(
     arrivals: &[Arrival],
     fails_at: u64,
 ) -> Option<Ran> {
-    let plan = Plan::read(alloc, ONE_WORKER).ok()?;
+    let plan = Plan::read(alloc, ONE_WORKER.as_bytes()).ok()?;
     let parts = u64::from(plan.peer_count()) + u64::from(plan.passes());
     let (octets, steps) = (Blank::new(parts), Blank::new(parts));
     run_named::<Brand, Brand, R>(rt, alloc, watch, arrivals, fails_at, plan, octets, steps)

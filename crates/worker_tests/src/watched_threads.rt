@@ -3,7 +3,6 @@ ghost use Rattle.std.specs.Prelude.{◌≡◌, ◌+◌, ◌^◌, length};
 
 use crate::both_at_once::{TestSeat, seats_of, turns_of};
 use crate::counting_watch::{CountingWatch, read};
-use crate::plans::TWO_WORKERS;
 use crate::same::{holds, same};
 use exchange_core::{Exchange, NoGate, Pass, Retired};
 use media_ledger::Blank;
@@ -18,6 +17,7 @@ use std::test::*;
 use std::thread;
 use std::thread::Threads;
 use std::time::{Clock, Duration};
+use test_plans::plans::TWO_WORKERS;
 use udp_workers::{Event, Post, ServiceStage, Watch, WatchedExchange, start_until};
 
 // Serves until it is stopped.
@@ -173,7 +173,7 @@ fn run_named<
 
 #[test]
 fn threads_until_ended(rt: HostRuntime) {
-    let plan = Plan::read(rt.alloc(), TWO_WORKERS).expect(&rt, "a plan");
+    let plan = Plan::read(rt.alloc(), TWO_WORKERS.as_bytes()).expect(&rt, "a plan");
     let parts = u64::from(plan.peer_count()) + u64::from(plan.passes());
     let (octets, steps) = (Blank::new(parts), Blank::new(parts));
     let counting = CountingWatch::new(5, 0);

@@ -3,8 +3,8 @@ ghost use Rattle.std.specs.Prelude.{◌≡◌, ◌+◌, ◌^◌, length};
 ghost use Rattle.udp_workers.specs.Served.{AreEndpoints, peers_of};
 
 use crate::call::{ARRIVALS, TO_EAST, TO_WEST};
+use crate::endpoints::{EAST, WEST};
 use crate::memory_wire::{MemoryWire, Sent};
-use crate::plans::{EAST, ONE_WORKER, WEST};
 use crate::same::{holds, same};
 use call_auth::Challenge;
 use exchange_core::{Exchange, NoGate, Pass};
@@ -16,6 +16,7 @@ use std::marker::Brand;
 use std::sync::Wait;
 use std::sync::ledger::Ledger;
 use std::test::*;
+use test_plans::plans::ONE_WORKER;
 use udp_workers::{TurnReport, Wire, Worker};
 
 /// What a call over a wire in memory came to.
@@ -147,7 +148,7 @@ fn play_named<O: Ledger + Send + Sync, S: Ledger + Send + Sync, R: Wait>(
 
 /// The call over a wire in memory that fails at its call of this place; at 0 never.
 pub fn play_over<R: Wait>(rt: &R, alloc: Global, fails_at: u64) -> Option<Played> {
-    let plan = Plan::read(alloc, ONE_WORKER).ok()?;
+    let plan = Plan::read(alloc, ONE_WORKER.as_bytes()).ok()?;
     let parts = u64::from(plan.peer_count()) + u64::from(plan.passes());
     play_named::<Brand, Brand, R>(
         rt,

@@ -1,14 +1,16 @@
 //! Challenges, both ways ("Authentication").
-use crate::leg::{Event, Line, NEW_200, Tested, Wish, called, calling};
+use crate::leg::{Event, Line, Tested, Wish, called, calling};
 use crate::same::{same, same_octets};
 use leg_machine::{Cause, Judged, OrderError, Signal, Stage};
 use std::alloc::Global;
 use std::process::Abort;
+use test_plans::frames::{NEW_200, NEW_200_AGAIN};
+use test_plans::plans::ALPHA_IN_THE_WEST;
+use test_plans::west_and_east;
 
 // The leg of a caller whom the peer `alpha` challenges by `a`.
 fn challenged(rt: &impl Abort, alloc: Global) -> Tested {
-    let west = "user = \"alpha\"\nsecret = \"bc\"";
-    let (tested, heard) = called(rt, alloc, west, NEW_200, b"a");
+    let (tested, heard) = called(rt, alloc, ALPHA_IN_THE_WEST, NEW_200, b"a");
     same(rt, &(heard.judged, heard.signal), &(Judged::Taken, None));
     tested.said(
         rt,
@@ -75,11 +77,7 @@ fn challenge_failed(rt: HostRuntime) {
 /// The NEW comes again.
 const NEW_AGAIN: [Line<'static>; 1] = [Line {
     at: 0,
-    event: Event::Frame(
-        "8007800000000000000006010b0200020103323030090400000004080400000004",
-        Judged::Repeat,
-        None,
-    ),
+    event: Event::Frame(NEW_200_AGAIN, Judged::Repeat, None),
     said: &["800100070000000001010604"],
     stage: Stage::Challenged,
 }];
@@ -90,9 +88,16 @@ fn repeated_new(rt: HostRuntime) {
     tested.plays(&rt, &NEW_AGAIN);
 }
 
+/// The peer in the east knows this one as `beta`.
+const BETA_IN_THE_EAST: &str = west_and_east!(
+    format 2;
+    west;
+    east "user = \"beta\"" "secret = \"bc\"";
+);
+
 // The leg of a call to a peer that knows this one as `beta`.
 fn calling_with_md5(rt: &impl Abort, alloc: Global) -> Tested {
-    let tested = calling(rt, alloc, "user = \"beta\"\nsecret = \"bc\"");
+    let tested = calling(rt, alloc, BETA_IN_THE_EAST);
     tested.said(
         rt,
         &["8005000000000000000006010b0200020103333030060462657461090400000004080400000004"],

@@ -1,6 +1,7 @@
 //! Media that the other side doesn't want ("QUELCH", "UNQUELCH").
 use crate::leg::{Event, Line, Wish, called_for_300};
 use leg_machine::{Judged, Stage};
+use test_plans::plans::NO_TRUNK;
 
 /// Nothing goes out between QUELCH and UNQUELCH; later media is a mini frame, since the voice frame before them counts still.
 const QUELCHED: [Line<'static>; 6] = [
@@ -44,6 +45,6 @@ const QUELCHED: [Line<'static>; 6] = [
 
 #[test]
 fn quelch(rt: HostRuntime) {
-    let mut tested = called_for_300(&rt, rt.alloc(), "");
+    let mut tested = called_for_300(&rt, rt.alloc(), NO_TRUNK);
     tested.plays(&rt, &QUELCHED);
 }

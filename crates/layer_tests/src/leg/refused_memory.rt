@@ -4,9 +4,7 @@
 //! answers as it would have. `.ci/refusals` refuses the requests one at a time.
 ghost use Rattle.std.specs.Prelude.{◌≤◌, length};
 
-use crate::leg::{
-    ANSWERING, Event, Line, NEW_300, Tested, Wish, full_of, octets_of, opened, plan_of,
-};
+use crate::leg::{ANSWERING, Event, Line, Tested, Wish, full_of, octets_of, opened};
 use crate::same::{holds, same};
 use iax_frames::{CallNumber, Frame, Full, Payload};
 use leg_machine::{Digit, Heard, Judged, MediaSpan, OrderError, Signal, Stage, StepError};
@@ -14,6 +12,14 @@ use peer_plan::{Plan, PlanError};
 use seq_window::{Acknowledged, Received, Window};
 use std::alloc::Global;
 use std::process::Abort;
+use test_plans::frames::NEW_300;
+use test_plans::west_and_east;
+
+/// No leg pings.
+const NO_PINGS: &str = west_and_east!(format 2 "ping_ms = 0"; west; east;);
+
+/// A leg pings after 30 milliseconds.
+const PINGS: &str = west_and_east!(format 2 "ping_ms = 30"; west; east;);
 
 /// What is seen of a leg.
 #[derive(Clone, Copy, Debug, PartialEq, Eq)]
@@ -123,18 +129,18 @@ impl Tested {
     }
 }
 
-// A plan with a further line at its top, read once more where memory is refused.
-fn plan_at_last(rt: &impl Abort, alloc: Global, top: &str) -> Plan {
-    let read = match plan_of(alloc, top, "", "") {
-        Err(PlanError::Memory) => plan_of(alloc, top, "", ""),
+// The plan of a text, read once more where memory is refused.
+fn plan_at_last(rt: &impl Abort, alloc: Global, text: &str) -> Plan {
+    let read = match Plan::read(alloc, text.as_bytes()) {
+        Err(PlanError::Memory) => Plan::read(alloc, text.as_bytes()),
         answer => answer,
     };
     read.expect(rt, "a plan")
 }
 
 // The leg of a NEW for 300, opened once more where memory is refused.
-fn called_at_last(rt: &impl Abort, alloc: Global, top: &str) -> Tested {
-    let plan = plan_at_last(rt, alloc, top);
+fn called_at_last(rt: &impl Abort, alloc: Global, text: &str) -> Tested {
+    let plan = plan_at_last(rt, alloc, text);
     let (tested, _) = match opened(alloc, &plan, NEW_300, b"0") {
         Some(opened) => opened,
         None => opened(alloc, &plan, NEW_300, b"0").expect(rt, "a leg"),
@@ -143,15 +149,15 @@ fn called_at_last(rt: &impl Abort, alloc: Global, top: &str) -> Tested {
 }
 
 // The leg of a NEW for 300 that answered the call.
-fn talking(rt: &impl Abort, alloc: Global, top: &str) -> Tested {
-    let mut tested = called_at_last(rt, alloc, top);
+fn talking(rt: &impl Abort, alloc: Global, text: &str) -> Tested {
+    let mut tested = called_at_last(rt, alloc, text);
     tested.plays_at_last(rt, &ANSWERING);
     tested
 }
 
 #[test]
 fn any_growth_of_a_leg_refused(rt: HostRuntime) {
-    let mut tested = talking(&rt, rt.alloc(), "ping_ms = 0");
+    let mut tested = talking(&rt, rt.alloc(), NO_PINGS);
     let lines = [
         Line {
             at: 32,
@@ -201,8 +207,8 @@ fn is_granted(rt: &impl Abort, tested: &mut Tested, wish: &Wish) {
 }
 
 // A leg that is Up, and whose record has no room for a further frame: two more entries need memory.
-fn without_room(rt: &impl Abort, alloc: Global, top: &str) -> Tested {
-    let mut tested = talking(rt, alloc, top);
+fn without_room(rt: &impl Abort, alloc: Global, text: &str) -> Tested {
+    let mut tested = talking(rt, alloc, text);
     for _ in 0..4 {
         is_granted(rt, &mut tested, &Wish::Digit);
     }
@@ -230,7 +236,7 @@ fn goes_out(rt: &impl Abort, tested: &mut Tested, at_30: &str, at_40: &str) {
 
 #[test]
 fn ping_without_memory(rt: HostRuntime) {
-    let mut tested = without_room(&rt, rt.alloc(), "ping_ms = 30");
+    let mut tested = without_room(&rt, rt.alloc(), PINGS);
     goes_out(
         &rt,
         &mut tested,
@@ -241,7 +247,7 @@ fn ping_without_memory(rt: HostRuntime) {
 
 #[test]
 fn hangup_without_memory(rt: HostRuntime) {
-    let mut tested = without_room(&rt, rt.alloc(), "ping_ms = 0");
+    let mut tested = without_room(&rt, rt.alloc(), NO_PINGS);
     is_granted(&rt, &mut tested, &Wish::Doom);
     goes_out(
         &rt,

@@ -1,10 +1,12 @@
 //! Sequence numbers, resending and the room of a window, at a leg ("Message Transport").
-use crate::leg::{Event, Line, NEW_300, Tested, Wish, answered, called_for_300};
+use crate::leg::{Event, Line, Tested, Wish, answered, called_for_300};
 use crate::same::same;
 use leg_machine::{Judged, OrderError, Stage};
 use seq_window::Record;
 use std::alloc::Global;
 use std::process::Abort;
+use test_plans::frames::NEW_300;
+use test_plans::west_and_east;
 
 /// A frame comes ahead of its turn, and the NEW comes again.
 const GAP_AND_REPEAT: [Line<'static>; 2] = [
@@ -64,9 +66,12 @@ const WINDOW_OF_ONE: [Line<'static>; 3] = [
     },
 ];
 
+/// One frame at a time awaits its acknowledgement by the peer in the west.
+const NARROW: &str = west_and_east!(format 2; west "window = 1"; east;);
+
 #[test]
 fn window_of_one(rt: HostRuntime) {
-    let mut tested = called_for_300(&rt, rt.alloc(), "window = 1");
+    let mut tested = called_for_300(&rt, rt.alloc(), NARROW);
     tested.plays(&rt, &WINDOW_OF_ONE);
 }
 

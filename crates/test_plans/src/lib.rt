@@ -1,0 +1,6 @@
+//! What several crates of tests share: plans and a builder of them, and frames.
+#![tactic(auto)]
+
+mod builder;
+pub mod frames;
+pub mod plans;

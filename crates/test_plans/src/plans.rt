@@ -1,0 +1,36 @@
+//! Plans of a peer in the west and one in the east.
+use crate::{plan, west_and_east};
+
+/// A worker serves both peers. The west is a trunk peer.
+pub const ONE_WORKER: &str = west_and_east!(
+    format 1;
+    west "trunk = true" "trunk_timestamps = true";
+    east;
+);
+
+/// The same; two workers or callers may act at once.
+pub const TWO_PASSES: &str = west_and_east!(
+    format 1 "passes = 2";
+    west "trunk = true" "trunk_timestamps = true";
+    east;
+);
+
+/// As `ONE_WORKER`, but a second worker serves the peer in the east.
+pub const TWO_WORKERS: &str = plan!(
+    format 1;
+    worker "127.0.0.1" 4569;
+    worker "127.0.0.1" 4570;
+    peer "west" 5001 worker 0 "trunk = true" "trunk_timestamps = true" "numbers = 4";
+    peer "east" 5002 worker 1 "numbers = 4";
+    route "3" "east";
+);
+
+/// A worker serves both peers, of which none is a trunk peer.
+pub const NO_TRUNK: &str = west_and_east!(format 2; west; east;);
+
+/// The same; callers from the west are challenged: their user is `alpha`, their secret is `bc`.
+pub const ALPHA_IN_THE_WEST: &str = west_and_east!(
+    format 2;
+    west "user = \"alpha\"" "secret = \"bc\"";
+    east;
+);
