@@ -4,7 +4,7 @@ use std::alloc::Global;
 use std::fs::{Files, Permissions};
 use std::io::ErrorKind;
 use std::net::Net;
-use std::os::unix::fs::PermissionsExt;
+use std::os::unix::fs::{FileTypeExt, PermissionsExt};
 use std::{fs, io};
 
 // Whether a listener may be bound at the path: nothing is there, or the socket of a process that has ended.
@@ -19,7 +19,7 @@ fn is_free<R: Files + Net>(rt: &R, path: &str) -> io::Result<bool> {
         }
     }
     match fs::symlink_metadata(rt, path) {
-        Ok(found) => Ok(!found.is_file() && !found.is_dir()),
+        Ok(found) => Ok(found.file_type().is_socket()),
         Err(error) => {
             if error.kind() == ErrorKind::NotFound {
                 return Ok(true);
@@ -29,11 +29,11 @@ fn is_free<R: Files + Net>(rt: &R, path: &str) -> io::Result<bool> {
     }
 }
 
-/// Binds a listener at the path, to which its owner alone may connect. The socket of a process that has ended is replaced, as is
-/// a link or a pipe at which nobody answers. A file of the same name with `.new` behind it is removed.
+/// Binds a listener at the path, to which its owner alone may connect. The socket of a process that has ended is replaced. A file
+/// of the same name with `.new` behind it is removed.
 ///
-/// `AddrInUse`: somebody answers there, or a plain file or a folder lies there. Other errors are those of the system, as for a
-/// path of 108 octets or more, or one in a folder that isn't there.
+/// `AddrInUse`: somebody answers there, or what lies there is no socket: a file, a folder, a link, a pipe. Other errors are those
+/// of the system, as for a path of 108 octets or more, or one in a folder that isn't there.
 pub fn bind<R: Files + Net>(rt: &R, alloc: Global, path: &str) -> io::Result<UnixListener> {
     if !is_free(rt, path)? {
         return Err(io::Error::from(ErrorKind::AddrInUse));
