@@ -4,6 +4,7 @@
 mod calls_told;
 mod scraping;
 mod socket_drops;
+mod start_told;
 mod strangers;
 mod telling;
 mod trace_told;
@@ -11,4 +12,5 @@ mod trace_told;
 pub use calls_told::tell_end;
 pub use scraping::answer_scrape;
 pub use socket_drops::SocketTable;
-pub use telling::{Told, tell_start};
+pub use start_told::tell_start;
+pub use telling::Told;
