@@ -27,13 +27,6 @@ fn explain_command<'a>(alloc: Global) -> Result<Command<'a>, AllocError> {
         .arg(plan(alloc))
 }
 
-fn replay_command<'a>(alloc: Global) -> Result<Command<'a>, AllocError> {
-    Command::new(alloc, "replay")
-        .about("Replays a script on an exchange, and prints what it does")
-        .arg(plan(alloc))?
-        .arg(word(alloc, "script", "The file of the script"))
-}
-
 // The two files that are replayed.
 fn replayed<'a>(alloc: Global, command: Command<'a>) -> Result<Command<'a>, AllocError> {
     command
@@ -41,21 +34,36 @@ fn replayed<'a>(alloc: Global, command: Command<'a>) -> Result<Command<'a>, Allo
         .arg(word(alloc, "script", "The file of the script"))
 }
 
-fn ladder_command<'a>(alloc: Global) -> Result<Command<'a>, AllocError> {
-    let leg = Arg::new(alloc, "leg")
+fn replay_command<'a>(alloc: Global) -> Result<Command<'a>, AllocError> {
+    let command = Command::new(alloc, "replay").about(
+        "Replays a script on an exchange, and prints what it does",
+    );
+    replayed(alloc, command)
+}
+
+fn leg_option<'a>(alloc: Global) -> Arg<'a> {
+    Arg::new(alloc, "leg")
         .long("leg")
         .value_name("NUMBER")
         .help("Only what concerns the leg of this local call number")
         .value_parser(clap::value_parser!(u32).range(1..=32767))
-        .action(ArgAction::Set);
-    let text = Arg::new(alloc, "text")
+        .action(ArgAction::Set)
+}
+
+fn text_option<'a>(alloc: Global) -> Arg<'a> {
+    Arg::new(alloc, "text")
         .long("text")
         .help("Plain text of at most 100 columns, not SVG")
-        .action(ArgAction::SetTrue);
+        .action(ArgAction::SetTrue)
+}
+
+fn ladder_command<'a>(alloc: Global) -> Result<Command<'a>, AllocError> {
     let command = Command::new(alloc, "ladder").about(
         "Replays a script, and prints a picture of its calls, in SVG: a ladder",
     );
-    replayed(alloc, command)?.arg(leg)?.arg(text)
+    let command = replayed(alloc, command)?;
+    let command = command.arg(leg_option(alloc))?;
+    command.arg(text_option(alloc))
 }
 
 fn records_command<'a>(alloc: Global) -> Result<Command<'a>, AllocError> {
@@ -183,43 +191,51 @@ fn run_command<'a>(alloc: Global) -> Result<Command<'a>, AllocError> {
     with_files(alloc, command)
 }
 
-fn ctl_command<'a>(alloc: Global) -> Result<Command<'a>, AllocError> {
-    let order = Arg::new(alloc, "order")
+fn order_words<'a>(alloc: Global) -> Arg<'a> {
+    Arg::new(alloc, "order")
         .required(true)
         .num_args(1..)
         .help("peers | calls | accounts | call <peer> <number> | hangup <number> | stop")
-        .action(ArgAction::Append);
-    Command::new(alloc, "ctl")
+        .action(ArgAction::Append)
+}
+
+fn ctl_command<'a>(alloc: Global) -> Result<Command<'a>, AllocError> {
+    let command = Command::new(alloc, "ctl")
         .about("Gives a running service an order")
-        .arg(word(alloc, "socket", "The path of its control socket"))?
-        .arg(order)
+        .arg(word(alloc, "socket", "The path of its control socket"))?;
+    command.arg(order_words(alloc))
 }
 
 /// The version of the program.
 pub(crate) const VERSION: &str = "0.1.0";
 
+// A command more, if there was memory for it. (One place where it isn't: each `?` costs a proof of all that is dropped there.)
+fn with<'a>(
+    command: Command<'a>,
+    one: Result<Command<'a>, AllocError>,
+) -> Result<Command<'a>, AllocError> {
+    command.subcommand(one?)
+}
+
 // What is said of plans and scripts.
 fn with_plans<'a>(alloc: Global, command: Command<'a>) -> Result<Command<'a>, AllocError> {
-    command
-        .subcommand(check_command(alloc)?)?
-        .subcommand(explain_command(alloc)?)?
-        .subcommand(replay_command(alloc)?)
+    let command = with(command, check_command(alloc))?;
+    let command = with(command, explain_command(alloc))?;
+    with(command, replay_command(alloc))
 }
 
 // What is made of a script.
 fn with_views<'a>(alloc: Global, command: Command<'a>) -> Result<Command<'a>, AllocError> {
-    command
-        .subcommand(ladder_command(alloc)?)?
-        .subcommand(pcap_command(alloc)?)?
-        .subcommand(records_command(alloc)?)
+    let command = with(command, ladder_command(alloc))?;
+    let command = with(command, pcap_command(alloc))?;
+    with(command, records_command(alloc))
 }
 
 // What carries calls.
 fn with_services<'a>(alloc: Global, command: Command<'a>) -> Result<Command<'a>, AllocError> {
-    command
-        .subcommand(serve_command(alloc)?)?
-        .subcommand(run_command(alloc)?)?
-        .subcommand(ctl_command(alloc)?)
+    let command = with(command, serve_command(alloc))?;
+    let command = with(command, run_command(alloc))?;
+    with(command, ctl_command(alloc))
 }
 
 /// The whole command line. The words of a parse have to live as long as `'a`.
