@@ -1,12 +1,12 @@
 //! The lines of a script are played on an exchange, and a viewer is told what came of each.
 use crate::free_order::order_free;
-use crate::names::{call_error_name, order_error_name, refusal_name};
 use crate::outboxes::{empty_outbox, empty_outboxes};
 use crate::stages::Stages;
 use crate::viewer::{PeerOfPlan, Stop, Viewer};
 use crate::words::{endpoint_of, octets_of, peer_of};
 use call_auth::Challenge;
 use exchange_core::{Answer, Exchange, NoGate, Pass, Retired};
+use exchange_report::{call_error_name, order_error_name, refusal_name};
 use peer_lock::{Naming, Status};
 use peer_plan::Plan;
 use script_lines::Line;

@@ -1,8 +1,7 @@
 //! What a replay prints.
-use crate::accounts::write_accounts;
-use crate::names::{refusal_name, stage_name};
-use crate::viewer::{MediaAccounts, PeerOfPlan, Stop, Viewer};
+use crate::viewer::{PeerOfPlan, Stop, Viewer};
 use exchange_core::{Refusal, Retired};
+use exchange_report::{MediaAccounts, refusal_name, stage_name, write_accounts};
 use leg_machine::Stage;
 use std::io;
 use std::io::Write;

@@ -1,11 +1,11 @@
 //! A script is replayed, line by line, through an exchange.
 ghost use Rattle.std.specs.Prelude.{◌≡◌, ◌+◌, ◌<◌, ◌^◌, length, IfSome};
 
-use crate::accounts::close;
 use crate::player::Player;
 use crate::printing::Printer;
 use crate::viewer::{Stop, Viewer};
 use exchange_core::{Exchange, NoGate, Pass};
+use exchange_report::closed_accounts;
 use media_ledger::Blank;
 use peer_lock::{Naming, Service};
 use peer_plan::{Plan, PlanError};
@@ -70,7 +70,7 @@ fn work_line<J: Naming, R: Wait, V: Viewer>(
         None => Err(Stop::Script),
         Some(Line::Nothing) => Ok(()),
         Some(Line::Settle) => match open.take() {
-            Some((exchange, passes)) => viewer.settled(&close(exchange, passes)?),
+            Some((exchange, passes)) => viewer.settled(&closed_accounts(exchange, passes)?),
             None => Err(Stop::Script),
         },
         Some(line) => match open {

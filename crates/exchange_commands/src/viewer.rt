@@ -2,6 +2,7 @@
 ghost use Rattle.std.specs.Prelude.{◌≡◌, ◌<◌, length, Some, option_and_then, option_map, slice_get};
 
 use exchange_core::{Refusal, Retired};
+use exchange_report::MediaAccounts;
 use leg_machine::Stage;
 use peer_plan::{Endpoint, Plan};
 use script_lines::Line;
@@ -61,17 +62,6 @@ impl<'a> PeerOfPlan<'a> {
             worker: plan.workers()[usize::from(worker)],
         }
     }
-}
-
-/// The octets of media over all peers, as the accounts have them when they are closed.
-#[derive(Clone, Copy, Debug, PartialEq, Eq)]
-pub struct MediaAccounts {
-    pub accepted: u64,
-    pub packed: u64,
-    pub queued: u64,
-    pub dropped: u64,
-    /// Of the dropped ones, those that the other side wanted none of.
-    pub quelched: u64,
 }
 
 /// Who looks on while a script is replayed.

@@ -1,25 +1,14 @@
 //! What the words of a script's line name.
-ghost use Rattle.std.specs.Prelude.{◌≡◌, ◌<◌, length, IfOk, IfSome};
+ghost use Rattle.std.specs.Prelude.{◌<◌, length, IfOk};
 
 use crate::viewer::Stop;
+use exchange_report::peer_named;
 use peer_plan::{Endpoint, Plan};
 use std::alloc::Global;
 use std::net::SocketAddrV4;
 use std::str;
 
-/// The place in the plan of the first peer of a name, from 0 on; none where no peer has it.
-pub fn peer_named(plan: &Plan, name: &[u8]) -> Option<u16>
-    ensures { IfSome result (λ peer. peer < length plan.now.peers) }
-{
-    for peer in 0..plan.peer_count() {
-        if plan.name(peer).as_bytes() == name {
-            return Some(peer);
-        }
-    }
-    None
-}
-
-/// The same in a script, which has to name a peer of the plan.
+/// The place in the plan, from 0 on, of the first peer of a name. A script has to name a peer of the plan.
 pub(crate) fn peer_of(plan: &Plan, name: &[u8]) -> Result<u16, Stop>
     ensures { IfOk result (λ peer. peer < length plan.now.peers) }
 {

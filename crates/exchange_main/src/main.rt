@@ -3,12 +3,10 @@
 //! `exchange_main run PLAN`.
 #![tactic(auto)]
 
-mod command_line;
-
-use crate::command_line::{VERSION, command_line};
 use call_writer::Disk;
 use clap::ArgMatches;
 use clap::error::ErrorKind;
+use command_line::{VERSION, command_line};
 use control_client::{give_order, order_of};
 use exchange_commands::{check, replay, serve, turn_count};
 use exchange_service::{Settings, TraceOptions, run as run_service};

@@ -5,13 +5,12 @@ use crate::journal::Journal;
 use crate::running::{Settings, TraceOptions};
 use crate::seating::serve_seats;
 use call_writer::{Calendar, CallOutlets, CallRows, Disk, write_calls};
-use exchange_commands::ServiceError;
 use exchange_core::NoGate;
 use jiff::Timestamp;
 use peer_lock::Naming;
 use peer_plan::Plan;
 use service_desk::{Desk, ServiceWatch};
-use service_telemetry::tell_end;
+use service_log::tell_end;
 use std::alloc::{AllocError, Global};
 use std::io::ErrorKind;
 use std::net::Net;
@@ -23,6 +22,7 @@ use std::time::{Clock, Instant, SystemTime};
 use trace_writer::{Folder, Trace, TraceFile, TraceFolder, TraceNotes, TraceSettings, write_trace};
 use traced_seats::TracedSeat;
 use udp_workers::{Post, WatchedExchange};
+use worker_seats::ServiceError;
 
 /// What a thread needs that writes the rows of ended legs to a file.
 #[derive(Drop)]

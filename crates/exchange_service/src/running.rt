@@ -7,8 +7,8 @@ use crate::recording::watch_of;
 use crate::seating::serve_watched;
 use crate::socket_file;
 use call_writer::Disk;
-use exchange_commands::{ServiceError, service_error_name, settle, write_reports};
 use exchange_core::{Exchange, NoGate, Pass};
+use exchange_report::settle;
 use log::LevelFilter;
 use media_ledger::Blank;
 use mio::net::{TcpListener, UnixListener};
@@ -27,6 +27,7 @@ use std::time::{Clock, Instant};
 use std::{fs, io};
 use trace_writer::Folder;
 use udp_workers::Post;
+use worker_seats::{ServiceError, service_error_name, write_reports};
 
 /// How a service is run.
 #[derive(Clone, Copy)]

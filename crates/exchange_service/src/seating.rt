@@ -7,12 +7,11 @@ use crate::recording::{Written, serve_written};
 use crate::running::Settings;
 use crate::service_sockets::ServiceSockets;
 use call_writer::Disk;
-use exchange_commands::{ServiceError, reports_of};
 use exchange_core::{Exchange, NoGate, Pass};
 use peer_lock::Naming;
 use peer_plan::Plan;
 use service_desk::{Desk, ServiceWatch};
-use service_telemetry::tell_start;
+use service_log::tell_start;
 use std::alloc::Global;
 use std::marker::PhantomData;
 use std::net::Net;
@@ -24,6 +23,7 @@ use std::time::{Clock, Instant};
 use trace_writer::{Folder, Trace, TraceLane};
 use traced_seats::{TracedSeat, lane_of, traced_seats_of};
 use udp_workers::{Post, TurnReport, WatchedExchange, start_until};
+use worker_seats::{ServiceError, reports_of};
 
 /// The workers serve beside the control socket until they are told to end. False if a thread was refused: then they end at once.
 pub(crate) fn serve_seats<

@@ -1,9 +1,9 @@
 //! Sockets of workers as a service has them: those of one endpoint share it, and the system keeps more room for datagrams that
 //! wait.
-use exchange_commands::Sockets;
 use libc::net as system;
 use log::{Log, info};
 use std::os::fd::RawFd;
+use worker_seats::Sockets;
 
 // So many octets are asked for. The system gives as many as its `net.core.rmem_max` lets it, and counts each twice.
 const WANTED: u32 = 4_194_304;

@@ -3,10 +3,9 @@ ghost use Rattle.std.specs.Prelude.{◌≡◌, ◌<◌, length};
 
 use crate::outcomes::{kept, write_view};
 use call_ladder::{DatagramEvent, Direction, Ladder};
-use exchange_commands::{
-    PeerOfPlan, ReplayError, Stop, Viewer, refusal_name, replay_with, stage_name, tell_outcome,
-};
+use exchange_commands::{PeerOfPlan, ReplayError, Stop, Viewer, replay_with, tell_outcome};
 use exchange_core::Refusal;
+use exchange_report::{refusal_name, stage_name};
 use leg_machine::Stage;
 use peer_plan::Plan;
 use script_lines::Line;

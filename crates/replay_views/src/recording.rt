@@ -1,8 +1,9 @@
 //! A replay as the records of its call legs.
 use crate::outcomes::write_view;
 use call_records::{CallNumbering, RowTexts, push_header, push_row};
-use exchange_commands::{ReplayError, Stop, Viewer, call_row, replay_with, tell_outcome};
+use exchange_commands::{ReplayError, Stop, Viewer, replay_with, tell_outcome};
 use exchange_core::Retired;
+use exchange_report::call_row;
 use peer_plan::Plan;
 use std::alloc::{AllocError, Global};
 use std::io::Write;

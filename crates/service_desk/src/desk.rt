@@ -9,8 +9,8 @@ use control_requests::{
     Answer, Command, NoCommand, PeerRow, PlaceFault, PlaceOrder, Request, Rows, Status,
     accounts_body, command_of, place_of,
 };
-use exchange_commands::{call_error_name, peer_named};
 use exchange_core::{CallError, Exchange, NoGate, Pass};
+use exchange_report::{call_error_name, peer_named};
 use peer_lock::Naming;
 use peer_plan::{Endpoint, Plan};
 use std::alloc::{AllocError, Global};

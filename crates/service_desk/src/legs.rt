@@ -3,8 +3,8 @@ ghost use Rattle.std.specs.Prelude.{◌<◌, IfSome, length};
 
 use crate::service_watch::ServiceWatch;
 use call_book::LegName;
-use exchange_commands::order_error_name;
 use exchange_core::{Exchange, NoGate, Pass, Retired};
+use exchange_report::order_error_name;
 use leg_machine::Stage;
 use peer_lock::Naming;
 use std::sync::Wait;

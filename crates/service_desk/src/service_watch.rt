@@ -2,8 +2,8 @@
 ghost use Rattle.std.specs.Prelude.{◌≡◌};
 
 use call_writer::CallOutlets;
-use exchange_commands::call_row;
 use exchange_core::{Refusal, Retired};
+use exchange_report::call_row;
 use peer_plan::{Endpoint, Plan};
 use std::alloc::{AllocError, Global};
 use std::mem;

@@ -2,8 +2,8 @@
 ghost use Rattle.std.specs.Prelude.{◌<◌, length};
 
 use control_requests::{AccountsRow, CallRow, Rows, call_body};
-use exchange_commands::stage_name;
 use exchange_core::{Exchange, NoGate, Pass};
+use exchange_report::stage_name;
 use leg_machine::ElementText;
 use peer_lock::{Description, Naming};
 use peer_plan::{Plan, format_name};

@@ -4,7 +4,6 @@ ghost use Rattle.udp_workers.specs.MioWire as wires;
 ghost use Rattle.udp_workers.specs.Served.{AreEndpoints, peers_of};
 
 use call_auth::Challenge;
-use exchange_commands::{Digits, ServiceError, SinceOpening, Sockets, wire_and_digits_of};
 use exchange_core::Pass;
 use peer_lock::Naming;
 use peer_plan::{Endpoint, Plan};
@@ -15,6 +14,7 @@ use std::sync::Wait;
 use std::time::{Clock, Instant};
 use trace_writer::{Trace, TraceLane};
 use udp_workers::{Challenges, MioWire, Moments, Post, Seat, Wire, WireFault, Worker};
+use worker_seats::{Digits, ServiceError, SinceOpening, Sockets, wire_and_digits_of};
 
 /// A wire whose datagrams are noted, where there is a trace.
 #[derive(Drop)]

@@ -1,13 +1,27 @@
 //! The accounts of an exchange are closed and written.
-use crate::viewer::MediaAccounts;
+ghost use Rattle.std.specs.Prelude.{◌≡◌, ◌+◌, ◌≤◌, IfOk};
+
 use exchange_core::{Exchange, NoGate, Pass};
 use peer_lock::Naming;
 use std::alloc::AllocError;
 use std::io;
 use std::io::Write;
 
+/// The octets of media over all peers, as the accounts have them when they are closed.
+#[derive(Clone, Copy, Debug, PartialEq, Eq)]
+pub struct MediaAccounts {
+    pub accepted: u64,
+    pub packed: u64,
+    pub queued: u64,
+    pub dropped: u64,
+    /// Of the dropped ones, those that the other side wanted none of.
+    pub quelched: u64,
+}
+
 /// Writes `octets <accepted> <packed> <queued> <dropped>`, and `quelched <n>` where it isn't 0.
-pub(crate) fn write_accounts<W: Write>(accounts: &MediaAccounts, writer: &mut W) -> io::Result<()> {
+///
+/// An error is the writer's, at the first line that it doesn't take.
+pub fn write_accounts<W: Write>(accounts: &MediaAccounts, writer: &mut W) -> io::Result<()> {
     writeln!(
         writer,
         "octets {} {} {} {}",
@@ -19,11 +33,16 @@ pub(crate) fn write_accounts<W: Write>(accounts: &MediaAccounts, writer: &mut W)
     Ok(())
 }
 
-/// Closes the accounts of an exchange with all its passes.
-pub(crate) fn close<J: Naming>(
+/// Closes the accounts of an exchange with all its passes: what was accepted was packed, waits, or was dropped.
+///
+/// `AllocError`: a request for memory was refused, or a pass is missing.
+pub fn closed_accounts<J: Naming>(
     exchange: Exchange<NoGate, J>,
     passes: Vec<Pass<J>>,
-) -> Result<MediaAccounts, AllocError> {
+) -> Result<MediaAccounts, AllocError>
+    ensures balances { IfOk result (λ accounts. accounts.accepted ≡ accounts.packed + accounts.queued + accounts.dropped) }
+    ensures part { IfOk result (λ accounts. accounts.quelched ≤ accounts.dropped) }
+{
     match exchange.settle(passes) {
         Ok(settlement) => Ok(MediaAccounts {
             accepted: settlement.accepted,
@@ -46,7 +65,7 @@ pub fn settle<J: Naming, W: Write, S: From<io::Error> + From<AllocError>>(
     passes: Vec<Pass<J>>,
     writer: &mut W,
 ) -> Result<(), S> {
-    match close(exchange, passes) {
+    match closed_accounts(exchange, passes) {
         Ok(accounts) => Ok(write_accounts(&accounts, writer)?),
         Err(error) => Err(S::from(error)),
     }

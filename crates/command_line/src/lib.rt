@@ -1,4 +1,6 @@
 //! The program's command line, as `clap` reads it: `run` with its options, and the texts of help and version.
+#![tactic(auto)]
+
 use clap::{Arg, ArgAction, Command};
 use std::alloc::{AllocError, Global};
 
@@ -207,7 +209,7 @@ fn ctl_command<'a>(alloc: Global) -> Result<Command<'a>, AllocError> {
 }
 
 /// The version of the program.
-pub(crate) const VERSION: &str = "0.1.0";
+pub const VERSION: &str = "0.1.0";
 
 // A command more, if there was memory for it. (One place where it isn't: each `?` costs a proof of all that is dropped there.)
 fn with<'a>(
@@ -239,7 +241,7 @@ fn with_services<'a>(alloc: Global, command: Command<'a>) -> Result<Command<'a>,
 }
 
 /// The whole command line. The words of a parse have to live as long as `'a`.
-pub(crate) fn command_line<'a>(alloc: Global) -> Result<Command<'a>, AllocError> {
+pub fn command_line<'a>(alloc: Global) -> Result<Command<'a>, AllocError> {
     let command = Command::new(alloc, "exchange_main")
         .version(VERSION)
         .about("An exchange of IAX2 calls (RFC 5456)")

@@ -1,16 +1,16 @@
 //! The metrics of a service, as they are now.
 ghost use Rattle.std.specs.Prelude.{◌<◌, length};
 
-use crate::socket_drops::{SocketTable, drop_counts};
 use control_requests::{Answer, Methods, Request, Status};
-use exchange_commands::refusal_name;
 use exchange_core::{Exchange, NoGate, Pass};
+use exchange_report::refusal_name;
 use peer_lock::Naming;
 use peer_plan::Plan;
 use service_desk::{Desk, REFUSALS, ServiceWatch, count_legs};
 use service_report::{
     Family, Figure, Kind, Label, Labels, Metrics, PeerFigures, Sample, Scrape, scrape_of,
 };
+use socket_drops::{SocketTable, drop_counts};
 use std::alloc::{AllocError, Global};
 use std::sync::Wait;
 

@@ -1,4 +1,6 @@
-//! How many datagrams the system dropped at the sockets of the workers.
+//! How many datagrams the system dropped at the sockets of a plan's workers, as its table of UDP sockets has it.
+#![tactic(auto)]
+
 use peer_plan::{Endpoint, Plan};
 use service_report::drops_of;
 use std::alloc::{AllocError, Global};
@@ -7,11 +9,11 @@ use std::io::{Read, Seek, SeekFrom};
 
 /// What was dropped at a worker's socket.
 #[derive(Drop)]
-pub(crate) struct DropCount {
+pub struct DropCount {
     /// The place of the worker, in digits.
-    pub(crate) worker: String,
+    pub worker: String,
     /// None where the table doesn't have the socket.
-    pub(crate) drops: Option<u64>,
+    pub drops: Option<u64>,
 }
 
 /// The system's table of UDP sockets, which is read anew each time.
@@ -47,7 +49,9 @@ fn local_text(alloc: Global, endpoint: Endpoint) -> Result<String, AllocError> {
 }
 
 /// What was dropped at the socket of each worker, in order. Nothing where there is no table.
-pub(crate) fn drop_counts(
+///
+/// `AllocError`: a request for memory was refused.
+pub fn drop_counts(
     table: &mut SocketTable,
     alloc: Global,
     plan: &Plan,

@@ -2,16 +2,16 @@
 ghost use Rattle.std.specs.Prelude.{◌<◌, length};
 
 use crate::calls_told::CallsTold;
-use crate::socket_drops::{SocketTable, drop_counts};
 use crate::strangers::Strangers;
 use crate::trace_told::TraceTold;
-use exchange_commands::refusal_name;
 use exchange_core::{Exchange, NoGate, Pass};
+use exchange_report::refusal_name;
 use log::{Level, Log, debug, info, log_enabled, warn};
 use peer_lock::Naming;
 use peer_plan::{Endpoint, Plan};
 use service_desk::{Desk, REFUSALS, STRANGERS, ServiceWatch, count_legs};
 use service_report::{Hearing, News, Rounds, counted_since, news_of};
+use socket_drops::{SocketTable, drop_counts};
 use std::alloc::{AllocError, Global};
 use std::sync::Wait;
 use std::{iter, mem};

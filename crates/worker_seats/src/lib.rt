@@ -1,0 +1,17 @@
+//! The workers of a plan in their seats, each over a UDP socket of the system, by its clock, with challenges of random digits; and
+//! what they did.
+#![tactic(auto)]
+
+mod clock;
+mod digits;
+mod reports;
+mod seats;
+mod service_error;
+mod sockets;
+
+pub use clock::SinceOpening;
+pub use digits::Digits;
+pub use reports::{reports_of, write_reports};
+pub use seats::{ServiceSeat, seats_of};
+pub use service_error::{ServiceError, service_error_name};
+pub use sockets::{PlainSockets, Sockets, wire_and_digits_of};

@@ -1,0 +1,87 @@
+//! The sockets of workers.
+ghost use Rattle.std.specs.Prelude.{◌≡◌, ◌<◌, IfOk, length};
+ghost use Rattle.udp_workers.specs.MioWire as wires;
+ghost use Rattle.udp_workers.specs.Served.{AreEndpoints, peers_of};
+
+use crate::digits::Digits;
+use crate::service_error::ServiceError;
+use peer_plan::Plan;
+use rand::make_rng;
+use std::alloc::Global;
+use std::net::Net;
+use std::os::fd::RawFd;
+use std::random::RandomSource;
+use udp_workers::{MioWire, Sharing, Worker};
+
+/// What is done with the sockets of workers.
+pub trait Sockets {
+    /// Whether workers of one endpoint share it. Where they don't, the second of them isn't bound.
+    fn are_shared(&self) -> bool;
+
+    /// The socket of the worker at this place of the plan has this descriptor. Gives how many octets the system then keeps of
+    /// datagrams that wait, where that was asked.
+    fn set_up(&self, place: u16, descriptor: RawFd) -> Option<u64>;
+}
+
+/// Each is bound alone, and nothing is done with it.
+#[derive(Clone, Copy, Debug, Drop)]
+pub struct PlainSockets;
+
+impl Sockets for PlainSockets {
+    fn are_shared(&self) -> bool {
+        false
+    }
+
+    fn set_up(&self, _place: u16, _descriptor: RawFd) -> Option<u64> {
+        None
+    }
+}
+
+// The socket of a worker of the plan.
+fn wire_of<N: Net, S: Sockets>(
+    rt: &N,
+    alloc: Global,
+    plan: &Plan,
+    worker: &Worker,
+    place: u16,
+    sockets: &S,
+) -> Result<MioWire, ServiceError>
+    requires place { place < length plan.now.workers }
+    requires peers { worker.now.peers ≡ peers_of plan.now worker.now.place }
+    ensures { IfOk result (λ wire. AreEndpoints plan.now worker.now.peers (wires.peers_of wire)) }
+{
+    let endpoints = worker.endpoints(alloc, plan)?;
+    let workers = plan.workers();
+    let sharing = if sockets.are_shared() {
+        Sharing::of(workers, place)
+    } else {
+        Sharing::Alone
+    };
+    let wire = MioWire::bind(rt, alloc, workers[usize::from(place)], endpoints, sharing)?;
+    let _waiting = sockets.set_up(place, wire.descriptor());
+    Ok(wire)
+}
+
+/// The socket of a worker of the plan, and the digits for its challenges. The socket is bound to the endpoint of the worker at
+/// this place, by `MioWire::bind`: shared with others where these sockets are, else alone.
+///
+/// `Memory`: a request for memory was refused. `Bind`: the socket isn't bound. `Entropy`, which is looked for last: the system
+/// gives no random octets.
+pub fn wire_and_digits_of<R: Net + RandomSource, S: Sockets>(
+    rt: &R,
+    alloc: Global,
+    plan: &Plan,
+    worker: &Worker,
+    place: u16,
+    sockets: &S,
+) -> Result<(MioWire, Digits), ServiceError>
+    requires place { place < length plan.now.workers }
+    requires peers { worker.now.peers ≡ peers_of plan.now worker.now.place }
+    ensures { IfOk result (λ both. AreEndpoints plan.now worker.now.peers (wires.peers_of both.0)) }
+{
+    let wire = wire_of(rt, alloc, plan, worker, place, sockets)?;
+    match make_rng(rt) {
+        Ok(generator) => Ok((wire, Digits { generator })),
+        Err(_) => Err(ServiceError::Entropy),
+    }
+}
