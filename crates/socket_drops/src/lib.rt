@@ -1,6 +1,8 @@
 //! How many datagrams the system dropped at the sockets of a plan's workers, as its table of UDP sockets has it.
 #![tactic(auto)]
 
+ghost use Rattle.std.specs.Prelude.{◌≡◌, ◌⊎◌, IfOk, length, vec_len};
+
 use peer_plan::{Endpoint, Plan};
 use service_report::drops_of;
 use std::alloc::{AllocError, Global};
@@ -48,6 +50,22 @@ fn local_text(alloc: Global, endpoint: Endpoint) -> Result<String, AllocError> {
     format!(in alloc; "{d:02X}{c:02X}{b:02X}{a:02X}:{port:04X}")
 }
 
+// What was dropped at the socket of each of these workers, by the text of the table.
+fn counts_in(table: &str, alloc: Global, workers: &[Endpoint]) -> Result<Vec<DropCount>, AllocError>
+    ensures { IfOk result (λ counts. vec_len counts ≡ length workers.now) }
+{
+    let mut counts = Vec::new(alloc);
+    for place in 0..workers.len() {
+        let local = local_text(alloc, workers[place])?;
+        let worker = format!(in alloc; "{place}")?;
+        let drops = drops_of(table, &local);
+        if counts.push(DropCount { worker, drops }).is_err() {
+            return Err(AllocError);
+        }
+    }
+    Ok(counts)
+}
+
 /// What was dropped at the socket of each worker, in order. Nothing where there is no table.
 ///
 /// `AllocError`: a request for memory was refused.
@@ -55,18 +73,11 @@ pub fn drop_counts(
     table: &mut SocketTable,
     alloc: Global,
     plan: &Plan,
-) -> Result<Vec<DropCount>, AllocError> {
-    let mut counts = Vec::new(alloc);
-    let Some(table) = table.text(alloc) else {
-        return Ok(counts);
-    };
-    for (place, endpoint) in plan.workers().iter().enumerate() {
-        let local = local_text(alloc, *endpoint)?;
-        let worker = format!(in alloc; "{place}")?;
-        let drops = drops_of(&table, &local);
-        if counts.push(DropCount { worker, drops }).is_err() {
-            return Err(AllocError);
-        }
+) -> Result<Vec<DropCount>, AllocError>
+    ensures { IfOk result (λ counts. (vec_len counts ≡ 0) ⊎ (vec_len counts ≡ length plan.now.workers)) }
+{
+    match table.text(alloc) {
+        Some(table) => counts_in(&table, alloc, plan.workers()),
+        None => Ok(Vec::new(alloc)),
     }
-    Ok(counts)
 }
