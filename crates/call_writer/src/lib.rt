@@ -11,4 +11,4 @@ mod writer;
 pub use disk::Disk;
 pub use outlets::{CallOutlets, FileState};
 pub use spelling::Calendar;
-pub use writer::{CallRows, write_calls};
+pub use writer::{CallRows, write_calls_beside};

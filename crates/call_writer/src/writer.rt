@@ -9,6 +9,7 @@ use peer_plan::Plan;
 use std::alloc::{AllocError, Global};
 use std::sync::Wait;
 use std::thread;
+use std::thread::Threads;
 use std::time::{Clock, Duration, Instant};
 
 // How many rows wait at most for the file, beside those of the outlets.
@@ -150,12 +151,8 @@ fn moment<R: Clock>(rt: &R, opened: Instant, last: u64) -> u64 {
     }
 }
 
-/// Appends to the file of this name what is handed over, until the outlets are over: in rounds of a tenth of a second. Rows that
-/// were written are on the disk after a second at most, and at the end.
-///
-/// A file that can't be opened or written to is tried again, and rows wait, 65,536 of them at most. One whose name leads to
-/// another file is opened anew there. At the end there is one more try.
-pub fn write_calls<R: Clock + Wait, D: Disk>(
+// Appends to the file of this name what is handed over, until the outlets are over.
+fn write_calls<R: Clock + Wait, D: Disk>(
     rt: &R,
     disk: &D,
     path: &str,
@@ -198,4 +195,35 @@ pub fn write_calls<R: Clock + Wait, D: Disk>(
         }
         thread::sleep(rt, Duration::from_millis(ROUND_MS));
     }
+}
+
+/// Has a service serve, and appends meanwhile, on a thread of its own, to the file of this name what the service's threads hand
+/// over: in rounds of a tenth of a second. Rows that were written are on the disk after a second at most, and at the end.
+///
+/// A file that can't be opened or written to is tried again, and rows wait, 65,536 of them at most. One whose name leads to
+/// another file is opened anew there. At the end there is one more try.
+///
+/// Answers what `serve` does; false if the thread was refused, and then nothing is served. Once the service has served the outlets
+/// are over.
+pub fn write_calls_beside<R: Clock + Threads + Wait + Sync, D: Disk + Sync, F: FnOnce() -> bool>(
+    rt: &R,
+    disk: &D,
+    path: &str,
+    plan: &Plan,
+    calendar: Calendar,
+    opened: Instant,
+    outlets: &CallOutlets,
+    rows: CallRows,
+    serve: F,
+) -> bool
+    requires { F.pre serve }
+{
+    thread::scope(thread::scope_env(), rt, move |scope| {
+        let is_written = scope
+            .spawn(move || write_calls(rt, disk, path, plan, calendar, opened, outlets, rows))
+            .is_ok();
+        let is_served = is_written && serve();
+        outlets.end();
+        is_served
+    })
 }

@@ -4,7 +4,7 @@ use crate::control::Control;
 use crate::journal::Journal;
 use crate::running::{Settings, TraceOptions};
 use crate::seating::serve_seats;
-use call_writer::{Calendar, CallOutlets, CallRows, Disk, write_calls};
+use call_writer::{Calendar, CallOutlets, CallRows, Disk, write_calls_beside};
 use exchange_core::NoGate;
 use jiff::Timestamp;
 use peer_lock::Naming;
@@ -16,10 +16,11 @@ use std::io::ErrorKind;
 use std::net::Net;
 use std::random::RandomSource;
 use std::sync::Wait;
-use std::thread;
 use std::thread::Threads;
 use std::time::{Clock, Instant, SystemTime};
-use trace_writer::{Folder, Trace, TraceFile, TraceFolder, TraceNotes, TraceSettings, write_trace};
+use trace_writer::{
+    Folder, Trace, TraceFile, TraceFolder, TraceNotes, TraceSettings, write_trace_beside,
+};
 use traced_seats::TracedSeat;
 use udp_workers::{Post, WatchedExchange};
 use worker_seats::ServiceError;
@@ -187,13 +188,8 @@ fn serve_beside_tracer<
         about: about.as_str(),
     };
     let plan = service.exchange.plan();
-    thread::scope(thread::scope_env(), rt, move |scope| {
-        let is_written = scope
-            .spawn(move || write_trace(rt, disk, trace, plan, settings, notes, file))
-            .is_ok();
-        let is_served = is_written && serve_seats(rt, service, seats, desk, control, opened);
-        trace.end();
-        is_served
+    write_trace_beside(rt, disk, trace, plan, settings, notes, file, || {
+        serve_seats(rt, service, seats, desk, control, opened)
     })
 }
 
@@ -247,14 +243,8 @@ fn serve_beside_writer<
         rows,
     } = records;
     let plan = service.exchange.plan();
-    let is_served = thread::scope(thread::scope_env(), rt, move |scope| {
-        let is_written = scope
-            .spawn(move || write_calls(rt, disk, path, plan, calendar, opened, outlets, rows))
-            .is_ok();
-        let is_served = is_written
-            && serve_traced(rt, disk, service, seats, desk, control, opened, tracing);
-        outlets.end();
-        is_served
+    let is_served = write_calls_beside(rt, disk, path, plan, calendar, opened, outlets, rows, || {
+        serve_traced(rt, disk, service, seats, desk, control, opened, tracing)
     });
     tell_end(&Journal { rt, level }, path, outlets.state());
     is_served

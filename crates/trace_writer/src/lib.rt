@@ -16,4 +16,4 @@ pub use folder::Folder;
 pub use lane::TraceLane;
 pub use parts::{TraceFile, TraceFolder};
 pub use trace::{Trace, TraceState};
-pub use writer::{TraceNotes, TraceSettings, write_trace};
+pub use writer::{TraceNotes, TraceSettings, write_trace_beside};

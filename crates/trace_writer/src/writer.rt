@@ -8,6 +8,7 @@ use call_files::Fault;
 use peer_plan::Plan;
 use std::alloc::{AllocError, Global};
 use std::sync::Wait;
+use std::thread::Threads;
 use std::time::{Clock, Duration};
 use std::{mem, thread};
 
@@ -270,11 +271,8 @@ fn write_noted<R: Wait, D: Folder>(
     Ok(())
 }
 
-/// Writes what the threads of a service note, until they are over, to the files of a folder; in rounds, fifty a second, or two
-/// hundred where there is much. What calls of the exchange were given stands there in the order in which they began.
-///
-/// Where a file can't be written to the trace ends, with a line that says so; the service goes on.
-pub fn write_trace<R: Clock + Wait, D: Folder>(
+// Writes what the threads of a service note, until they are over.
+fn write_trace<R: Clock + Wait, D: Folder>(
     rt: &R,
     disk: &D,
     trace: &Trace,
@@ -318,4 +316,32 @@ pub fn write_trace<R: Clock + Wait, D: Folder>(
         rest_ms = rest_after(writer.written, rest_ms);
         thread::sleep(rt, Duration::from_millis(rest_ms));
     }
+}
+
+/// Has a service serve, and writes meanwhile, on a thread of its own, what the service's threads note, to the files of a folder; in
+/// rounds, fifty a second, or two hundred where there is much. What calls of the exchange were given stands there in the order in
+/// which they began. Once the service has served the trace ends.
+///
+/// Answers what `serve` does; false if the thread was refused, and then nothing is served. Where a file can't be written to the
+/// trace ends, with a line that says so; the service goes on.
+pub fn write_trace_beside<R: Clock + Threads + Wait + Sync, D: Folder + Sync, F: FnOnce() -> bool>(
+    rt: &R,
+    disk: &D,
+    trace: &Trace,
+    plan: &Plan,
+    settings: TraceSettings<'_>,
+    notes: TraceNotes,
+    file: TraceFile,
+    serve: F,
+) -> bool
+    requires { F.pre serve }
+{
+    thread::scope(thread::scope_env(), rt, move |scope| {
+        let is_written = scope
+            .spawn(move || write_trace(rt, disk, trace, plan, settings, notes, file))
+            .is_ok();
+        let is_served = is_written && serve();
+        trace.end();
+        is_served
+    })
 }
