@@ -208,9 +208,13 @@ impl<'a, D: Folder> Writer<'a, D> {
 
 // The thread whose next mark has this number.
 fn thread_of(taken: &[Taken], number: u64) -> Option<usize> {
-    taken
-        .iter()
-        .position(|one| one.next().is_some_and(|mark| mark.number == number))
+    for (thread, one) in taken.iter().enumerate() {
+        match one.next() {
+            Some(mark) if mark.number == number => return Some(thread),
+            _ => {}
+        }
+    }
+    None
 }
 
 // The lines of calls, in the order in which they began, as far as that is known. True if there were some.
