@@ -135,6 +135,21 @@ fn tracing_of<'s, D: Folder>(
     Ok((trace, tracing))
 }
 
+// The same, where a trace is wanted.
+fn wanted_tracing_of<'s, D: Folder>(
+    disk: &D,
+    alloc: Global,
+    plan: &Plan,
+    settings: &Settings<'s>,
+    calendar: Calendar,
+) -> Result<(Option<Trace>, Option<Tracing<'s>>), ServiceError> {
+    let Some(options) = settings.trace else {
+        return Ok((None, None));
+    };
+    let (trace, tracing) = tracing_of(disk, alloc, plan, settings, options, calendar)?;
+    Ok((Some(trace), Some(tracing)))
+}
+
 /// The watch of a service of this plan, and what has to be written beside it, where that is wanted.
 pub(crate) fn watch_of<'s, R: Clock, D: Folder>(
     rt: &R,
@@ -145,14 +160,8 @@ pub(crate) fn watch_of<'s, R: Clock, D: Folder>(
 ) -> Result<(ServiceWatch, Written<'s>), ServiceError> {
     let calendar = calendar(rt);
     let (outlets, records) = records_of(alloc, plan, settings.calls, calendar)?;
-    let Some(options) = settings.trace else {
-        let tracing = None;
-        let watch = ServiceWatch::new(alloc, plan, outlets, None)?;
-        return Ok((watch, Written { records, tracing }));
-    };
-    let (trace, tracing) = tracing_of(disk, alloc, plan, settings, options, calendar)?;
-    let tracing = Some(tracing);
-    let watch = ServiceWatch::new(alloc, plan, outlets, Some(trace))?;
+    let (trace, tracing) = wanted_tracing_of(disk, alloc, plan, settings, calendar)?;
+    let watch = ServiceWatch::new(alloc, plan, outlets, trace)?;
     Ok((watch, Written { records, tracing }))
 }
 

@@ -26,7 +26,7 @@ use std::thread::Threads;
 use std::time::{Clock, Instant};
 use std::{fs, io};
 use trace_writer::Folder;
-use udp_workers::Post;
+use udp_workers::{Post, TurnReport};
 use worker_seats::{ServiceError, service_error_name, write_reports};
 
 /// How a service is run.
@@ -63,8 +63,40 @@ pub struct TraceOptions<'a> {
     pub shows_digits: bool,
 }
 
-// Has the workers of the plan serve, with a watch that is made for it, and writes their reports.
+// Has the workers of the plan serve, with a watch that is made for it. (It has two ways out alone: each drops the watch.)
 fn serve_beside<
+    J: Naming,
+    P: Post + Send + Sync,
+    R: Clock + Eprint + Net + RandomSource + Threads + Wait + Sync,
+    D: Disk + Folder + Sync,
+>(
+    rt: &R,
+    disk: &D,
+    alloc: Global,
+    exchange: &Exchange<NoGate, J>,
+    passes: &mut Vec<Pass<J>>,
+    control: &mut Control<'_>,
+    opened: Instant,
+) -> Result<Vec<TurnReport>, ServiceError>
+    requires plan { exchange.now ≡ P.plan }
+    requires enough { length exchange.now.workers + 1 ≤ vec_len passes.old }
+{
+    let (watch, mut written) = watch_of(rt, disk, alloc, exchange.plan(), control.settings)?;
+    serve_watched::<J, P, R, D>(
+        rt,
+        disk,
+        alloc,
+        exchange,
+        &watch,
+        &mut written,
+        passes,
+        control,
+        opened,
+    )
+}
+
+// The same; then their reports are written.
+fn serve_and_report<
     J: Naming,
     P: Post + Send + Sync,
     R: Clock + Eprint + Net + RandomSource + Threads + Wait + Sync,
@@ -83,19 +115,8 @@ fn serve_beside<
     requires plan { exchange.now ≡ P.plan }
     requires enough { length exchange.now.workers + 1 ≤ vec_len passes.old }
 {
-    let (watch, mut written) = watch_of(rt, disk, alloc, exchange.plan(), control.settings)?;
-    let reports = serve_watched::<J, P, R, D>(
-        rt,
-        disk,
-        alloc,
-        exchange,
-        &watch,
-        &mut written,
-        passes,
-        control,
-        opened,
-    );
-    Ok(write_reports(&reports?, writer)?)
+    let reports = serve_beside::<J, P, R, D>(rt, disk, alloc, exchange, passes, control, opened)?;
+    Ok(write_reports(&reports, writer)?)
 }
 
 // The same, on an exchange that is opened for it; then its accounts are written.
@@ -129,7 +150,7 @@ fn work<
     let _passes = plan.passes();
     let (exchange, passes) = Exchange::<NoGate, J>::open(alloc, plan, NoGate, octets, steps)?;
     let mut passes = passes;
-    let served = serve_beside::<J, P, R, D, W>(
+    let served = serve_and_report::<J, P, R, D, W>(
         rt,
         disk,
         alloc,
