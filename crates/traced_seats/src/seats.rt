@@ -1,5 +1,5 @@
 //! A worker's wire, clock and challenges, as they tell the trace what the worker hands to the exchange.
-ghost use Rattle.std.specs.Prelude.{◌≡◌, ◌<◌, ◌≤◌, IfOk, length, vec_len};
+ghost use Rattle.std.specs.Prelude.{◌≡◌, ◌+◌, ◌<◌, ◌≤◌, IfOk, OnOk, length, vec_len};
 ghost use Rattle.udp_workers.specs.MioWire as wires;
 ghost use Rattle.udp_workers.specs.Served.{AreEndpoints, peers_of};
 
@@ -230,7 +230,9 @@ pub fn traced_seats_of<'t, J: Naming, P: Post, R: Clock + Net + RandomSource + W
 ) -> Result<Vec<TracedSeat<'t, R, J, P>>, ServiceError>
     requires plan { plan.now ≡ P.plan }
     requires enough { length plan.now.workers ≤ vec_len passes.old }
-    ensures { IfOk result (λ seats. vec_len seats ≤ 8) }
+    ensures each { IfOk result (λ seats. vec_len seats ≡ length plan.now.workers) }
+    ensures few { IfOk result (λ seats. vec_len seats ≤ 8) }
+    ensures taken { OnOk result (vec_len passes.new + length plan.now.workers ≡ vec_len passes.old) }
 {
     let mut seats = Vec::new(alloc);
     for place in 0..plan.workers().len() {

@@ -1,5 +1,5 @@
 //! The seats of the workers of a plan.
-ghost use Rattle.std.specs.Prelude.{◌≡◌, ◌+◌, ◌<◌, ◌≤◌, IfOk, length, vec_len};
+ghost use Rattle.std.specs.Prelude.{◌≡◌, ◌+◌, ◌<◌, ◌≤◌, IfOk, OnOk, length, vec_len};
 
 use crate::clock::SinceOpening;
 use crate::digits::Digits;
@@ -54,7 +54,9 @@ pub fn seats_of<'r, J: Naming, P: Post, R: Clock + Net + RandomSource, S: Socket
 ) -> Result<Vec<ServiceSeat<'r, R, J, P>>, ServiceError>
     requires plan { plan.now ≡ P.plan }
     requires enough { length plan.now.workers ≤ vec_len passes.old }
-    ensures { IfOk result (λ seats. vec_len seats ≤ 8) }
+    ensures each { IfOk result (λ seats. vec_len seats ≡ length plan.now.workers) }
+    ensures few { IfOk result (λ seats. vec_len seats ≤ 8) }
+    ensures taken { OnOk result (vec_len passes.new + length plan.now.workers ≡ vec_len passes.old) }
 {
     let mut seats = Vec::new(alloc);
     for place in 0..plan.workers().len() {
