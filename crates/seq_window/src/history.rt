@@ -159,11 +159,8 @@ impl Record {
         if count <= self.spare {
             return Ok(());
         }
-        let Some(octets) = count.checked_mul(MAX_PAYLOAD) else {
-            return Err(AllocError);
-        };
         self.heads.reserve(count)?;
-        self.octets.reserve(octets)?;
+        reserve_octets(&mut self.octets, count)?;
         self.spare = count;
         Ok(())
     }
@@ -243,6 +240,22 @@ impl Record {
     {
         taken_in(self.heads.as_slice())
     }
+}
+
+// Makes room for the octets of `count` more frames. Where memory is asked for, it is for one frame more: short frames, as most are,
+// then find room for as many again without another request, which would move all octets.
+fn reserve_octets(octets: &mut Vec<u8>, count: usize) -> Result<(), AllocError>
+    ensures octets { octets.new.items ≡ octets.old.items }
+    ensures room { OnOk result (length octets.new.items + 1388 * count ≤ vec_capacity octets.new) }
+    ensures kept { vec_capacity octets.old ≤ vec_capacity octets.new }
+{
+    let Some(needed) = count.checked_mul(MAX_PAYLOAD) else {
+        return Err(AllocError);
+    };
+    if octets.capacity() - octets.len() < needed {
+        octets.reserve(needed.saturating_add(MAX_PAYLOAD))?;
+    }
+    Ok(())
 }
 
 fn sent_in(heads: &[Head]) -> usize
