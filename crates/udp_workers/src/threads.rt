@@ -16,8 +16,9 @@ use std::thread::{Scope, Threads};
 #[derive(Clone, Copy, Debug, PartialEq, Eq)]
 pub struct NoThread;
 
-// Starts a thread for each seat. True if none was refused.
-fn start_each<
+// Makes the run of the last seat on the thread of the caller, and of each other one on a thread of its own. True if no thread was
+// refused. So a worker that is alone needs no thread, and the C library spares it what its calls cost a program with several.
+fn run_each<
     's,
     E,
     W: Wire + Drop + Send,
@@ -33,12 +34,16 @@ fn start_each<
     shift: &'s Shift<'s, G, J, P>,
     seats: &'s [Seat<W, M, C, J, P>],
 ) -> bool {
+    let Some((last, others)) = seats.split_last() else {
+        return true;
+    };
     let mut started = true;
-    for seat in seats {
+    for seat in others {
         if scope.spawn(move || seat.run(rt, shift)).is_err() {
             started = false;
         }
     }
+    last.run(rt, shift);
     started
 }
 
@@ -53,14 +58,14 @@ fn run_shared<
     R: Threads + Wait + Sync,
 >(rt: &R, shift: &Shift<'_, G, J, P>, seats: &[Seat<W, M, C, J, P>]) -> bool {
     thread::scope(thread::scope_env(), rt, |scope| {
-        start_each(rt, scope, shift, seats)
+        run_each(rt, scope, shift, seats)
     })
 }
 
-/// Makes the run of each seat, so many turns, on a thread of its own, and puts the sum of its reports into it. There are at
-/// most 8 seats. All threads have ended when it returns.
+/// Makes the run of each seat, so many turns, and puts the sum of its reports into it: the run of the last on the thread of the
+/// caller, that of each other one on a thread of its own. There are at most 8 seats. All threads have ended when it returns.
 ///
-/// `NoThread`: a thread was refused. Seats without a thread are unchanged, the others have run.
+/// `NoThread`: a thread was refused. Seats whose thread was refused are unchanged, the others have run.
 pub fn run_all<
     W: Wire + Drop + Send,
     M: Moments + Drop + Send,
