@@ -1,7 +1,7 @@
 // Loads an exchange, or a plain relay, with calls that carry mini frames of 160 octets both ways, and says how many frames it
 // carried per second of its processor time.
 //
-// load exchange|trunk|relay CALLS[/ENDS] SECONDS COMMAND [ARGUMENT..]
+// load exchange|trunk|relay CALLS[/ENDS][@SITE][xSITES] SECONDS COMMAND [ARGUMENT..]
 //
 // It starts the command, which has to bind 127.0.0.1 port 4569; it is itself the peers at ports 5001 (west) and 5002 (east). To
 // an exchange it first sets up the calls, from west to the number 300. It then keeps a fixed number of frames on their way,
@@ -9,6 +9,10 @@
 // says what processor time each call took, of all that was carried how many frames there were, and how much memory was used.
 // Where ENDS is given, so many calls are hung up a second, one after another, and each is set up anew. To a trunk it sends the media of
 // eight calls in each datagram, and takes entries; to a relay a mini frame in each, as to an exchange. With 0 seconds no media is sent.
+//
+// Where SITE is given, 0 to 7, all three ports are further on: by SITE that of the command, by two for each SITE those of the peers; and
+// 3SITE0 is called. With SITES there are so many such pairs of peers, each with a process and the calls of its own, from SITE on; the
+// command has to bind the port of each.
 #define _GNU_SOURCE
 #include <arpa/inet.h>
 #include <netinet/in.h>
@@ -17,12 +21,15 @@
 #include <stdio.h>
 #include <stdlib.h>
 #include <string.h>
+#include <sys/mman.h>
+#include <sys/prctl.h>
 #include <sys/socket.h>
 #include <sys/wait.h>
 #include <time.h>
 #include <unistd.h>
 
 enum { MOST_CALLS = 512, MEDIA = 160, BATCH = 32, ON_THE_WAY = 96, FULL = 12, TRUNK = 8, ENTRY = 4, ENTRIES = 8 };
+enum { PORT = 4569, WEST_PORT = 5001, MOST_SITES = 8 };
 enum { DTMF = 1, VOICE = 2, CONTROL = 4, IAX = 6 };
 enum { NEW = 1, PING = 2, PONG = 3, ACK = 4, HANGUP = 5, ACCEPT = 7, INVAL = 10, VNAK = 18, ANSWER = 4, ULAW = 4 };
 
@@ -45,7 +52,15 @@ struct peer {
 
 static struct peer west, east;
 static struct timespec begin;
-static int calls, ends, trunks;
+static int calls, ends, trunks, site;
+
+// What the process of each pair of peers tells the others: what it has carried, and whether its calls are set up.
+struct told {
+    volatile unsigned long carried;
+    volatile int is_set_up;
+};
+
+static struct told *told;
 
 static unsigned now_ms(void) {
     struct timespec now;
@@ -69,7 +84,7 @@ static int bound(int port) {
         exit(1);
     }
     struct sockaddr_in to = at;
-    to.sin_port = htons(4569);
+    to.sin_port = htons((unsigned short)(PORT + site));
     if (connect(wire, (struct sockaddr *)&to, sizeof to) != 0) {
         perror("load: connect");
         exit(1);
@@ -94,7 +109,8 @@ static void send_full(struct peer *peer, int place, unsigned ts, int numbered, i
 }
 
 static const unsigned char FORMAT_OF_CALL[] = {0x09, 4, 0, 0, 0, 4};
-static const unsigned char NEW_FOR_300[] = {0x0b, 2, 0, 2, 0x01, 3, '3', '0', '0', 0x09, 4, 0, 0, 0, 4, 0x08, 4, 0, 0, 0, 4};
+static unsigned char NEW_FOR_300[] = {0x0b, 2, 0, 2, 0x01, 3, '3', '0', '0', 0x09, 4, 0, 0, 0, 4, 0x08, 4, 0, 0, 0, 4};
+enum { DIGIT_OF_SITE = 7 };
 
 // A full frame came in: it is acknowledged, and answered where the call has to go on.
 static void take_full(struct peer *peer, const unsigned char *frame) {
@@ -171,6 +187,7 @@ static void wait_for_any(int ms) {
     poll(both, 2, ms);
     take_all(&west);
     take_all(&east);
+    told[site].carried = west.carried + east.carried;
 }
 
 static int both_open(int place) { return west.legs[place].open && east.legs[place].open; }
@@ -299,6 +316,47 @@ static void carry(double seconds) {
     }
 }
 
+// Sets up the calls, and their voice, of this pair of peers; false where a call wasn't set up.
+static int begin_calls(int is_relay, double seconds) {
+    if (!is_relay && set_up() != calls) {
+        fprintf(stderr, "load: a call wasn't set up\n");
+        return 0;
+    }
+    if (!is_relay && seconds > 0) open_voice();
+    return 1;
+}
+
+// The other pairs of peers, each in a process of its own, which carries until it is ended.
+static void start_others(int first, int sites, int is_relay, double seconds) {
+    for (int other = first + 1; other < first + sites; other++) {
+        if (fork() != 0) continue;
+        prctl(PR_SET_PDEATHSIG, SIGKILL);
+        site = other;
+        close(west.wire), close(east.wire);
+        west.wire = bound(WEST_PORT + 2 * site), east.wire = bound(WEST_PORT + 2 * site + 1);
+        NEW_FOR_300[DIGIT_OF_SITE] = (unsigned char)('0' + site);
+        told[site].is_set_up = begin_calls(is_relay, seconds) ? 1 : -1;
+        while (told[site].is_set_up > 0) carry(1);
+        _exit(1);
+    }
+}
+
+// Carries until the calls of all pairs are set up, for half a second at least; false where some can't be.
+static int wait_for_others(int first, int sites) {
+    carry(0.5);
+    for (int other = first + 1; other < first + sites; other++) {
+        while (told[other].is_set_up == 0) carry(0.1);
+        if (told[other].is_set_up < 0) return 0;
+    }
+    return 1;
+}
+
+static unsigned long carried_by_all(int first, int sites) {
+    unsigned long carried = 0;
+    for (int one = first; one < first + sites; one++) carried += told[one].carried;
+    return carried;
+}
+
 // The most memory that the command has had, in kilobytes.
 static long peak_of(pid_t command) {
     char path[64], line[256];
@@ -312,15 +370,28 @@ static long peak_of(pid_t command) {
 
 int main(int count, char **words) {
     if (count < 5 || (calls = atoi(words[2])) < 1 || calls > MOST_CALLS) {
-        fprintf(stderr, "usage: load exchange|trunk|relay CALLS[/ENDS] SECONDS COMMAND [ARGUMENT..]\n");
+        fprintf(stderr, "usage: load exchange|trunk|relay CALLS[/ENDS][@SITE][xSITES] SECONDS COMMAND [ARGUMENT..]\n");
         return 2;
     }
     ends = strchr(words[2], '/') ? atoi(strchr(words[2], '/') + 1) : 0;
+    int first = strchr(words[2], '@') ? atoi(strchr(words[2], '@') + 1) : 0;
+    int sites = strchr(words[2], 'x') ? atoi(strchr(words[2], 'x') + 1) : 1;
+    if (first < 0 || sites < 1 || first + sites > MOST_SITES) {
+        fprintf(stderr, "load: there are %d sites at most\n", MOST_SITES);
+        return 2;
+    }
     east.freed = west.freed = -1;
     trunks = strcmp(words[1], "trunk") == 0;
     double seconds = atof(words[3]);
+    told = mmap(0, MOST_SITES * sizeof *told, PROT_READ | PROT_WRITE, MAP_SHARED | MAP_ANONYMOUS, -1, 0);
+    if (told == MAP_FAILED) {
+        perror("load: mmap");
+        return 1;
+    }
     clock_gettime(CLOCK_MONOTONIC, &begin);
-    west.wire = bound(5001), east.wire = bound(5002);
+    site = first;
+    NEW_FOR_300[DIGIT_OF_SITE] = (unsigned char)('0' + site);
+    west.wire = bound(WEST_PORT + 2 * site), east.wire = bound(WEST_PORT + 2 * site + 1);
     pid_t command = fork();
     if (command == 0) {
         execvp(words[4], words + 4);
@@ -333,19 +404,22 @@ int main(int count, char **words) {
     double setting_up = 0;
     if (clock_getcpuclockid(command, &processor) != 0)
         fprintf(stderr, "load: the command has ended\n");
-    else if (setting_up = seconds_of(processor), !is_relay && set_up() != calls)
-        fprintf(stderr, "load: a call wasn't set up\n");
     else {
-        setting_up = seconds_of(processor) - setting_up;
-        if (!is_relay && seconds > 0) open_voice();
-        if (seconds > 0) carry(0.5);
-        unsigned long carried = west.carried + east.carried;
+        start_others(first, sites, is_relay, seconds);
+        setting_up = seconds_of(processor);
+        if (begin_calls(is_relay, 0)) {
+            setting_up = seconds_of(processor) - setting_up;
+            if (!is_relay && seconds > 0) open_voice();
+            status = seconds > 0 && !wait_for_others(first, sites);
+        }
+    }
+    if (status == 0) {
+        unsigned long carried = carried_by_all(first, sites);
         double used = seconds_of(processor), from = seconds_of(CLOCK_MONOTONIC);
         carry(seconds);
-        carried = west.carried + east.carried - carried;
+        carried = carried_by_all(first, sites) - carried;
         used = seconds_of(processor) - used, from = seconds_of(CLOCK_MONOTONIC) - from;
-        printf("%s %d calls: %lu frames in %.2f s, %.2f s of processor time: %.0f frames per second of processor time; set-up %.1f us a call; %lu frames in all; %ld KB\n", words[1], calls, carried, from, used, used > 0 ? (double)carried / used : 0, setting_up / calls * 1e6, west.carried + east.carried, peak_of(command));
-        status = 0;
+        printf("%s %d calls: %lu frames in %.2f s, %.2f s of processor time: %.0f frames per second of processor time; set-up %.1f us a call; %lu frames in all; %ld KB\n", words[1], calls, carried, from, used, used > 0 ? (double)carried / used : 0, setting_up / calls * 1e6, carried_by_all(first, sites), peak_of(command));
     }
     kill(command, SIGTERM);
     waitpid(command, 0, 0);
