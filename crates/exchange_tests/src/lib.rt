@@ -1,5 +1,5 @@
 //! Tests of an exchange: growths that are refused, datagrams that nobody should send, a storm of them, passes that are missing,
-//! and two workers at once.
+//! and two workers at once. Those of the workers over wires and sockets stand in `wires`.
 #![tactic(auto)]
 
 #[cfg(test)]
@@ -26,5 +26,7 @@ mod settling;
 mod storm;
 #[cfg(test)]
 mod two_peers;
+#[cfg(test)]
+mod wires;
 #[cfg(test)]
 mod workers;

@@ -1,5 +1,6 @@
-//! Tests of the layers below a peer, one module each, by what they offer to those above: outside values, and each public function
-//! once. Those of a whole leg stand in `leg`.
+//! Tests of the layers below an exchange, one module each, by what they offer to those above: outside values, and each public
+//! function once. Those of a whole leg stand in `leg`, those of a peer in `peer`, those of the records of ended legs in
+//! `records`.
 #![tactic(auto)]
 
 #[cfg(test)]
@@ -19,7 +20,11 @@ mod leg;
 #[cfg(test)]
 mod outboxes;
 #[cfg(test)]
+mod peer;
+#[cfg(test)]
 mod plans;
+#[cfg(test)]
+mod records;
 #[cfg(test)]
 mod same;
 #[cfg(test)]

@@ -1,0 +1,157 @@
+//! A wire in memory: it gives what a test puts there, keeps what it is given, and fails at one of its calls.
+use crate::wires::call::Arrival;
+use peer_plan::Endpoint;
+use std::alloc::{AllocError, Global};
+use udp_workers::{PeerCounts, Wire, WireFault};
+
+/// A datagram that was sent.
+#[derive(Drop)]
+pub struct Sent {
+    pub to: Endpoint,
+    pub octets: Vec<u8>,
+}
+
+/// A wire in memory.
+#[derive(Drop)]
+pub struct MemoryWire {
+    alloc: Global,
+    peers: PeerCounts,
+    given: u64,
+    failures: u64,
+    // The datagram that comes next.
+    next: Option<(Endpoint, &'static [u8])>,
+    // The datagrams after it, the last first. Each comes when the wire is waited for.
+    later: Vec<Arrival>,
+    // What was sent, in order.
+    sent: Vec<Sent>,
+    // How many more calls of `receive` and `send` go well before one fails.
+    good_calls: u64,
+}
+
+impl MemoryWire {
+    ghost use Rattle.std.specs.Prelude.{◌≡◌, IfOk};
+
+    /// A wire that fails at its call of this place, counted from 1; at 0 never.
+    pub fn new(alloc: Global, peers: Vec<Endpoint>, fails_at: u64) -> Result<MemoryWire, AllocError>
+        ensures { IfOk result (λ wire. wire.peers.endpoints ≡ peers) }
+    {
+        Ok(MemoryWire {
+            alloc,
+            peers: PeerCounts::new(alloc, peers)?,
+            given: 0,
+            failures: 0,
+            next: None,
+            later: Vec::new(alloc),
+            sent: Vec::new(alloc),
+            good_calls: fails_at.wrapping_sub(1),
+        })
+    }
+
+    /// Puts a datagram there. False: the one before it wasn't received yet.
+    pub fn put(&mut self, from: Endpoint, octets: &'static [u8]) -> bool
+        ensures { self.new.peers ≡ self.old.peers }
+    {
+        if self.next.is_some() {
+            return false;
+        }
+        self.next = Some((from, octets));
+        true
+    }
+
+    /// The first of these datagrams, which stand the last first, is there, and each other comes when the wire is waited for.
+    pub fn follow(&mut self, arrivals: Vec<Arrival>)
+        ensures { self.new.peers ≡ self.old.peers }
+    {
+        self.later = arrivals;
+        self.bring();
+    }
+
+    // The next datagram is there, unless the one before it wasn't received yet.
+    fn bring(&mut self)
+        ensures peers { self.new.peers ≡ self.old.peers }
+        ensures given { self.new.given ≡ self.old.given }
+        ensures failures { self.new.failures ≡ self.old.failures }
+    {
+        if self.next.is_some() {
+            return;
+        }
+        if let Some(arrival) = self.later.pop() {
+            self.next = Some((arrival.from, arrival.octets));
+        }
+    }
+
+    /// What was sent, in order.
+    pub fn into_sent(self) -> Vec<Sent> {
+        let MemoryWire { sent, .. } = self;
+        sent
+    }
+
+    // Whether this call fails.
+    fn fails(&mut self) -> bool
+        ensures peers { self.new.peers ≡ self.old.peers }
+        ensures given { self.new.given ≡ self.old.given }
+        ensures failures { self.new.failures ≡ self.old.failures }
+    {
+        let fails = self.good_calls == 0;
+        self.good_calls = self.good_calls.wrapping_sub(1);
+        fails
+    }
+}
+
+impl Wire for MemoryWire {
+    ghost use Rattle.udp_workers.specs.PeerCounts.{count_of};
+
+    ghost given = { λ wire. wire.given };
+
+    ghost given_to = { λ wire. count_of wire.peers };
+
+    ghost failures = { λ wire. wire.failures };
+
+    ghost peers = { λ wire. wire.peers.endpoints.items };
+
+    fn receive(&mut self, octets: &mut [u8]) -> Result<Option<(usize, Endpoint)>, WireFault> {
+        if self.fails() {
+            self.failures = self.failures.wrapping_add(1);
+            return Err(WireFault);
+        }
+        let Some((from, datagram)) = self.next.take() else {
+            return Ok(None);
+        };
+        let len = datagram.len().min(octets.len());
+        octets[..len].copy_from_slice(datagram.split_at(len).0);
+        Ok(Some((len, from)))
+    }
+
+    fn send(&mut self, to: Endpoint, octets: &[u8]) -> Result<bool, WireFault> {
+        self.given = self.given.wrapping_add(1);
+        self.peers.count(to);
+        if self.fails() {
+            self.failures = self.failures.wrapping_add(1);
+            return Err(WireFault);
+        }
+        let Ok(octets) = octets.to_vec(self.alloc) else {
+            return Ok(false);
+        };
+        Ok(self.sent.push(Sent { to, octets }).is_ok())
+    }
+
+    fn wait(&mut self, _ms: u64) {
+        self.bring();
+    }
+
+    fn peers(&self) -> &[Endpoint] {
+        &self.peers.endpoints
+    }
+
+    fn given(&self) -> u64 {
+        self.given
+    }
+
+    fn given_to(&self, to: Endpoint) -> u64 {
+        self.peers.get(to)
+    }
+
+    fn failures(&self) -> u64 {
+        self.failures
+    }
+}
