@@ -1,4 +1,4 @@
-use Rattle.std.proofs.Common.{◌≤◌, ℕ, List, length, arith, subst, ◌∙◌}
+use Rattle.std.proofs.Common.{◌≤◌, ℕ, List, length, arith, subst, ◌∙◌, rules}
 use Rattle.udp_workers.proofs.TickLaws.{turn_later}
 use Rattle.udp_workers.proofs.worker.Worker.run.Goals as goal
 
@@ -21,3 +21,15 @@ loop-turn-preserved g c =
       peers = made.ensures.peers ∙ l.invariant.peers;
       turns = omega arith;
     }
+
+pub loop-turn-init : goal.loop-turn-init
+loop-turn-init c = search rules
+
+pub returns-clause-received : goal.returns-clause-received
+returns-clause-received c = search rules
+
+pub returns-clause-emptied : goal.returns-clause-emptied
+returns-clause-emptied c = search rules
+
+pub returns-clause-turns : goal.returns-clause-turns
+returns-clause-turns c = search rules

@@ -1,4 +1,4 @@
-use Rattle.std.proofs.Common.{◌≤◌, ℕ, Bor, List, ap, length, arith, subst, ◌∙◌}
+use Rattle.std.proofs.Common.{◌≤◌, ℕ, Bor, List, ap, length, arith, subst, ◌∙◌, rules}
 use Rattle.udp_workers.specs.Handed.{GivesAll}
 use Rattle.udp_workers.proofs.HandingLaws.{gives_on}
 use Rattle.udp_workers.proofs.TickLaws.{turn_later}
@@ -27,3 +27,21 @@ loop-turn-preserved g c =
       peers = made.ensures.peers ∙ l.invariant.peers;
       turns = omega arith;
     }
+
+pub returns-then-eq-clause-turns : goal.returns-then-eq-clause-turns
+returns-then-eq-clause-turns c = search rules
+
+pub turn_at-requires-clause-going : goal.turn_at-requires-clause-going
+turn_at-requires-clause-going c = search rules
+
+pub returns-then-eq-clause-given : goal.returns-then-eq-clause-given
+returns-then-eq-clause-given c = search rules
+
+pub returns-then-eq-clause-faults : goal.returns-then-eq-clause-faults
+returns-then-eq-clause-faults c = search rules
+
+pub turn_at-requires-clause-asked : goal.turn_at-requires-clause-asked
+turn_at-requires-clause-asked c = search rules
+
+pub returns-clause-turns : goal.returns-clause-turns
+returns-clause-turns c = search rules

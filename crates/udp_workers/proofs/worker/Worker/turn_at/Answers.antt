@@ -1,4 +1,4 @@
-use Rattle.std.proofs.Common.{Bor, ◌≢◌, ℕ, ◌<◌, List, ◌∙◌, subst, sym, ap, length}
+use Rattle.std.proofs.Common.{Bor, ◌≢◌, ℕ, ◌<◌, List, ◌∙◌, subst, sym, ap, length, rules}
 use Rattle.std.specs.Prelude.{All, AllPairs}
 use Rattle.peer_plan.specs.Plan.{IsPlan}
 use Rattle.peer_plan.specs.declared.endpoint.Endpoint.{Endpoint}
@@ -50,3 +50,6 @@ returns-clause-handed g c =
     let arrived = c.receive_all.new.pass in
     let ticked = subst (λ (w : Bor g.row.V.Denot). GivesAll (g.V.Watch.given w.now) arrived c.tick_all.new.pass) c.receive_all.ensures.watch c.tick_all.ensures.handed in
     gives_on given c.args.pass.now arrived c.empty_all.new.pass c.receive_all.ensures.handed (subst (GivesAll given arrived) (sym c.empty_all.ensures.pass) ticked)
+
+pub returns-clause-turns : goal.returns-clause-turns
+returns-clause-turns c = search rules
