@@ -1,4 +1,4 @@
-use Rattle.std.proofs.Common.{◌≤◌, ◌⊎◌, Ok, Err, inl, length, subst, sym}
+use Rattle.std.proofs.Common.{◌≤◌, ◌⊎◌, Ok, Err, inl, length, subst, sym, rules}
 use Rattle.iax_frames.specs.declared.datagram.Datagram.{Datagram}
 use Rattle.peer_lock.specs.Arrivals.{datagram_refused}
 use Rattle.peer_lock.specs.Makes.{IsDue}
@@ -57,3 +57,12 @@ returns-in-Err-clause-refused g c =
     inl (subst (IsUnworked g.J.Naming.first_steps c.args.self.now.accounts.steps c.args.datagram.now) (sym c.from.ensures)
     (err_refused g.J.Naming.first_steps c.args.self.now.accounts.steps c.args.datagram.now steps few c.in-Err.error
     reading.exact))
+
+pub returns-then-datagram-gt2048-clause-unworked : goal.returns-then-datagram-gt2048-clause-unworked
+returns-then-datagram-gt2048-clause-unworked c = search rules
+
+pub returns-then-datagram-gt2048-clause-refused : goal.returns-then-datagram-gt2048-clause-refused
+returns-then-datagram-gt2048-clause-refused c = search rules
+
+pub returns-in-Ok-clause-made : goal.returns-in-Ok-clause-made
+returns-in-Ok-clause-made c = search rules

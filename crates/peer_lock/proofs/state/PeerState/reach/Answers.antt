@@ -1,3 +1,4 @@
+use Rattle.std.proofs.Common.{rules}
 use Rattle.leg_machine.specs.Steps.{full_step}
 use Rattle.peer_legs.specs.Legs.{NamedLeg}
 use Rattle.peer_lock.proofs.Reached.{reached}
@@ -11,3 +12,6 @@ returns-clause-made g c named here =
     c.hand_on.result c.args.pass.now c.hand_on.new.pass c.hand_on.new.onwards
     (c.in_ok-heard.ensures.peer named here) (c.in_ok-heard.ensures.heard named here) c.hand_on.ensures.peer (c.hand_on.ensures.step after there)
     (c.hand_on.ensures.signals after there) (c.hand_on.ensures.offer after there) c.hand_on.ensures.credit
+
+pub returns-in_err-reserve-clause-err : goal.returns-in_err-reserve-clause-err
+returns-in_err-reserve-clause-err c = search rules
