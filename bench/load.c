@@ -316,14 +316,11 @@ static void carry(double seconds) {
     }
 }
 
-// Sets up the calls, and their voice, of this pair of peers; false where a call wasn't set up.
-static int begin_calls(int is_relay, double seconds) {
-    if (!is_relay && set_up() != calls) {
-        fprintf(stderr, "load: a call wasn't set up\n");
-        return 0;
-    }
-    if (!is_relay && seconds > 0) open_voice();
-    return 1;
+// Sets up the calls of this pair of peers; false where a call wasn't set up.
+static int are_set_up(int is_relay) {
+    if (is_relay || set_up() == calls) return 1;
+    fprintf(stderr, "load: a call wasn't set up\n");
+    return 0;
 }
 
 // The other pairs of peers, each in a process of its own, which carries until it is ended.
@@ -335,7 +332,9 @@ static void start_others(int first, int sites, int is_relay, double seconds) {
         close(west.wire), close(east.wire);
         west.wire = bound(WEST_PORT + 2 * site), east.wire = bound(WEST_PORT + 2 * site + 1);
         NEW_FOR_300[DIGIT_OF_SITE] = (unsigned char)('0' + site);
-        told[site].is_set_up = begin_calls(is_relay, seconds) ? 1 : -1;
+        int is_well = are_set_up(is_relay);
+        if (is_well && !is_relay && seconds > 0) open_voice();
+        told[site].is_set_up = is_well ? 1 : -1;
         while (told[site].is_set_up > 0) carry(1);
         _exit(1);
     }
@@ -407,7 +406,7 @@ int main(int count, char **words) {
     else {
         start_others(first, sites, is_relay, seconds);
         setting_up = seconds_of(processor);
-        if (begin_calls(is_relay, 0)) {
+        if (are_set_up(is_relay)) {
             setting_up = seconds_of(processor) - setting_up;
             if (!is_relay && seconds > 0) open_voice();
             status = seconds > 0 && !wait_for_others(first, sites);
