@@ -1,252 +1,223 @@
-//! The program's command line, as `clap` reads it: `run` with its options, and the texts of help and version.
+//! The program's command line, as `clap` reads it: its commands with their words and options, and the texts of help and version.
 #![tactic(auto)]
 
 use clap::{Arg, ArgAction, Command};
 use std::alloc::{AllocError, Global};
 
-// A word that has to stand there.
-fn word<'a>(alloc: Global, id: &'a str, help: &'a str) -> Arg<'a> {
-    Arg::new(alloc, id)
-        .required(true)
-        .help(help)
-        .action(ArgAction::Set)
-}
-
-// The plan of a command.
-fn plan<'a>(alloc: Global) -> Arg<'a> {
-    word(alloc, "plan", "The file of the plan, in TOML")
-}
-
-fn check_command<'a>(alloc: Global) -> Result<Command<'a>, AllocError> {
-    Command::new(alloc, "check")
-        .about("Tells whether a plan is right, or its first fault")
-        .arg(plan(alloc))
-}
-
-fn explain_command<'a>(alloc: Global) -> Result<Command<'a>, AllocError> {
-    Command::new(alloc, "explain")
-        .about("Prints what a plan means, with its defaults, and warns of what may not be meant")
-        .arg(plan(alloc))
-}
-
-// The two files that are replayed.
-fn replayed<'a>(alloc: Global, command: Command<'a>) -> Result<Command<'a>, AllocError> {
-    command
-        .arg(plan(alloc))?
-        .arg(word(alloc, "script", "The file of the script"))
-}
-
-fn replay_command<'a>(alloc: Global) -> Result<Command<'a>, AllocError> {
-    let command = Command::new(alloc, "replay").about(
-        "Replays a script on an exchange, and prints what it does",
-    );
-    replayed(alloc, command)
-}
-
-fn leg_option<'a>(alloc: Global) -> Arg<'a> {
-    Arg::new(alloc, "leg")
-        .long("leg")
-        .value_name("NUMBER")
-        .help("Only what concerns the leg of this local call number")
-        .value_parser(clap::value_parser!(u32).range(1..=32767))
-        .action(ArgAction::Set)
-}
-
-fn text_option<'a>(alloc: Global) -> Arg<'a> {
-    Arg::new(alloc, "text")
-        .long("text")
-        .help("Plain text of at most 100 columns, not SVG")
-        .action(ArgAction::SetTrue)
-}
-
-fn ladder_command<'a>(alloc: Global) -> Result<Command<'a>, AllocError> {
-    let command = Command::new(alloc, "ladder").about(
-        "Replays a script, and prints a picture of its calls, in SVG: a ladder",
-    );
-    let command = replayed(alloc, command)?;
-    let command = command.arg(leg_option(alloc))?;
-    command.arg(text_option(alloc))
-}
-
-fn records_command<'a>(alloc: Global) -> Result<Command<'a>, AllocError> {
-    let command = Command::new(alloc, "records").about(
-        "Replays a script, and prints the record of each call leg that ended, as CSV",
-    );
-    replayed(alloc, command)
-}
-
-fn pcap_command<'a>(alloc: Global) -> Result<Command<'a>, AllocError> {
-    let command = Command::new(alloc, "pcap").about(
-        "Replays a script, and writes its datagrams as a capture file, for Wireshark",
-    );
-    replayed(alloc, command)
-}
-
-fn serve_command<'a>(alloc: Global) -> Result<Command<'a>, AllocError> {
-    Command::new(alloc, "serve")
-        .about("Carries calls for so many turns of each worker, then prints the accounts")
-        .arg(plan(alloc))?
-        .arg(word(
-            alloc,
-            "turns",
-            "How many turns each worker makes, at least 1",
-        ))
-}
-
-fn control_option<'a>(alloc: Global) -> Arg<'a> {
-    Arg::new(alloc, "control")
-        .long("control")
-        .value_name("SOCKET")
-        .help("The path of a Unix socket that takes orders")
-        .action(ArgAction::Set)
-}
-
-fn metrics_option<'a>(alloc: Global) -> Arg<'a> {
-    Arg::new(alloc, "metrics")
-        .long("metrics")
-        .value_name("ADDRESS:PORT")
-        .help("The TCP address at which GET /metrics is answered, for Prometheus")
-        .action(ArgAction::Set)
-}
-
-fn log_option<'a>(alloc: Global) -> Arg<'a> {
-    Arg::new(alloc, "log")
-        .long("log")
-        .value_name("LEVEL")
-        .help("What is written to standard error")
-        .default_value("warn")
-        .value_parser(["off", "error", "warn", "info", "debug"].as_slice())
-        .action(ArgAction::Set)
-}
-
-fn drain_option<'a>(alloc: Global) -> Arg<'a> {
-    Arg::new(alloc, "drain")
-        .long("drain")
-        .value_name("SECONDS")
-        .help("How long a stop waits at most for the calls to end")
-        .default_value("10")
-        .value_parser(clap::value_parser!(u32).range(0..=3600))
-        .action(ArgAction::Set)
-}
-
-fn calls_option<'a>(alloc: Global) -> Arg<'a> {
-    Arg::new(alloc, "calls")
-        .long("calls")
-        .value_name("FILE")
-        .help("The file to which the record of each ended call leg is appended, as CSV")
-        .action(ArgAction::Set)
-}
-
-fn stop_option<'a>(alloc: Global) -> Arg<'a> {
-    Arg::new(alloc, "stop-at-end-of-input")
-        .long("stop-at-end-of-input")
-        .help("Stop, as by an order, where standard input is a pipe that ends")
-        .action(ArgAction::SetTrue)
-}
-
-fn trace_option<'a>(alloc: Global) -> Arg<'a> {
-    Arg::new(alloc, "trace")
-        .long("trace")
-        .value_name("FOLDER")
-        .help("The folder to which all that the exchange is given is written, for replay")
-        .action(ArgAction::Set)
-}
-
-fn trace_limit_option<'a>(alloc: Global) -> Arg<'a> {
-    Arg::new(alloc, "trace-limit")
-        .long("trace-limit")
-        .value_name("MEBIBYTES")
-        .help("How much of it is kept for each worker")
-        .default_value("64")
-        .value_parser(clap::value_parser!(u32).range(1..=1048576))
-        .action(ArgAction::Set)
-}
-
-fn trace_digits_option<'a>(alloc: Global) -> Arg<'a> {
-    Arg::new(alloc, "trace-digits")
-        .long("trace-digits")
-        .value_name("YES/NO")
-        .help("Whether digits are written as they are, or each as 0")
-        .default_value("yes")
-        .value_parser(["yes", "no"].as_slice())
-        .action(ArgAction::Set)
-}
-
-// What a service writes, and what ends it.
-fn with_files<'a>(alloc: Global, command: Command<'a>) -> Result<Command<'a>, AllocError> {
-    command
-        .arg(calls_option(alloc))?
-        .arg(trace_option(alloc))?
-        .arg(trace_limit_option(alloc))?
-        .arg(trace_digits_option(alloc))?
-        .arg(stop_option(alloc))
-}
-
-fn run_command<'a>(alloc: Global) -> Result<Command<'a>, AllocError> {
-    let command = Command::new(alloc, "run")
-        .about("Carries calls until it is told to stop, then prints the accounts")
-        .arg(plan(alloc))?
-        .arg(control_option(alloc))?
-        .arg(metrics_option(alloc))?
-        .arg(log_option(alloc))?
-        .arg(drain_option(alloc))?;
-    with_files(alloc, command)
-}
-
-fn order_words<'a>(alloc: Global) -> Arg<'a> {
-    Arg::new(alloc, "order")
-        .required(true)
-        .num_args(1..)
-        .help("peers | calls | accounts | call <peer> <number> | hangup <number> | stop")
-        .action(ArgAction::Append)
-}
-
-fn ctl_command<'a>(alloc: Global) -> Result<Command<'a>, AllocError> {
-    let command = Command::new(alloc, "ctl")
-        .about("Gives a running service an order")
-        .arg(word(alloc, "socket", "The path of its control socket"))?;
-    command.arg(order_words(alloc))
-}
-
 /// The version of the program.
 pub const VERSION: &str = "0.1.0";
 
-// A command more, if there was memory for it. (One place where it isn't: each `?` costs a proof of all that is dropped there.)
-fn with<'a>(
-    command: Command<'a>,
-    one: Result<Command<'a>, AllocError>,
-) -> Result<Command<'a>, AllocError> {
-    command.subcommand(one?)
+// What may stand at an argument.
+#[derive(Clone, Copy)]
+enum Taken {
+    // A word, which has to stand there.
+    Word,
+    // One word or more, up to the end.
+    Words,
+    // An option without a value.
+    Flag,
+    // An option with a value, which has this name in the help.
+    Value(&'static str),
+    // The same. The value is one of these; where the option doesn't stand there, it is the second text.
+    OneOf(&'static str, &'static str, &'static [&'static str]),
+    // The same. The value is a number from the first to the last of these; where the option doesn't stand there, it is that text,
+    // if there is one.
+    Number(&'static str, Option<&'static str>, i64, i64),
 }
 
-// What is said of plans and scripts.
-fn with_plans<'a>(alloc: Global, command: Command<'a>) -> Result<Command<'a>, AllocError> {
-    let command = with(command, check_command(alloc))?;
-    let command = with(command, explain_command(alloc))?;
-    with(command, replay_command(alloc))
+// An argument: its name, which is an option's own word; what may stand there; what the help says.
+type Row = (&'static str, Taken, &'static str);
+
+// A command: its name, what the help says, its arguments.
+type CommandRow = (&'static str, &'static str, &'static [Row]);
+
+const PLAN: Row = ("plan", Taken::Word, "The file of the plan, in TOML");
+
+const SCRIPT: Row = ("script", Taken::Word, "The file of the script");
+
+// What is said of plans and scripts, what is made of a script, and what carries calls.
+const COMMANDS: [CommandRow; 9] = [
+    (
+        "check",
+        "Tells whether a plan is right, or its first fault",
+        &[PLAN],
+    ),
+    (
+        "explain",
+        "Prints what a plan means, with its defaults, and warns of what may not be meant",
+        &[PLAN],
+    ),
+    (
+        "replay",
+        "Replays a script on an exchange, and prints what it does",
+        &[PLAN, SCRIPT],
+    ),
+    (
+        "ladder",
+        "Replays a script, and prints a picture of its calls, in SVG: a ladder",
+        &LADDER,
+    ),
+    (
+        "pcap",
+        "Replays a script, and writes its datagrams as a capture file, for Wireshark",
+        &[PLAN, SCRIPT],
+    ),
+    (
+        "records",
+        "Replays a script, and prints the record of each call leg that ended, as CSV",
+        &[PLAN, SCRIPT],
+    ),
+    (
+        "serve",
+        "Carries calls for so many turns of each worker, then prints the accounts",
+        &SERVE,
+    ),
+    (
+        "run",
+        "Carries calls until it is told to stop, then prints the accounts",
+        &RUN,
+    ),
+    ("ctl", "Gives a running service an order", &CTL),
+];
+
+const LADDER: [Row; 4] = [
+    PLAN,
+    SCRIPT,
+    (
+        "leg",
+        Taken::Number("NUMBER", None, 1, 32767),
+        "Only what concerns the leg of this local call number",
+    ),
+    (
+        "text",
+        Taken::Flag,
+        "Plain text of at most 100 columns, not SVG",
+    ),
+];
+
+const SERVE: [Row; 2] = [
+    PLAN,
+    (
+        "turns",
+        Taken::Word,
+        "How many turns each worker makes, at least 1",
+    ),
+];
+
+const RUN: [Row; 10] = [
+    PLAN,
+    (
+        "control",
+        Taken::Value("SOCKET"),
+        "The path of a Unix socket that takes orders",
+    ),
+    (
+        "metrics",
+        Taken::Value("ADDRESS:PORT"),
+        "The TCP address at which GET /metrics is answered, for Prometheus",
+    ),
+    (
+        "log",
+        Taken::OneOf("LEVEL", "warn", &["off", "error", "warn", "info", "debug"]),
+        "What is written to standard error",
+    ),
+    (
+        "drain",
+        Taken::Number("SECONDS", Some("10"), 0, 3600),
+        "How long a stop waits at most for the calls to end",
+    ),
+    (
+        "calls",
+        Taken::Value("FILE"),
+        "The file to which the record of each ended call leg is appended, as CSV",
+    ),
+    (
+        "trace",
+        Taken::Value("FOLDER"),
+        "The folder to which all that the exchange is given is written, for replay",
+    ),
+    (
+        "trace-limit",
+        Taken::Number("MEBIBYTES", Some("64"), 1, 1048576),
+        "How much of it is kept for each worker",
+    ),
+    (
+        "trace-digits",
+        Taken::OneOf("YES/NO", "yes", &["yes", "no"]),
+        "Whether digits are written as they are, or each as 0",
+    ),
+    (
+        "stop-at-end-of-input",
+        Taken::Flag,
+        "Stop, as by an order, where standard input is a pipe that ends",
+    ),
+];
+
+const CTL: [Row; 2] = [
+    ("socket", Taken::Word, "The path of its control socket"),
+    (
+        "order",
+        Taken::Words,
+        "peers | calls | accounts | call <peer> <number> | hangup <number> | stop",
+    ),
+];
+
+// An option with a value.
+fn option<'a>(arg: Arg<'a>, name: &'static str, value_name: &'static str) -> Arg<'a> {
+    arg.long(name).value_name(value_name).action(ArgAction::Set)
 }
 
-// What is made of a script.
-fn with_views<'a>(alloc: Global, command: Command<'a>) -> Result<Command<'a>, AllocError> {
-    let command = with(command, ladder_command(alloc))?;
-    let command = with(command, pcap_command(alloc))?;
-    with(command, records_command(alloc))
+// A number from the first to the last of these, as an option's value.
+fn number<'a>(arg: Arg<'a>, default: Option<&'static str>, first: i64, last: i64) -> Arg<'a> {
+    let arg = arg.value_parser(clap::value_parser!(u32).range(first..=last));
+    match default {
+        Some(value) => arg.default_value(value),
+        None => arg,
+    }
 }
 
-// What carries calls.
-fn with_services<'a>(alloc: Global, command: Command<'a>) -> Result<Command<'a>, AllocError> {
-    let command = with(command, serve_command(alloc))?;
-    let command = with(command, run_command(alloc))?;
-    with(command, ctl_command(alloc))
+fn argument<'a>(alloc: Global, row: &Row) -> Arg<'a> {
+    let (name, taken, help) = *row;
+    let arg = Arg::new(alloc, name).help(help);
+    match taken {
+        Taken::Word => arg.required(true).action(ArgAction::Set),
+        Taken::Words => arg.required(true).num_args(1..).action(ArgAction::Append),
+        Taken::Flag => arg.long(name).action(ArgAction::SetTrue),
+        Taken::Value(value_name) => option(arg, name, value_name),
+        Taken::OneOf(value_name, default, values) => option(arg, name, value_name)
+            .default_value(default)
+            .value_parser(values),
+        Taken::Number(value_name, default, first, last) => {
+            number(option(arg, name, value_name), default, first, last)
+        }
+    }
+}
+
+fn command<'a>(alloc: Global, row: &CommandRow) -> Result<Command<'a>, AllocError> {
+    let (name, about, rows) = *row;
+    let mut args = Vec::with_capacity(alloc, rows.len())?;
+    for row in rows {
+        args.push(argument(alloc, row))?;
+    }
+    Command::new(alloc, name).about(about).args(args)
+}
+
+fn commands<'a>(alloc: Global) -> Result<Vec<Command<'a>>, AllocError> {
+    let mut commands = Vec::with_capacity(alloc, COMMANDS.len())?;
+    for row in &COMMANDS {
+        commands.push(command(alloc, row)?)?;
+    }
+    Ok(commands)
 }
 
 /// The whole command line. The words of a parse have to live as long as `'a`.
+///
+/// `AllocError`: a request for memory was refused.
 pub fn command_line<'a>(alloc: Global) -> Result<Command<'a>, AllocError> {
-    let command = Command::new(alloc, "exchange_main")
+    let commands = commands(alloc)?;
+    Command::new(alloc, "exchange_main")
         .version(VERSION)
         .about("An exchange of IAX2 calls (RFC 5456)")
-        .subcommand_required(true);
-    let command = with_plans(alloc, command)?;
-    let command = with_views(alloc, command)?;
-    with_services(alloc, command)
+        .subcommand_required(true)
+        .subcommands(commands)
 }
