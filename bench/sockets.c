@@ -1,6 +1,6 @@
-// Counts the processor time that a program spends in calls of its sockets, the kernel's included: a library that stands before recvfrom,
-// sendto and epoll_wait of the C library. SIGTERM has it print how many calls there were and how many microseconds they took, on standard error,
-// and ends the program.
+// Counts the processor time that a program spends in calls of its sockets, the kernel's included: a library that stands before recv, recvfrom,
+// send, sendto and epoll_wait of the C library. SIGTERM has it print how many calls there were and how many microseconds they took, on standard
+// error, and ends the program.
 //
 //     gcc -O2 -shared -fPIC -o bench/out/sockets.so bench/sockets.c -ldl
 #define _GNU_SOURCE
@@ -35,10 +35,14 @@ ssize_t recvfrom(int file, void *octets, size_t length, int flags, struct sockad
     return counted(begin, syscall(SYS_recvfrom, file, octets, length, flags, from, size));
 }
 
+ssize_t recv(int file, void *octets, size_t length, int flags) { return recvfrom(file, octets, length, flags, NULL, NULL); }
+
 ssize_t sendto(int file, const void *octets, size_t length, int flags, const struct sockaddr *to, socklen_t size) {
     unsigned long begin = now();
     return counted(begin, syscall(SYS_sendto, file, octets, length, flags, to, size));
 }
+
+ssize_t send(int file, const void *octets, size_t length, int flags) { return sendto(file, octets, length, flags, NULL, 0); }
 
 int epoll_wait(int poll, struct epoll_event *events, int count, int timeout) {
     unsigned long begin = now();

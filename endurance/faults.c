@@ -76,10 +76,32 @@ int clock_gettime(clockid_t clock, struct timespec *time) {
     return 0;
 }
 
+// What a socket that is connected to its peer refuses the exchange sends by the worker's own socket: that refuses it, too, so it is lost.
+static _Thread_local int is_refused_again;
+
 static int is_send_refused(void) {
-    if (!is_refused(ONE_SEND_IN)) return 0;
+    if (!is_refused_again && !is_refused(ONE_SEND_IN)) return 0;
+    is_refused_again = 0;
     errno = ENOBUFS;
     return 1;
+}
+
+static int is_for_datagrams(int file) {
+    int kind = 0;
+    socklen_t size = sizeof kind;
+    return getsockopt(file, SOL_SOCKET, SO_TYPE, &kind, &size) == 0 && kind == SOCK_DGRAM;
+}
+
+// The control socket's answers aren't touched.
+ssize_t send(int file, const void *octets, size_t length, int flags) {
+    if (wanted(ONE_SEND_IN) > 0 && is_for_datagrams(file)) {
+        is_refused_again = 0;
+        if (is_send_refused()) {
+            is_refused_again = 1;
+            return -1;
+        }
+    }
+    return syscall(SYS_sendto, file, octets, length, flags, NULL, 0);
 }
 
 // The address of a datagram, or none: the control socket's answers aren't touched.

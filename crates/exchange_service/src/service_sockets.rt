@@ -8,7 +8,8 @@ use worker_seats::Sockets;
 // So many octets are asked for. The system gives as many as its `net.core.rmem_max` lets it, and counts each twice.
 const WANTED: u32 = 4_194_304;
 
-/// Workers of one endpoint share it; at each socket more room is asked for, and how much there is is logged.
+/// Workers of one endpoint share it; at each socket more room is asked for, and how much there is at a worker's own is logged:
+/// those that are connected to its peers have as much.
 #[derive(Drop)]
 pub(crate) struct ServiceSockets<'l, L> {
     pub(crate) log: &'l L,
@@ -49,5 +50,9 @@ impl<'l, L: Log> Sockets for ServiceSockets<'l, L> {
             info!(self.log; "worker {place} has room for {octets} octets of datagrams that wait");
         }
         room
+    }
+
+    fn set_up_link(&self, descriptor: RawFd) {
+        let _room = room_of(descriptor);
     }
 }

@@ -5,6 +5,7 @@ mod call;
 mod counting_watch;
 mod endpoints;
 mod failing_wire;
+mod links;
 mod loopback;
 mod memory_wire;
 mod shared_port;

@@ -1,4 +1,6 @@
-//! How many datagrams the system dropped at the sockets of a plan's workers, as its table of UDP sockets has it.
+//! How many datagrams the system dropped at the sockets of a plan's workers, as its table of UDP sockets has it: at all that
+//! have a worker's endpoint, its own and those that are connected to its peers. Workers of one endpoint have one count, that of
+//! all of them.
 #![tactic(auto)]
 
 ghost use Rattle.std.specs.Prelude.{◌≡◌, ◌⊎◌, IfOk, length, vec_len};
@@ -9,12 +11,12 @@ use std::alloc::{AllocError, Global};
 use std::fs::{File, Files};
 use std::io::{Read, Seek, SeekFrom};
 
-/// What was dropped at a worker's socket.
+/// What was dropped at the sockets of a worker.
 #[derive(Drop)]
 pub struct DropCount {
     /// The place of the worker, in digits.
     pub worker: String,
-    /// None where the table doesn't have the socket.
+    /// None where the table has none of them.
     pub drops: Option<u64>,
 }
 
@@ -50,7 +52,7 @@ fn local_text(alloc: Global, endpoint: Endpoint) -> Result<String, AllocError> {
     format!(in alloc; "{d:02X}{c:02X}{b:02X}{a:02X}:{port:04X}")
 }
 
-// What was dropped at the socket of each of these workers, by the text of the table.
+// What was dropped at the sockets of each of these workers, by the text of the table.
 fn counts_in(table: &str, alloc: Global, workers: &[Endpoint]) -> Result<Vec<DropCount>, AllocError>
     ensures { IfOk result (λ counts. vec_len counts ≡ length workers.now) }
 {
@@ -66,7 +68,7 @@ fn counts_in(table: &str, alloc: Global, workers: &[Endpoint]) -> Result<Vec<Dro
     Ok(counts)
 }
 
-/// What was dropped at the socket of each worker, in order. Nothing where there is no table.
+/// What was dropped at the sockets of each worker, in order. Nothing where there is no table.
 ///
 /// `AllocError`: a request for memory was refused.
 pub fn drop_counts(

@@ -1,5 +1,7 @@
+pub mod BitLaws
 pub mod CountLaws
 pub mod EventLaws
 pub mod HandingLaws
 pub mod ServedLaws
 pub mod TickLaws
+pub mod ToldLaws

@@ -2,10 +2,13 @@ pub mod Counts
 pub mod Draining
 pub mod Events
 pub mod Handed
+pub mod Link
 pub mod MioWire
+pub mod Pauses
 pub mod PeerCounts
 pub mod Receipts
 pub mod Served
 pub mod Sharing
 pub mod SocketAddress
+pub mod SocketSet
 pub mod Ticked

@@ -1,9 +1,12 @@
 //! Workers: each carries datagrams between its own socket and the exchange, for its own peers alone.
 #![tactic(auto)]
 
+mod bind_error;
 mod draining;
 pub mod laws;
+mod link;
 mod mio_wire;
+mod own_socket;
 mod peer_counts;
 mod receiving;
 mod report;
@@ -12,6 +15,8 @@ mod seat;
 mod sending;
 mod shared_port;
 mod sharing;
+mod socket_set;
+mod sockets;
 mod sources;
 mod tally;
 mod threads;
@@ -20,7 +25,8 @@ mod watch;
 mod wire;
 mod worker;
 
-pub use mio_wire::{BindError, MioWire};
+pub use bind_error::BindError;
+pub use mio_wire::MioWire;
 pub use peer_counts::PeerCounts;
 pub use report::TurnReport;
 pub use seat::{Place, Post, Seat, Start, WatchedExchange};

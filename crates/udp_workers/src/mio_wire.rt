@@ -1,58 +1,31 @@
-//! A wire over a UDP socket of the system.
-ghost use Rattle.std.specs.Prelude.{◌≡◌, ◌≢◌, ◌≤◌, length, Contains, IfOk, IfSome};
+//! A wire over UDP sockets of the system.
+ghost use Rattle.std.specs.Prelude.{◌≡◌, ◌≢◌, Contains, IfOk, position};
+ghost use Rattle.peer_plan.specs.Reading.{is_endpoint};
 ghost use Rattle.peer_plan.specs.declared.endpoint.Endpoint.{Endpoint};
 ghost use Rattle.udp_workers.specs.Counts.{RisesBy};
-ghost use Rattle.udp_workers.specs.declared.mio_wire.BindError.TheVariants as errors;
+ghost use Rattle.udp_workers.specs.Pauses.{pause_of};
 
+use crate::bind_error::BindError;
 use crate::peer_counts::PeerCounts;
-use crate::shared_port::{bound_beside, share};
 use crate::sharing::Sharing;
+use crate::sockets::Sockets;
 use crate::wire::{Wire, WireFault};
-use mio::net::UdpSocket;
-use mio::{Events, Interest, Poll, Token};
 use peer_plan::Endpoint;
-use std::alloc::{AllocError, Global};
-use std::io;
-use std::net::{IpAddr, Ipv4Addr, Net, SocketAddr};
-use std::os::fd::{AsRawFd, RawFd};
-use std::time::Duration;
+use std::alloc::Global;
+use std::net::Net;
+use std::os::fd::RawFd;
 
 // How long it waits at most where another worker may have taken a datagram that these peers are answered.
 const SHARED_MS: u64 = 2;
 
-/// Why no socket was bound.
-#[derive(Clone, Copy, Debug, PartialEq, Eq)]
-pub enum BindError {
-    /// The system doesn't bind a socket to that endpoint, or has no more sockets.
-    Bind,
-    /// A request for memory was refused.
-    Memory,
-}
-
-impl From<io::Error> for BindError {
-    ghost from_gives = { λ _ e. e ≡ errors.Bind };
-
-    fn from(_error: io::Error) -> BindError {
-        BindError::Bind
-    }
-}
-
-impl From<AllocError> for BindError {
-    ghost from_gives = { λ _ e. e ≡ errors.Memory };
-
-    fn from(_error: AllocError) -> BindError {
-        BindError::Memory
-    }
-}
-
-/// A UDP socket of the system that is bound to an IPv4 endpoint.
+/// UDP sockets of the system that are bound to an IPv4 endpoint: a worker's own, and where it may be, one for each peer that is
+/// connected to it.
+///
+/// `receive` asks those sockets at which the system told of a datagram, by turns, each until it has none. Of a datagram that
+/// comes meanwhile to another one it knows once `wait` was called, or once it has found none.
 #[derive(Drop)]
 pub struct MioWire {
-    socket: UdpSocket,
-    poll: Poll,
-    events: Events,
-    // Whether the last `receive` found nothing. The system tells of each datagram once, so without it there may be more.
-    empty: bool,
+    sockets: Sockets,
     // Whether a worker that shares its endpoint takes datagrams of these peers, too.
     shared: bool,
     peers: PeerCounts,
@@ -60,80 +33,14 @@ pub struct MioWire {
     failures: u64,
 }
 
-fn socket_address(endpoint: Endpoint) -> SocketAddr {
-    SocketAddr::new(
-        IpAddr::V4(Ipv4Addr::from_octets(endpoint.address)),
-        endpoint.port,
-    )
-}
-
-fn endpoint_of(address: SocketAddr) -> Option<Endpoint> {
-    match address {
-        SocketAddr::V4(address) => Some(Endpoint {
-            address: address.ip().octets(),
-            port: address.port(),
-        }),
-        SocketAddr::V6(_) => None,
-    }
-}
-
-// The next datagram, with its sender, which has to be an IPv4 endpoint.
-fn received(socket: &UdpSocket, octets: &mut [u8]) -> Result<Option<(usize, Endpoint)>, WireFault>
-    ensures within { IfOk result (λ found. IfSome found (λ datagram. datagram.0 ≤ length octets.new)) }
+// How long it waits at most: not where it may have a datagram, and where its endpoint is shared, a short time.
+fn pause_of(empty: bool, shared: bool, ms: u64) -> u64
+    ensures { result ≡ pause_of empty shared ms }
 {
-    match socket.recv_from(octets) {
-        Ok((len, from)) => match endpoint_of(from) {
-            Some(sender) => Ok(Some((len, sender))),
-            None => Err(WireFault),
-        },
-        Err(error) => {
-            if error.kind() == io::ErrorKind::WouldBlock {
-                return Ok(None);
-            }
-            Err(WireFault)
-        }
+    if !empty {
+        return 0;
     }
-}
-
-// False: it would have to wait.
-fn sent(socket: &UdpSocket, to: Endpoint, octets: &[u8]) -> Result<bool, WireFault> {
-    match socket.send_to(octets, socket_address(to)) {
-        Ok(_) => Ok(true),
-        Err(error) => {
-            if error.kind() == io::ErrorKind::WouldBlock {
-                return Ok(false);
-            }
-            Err(WireFault)
-        }
-    }
-}
-
-// A socket that is bound to this endpoint.
-fn bound<N: Net>(rt: &N, at: Endpoint, sharing: Sharing) -> Result<UdpSocket, BindError> {
-    if sharing == Sharing::Beside {
-        return match bound_beside(at) {
-            Some(socket) => Ok(UdpSocket::from_std(socket)),
-            None => Err(BindError::Bind),
-        };
-    }
-    let socket = UdpSocket::bind(rt, socket_address(at))?;
-    if sharing == Sharing::First && !share(socket.as_raw_fd()) {
-        return Err(BindError::Bind);
-    }
-    Ok(socket)
-}
-
-// A socket that is bound to this endpoint; the system tells of its datagrams where they are polled.
-fn readable<N: Net>(
-    rt: &N,
-    poll: &Poll,
-    at: Endpoint,
-    sharing: Sharing,
-) -> Result<UdpSocket, BindError> {
-    let mut socket = bound(rt, at, sharing)?;
-    poll.registry()
-        .register(&mut socket, Token(0), Interest::READABLE)?;
-    Ok(socket)
+    if shared { ms.min(SHARED_MS) } else { ms }
 }
 
 impl MioWire {
@@ -144,14 +51,19 @@ impl MioWire {
     ///
     /// The socket doesn't block; the system tells of what comes where it is polled. `Alone`: it is bound with no option set, so
     /// nobody else can be bound there. `First`: it is bound so, and then `SO_REUSEPORT` is set. `Beside`: `SO_REUSEPORT` is set
-    /// before it is bound. Contracts speak of the peers and of the counts alone: of the endpoint, the options and the polling
-    /// they say nothing.
+    /// before it is bound. Contracts speak of the peers and of the counts alone: of the endpoint, the options, the sockets and
+    /// the polling they say nothing.
+    ///
+    /// `Alone`, at an address and a port that aren't 0: each of the first 32 peers gets a socket there too, which is connected
+    /// to it, so that the system needn't look up the way for each datagram. `SO_REUSEPORT` is set only while these are bound,
+    /// and nobody else can be bound there after it. A peer for which the system gives no such socket, or whose address or port
+    /// is 0, is served by the worker's own.
     ///
     /// Workers of one endpoint are bound in the order of their places: what comes from one sender then comes to one of them,
     /// whichever the system chooses.
     ///
-    /// `Memory`: a request for memory was refused. `Bind`: the system gives no socket or no poll, doesn't set the option, or
-    /// doesn't bind the socket to that endpoint. At an `Err` the list is dropped.
+    /// `Memory`: a request for memory was refused. `Bind`: the system gives no socket or no poll, doesn't set the option, doesn't
+    /// bind the socket to that endpoint, or doesn't take `SO_REUSEPORT` back. At an `Err` the list is dropped.
     pub fn bind<N: Net>(
         rt: &N,
         alloc: Global,
@@ -165,34 +77,29 @@ impl MioWire {
         ensures failures { IfOk result (λ wire. failures_of wire ≡ 0) }
     {
         let peers = PeerCounts::new(alloc, peers)?;
-        let poll = Poll::new(rt)?;
-        let events = Events::with_capacity(alloc, 1)?;
-        let socket = readable(rt, &poll, at, sharing)?;
-        Ok(MioWire::over(socket, poll, events, peers, sharing))
+        let sockets = Sockets::bound(rt, alloc, at, &peers.endpoints, sharing)?;
+        Ok(MioWire::over(sockets, peers, sharing))
     }
 
-    /// The descriptor of its socket, for whoever sets what the system does with it. Contracts don't speak of it.
+    /// The descriptor of its own socket, for whoever sets what the system does with it. Contracts don't speak of it.
     pub fn descriptor(&self) -> RawFd {
-        self.socket.as_raw_fd()
+        self.sockets.own_descriptor()
     }
 
-    // Over a socket that is bound and polled.
-    fn over(
-        socket: UdpSocket,
-        poll: Poll,
-        events: Events,
-        peers: PeerCounts,
-        sharing: Sharing,
-    ) -> MioWire
+    /// The descriptor of the socket that is connected to the peer at this place of its list, from 0 on, for whoever sets what the
+    /// system does with it. None: that peer has none. Contracts don't speak of it.
+    pub fn link_descriptor(&self, peer: usize) -> Option<RawFd> {
+        self.sockets.link_descriptor(peer)
+    }
+
+    // Over sockets that are bound and polled.
+    fn over(sockets: Sockets, peers: PeerCounts, sharing: Sharing) -> MioWire
         ensures peers { result.peers ≡ peers }
         ensures given { given_of result ≡ 0 }
         ensures failures { failures_of result ≡ 0 }
     {
         MioWire {
-            socket,
-            poll,
-            events,
-            empty: false,
+            sockets,
             shared: sharing != Sharing::Alone,
             peers,
             given: 0,
@@ -200,17 +107,18 @@ impl MioWire {
         }
     }
 
-    // A datagram is given to it, for this endpoint.
-    fn count(&mut self, to: Endpoint)
+    // A datagram is given to it, for this endpoint, which one of its peers has: the first place of such a peer.
+    fn count(&mut self, to: Endpoint) -> Option<usize>
         requires { Contains (peers_of self.old) to }
         ensures given { RisesBy (given_of self.old) (given_of self.new) 1 }
         ensures to { RisesBy (given_to_of self.old to) (given_to_of self.new to) 1 }
         ensures others { (other : Endpoint) → other ≢ to → given_to_of self.new other ≡ given_to_of self.old other }
         ensures failures { failures_of self.new ≡ failures_of self.old }
         ensures peers { peers_of self.new ≡ peers_of self.old }
+        ensures place { result ≡ position (λ peer. is_endpoint peer to) (peers_of self.old) }
     {
         self.given = self.given.wrapping_add(1);
-        self.peers.count(to);
+        self.peers.count_at(to)
     }
 }
 
@@ -226,8 +134,11 @@ impl Wire for MioWire {
     ghost peers = { peers_of };
 
     fn receive(&mut self, octets: &mut [u8]) -> Result<Option<(usize, Endpoint)>, WireFault> {
-        let found = received(&self.socket, octets);
-        self.empty = matches!(found, Ok(None));
+        // Whoever didn't wait since it found nothing hears all the same what came meanwhile.
+        if self.sockets.are_empty() {
+            self.sockets.look(0);
+        }
+        let found = self.sockets.receive(octets);
         if found.is_err() {
             self.failures = self.failures.wrapping_add(1);
         }
@@ -235,8 +146,8 @@ impl Wire for MioWire {
     }
 
     fn send(&mut self, to: Endpoint, octets: &[u8]) -> Result<bool, WireFault> {
-        self.count(to);
-        let sent = sent(&self.socket, to, octets);
+        let place = self.count(to);
+        let sent = self.sockets.send(place, to, octets);
         if sent.is_err() {
             self.failures = self.failures.wrapping_add(1);
         }
@@ -244,12 +155,8 @@ impl Wire for MioWire {
     }
 
     fn wait(&mut self, ms: u64) {
-        if self.empty {
-            let ms = if self.shared { ms.min(SHARED_MS) } else { ms };
-            let _ = self
-                .poll
-                .poll(&mut self.events, Some(Duration::from_millis(ms)));
-        }
+        let pause = pause_of(self.sockets.are_empty(), self.shared, ms);
+        self.sockets.look(pause);
     }
 
     fn peers(&self) -> &[Endpoint] {

@@ -36,8 +36,23 @@ impl PeerCounts {
         ensures others { (other : Endpoint) → other ≢ to → count_of self.new other ≡ count_of self.old other }
         ensures endpoints { self.new.endpoints ≡ self.old.endpoints }
     {
-        if let Some(place) = place_of(&self.endpoints, to) {
-            self.counts[place] = self.counts[place].wrapping_add(1);
+        let _place = self.count_at(to);
+    }
+
+    /// Counts a datagram for an endpoint, modulo 2^64, and gives the first place where the peers have it. Where no peer has it
+    /// nothing is counted.
+    pub(crate) fn count_at(&mut self, to: Endpoint) -> Option<usize>
+        ensures place { result ≡ position (λ peer. is_endpoint peer to) self.old.endpoints.items }
+        ensures to { Contains self.old.endpoints.items to → RisesBy (count_of self.old to) (count_of self.new to) 1 }
+        ensures others { (other : Endpoint) → other ≢ to → count_of self.new other ≡ count_of self.old other }
+        ensures endpoints { self.new.endpoints ≡ self.old.endpoints }
+    {
+        match place_of(&self.endpoints, to) {
+            Some(place) => {
+                self.counts[place] = self.counts[place].wrapping_add(1);
+                Some(place)
+            }
+            None => None,
         }
     }
 

@@ -1,5 +1,5 @@
 //! Sockets that are bound to one endpoint: the system shares out what comes by who sends it (`SO_REUSEPORT`), which neither
-//! `std::net` nor `mio` offers.
+//! `std::net` nor `mio` offers. To one that is connected it gives what that peer sends, and to no other.
 ghost use Rattle.std.specs.Prelude.{◌≡◌};
 ghost use Rattle.udp_workers.specs.SocketAddress.{socket_address};
 
@@ -22,12 +22,18 @@ fn socket_address(at: Endpoint) -> [u8; system::_SS_SIZE]
     octets
 }
 
-// Others may be bound beside it. False: the system doesn't let them.
-pub(crate) fn share(descriptor: RawFd) -> bool {
-    let mut on = [0u8; 16];
-    on[..4].copy_from_slice(&1i32.to_ne_bytes());
+// Whether others that share it, too, may be bound beside it from now on. False: the system doesn't set that.
+pub(crate) fn share(descriptor: RawFd, shared: bool) -> bool {
+    let mut value = [0u8; 16];
+    value[..4].copy_from_slice(&i32::from(shared).to_ne_bytes());
     let status = unsafe {
-        system::setsockopt(descriptor, system::SOL_SOCKET, system::SO_REUSEPORT, &on, 4)
+        system::setsockopt(
+            descriptor,
+            system::SOL_SOCKET,
+            system::SO_REUSEPORT,
+            &value,
+            4,
+        )
     };
     status == 0
 }
@@ -46,7 +52,7 @@ fn unbound() -> Option<UdpSocket> {
 pub(crate) fn bound_beside(at: Endpoint) -> Option<UdpSocket> {
     let socket = unbound()?;
     let descriptor = socket.as_raw_fd();
-    if !share(descriptor) {
+    if !share(descriptor, true) {
         return None;
     }
     let status = unsafe { system::bind(descriptor, &socket_address(at), ADDRESS_OCTETS) };

@@ -11,7 +11,7 @@ use std::alloc::Global;
 use std::net::Net;
 use std::os::fd::RawFd;
 use std::random::RandomSource;
-use udp_workers::{MioWire, Sharing, Worker};
+use udp_workers::{MioWire, Sharing, Wire, Worker};
 
 /// What is done with the sockets of workers.
 pub trait Sockets {
@@ -21,6 +21,9 @@ pub trait Sockets {
     /// The socket of the worker at this place of the plan has this descriptor. Gives how many octets the system then keeps of
     /// datagrams that wait, where that was asked.
     fn set_up(&self, place: u16, descriptor: RawFd) -> Option<u64>;
+
+    /// A socket at that worker's endpoint which is connected to one of its peers has this descriptor.
+    fn set_up_link(&self, descriptor: RawFd);
 }
 
 /// Each is bound alone, and nothing is done with it.
@@ -34,6 +37,18 @@ impl Sockets for PlainSockets {
 
     fn set_up(&self, _place: u16, _descriptor: RawFd) -> Option<u64> {
         None
+    }
+
+    fn set_up_link(&self, _descriptor: RawFd) {}
+}
+
+// Sets up the sockets of a wire.
+fn set_up_all<S: Sockets>(sockets: &S, place: u16, wire: &MioWire) {
+    let _waiting = sockets.set_up(place, wire.descriptor());
+    for peer in 0..wire.peers().len() {
+        if let Some(descriptor) = wire.link_descriptor(peer) {
+            sockets.set_up_link(descriptor);
+        }
     }
 }
 
@@ -58,7 +73,7 @@ fn wire_of<N: Net, S: Sockets>(
         Sharing::Alone
     };
     let wire = MioWire::bind(rt, alloc, workers[usize::from(place)], endpoints, sharing)?;
-    let _waiting = sockets.set_up(place, wire.descriptor());
+    set_up_all(sockets, place, &wire);
     Ok(wire)
 }
 

@@ -3,7 +3,7 @@ use Rattle.std.specs.Prelude.{position}
 use Rattle.peer_plan.specs.Reading.{is_endpoint}
 use Rattle.peer_plan.specs.declared.endpoint.Endpoint.{Endpoint}
 use Rattle.udp_workers.proofs.CountLaws.{found_there, others_kept}
-use Rattle.udp_workers.proofs.peer_counts.PeerCounts.count.Goals as goal
+use Rattle.udp_workers.proofs.peer_counts.PeerCounts.count_at.Goals as goal
 
 pub returns-in-Some-clause-others : goal.returns-in-Some-clause-others
 returns-in-Some-clause-others c other differ =
@@ -12,8 +12,8 @@ returns-in-Some-clause-others c other differ =
     let found = ap (position test) (sym c.deref.ensures.value) ∙ sym c.place_of.ensures ∙ c.in-Some.is in
     others_kept counts.endpoints.items counts.counts.items c.args.to other c.in-Some.place _ found differ
 
-pub returns-in_default-clause-to : goal.returns-in_default-clause-to
-returns-in_default-clause-to c there =
+pub returns-in-None-clause-to : goal.returns-in-None-clause-to
+returns-in-None-clause-to c there =
     let test : Endpoint → Bool = λ peer. is_endpoint peer c.args.to in
-    let none = ap (position test) (sym c.deref.ensures.value) ∙ sym c.place_of.ensures ∙ c.in_default.is in
+    let none = ap (position test) (sym c.deref.ensures.value) ∙ sym c.place_of.ensures ∙ c.in-None.is in
     absurd (found_there c.args.self.now.endpoints.items c.args.to there none)
