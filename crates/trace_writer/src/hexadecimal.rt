@@ -12,11 +12,8 @@ fn digit(value: u8) -> u8
     requires { value < 16 }
     ensures { result ≡ slice_index lower_digits value }
 {
-    if value < 10 {
-        b'0' + value
-    } else {
-        b'a' - 10 + value
-    }
+    let to_letters = if value > 9 { b'a' - 10 - b'0' } else { 0 };
+    b'0' + value + to_letters
 }
 
 // Each octet as two digits. A digit is reckoned, so that the processor does many at once: `hex`, which looks each up, takes three

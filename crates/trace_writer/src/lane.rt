@@ -1,39 +1,35 @@
 //! A thread of a service, as it notes what it hands to the exchange.
 use crate::calls::OpenCall;
-use crate::marks::{Input, Mark};
+use crate::free_numbers::orders_of;
+use crate::marks::{Batch, Input, Mark};
 use crate::trace::Trace;
 use call_auth::Challenge;
 use peer_plan::{Endpoint, Plan};
 use std::alloc::{AllocError, Global};
-use std::io::Write;
 use std::sync::Wait;
 
 // The longest challenge, and the longest datagram that is received.
 const LONGEST: usize = 32 + 2049;
-
-// What there has to be room for as a call begins: for it, and for the one that ends then.
-const NEEDED_MARKS: usize = 2;
-
-const NEEDED_OCTETS: usize = 2 * LONGEST;
 
 /// A thread's own end of the trace.
 ///
 /// A worker says when a turn begins, each datagram before it is handed to the exchange, that its peers are about to be ticked,
 /// what it sends, and when the turn has ended. A call of the exchange is open until the next of these. Whoever gives orders says
 /// of each when it begins and when it has ended.
+///
+/// What is noted stays with the thread until its turn or its order has ended, so that it notes without a lock and writes the
+/// octets of a datagram once. Then it is handed over.
 #[derive(Drop)]
 pub struct TraceLane<'t> {
     trace: &'t Trace,
     thread: usize,
     now: u64,
     challenge: Challenge,
-    // The call that is open, and its octets.
+    // What is noted, and isn't handed over yet. Where a call is open, the last mark is its.
+    noted: Batch,
     open: Option<(OpenCall, Input)>,
-    octets: Vec<u8>,
     // How many calls weren't noted since one was.
     lost: u64,
-    // Whether there was room when that was looked at last. The writer only makes more.
-    has_room: bool,
     // What happened in this turn.
     is_in_turn: bool,
     has_received: bool,
@@ -49,52 +45,6 @@ fn is_full(octets: &[u8]) -> bool {
         Some(octet) => *octet >= 0x80,
         None => false,
     }
-}
-
-// The numbers of a peer that has no leg, each with when it was freed last, as they are given out: those first that never had a
-// leg.
-fn free_numbers(
-    alloc: Global,
-    trace: &Trace,
-    first: u16,
-    count: u16,
-) -> Result<Vec<(u64, u16)>, AllocError> {
-    let mut numbers = Vec::new(alloc);
-    for place in 0..count {
-        let number = first.saturating_add(place);
-        if numbers.push((trace.freed(number), number)).is_err() {
-            return Err(AllocError);
-        }
-    }
-    numbers.sort()?;
-    Ok(numbers)
-}
-
-// The numbers of this list, those that follow one another as `first-last`.
-fn push_numbers(octets: &mut Vec<u8>, numbers: &[(u64, u16)]) {
-    let mut run: Option<(u16, u16)> = None;
-    for &(_, number) in numbers {
-        run = match run {
-            Some((first, last)) if last.wrapping_add(1) == number => Some((first, number)),
-            Some((first, last)) => {
-                push_run(octets, first, last);
-                let _ = octets.write_all(b",");
-                Some((number, number))
-            }
-            None => Some((number, number)),
-        };
-    }
-    if let Some((first, last)) = run {
-        push_run(octets, first, last);
-    }
-}
-
-fn push_run(octets: &mut Vec<u8>, first: u16, last: u16) {
-    let _ = if first == last {
-        write!(octets, "{first}")
-    } else {
-        write!(octets, "{first}-{last}")
-    };
 }
 
 impl<'t> TraceLane<'t> {
@@ -114,10 +64,9 @@ impl<'t> TraceLane<'t> {
             thread,
             now: 0,
             challenge,
+            noted: Batch::new(alloc)?,
             open: None,
-            octets: Vec::with_capacity(alloc, LONGEST)?,
             lost: 0,
-            has_room: true,
             is_in_turn: false,
             has_received: false,
             peers: 0,
@@ -126,79 +75,90 @@ impl<'t> TraceLane<'t> {
         })
     }
 
-    // Whether there is room for a call more.
-    fn look_for_room<R: Wait>(&mut self, rt: &R) -> bool {
-        if !self.has_room {
-            if let Some(batch) = self.trace.batch(self.thread) {
-                self.has_room = batch.lock(rt).has_room(NEEDED_MARKS, NEEDED_OCTETS);
-            }
+    // Whether there is room for a call more. Where there is none, the open one ends, and what is noted is handed over first.
+    fn make_room<R: Wait>(&mut self, rt: &R) -> bool {
+        if self.noted.has_room(1, LONGEST) {
+            return true;
         }
-        self.has_room
+        self.end();
+        self.trace.hand_over(rt, self.thread, &mut self.noted);
+        self.noted.has_room(1, LONGEST)
     }
 
-    // A call begins, of this input, as the one that is open ends; the octets are put in afterwards. Without room it isn't noted.
-    fn begin<R: Wait>(&mut self, rt: &R, input: Input) {
+    // A call begins, of this input and with these octets, which come in two pieces, as the one that is open ends. Without room it
+    // isn't noted.
+    fn begin<R: Wait>(&mut self, rt: &R, input: Input, front: &[u8], back: &[u8]) {
         if self.trace.has_ended() {
-            self.end(rt);
-        } else if self.look_for_room(rt) {
-            self.open = Some((self.next_call(rt), input));
+            self.end();
+        } else if self.make_room(rt) {
+            let call = self.next_call();
+            let input = self.note(call, input, front, back);
+            self.open = Some((call, input));
         } else {
-            self.end(rt);
             self.lost = self.lost.wrapping_add(1);
             self.trace.count_lost();
         }
-        self.octets.clear();
     }
 
     // The next call; the one that is open has ended.
-    fn next_call<R: Wait>(&mut self, rt: &R) -> OpenCall {
+    fn next_call(&mut self) -> OpenCall {
         let Some((call, input)) = self.open.take() else {
             return self.trace.calls.begin();
         };
         let (is_beside, next) = self.trace.calls.follow(call);
-        self.note_ended(rt, call, input, is_beside);
+        self.note_end(input, is_beside);
         next
     }
 
     // The call that is open has ended.
-    fn end<R: Wait>(&mut self, rt: &R) {
+    fn end(&mut self) {
         if let Some((call, input)) = self.open.take() {
             let is_beside = self.trace.calls.end(call);
-            self.note_ended(rt, call, input, is_beside);
+            self.note_end(input, is_beside);
         }
     }
 
-    // A call that has ended is noted. Of a datagram it is known only now whether it was turned away.
-    fn note_ended<R: Wait>(&mut self, rt: &R, call: OpenCall, input: Input, is_beside: bool) {
+    // A call is noted, with its octets; one that there is no room for as a call that did nothing, since the writer waits for each
+    // number. Gives what is noted.
+    fn note(&mut self, call: OpenCall, input: Input, front: &[u8], back: &[u8]) -> Input {
+        let mark = Mark {
+            number: call.number,
+            now: self.now,
+            input,
+            is_beside: call.is_beside,
+            lost: self.lost,
+            octets: 0,
+        };
+        self.lost = 0;
+        if self.noted.push(mark, front, back) {
+            return input;
+        }
+        let mark = mark.emptied();
+        let _ = self.noted.push(mark, b"", b"");
+        mark.input
+    }
+
+    // How the call has ended that was noted last. Of a datagram it is known only now whether it was turned away.
+    fn note_end(&mut self, input: Input, is_beside: bool) {
         let input = match input {
             Input::Datagram { peer, challenge } if self.trace.take_turned_away(self.thread) => {
                 Input::TurnedAway { peer, challenge }
             }
             _ => input,
         };
-        self.note(rt, call, input, is_beside);
+        self.noted.end_last(input, is_beside);
     }
 
-    // A call is noted, with the octets that there are.
-    fn note<R: Wait>(&mut self, rt: &R, call: OpenCall, input: Input, is_beside: bool) {
-        let mark = Mark {
-            number: call.number,
-            now: self.now,
-            input,
-            is_beside,
-            lost: self.lost,
-            octets: 0,
-        };
-        let Some(batch) = self.trace.batch(self.thread) else {
-            return;
-        };
-        let mut batch = batch.lock(rt);
-        if !batch.push(mark, self.octets.as_slice()) {
-            // (the writer waits for each number)
-            let _ = batch.push(mark.emptied(), &[]);
+    // What was handed over last is noted on behind, if the writer hasn't taken it: so that short turns don't use up the batches.
+    fn resume<R: Wait>(&mut self, rt: &R) {
+        self.trace.resume(rt, self.thread, &mut self.noted);
+    }
+
+    // What is noted is handed over; no call is open.
+    fn hand_over<R: Wait>(&mut self, rt: &R) {
+        if !self.noted.is_empty() {
+            self.trace.hand_over(rt, self.thread, &mut self.noted);
         }
-        self.has_room = batch.has_room(NEEDED_MARKS, NEEDED_OCTETS);
-        self.lost = 0;
     }
 
     /// The worker is in a turn. Its moment, in milliseconds since the exchange was opened, and its challenge are those that the
@@ -209,6 +169,7 @@ impl<'t> TraceLane<'t> {
         }
         self.is_in_turn = true;
         self.trace.begin_turn();
+        self.resume(rt);
         let (now, challenge) = self.trace.turn_of(rt, self.thread);
         self.now = now;
         if let Some(challenge) = challenge {
@@ -223,24 +184,24 @@ impl<'t> TraceLane<'t> {
     /// endpoint that no peer has. The challenge is noted with a peer's full frame alone ("Full Frames").
     pub fn datagram<R: Wait>(&mut self, rt: &R, peer: Option<u16>, from: Endpoint, octets: &[u8]) {
         self.has_received = true;
-        let challenge = match peer {
-            Some(_) if is_full(octets) => self.challenge.as_slice().len() as u8,
-            _ => 0,
-        };
-        let input = match peer {
-            Some(peer) => Input::Datagram { peer, challenge },
-            None => Input::Stranger { from },
-        };
-        self.begin(rt, input);
-        if challenge > 0 {
-            let _ = self.octets.extend_from_slice(self.challenge.as_slice());
+        match peer {
+            Some(peer) if is_full(octets) => {
+                let text = self.challenge.copied();
+                let text = text.as_slice();
+                let challenge = text.len() as u8;
+                self.begin(rt, Input::Datagram { peer, challenge }, text, octets);
+            }
+            Some(peer) => {
+                let challenge = 0;
+                self.begin(rt, Input::Datagram { peer, challenge }, b"", octets);
+            }
+            None => self.begin(rt, Input::Stranger { from }, b"", octets),
         }
-        let _ = self.octets.extend_from_slice(octets);
     }
 
     /// The peers of the worker are ticked next.
     pub fn tick<R: Wait>(&mut self, rt: &R) {
-        self.begin(rt, Input::Tick);
+        self.begin(rt, Input::Tick, b"", b"");
     }
 
     // The ticks of this turn, where there was no time to say so before them. Whether others came between isn't known then.
@@ -252,7 +213,7 @@ impl<'t> TraceLane<'t> {
             Some((call, _)) => call.number.wrapping_add(1),
             None => self.trace.calls.begun(),
         };
-        self.begin(rt, Input::Tick);
+        self.begin(rt, Input::Tick, b"", b"");
         if let Some((call, _)) = &mut self.open {
             if call.number != begun {
                 call.is_beside = true;
@@ -264,7 +225,7 @@ impl<'t> TraceLane<'t> {
     pub fn send<R: Wait>(&mut self, rt: &R, peer: u16, is_taken: bool) {
         if self.peers == 0 {
             self.tick_if_none(rt);
-            self.end(rt);
+            self.end();
         }
         self.peers |= 1u32.wrapping_shl(u32::from(peer));
         if !is_taken {
@@ -283,13 +244,14 @@ impl<'t> TraceLane<'t> {
             if !self.has_received && !has_retired {
                 self.forget();
             }
-            self.end(rt);
+            self.end();
         }
         if self.peers != 0 {
             let (peers, lost) = (self.peers, self.untaken);
-            self.begin(rt, Input::Send { peers, lost });
-            self.end(rt);
+            self.begin(rt, Input::Send { peers, lost }, b"", b"");
+            self.end();
         }
+        self.hand_over(rt);
         self.is_in_turn = false;
         self.trace.end_turn();
     }
@@ -304,22 +266,23 @@ impl<'t> TraceLane<'t> {
     /// A call goes out to the peer at this place of the plan next, at this moment, in milliseconds since the exchange was
     /// opened. A number of more than 2,081 octets is noted as an empty one.
     pub fn begin_call<R: Wait>(&mut self, rt: &R, now: u64, peer: u16, number: &[u8]) {
+        self.resume(rt);
         self.now = now;
-        self.begin(rt, Input::Call { peer });
-        if number.len() <= LONGEST {
-            let _ = self.octets.extend_from_slice(number);
-        }
+        let number = if number.len() <= LONGEST { number } else { b"" };
+        self.begin(rt, Input::Call { peer }, number, b"");
     }
 
     /// The leg of this local number hangs up next, at this moment, in milliseconds since the exchange was opened.
     pub fn begin_hang_up<R: Wait>(&mut self, rt: &R, now: u64, number: u16) {
+        self.resume(rt);
         self.now = now;
-        self.begin(rt, Input::HangUp { number });
+        self.begin(rt, Input::HangUp { number }, b"", b"");
     }
 
     /// The call or the hang-up that was begun last was made, or refused.
     pub fn end_order<R: Wait>(&mut self, rt: &R) {
-        self.end(rt);
+        self.end();
+        self.hand_over(rt);
     }
 
     /// Whether it is to be looked next if any leg is up, since there may be a new file where none is. It isn't while a call of
@@ -349,33 +312,30 @@ impl<'t> TraceLane<'t> {
         let Some(begun) = self.look.take() else {
             return;
         };
-        if !is_at_rest {
+        if !is_at_rest || self.trace.has_ended() {
+            return;
+        }
+        self.resume(rt);
+        if !self.make_room(rt) {
             return;
         }
         self.now = now;
-        self.begin(rt, Input::Nothing);
-        let are_told = self.push_orders(alloc, plan).is_ok();
-        let Some((call, input)) = self.open.take() else {
-            return;
-        };
+        let call = self.trace.calls.begin();
+        let orders = orders_of(alloc, self.trace, plan);
         let is_beside = self.trace.calls.end(call);
-        if are_told && !is_beside && call.number == begun {
-            self.note(rt, call, Input::Rest, is_beside);
-        } else {
-            self.octets.clear();
-            self.note(rt, call, input, is_beside);
-        }
-    }
-
-    // The lines that give each peer the order of its free numbers.
-    fn push_orders(&mut self, alloc: Global, plan: &Plan) -> Result<(), AllocError> {
-        for peer in 0..plan.peer_count() {
-            let range = plan.range(peer);
-            let numbers = free_numbers(alloc, self.trace, range.first, range.count)?;
-            let _ = write!(self.octets, "free {} ", plan.name(peer));
-            push_numbers(&mut self.octets, &numbers);
-            let _ = self.octets.write_all(b"\n");
-        }
-        Ok(())
+        let call = OpenCall {
+            number: call.number,
+            is_beside,
+        };
+        let lines = match &orders {
+            Ok(lines) if !is_beside && call.number == begun => Some(lines.as_slice()),
+            _ => None,
+        };
+        let input = match lines {
+            Some(_) => Input::Rest,
+            None => Input::Nothing,
+        };
+        self.note(call, input, lines.unwrap_or(b""), b"");
+        self.hand_over(rt);
     }
 }

@@ -4,6 +4,8 @@
 
 mod calls;
 mod folder;
+mod free_numbers;
+mod handed;
 mod hexadecimal;
 mod lane;
 mod marks;

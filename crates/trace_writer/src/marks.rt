@@ -1,14 +1,16 @@
 //! What is noted of a call of the exchange, until it is written.
-ghost use Rattle.std.specs.Prelude.{◌≡◌, ◌++◌, ◌∷◌, [], length, if◌then◌else◌};
+ghost use Rattle.std.specs.Prelude.{◌≡◌, ◌++◌, ◌+◌, ◌∷◌, [], List, length, if◌then◌else◌};
+ghost use Rattle.std.specs.Bool.{OnTrue};
+ghost use Rattle.trace_writer.specs.declared.marks.Mark.{Mark};
 ghost use Rattle.trace_writer.specs.declared.marks.Input.TheVariants.{Nothing};
 
 use peer_plan::Endpoint;
 use std::alloc::{AllocError, Global};
 
-// How much a lane holds at most until the writer takes it.
-const MARKS: usize = 16_384;
+// What a batch has room for.
+const MARKS: usize = 4096;
 
-const OCTETS: usize = 4_194_304;
+const OCTETS: usize = 1_048_576;
 
 /// What a call of the exchange was given. A peer is named by its place in the plan.
 #[derive(Clone, Copy, Debug, PartialEq, Eq)]
@@ -68,7 +70,7 @@ pub(crate) struct Batch {
 }
 
 impl Batch {
-    /// One without marks, with room for many.
+    /// One without marks, with room for 4,096, and for 1 MiB of octets.
     pub(crate) fn new(alloc: Global) -> Result<Batch, AllocError> {
         Ok(Batch {
             marks: Vec::with_capacity(alloc, MARKS)?,
@@ -76,32 +78,72 @@ impl Batch {
         })
     }
 
-    /// Whether there is room for so many marks more, with so many octets.
-    pub(crate) fn has_room(&self, marks: usize, octets: usize) -> bool {
-        marks <= MARKS.saturating_sub(self.marks.len())
-            && octets <= OCTETS.saturating_sub(self.octets.len())
+    /// One without marks, and without room for any. It takes no memory.
+    pub(crate) fn without_room(alloc: Global) -> Batch
+        ensures marks { result.marks.items ≡ [] }
+        ensures octets { result.octets.items ≡ [] }
+    {
+        Batch {
+            marks: Vec::new(alloc),
+            octets: Vec::new(alloc),
+        }
     }
 
-    /// A mark more, with its octets. False where there is no room for it; then nothing has changed.
-    pub(crate) fn push(&mut self, mark: Mark, octets: &[u8]) -> bool
-        ensures marks { self.new.marks.items ≡
-            (if result then self.old.marks.items ++ record mark { octets = length octets.now } ∷ [] else self.old.marks.items) }
-        ensures octets { self.new.octets.items ≡ (if result then self.old.octets.items ++ octets.now else self.old.octets.items) }
+    /// Whether there is room for so many marks more, with so many octets.
+    pub(crate) fn has_room(&self, marks: usize, octets: usize) -> bool {
+        marks <= self.marks.capacity().saturating_sub(self.marks.len())
+            && octets <= self.octets.capacity().saturating_sub(self.octets.len())
+    }
+
+    /// Whether nothing is noted.
+    pub(crate) fn is_empty(&self) -> bool
+        ensures marks { OnTrue result (self.now.marks.items ≡ []) }
+        ensures octets { OnTrue result (self.now.octets.items ≡ []) }
+    {
+        self.marks.is_empty() && self.octets.is_empty()
+    }
+
+    /// A mark more, with its octets, which come in two pieces. False where there is no room for it; then nothing has changed.
+    pub(crate) fn push(&mut self, mark: Mark, front: &[u8], back: &[u8]) -> bool
+        ensures marks { self.new.marks.items ≡ (if result
+            then self.old.marks.items ++ record mark { octets = length front.now + length back.now } ∷ []
+            else self.old.marks.items) }
+        ensures octets { self.new.octets.items
+            ≡ (if result then self.old.octets.items ++ front.now ++ back.now else self.old.octets.items) }
     {
         let mut mark = mark;
-        mark.octets = octets.len();
-        if !self.has_room(1, octets.len()) || self.marks.push(mark).is_err() {
+        mark.octets = front.len() + back.len();
+        if !self.has_room(1, mark.octets)
+            || self.octets.reserve(mark.octets).is_err()
+            || self.marks.push(mark).is_err()
+        {
             return false;
         }
-        if self.octets.extend_from_slice(octets).is_err() {
-            let _ = self.marks.pop();
-            return false;
-        }
+        let _ = self.octets.extend_from_slice(front);
+        let _ = self.octets.extend_from_slice(back);
         true
     }
 
+    /// The call of the last mark has ended: it had this input, and another call was open while it was, or none.
+    pub(crate) fn end_last(&mut self, input: Input, is_beside: bool)
+        ensures marks { (before : List Mark) (mark : Mark) → self.old.marks.items ≡ before ++ mark ∷ []
+            → self.new.marks.items ≡ before ++ record mark { input = input; is_beside = is_beside } ∷ [] }
+        ensures none { self.old.marks.items ≡ [] → self.new.marks.items ≡ [] }
+        ensures octets { self.new.octets.items ≡ self.old.octets.items }
+    {
+        if let Some(mark) = self.marks.pop() {
+            let mut mark = mark;
+            mark.input = input;
+            mark.is_beside = is_beside;
+            self.marks.push_reserved(mark);
+        }
+    }
+
     /// No mark is left.
-    pub(crate) fn clear(&mut self) {
+    pub(crate) fn clear(&mut self)
+        ensures marks { self.new.marks.items ≡ [] }
+        ensures octets { self.new.octets.items ≡ [] }
+    {
         self.marks.clear();
         self.octets.clear();
     }

@@ -14,7 +14,7 @@ const FILES: u64 = 8;
 const KEPT: usize = 1024;
 
 // What stands behind the last whole line while a file is written: there a script ends.
-const END: [u8; 1] = [0];
+const END: u8 = 0;
 
 /// A folder for a trace.
 #[derive(Clone, Copy, Debug)]
@@ -66,7 +66,7 @@ impl TraceFolder<'_> {
     fn begin<D: Folder>(&self, disk: &D, alloc: Global, place: u64) -> io::Result<TraceFile> {
         let path = self.path_of(alloc, place)?;
         let file = disk.begin(path.as_str())?;
-        if file.write_all_at(&END, 0).is_err() {
+        if file.write_all_at(&[END], 0).is_err() {
             file.set_len(0)?;
         }
         Ok(TraceFile {
@@ -119,14 +119,15 @@ impl TraceFile {
         let _ = self.tail.extend_from_slice(text.get(from..).unwrap_or(b""));
     }
 
-    // Puts whole lines, the first octet of which is given apart, behind those that there are. That octet comes last, over the end
-    // that stood there: whenever the service is killed, the file's lines are those of a time before or after this.
-    fn put(&self, first: u8, rest: &[u8]) -> io::Result<()> {
-        let behind_first = self.length.saturating_add(1);
-        let behind_all = behind_first.saturating_add(rest.len() as u64);
-        self.file.write_all_at(rest, behind_first)?;
-        self.file.write_all_at(&END, behind_all)?;
-        self.file.write_all_at(&[first], self.length)
+    // Puts whole lines behind those that there are, and the end behind them. Their first octet comes last, over the end that
+    // stood there: whenever the service is killed, the file's lines are those of a time before or after this.
+    fn put(&self, lines: &mut Vec<u8>) -> io::Result<()> {
+        lines.push(END)?;
+        let Some((first, rest)) = lines.split_first() else {
+            return Ok(());
+        };
+        self.file.write_all_at(rest, self.length.saturating_add(1))?;
+        self.file.write_all_at(&[*first], self.length)
     }
 
     /// No more is written: the file ends with its lines.
@@ -135,23 +136,22 @@ impl TraceFile {
         let _ = self.file.set_len(self.length);
     }
 
-    /// Writes whole lines behind those that there are. Where it fails, so many of these are cut off that there is room for one
-    /// line, which says why the trace ends.
-    pub(crate) fn write(&mut self, text: &[u8]) -> Result<(), Fault> {
-        let Some((first, rest)) = text.split_first() else {
+    /// Writes whole lines behind those that there are; none is left to be written. Where it fails, so many of these are cut off
+    /// that there is room for one line, which says why the trace ends.
+    pub(crate) fn write(&mut self, lines: &mut Vec<u8>) -> Result<(), Fault> {
+        let length = lines.len();
+        if length == 0 {
             return Ok(());
-        };
-        match self.put(*first, rest) {
-            Ok(()) => {
-                self.length = self.length.saturating_add(text.len() as u64);
-                self.keep_tail(text);
-                Ok(())
-            }
-            Err(error) => {
-                self.end(&error);
-                Err(fault_of(&error))
-            }
         }
+        if let Err(error) = self.put(lines) {
+            self.end(&error);
+            return Err(fault_of(&error));
+        }
+        lines.truncate(length);
+        self.length = self.length.saturating_add(length as u64);
+        self.keep_tail(lines.as_slice());
+        lines.clear();
+        Ok(())
     }
 
     // Where the lines end that are left when these octets at the end of the file have gone.

@@ -180,7 +180,7 @@ impl<'p> Script<'p> {
 
     // The same; where there is no memory for a line, those before it are there.
     fn push_lines(&mut self, thread: usize, mark: &Mark, octets: &[u8]) -> io::Result<()> {
-        if mark.input == Input::Nothing || mark.input == Input::Rest {
+        if matches!(mark.input, Input::Nothing | Input::Rest) {
             return Ok(());
         }
         if self.missing > 0 {
@@ -195,6 +195,8 @@ impl<'p> Script<'p> {
         }
         self.push_moment(mark.now)?;
         self.push_input(thread, mark.input, octets)?;
+        // (for the end of the file, which is written with them)
+        self.text.reserve(1)?;
         self.missing = 0;
         Ok(())
     }
@@ -249,8 +251,8 @@ impl<'p> Script<'p> {
             self.text.extend_from_slice(b"# Without an octet: ")?;
         }
         self.text.extend_from_slice(command.as_bytes())?;
-        self.text
-            .extend_from_slice(name_of(self.plan, peer).as_bytes())?;
+        let name = name_of(self.plan, peer);
+        self.text.extend_from_slice(name.as_bytes())?;
         self.text.push(b' ')?;
         push_octets(self.alloc, self.manner, &mut self.text, octets)?;
         self.text.push(b'\n')?;

@@ -1,10 +1,10 @@
 //! What the threads of a service share with the writer of its trace.
 use crate::calls::Calls;
+use crate::handed::Handed;
 use crate::marks::Batch;
 use call_auth::Challenge;
 use call_files::Fault;
 use std::alloc::{AllocError, Global};
-use std::mem;
 use std::sync::atomic::{AtomicBool, AtomicU64, Ordering};
 use std::sync::{Mutex, Wait};
 
@@ -19,10 +19,10 @@ pub struct TraceState {
     pub fault: Option<Fault>,
 }
 
-// What a thread notes, until the writer takes it.
+// What a thread has noted, until the writer takes it.
 #[derive(Drop)]
 struct Notes {
-    batch: Mutex<Batch>,
+    handed: Mutex<Handed>,
     // The moment and the challenge of its turn.
     now: AtomicU64,
     challenge: Mutex<Option<Challenge>>,
@@ -57,7 +57,7 @@ impl Trace {
         let mut lanes = Vec::new(alloc);
         for _ in 0..threads {
             let notes = Notes {
-                batch: Mutex::new(Batch::new(alloc)?),
+                handed: Mutex::new(Handed::new(alloc)?),
                 now: AtomicU64::new(0),
                 challenge: Mutex::new(None),
                 is_turned_away: AtomicBool::new(false),
@@ -206,19 +206,24 @@ impl Trace {
         }
     }
 
-    /// What a thread notes.
-    pub(crate) fn batch(&self, thread: usize) -> Option<&Mutex<Batch>> {
-        match self.lanes.get(thread) {
-            Some(notes) => Some(&notes.batch),
-            None => None,
+    /// Hands over what a thread noted.
+    pub(crate) fn hand_over<R: Wait>(&self, rt: &R, thread: usize, noted: &mut Batch) {
+        if let Some(notes) = self.lanes.get(thread) {
+            notes.handed.lock(rt).hand_over(noted);
         }
     }
 
-    /// Takes what a thread has noted, and leaves an empty batch.
-    pub(crate) fn take<R: Wait>(&self, rt: &R, thread: usize, spare: Batch) -> Batch {
-        match self.batch(thread) {
-            Some(batch) => mem::replace(&mut *batch.lock(rt), spare),
-            None => spare,
+    /// Gives a thread back what it handed over last, to note on behind it, where the writer has something else to take.
+    pub(crate) fn resume<R: Wait>(&self, rt: &R, thread: usize, noted: &mut Batch) {
+        if let Some(notes) = self.lanes.get(thread) {
+            notes.handed.lock(rt).resume(noted);
+        }
+    }
+
+    /// Takes what a thread has handed over, for the batches that are written.
+    pub(crate) fn trade<R: Wait>(&self, rt: &R, thread: usize, batches: &mut Vec<Batch>) {
+        if let Some(notes) = self.lanes.get(thread) {
+            notes.handed.lock(rt).trade(batches);
         }
     }
 

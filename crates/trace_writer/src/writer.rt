@@ -1,5 +1,6 @@
 //! The thread that writes.
 use crate::folder::Folder;
+use crate::handed::Handed;
 use crate::marks::{Batch, Input, Mark};
 use crate::parts::{TraceFile, TraceFolder};
 use crate::spelling::{Head, Manner, Script};
@@ -8,73 +9,82 @@ use call_files::Fault;
 use peer_plan::Plan;
 use std::alloc::{AllocError, Global};
 use std::sync::Wait;
+use std::thread;
 use std::thread::Threads;
 use std::time::{Clock, Duration};
-use std::{mem, thread};
 
 // How long the writer rests after a round, in milliseconds; and where there is much to write, so that what a thread notes is
-// still in the processor's nearest memory when it is read, and when it is noted over.
+// still in a processor's own memory when it is read, and when it is noted over.
 const REST_MS: u64 = 20;
 
-const SHORT_REST_MS: u64 = 5;
+const SHORT_REST_MS: u64 = 10;
 
 // So many octets written for each millisecond of rest are much.
 const MUCH: u64 = 3200;
 
-// Lines are written once there are so many octets of them, and at the end of a round.
-const PIECE: usize = 65_536;
+// Lines are written once there are so many octets of them, and at the end of a round: each call of the system costs what it
+// takes to write some eight thousand octets.
+const PIECE: usize = 262_144;
 
 // There is no memory for the head of a file.
 const NO_MEMORY: Fault = Fault { code: Some(12) };
 
-// What a thread noted, and how much of it is written.
+// What a thread has handed over, and how much of it is written: so many batches, and of the next one so many marks and octets.
 #[derive(Drop)]
 struct Taken {
-    batch: Batch,
+    batches: Vec<Batch>,
+    written: usize,
     marks: usize,
     octets: usize,
 }
 
 impl Taken {
-    // The next mark, if there is one.
-    fn next(&self) -> Option<&Mark> {
-        self.batch.marks.get(self.marks)
+    // The number of the next call, if there is one.
+    fn next(&self) -> Option<u64> {
+        let batch = self.batches.get(self.written)?;
+        let mark = batch.marks.get(self.marks)?;
+        Some(mark.number)
     }
 
-    // The octets of that mark.
-    fn octets(&self, mark: &Mark) -> &[u8] {
-        let end = self.octets.saturating_add(mark.octets);
-        self.batch.octets.get(self.octets..end).unwrap_or(b"")
-    }
-
-    // It is written.
-    fn pass(&mut self, mark: &Mark) {
-        self.marks = self.marks.saturating_add(1);
-        self.octets = self.octets.saturating_add(mark.octets);
-    }
-
-    // What the thread has noted since, where all before is written.
-    fn refill<R: Wait>(&mut self, rt: &R, trace: &Trace, thread: usize, spare: &mut Option<Batch>) {
-        if self.marks < self.batch.marks.len() {
+    // What the thread has handed over since, where all before is written.
+    fn refill<R: Wait>(&mut self, rt: &R, trace: &Trace, thread: usize) {
+        if self.written < self.batches.len() {
             return;
         }
-        let Some(mut empty) = spare.take() else {
-            return;
-        };
-        empty.clear();
-        let new = trace.take(rt, thread, empty);
-        *spare = Some(mem::replace(&mut self.batch, new));
+        trace.trade(rt, thread, &mut self.batches);
+        self.written = 0;
         self.marks = 0;
         self.octets = 0;
     }
+
+    // Writes the lines of the thread's next calls, as long as they follow on one another and lie in one batch.
+    fn tell<D: Folder>(&mut self, thread: usize, writer: &mut Writer<'_, D>) -> Result<(), Fault> {
+        let Some(batch) = self.batches.get(self.written) else {
+            return Ok(());
+        };
+        for mark in batch.marks.get(self.marks..).unwrap_or(&[]) {
+            if mark.number != writer.next {
+                return Ok(());
+            }
+            let end = self.octets.saturating_add(mark.octets);
+            let octets = batch.octets.get(self.octets..end).unwrap_or(b"");
+            writer.tell(thread, mark, octets)?;
+            writer.next = writer.next.wrapping_add(1);
+            self.marks = self.marks.saturating_add(1);
+            self.octets = end;
+        }
+        self.written = self.written.saturating_add(1);
+        self.marks = 0;
+        self.octets = 0;
+        Ok(())
+    }
 }
 
-/// What the writer needs: room for what the threads note.
+/// What the writer needs: room for what the threads hand over.
 #[derive(Drop)]
 pub struct TraceNotes {
     alloc: Global,
     taken: Vec<Taken>,
-    spare: Option<Batch>,
 }
 
 /// How a trace is written.
@@ -88,14 +98,15 @@ pub struct TraceSettings<'a> {
 }
 
 impl TraceNotes {
-    /// Room for what so many threads note.
+    /// Room for what so many threads hand over.
     ///
     /// `AllocError`: a request for memory was refused.
     pub fn new(alloc: Global, threads: usize) -> Result<TraceNotes, AllocError> {
         let mut taken = Vec::new(alloc);
         for _ in 0..threads {
             let one = Taken {
-                batch: Batch::new(alloc)?,
+                batches: Handed::list(alloc)?,
+                written: 0,
                 marks: 0,
                 octets: 0,
             };
@@ -103,11 +114,7 @@ impl TraceNotes {
                 return Err(AllocError);
             }
         }
-        Ok(TraceNotes {
-            alloc,
-            taken,
-            spare: Some(Batch::new(alloc)?),
-        })
+        Ok(TraceNotes { alloc, taken })
     }
 }
 
@@ -160,11 +167,10 @@ impl<'a, D: Folder> Writer<'a, D> {
     // The lines that there are go to the file.
     fn write(&mut self) -> Result<(), Fault> {
         let before = self.file.length();
-        self.file.write(self.script.text.as_slice())?;
+        self.file.write(&mut self.script.text)?;
         let octets = self.file.length().saturating_sub(before);
         self.written = self.written.saturating_add(octets);
         self.trace.count_written(octets);
-        self.script.text.clear();
         Ok(())
     }
 
@@ -189,7 +195,7 @@ impl<'a, D: Folder> Writer<'a, D> {
     // The lines of a call. It may begin a file: where no call is up, a file that is half as long as it may be has a next one.
     fn tell(&mut self, thread: usize, mark: &Mark, octets: &[u8]) -> Result<(), Fault> {
         let part = self.settings.folder.part();
-        if mark.input == Input::Rest && self.length() >= part / 2 {
+        if matches!(mark.input, Input::Rest) && self.length() >= part / 2 {
             self.turn_over()?;
             self.begin_part(octets)?;
         } else if self.length() >= part {
@@ -206,12 +212,11 @@ impl<'a, D: Folder> Writer<'a, D> {
     }
 }
 
-// The thread whose next mark has this number.
+// The thread whose next call has this number.
 fn thread_of(taken: &[Taken], number: u64) -> Option<usize> {
     for (thread, one) in taken.iter().enumerate() {
-        match one.next() {
-            Some(mark) if mark.number == number => return Some(thread),
-            _ => {}
+        if one.next() == Some(number) {
+            return Some(thread);
         }
     }
     None
@@ -227,12 +232,7 @@ fn tell_all<D: Folder>(taken: &mut [Taken], writer: &mut Writer<'_, D>) -> Resul
         let Some(one) = taken.get_mut(thread) else {
             break;
         };
-        let Some(&mark) = one.next() else {
-            break;
-        };
-        writer.tell(thread, &mark, one.octets(&mark))?;
-        one.pass(&mark);
-        writer.next = writer.next.wrapping_add(1);
+        one.tell(thread, writer)?;
         has_told = true;
     }
     Ok(has_told)
@@ -255,11 +255,10 @@ fn write_noted<R: Wait, D: Folder>(
     are_over: bool,
 ) -> Result<(), Fault> {
     for _ in 0..u64::MAX {
-        let TraceNotes { taken, spare, .. } = notes;
-        for (thread, one) in taken.iter_mut().enumerate() {
-            one.refill(rt, writer.trace, thread, spare);
+        for (thread, one) in notes.taken.iter_mut().enumerate() {
+            one.refill(rt, writer.trace, thread);
         }
-        if !tell_all(taken, writer)? {
+        if !tell_all(&mut notes.taken, writer)? {
             break;
         }
     }
@@ -322,9 +321,9 @@ fn write_trace<R: Clock + Wait, D: Folder>(
     }
 }
 
-/// Has a service serve, and writes meanwhile, on a thread of its own, what the service's threads note, to the files of a folder; in
-/// rounds, fifty a second, or two hundred where there is much. What calls of the exchange were given stands there in the order in
-/// which they began. Once the service has served the trace ends.
+/// Has a service serve, and writes meanwhile, on a thread of its own, what the service's threads note, to the files of a folder;
+/// in rounds, fifty a second, or a hundred where there is much. What calls of the exchange were given stands there in the order
+/// in which they began. Once the service has served the trace ends.
 ///
 /// Answers what `serve` does; false if the thread was refused, and then nothing is served. Where a file can't be written to the
 /// trace ends, with a line that says so; the service goes on.
