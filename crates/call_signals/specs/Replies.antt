@@ -1,5 +1,5 @@
 -- The replies of a leg, and the elements of its frames ("IAX Frames", "Control Frames", "Information Elements").
-use Rattle.std.specs.Prelude.{ℕ, List, [], ◌∷◌, ◌++◌, Option, None, Some}
+use Rattle.std.specs.Prelude.{ℕ, List, [], ◌∷◌, ◌++◌, Option}
 use Rattle.std.specs.Int.{w32, to_be_bytes}
 use Rattle.info_elements.specs.Numbers.{CALLED_NUMBER, USERNAME, CAPABILITY, FORMAT, VERSION, AUTHMETHODS, CHALLENGE, CAUSE}
 use Rattle.info_elements.specs.Numbers.{CAUSECODE}

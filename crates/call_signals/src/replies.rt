@@ -1,6 +1,8 @@
 //! The numbered frames that a leg sends, and the list to which a step writes its datagrams.
-ghost use Rattle.std.specs.Prelude.{◌≡◌, ◌+◌, ◌<◌, ◌≤◌, ◌^◌, [], ◌∷◌, ◌++◌, ◌==◌, length, slice_get, option_copied};
+ghost use Rattle.std.specs.Prelude.{◌≡◌, ◌+◌, ◌<◌, ◌≤◌, ◌^◌, [], ◌∷◌, ◌++◌, ◌==◌, length, slice_get, take, option_copied};
+ghost use Rattle.iax_frames.specs.Datagram.{IsFrame};
 ghost use Rattle.iax_frames.specs.FullFrame.{spelling};
+ghost use Rattle.iax_frames.specs.MiniFrame.{mini_spelling};
 ghost use Rattle.call_signals.specs.Replies.{type_of, subclass_of, indication_subclass, timestamp_of};
 
 use crate::causes::Cause;
@@ -12,7 +14,7 @@ use crate::codes::{
 use crate::formats::Format;
 use crate::signals::{Digit, Indication};
 use arrayvec::ArrayVec;
-use iax_frames::{FullHead, Out, write_full};
+use iax_frames::{CallNumber, FullHead, Out, full_head, mini_head};
 use std::marker::Model;
 
 /// A numbered frame that answers another, or that an order or a tick sends.
@@ -96,18 +98,38 @@ impl Indication {
 
 /// The datagrams that one step sends, at most 128. Contracts see the octets of each.
 ///
-/// The caller of a step lends an empty list, reads it, and clears it for the next step.
+/// The caller of a step lends an empty list, reads it, and clears it for the next step. What was written before is written over,
+/// so a datagram costs no more than its own octets.
 #[derive(Debug, Drop)]
 pub struct Replies {
+    // Those behind the first `len` are places for later ones.
     outs: ArrayVec<Out, 128>,
+    len: usize,
 }
 
 impl Model for Replies {
-    ghost use Rattle.std.specs.Prelude.{ℕ, List};
+    ghost use Rattle.std.specs.Prelude.{ℕ, List, ◌≤◌, length, take};
 
     ghost Value = { List (List ℕ) };
 
-    ghost view = { λ r. r.outs.items };
+    ghost view = { λ r. take r.len r.outs.items };
+
+    ghost invariant = { λ r. r.len ≤ length r.outs.items };
+}
+
+// A datagram at a place behind so many others, of octets that lie in two pieces.
+fn put_at(outs: &mut ArrayVec<Out, 128>, place: usize, front: &[u8], back: &[u8])
+    requires place { place ≤ length outs.old.items }
+    requires room { place < 128 }
+    requires frame { IsFrame (front.now ++ back.now) }
+    requires fits { length front.now + length back.now ≤ 1400 }
+    ensures put { take (place + 1) outs.new.items ≡ take place outs.old.items ++ (front.now ++ back.now) ∷ [] }
+    ensures there { place < length outs.new.items }
+{
+    if outs.len() == place {
+        outs.push(Out::default());
+    }
+    outs.as_mut_slice()[place].replace(front, back);
 }
 
 impl Replies {
@@ -117,6 +139,7 @@ impl Replies {
     {
         Replies {
             outs: ArrayVec::new(),
+            len: 0,
         }
     }
 
@@ -126,45 +149,56 @@ impl Replies {
         requires short { length payload.now ≤ 1388 }
         ensures { self.new ≡ self.old ++ spelling (record { head = head.now; payload = payload.now }) ∷ [] }
     {
-        match write_full(head, payload) {
-            Ok(out) => self.outs.push(out),
-            Err(_) => unreachable!(),
-        }
+        self.put(&full_head(*head), payload);
     }
 
-    /// Adds a datagram behind fewer than 128 others.
-    pub fn push(&mut self, out: Out)
-        requires { length self.old < 128 }
-        ensures { self.new ≡ self.old ++ out ∷ [] }
+    /// Writes a mini frame, from call number 1 ..= 32,767 and with at most 1,396 octets of media, behind fewer than 128 others.
+    pub fn write_mini(&mut self, number: CallNumber, timestamp: u16, media: &[u8])
+        requires room { length self.old < 128 }
+        requires some { 0 < number }
+        requires short { length media.now ≤ 1396 }
+        ensures { self.new ≡ self.old ++
+            mini_spelling (record { source = number; timestamp = timestamp; media = media.now }) ∷ [] }
     {
-        self.outs.push(out);
+        self.put(&mini_head(number, timestamp), media);
+    }
+
+    // One datagram more, of octets that lie in two pieces.
+    fn put(&mut self, front: &[u8], back: &[u8])
+        requires room { length self.old < 128 }
+        requires frame { IsFrame (front.now ++ back.now) }
+        requires fits { length front.now + length back.now ≤ 1400 }
+        ensures { self.new ≡ self.old ++ (front.now ++ back.now) ∷ [] }
+    {
+        put_at(&mut self.outs, self.len, front, back);
+        self.len += 1;
     }
 
     /// Takes all datagrams out.
     pub fn clear(&mut self)
         ensures { self.new ≡ [] }
     {
-        self.outs.clear();
+        self.len = 0;
     }
 
     /// How many datagrams there are, at most 128.
     pub fn len(&self) -> usize
         ensures { result ≡ length self.now }
     {
-        self.outs.len()
+        self.len
     }
 
     /// Whether there are no datagrams.
     pub fn is_empty(&self) -> bool
         ensures { result ≡ (length self.now == 0) }
     {
-        self.outs.len() == 0
+        self.len == 0
     }
 
     /// The datagram at a place, 0 for the first; `None` where there is none.
     pub fn get(&self, place: usize) -> Option<&Out>
         ensures { option_copied result ≡ slice_get self.now place }
     {
-        self.outs.as_slice().get(place)
+        self.outs.as_slice()[..self.len].get(place)
     }
 }

@@ -24,54 +24,44 @@ fn append_user(payload: &mut Payload, user: &Option<Credential>)
     }
 }
 
-/// The data of one element alone, whose value has at most 255 octets.
-pub fn one_element(number: u8, value: &[u8]) -> Payload
-    requires { length value.now ≤ 255 }
-    ensures { result ≡ replies.element_of number value.now }
-{
-    let mut payload = Payload::empty();
-    append_to(&mut payload, number, value);
-    payload
-}
-
-/// The data of a REJECT and a HANGUP: CAUSE and CAUSECODE, in this order.
-pub fn cause_elements(cause: Cause) -> Payload
-    ensures { result ≡ replies.cause_elements cause }
+/// Appends the data of a REJECT and a HANGUP to at most 1,000 octets: CAUSE and CAUSECODE, in this order.
+pub fn append_cause(payload: &mut Payload, cause: Cause)
+    requires { length payload.old ≤ 1000 }
+    ensures { payload.new ≡ payload.old ++ replies.cause_elements cause }
 {
     let text = cause.text();
-    let mut payload = one_element(CAUSE, text.as_slice());
-    append_to(&mut payload, CAUSECODE, &[cause.code()]);
-    payload
+    append_to(payload, CAUSE, text.as_slice());
+    append_to(payload, CAUSECODE, &[cause.code()]);
 }
 
-/// The data of a NEW ("Call Setup"); the number that is called has at most 255 octets.
-pub fn new_elements(
+/// Appends the data of a NEW to at most 200 octets ("Call Setup"); the number that is called has at most 255 octets.
+pub fn append_new(
+    payload: &mut Payload,
     user: &Option<Credential>,
     called: &[u8],
     caller: &Caller,
     format: Format,
-) -> Payload
-    requires { length called.now ≤ 255 }
-    ensures { result ≡ replies.new_elements user.now called.now caller.now format }
+)
+    requires room { length payload.old ≤ 200 }
+    requires called { length called.now ≤ 255 }
+    ensures { payload.new ≡ payload.old ++ replies.new_elements user.now called.now caller.now format }
 {
     let bits = format.bit().to_be_bytes();
-    let mut payload = one_element(VERSION, &[0, 2]);
-    append_to(&mut payload, CALLED_NUMBER, called);
+    append_to(payload, VERSION, &[0, 2]);
+    append_to(payload, CALLED_NUMBER, called);
     payload.append(caller.as_slice());
-    append_user(&mut payload, user);
-    append_to(&mut payload, FORMAT, &bits);
-    append_to(&mut payload, CAPABILITY, &bits);
-    payload
+    append_user(payload, user);
+    append_to(payload, FORMAT, &bits);
+    append_to(payload, CAPABILITY, &bits);
 }
 
-/// The data of an AUTHREQ ("Call Setup"); the challenge has at most 255 octets.
-pub fn auth_req_elements(user: &Option<Credential>, challenge: &[u8]) -> Payload
-    requires { length challenge.now ≤ 255 }
-    ensures { result ≡ replies.auth_req_elements user.now challenge.now }
+/// Appends the data of an AUTHREQ to at most 1,000 octets ("Call Setup"); the challenge has at most 255 octets.
+pub fn append_auth_req(payload: &mut Payload, user: &Option<Credential>, challenge: &[u8])
+    requires room { length payload.old ≤ 1000 }
+    requires challenge { length challenge.now ≤ 255 }
+    ensures { payload.new ≡ payload.old ++ replies.auth_req_elements user.now challenge.now }
 {
-    let mut payload = Payload::empty();
-    append_user(&mut payload, user);
-    append_to(&mut payload, AUTHMETHODS, &[0, 2]);
-    append_to(&mut payload, CHALLENGE, challenge);
-    payload
+    append_user(payload, user);
+    append_to(payload, AUTHMETHODS, &[0, 2]);
+    append_to(payload, CHALLENGE, challenge);
 }

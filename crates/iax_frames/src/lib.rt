@@ -17,7 +17,8 @@ pub use datagram::{Datagram, FrameError};
 pub use full_frame::{Full, FullHead, subclass_meaning};
 pub use mini_frame::Mini;
 pub use output::{
-    Out, TooLong, append_entry, append_entry_in_two, mini_head, write_full, write_mini, write_trunk,
+    Out, TooLong, append_entry, append_entry_in_two, full_head, mini_head, write_full, write_mini,
+    write_trunk,
 };
 pub use reading::read;
 pub use stored_frame::{Frame, Payload};

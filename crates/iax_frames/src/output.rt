@@ -1,7 +1,8 @@
 //! Frames that are written.
 ghost use Rattle.std.specs.Prelude.{◌≡◌, ℕ, List, ◌<◌, ◌≤◌, ◌^◌, ◌+◌, ◌++◌, ◌↔◌, [], ◌∷◌, length, slice_index, if◌then◌else◌};
 ghost use Rattle.std.specs.Prelude.{IsOk, IsErr, IfOk, OnOk, OnErr};
-ghost use Rattle.iax_frames.specs.FullFrame.{FullFrame, SpellsFull, IsFullHead, full_head, with_more};
+ghost use Rattle.iax_frames.specs.FullFrame.{FullFrame, SpellsFull, IsFullHead, with_more};
+ghost use Rattle.iax_frames.specs.FullFrame as spec;
 ghost use Rattle.iax_frames.specs.MiniFrame.{SpellsMini};
 ghost use Rattle.iax_frames.specs.TrunkFrame.{TrunkFrame, SpellsTrunk, IsTrunk, with_entry, entry_of, entry, head_len, is_timed};
 ghost use Rattle.iax_frames.specs.Datagram.{IsFrame};
@@ -99,8 +100,9 @@ fn extend(octets: &mut ArrayVec<u8, 1400>, more: &[u8])
     octets.try_extend_from_slice(more).unwrap();
 }
 
-fn head_octets(head: FullHead) -> [u8; 12]
-    ensures octets { result ≡ full_head head }
+/// The twelve octets in front of the data of a full frame ("Full Frames").
+pub fn full_head(head: FullHead) -> [u8; 12]
+    ensures octets { result ≡ spec.full_head head }
     ensures widths { IsFullHead head }
 {
     let source = (0x8000 + head.source.get()).to_be_bytes();
@@ -139,7 +141,7 @@ pub fn write_full(head: &FullHead, payload: &[u8]) -> Result<Out, TooLong>
         return Err(TooLong);
     }
     let mut octets = ArrayVec::new();
-    extend(&mut octets, &head_octets(*head));
+    extend(&mut octets, &full_head(*head));
     extend(&mut octets, payload);
     Ok(Out { octets })
 }

@@ -1,16 +1,19 @@
 //! Windows of sequence numbers.
+ghost use Rattle.std.specs.Prelude.{◌≤◌, length};
+
 use crate::same::{holds, same, same_octets};
-use iax_frames::{Frame, Payload};
-use seq_window::{Acknowledged, EntryView, Received, Record, Resent, SendError, Window};
+use seq_window::{Acknowledged, EntryView, FrameView, Received, Record, Resent, SendError, Window};
 use std::alloc::Global;
 use std::process::Abort;
 
-fn frame() -> Frame {
-    Frame {
+fn frame() -> FrameView<'static>
+    ensures { length result.payload.now ≤ 1388 }
+{
+    FrameView {
         ts: 0,
         kind: 6,
         subclass: 4,
-        payload: Payload::new(&[]),
+        payload: &[],
     }
 }
 
@@ -165,17 +168,24 @@ fn resends_until_spent(rt: HostRuntime) {
     same(&rt, &window.resend(2500, 1000, 1), &Resent::Spent);
 }
 
+// A voice frame of these octets goes out.
+fn send_voice(window: &mut Window, payload: &[u8]) -> Option<u8>
+    requires { length payload.now ≤ 1388 }
+{
+    let frame = FrameView {
+        ts: 9,
+        kind: 2,
+        subclass: 4,
+        payload,
+    };
+    window.send(frame, 0).ok()
+}
+
 // The record of a window that has taken a frame and sent the longest, for which there was room.
 fn record_of_longest(alloc: Global) -> Option<Record> {
     let mut window = window_expecting(alloc, 1)?;
     window.reserve(2).ok()?;
-    let longest = Frame {
-        ts: 9,
-        kind: 2,
-        subclass: 4,
-        payload: Payload::new(&[0xaa; 1388]),
-    };
-    window.send(longest, 0).ok()?;
+    send_voice(&mut window, &[0xaa; 1388])?;
     Some(window.into_record())
 }
 
@@ -185,6 +195,29 @@ fn sent_at(record: &Record, place: usize) -> Option<(u32, &[u8])> {
         EntryView::Sent(sent) => Some((sent.ts, sent.payload)),
         _ => None,
     }
+}
+
+// A window that holds the second of two frames that it sent, with one between them that it took.
+fn window_holding_the_second(alloc: Global) -> Option<Window> {
+    let mut window = Window::new(alloc, 2, 64).ok()?;
+    send_voice(&mut window, b"a")?;
+    receive(&mut window, 0)?;
+    send_voice(&mut window, b"bc")?;
+    acknowledge(&mut window, 1)?;
+    Some(window)
+}
+
+#[test]
+fn held_frame_is_looked_at_in_the_record(rt: HostRuntime) {
+    let window = window_holding_the_second(rt.alloc()).expect(&rt, "a window");
+    let held = window.held(0).expect(&rt, "a held frame");
+    same(
+        &rt,
+        &(held.number, held.frame.ts, held.frame.kind),
+        &(1, 9, 2),
+    );
+    same_octets(&rt, held.frame.payload, b"bc");
+    holds(&rt, "no second one", window.held(1).is_none());
 }
 
 #[test]

@@ -87,13 +87,13 @@ due_at-more retry (t ∷ rest) (suc place) s at =
     rw one (omega (arith, due_at-more retry rest place s at))
 
 -- the sending of a held frame
-pub sending_of : (first : ℕ) (frames : List Frame) (sendings : List Sending) (place : ℕ) (held : Held) → slice_get (numbered_from first frames sendings) place ≡ Some held
+pub sending_of : (first : ℕ) (frames : List Frame) (sendings : List Sending) (place : ℕ) (held : Held Frame) → slice_get (numbered_from first frames sendings) place ≡ Some held
     → slice_get sendings place ≡ Some (record { last = held.last; tries = held.tries })
 sending_of first [] sendings place held at = cc
 sending_of first (frame ∷ frames) [] place held at = cc
 sending_of first (frame ∷ frames) (s ∷ sendings) zero held at =
     let same : record { number = byte_of first; frame = frame; last = s.last; tries = s.tries } ≡ held = cc in
-    ap (λ (h : Held). Some (record { last = h.last; tries = h.tries })) same
+    ap (λ (h : Held Frame). Some (record { last = h.last; tries = h.tries })) same
 sending_of first (frame ∷ frames) (s ∷ sendings) (suc place) held at = sending_of (first + 1) frames sendings place held at
 
 late : (now retry : ℕ) (s : Sending) → now < s.last + retry → is_due now retry s ≡ false

@@ -111,7 +111,7 @@ resend-sent leg now all =
       numbered = all;
       sendings =
           All-map (IsSendingOf h) (sent_again leg) (held_frames leg.window)
-          (All-weaker (IsHeldIn h) (λ (held : Held). IsSendingOf h (sent_again leg held)) (λ held is. again-sending leg held h (extends-itself h) all is)
+          (All-weaker (IsHeldIn h) (λ (held : Held Frame). IsSendingOf h (sent_again leg held)) (λ held is. again-sending leg held h (extends-itself h) all is)
           (held_frames leg.window) (held-all leg.window));
     }
 
@@ -194,7 +194,7 @@ again-all : (leg : LegState) (place : ℕ) (now : ℕ) (final : List Entry) → 
     → All (IsSendingOf final) (frames_again leg place)
 again-all leg place now final extends all = each (held_at leg.window place) refl
   where
-    each : (h : Option Held) → held_at leg.window place ≡ h → All (IsSendingOf final) (option_to_list (option_map (sent_again leg) h))
+    each : (h : Option (Held Frame)) → held_at leg.window place ≡ h → All (IsSendingOf final) (option_to_list (option_map (sent_again leg) h))
     each None is = All-nil (IsSendingOf final)
     each (Some held) is =
         All-cons (IsSendingOf final) (sent_again leg held) []

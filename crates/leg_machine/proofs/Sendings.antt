@@ -122,7 +122,7 @@ vnak-sending leg frame =
 -- ---- held frames
 
 -- it is held, under this octet
-abbrev pub IsHeldIn : List Entry → Held → Type 0
+abbrev pub IsHeldIn : List Entry → Held Frame → Type 0
 IsHeldIn h held =
     (n : ℕ) × (held.number ≡ byte_of n) × (slice_get (sent_frames h) n ≡ Some held.frame) × (acked_count h ≤ n)
 
@@ -165,7 +165,7 @@ extends-push h f = record {
 }
 
 -- a held frame that goes out again, perhaps before a new one
-pub again-sending : (leg : LegState) (held : Held) (final : List Entry) → Extends leg.window.history final → SendsNumbered leg → IsHeldIn leg.window.history held
+pub again-sending : (leg : LegState) (held : Held Frame) (final : List Entry) → Extends leg.window.history final → SendsNumbered leg → IsHeldIn leg.window.history held
     → IsSendingOf final (sent_again leg held)
 again-sending leg held final extends all (n, byte, at, acked) =
     let numbered = all-at IsNumberedFrame (sent_frames leg.window.history) n held.frame all at in

@@ -1,6 +1,6 @@
 -- Each step of a leg is one of a network's side: what it adds to its record, and what it sends.
 use Rattle.std.specs.Prelude.{◌&&◌, ◌<◌, ◌%◌, ◌^◌, map}
-use Rattle.std.proofs.Common.{◌≡◌, ℕ, true, false, cond, List, [], ◌++◌, inr, Option, None, Some, refl, ap, ◌∙◌, arith}
+use Rattle.std.proofs.Common.{◌≡◌, ℕ, true, false, cond, List, [], ◌++◌, inr, None, Some, refl, ap, ◌∙◌, arith}
 use Rattle.std.proofs.lemmas.List.Elements.{All-nil, All-cons}
 use Rattle.iax_frames.specs.FullFrame.{FullFrame, spelling}
 use Rattle.iax_frames.specs.MiniFrame.{MiniFrame, mini_spelling}

@@ -1,7 +1,7 @@
 -- The frames that a leg writes ("Full Frames", "IAX Frames", "Control Frames", "Information Elements").
 pub use Rattle.call_signals.specs.Replies.{element_of, element_if, cause_elements, format_bits, new_elements, auth_req_elements}
 pub use Rattle.call_signals.specs.Replies.{type_of, indication_subclass, subclass_of, timestamp_of}
-use Rattle.std.specs.Prelude.{ℕ, Bool, true, false, ◌-◌, ◌%◌, ◌^◌, List, [], ◌∷◌, Option, unwrap_or}
+use Rattle.std.specs.Prelude.{ℕ, Bool, true, false, ◌-◌, ◌%◌, ◌^◌, List, [], ◌∷◌, unwrap_or}
 use Rattle.iax_frames.specs.FullFrame.{FullFrame}
 use Rattle.iax_frames.specs.declared.stored_frame.Frame.{Frame}
 use Rattle.info_elements.specs.Numbers.{FORMAT, MD5_RESULT, IAX_UNKNOWN}
@@ -42,13 +42,11 @@ reply_frame leg now reply = record {
 }
 
 -- the NEW of a call from here
+abbrev pub new_frame_with : LegState → ℕ → List ℕ → Frame
+new_frame_with leg now elements = record { ts = present_of leg now; kind = FRAME_IAX; subclass = IAX_NEW; payload = elements }
+
 abbrev pub new_frame : LegState → ℕ → List ℕ → List ℕ → Frame
-new_frame leg now called caller = record {
-  ts = present_of leg now;
-  kind = FRAME_IAX;
-  subclass = IAX_NEW;
-  payload = new_elements leg.rules.user called caller leg.format;
-}
+new_frame leg now called caller = new_frame_with leg now (new_elements leg.rules.user called caller leg.format)
 
 -- media as a full frame
 abbrev pub voice_frame : LegState → ℕ → List ℕ → Frame
@@ -91,5 +89,5 @@ abbrev pub vnak : LegState → FullFrame → FullFrame
 vnak leg frame = unnumbered leg IAX_VNAK frame.head.timestamp
 
 -- a held frame as it goes out again
-abbrev pub sent_again : LegState → Held → FullFrame
+abbrev pub sent_again : LegState → Held Frame → FullFrame
 sent_again leg held = outgoing leg true held.number held.frame

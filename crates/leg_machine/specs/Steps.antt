@@ -21,7 +21,6 @@ use Rattle.call_signals.specs.declared.outcomes.Judged.{Judged}
 use Rattle.call_signals.specs.declared.outcomes.Judged.TheVariants as judged
 use Rattle.call_signals.specs.declared.signals.Signal.{Signal}
 use Rattle.call_signals.specs.declared.signals.Signal.TheVariants as signals
-use Rattle.call_signals.specs.declared.stages.Stage.TheVariants as stages
 
 -- the leg after a step, the frames that it sends, how the frame was judged, and what is handed up
 pub record Step : Type 0 where

@@ -1,5 +1,5 @@
 -- What a step of a leg adds to its record, and what it sends, as one side of a network does ("Message Transport").
-use Rattle.std.specs.Prelude.{◌≡◌, ◌⊎◌, ℕ, ◌+◌, ◌≤◌, Bool, true, false, Option, None, Some, List, [], ◌∷◌, ◌++◌, All, slice_get}
+use Rattle.std.specs.Prelude.{◌≡◌, ◌⊎◌, ℕ, ◌≤◌, Bool, true, false, Option, None, Some, List, [], ◌∷◌, ◌++◌, All, slice_get}
 use Rattle.std.specs.Prelude.{if◌then◌else◌}
 use Rattle.iax_frames.specs.FullFrame.{FullFrame, spelling, subclass_meaning}
 use Rattle.iax_frames.specs.MiniFrame.{MiniFrame, SpellsMini}

@@ -23,7 +23,7 @@ use call_signals::{
     Caller, Cause, Format, Heard, LocalNumber, Message, NewElements, Order, OrderError, PeerRules,
     Replies, Stage, StepError,
 };
-use iax_frames::{CallNumber, Full};
+use iax_frames::{CallNumber, Full, Payload};
 use seq_window::Window;
 use std::alloc::{AllocError, Global};
 use std::marker::Model;
@@ -162,7 +162,9 @@ impl Leg {
             resent: 0,
             window,
         };
-        let frame = machine.new_frame(called, caller, now);
+        let mut elements = Payload::empty();
+        machine.write_new(called, caller, &mut elements);
+        let frame = machine.new_frame(elements.as_slice(), now);
         machine.send_frame(frame, now, replies);
         Ok(Leg { machine })
     }

@@ -1,6 +1,7 @@
 //! A leg's own state, and the small changes of which its steps are made.
 ghost use Rattle.std.specs.Prelude.{◌≡◌, ◌+◌, ◌<◌, ◌≤◌, ◌^◌, ◌∷◌, ◌++◌, ◌↔◌, [], true, false, length, Err, OnOk, OnErr};
 ghost use Rattle.iax_frames.specs.FullFrame.{spelling};
+ghost use Rattle.seq_window.specs.Record.{frame_of};
 ghost use Rattle.seq_window.specs.Window.{held_count, judged_acknowledgement};
 ghost use Rattle.leg_machine.specs.Legs.{local_room, is_short_of_entries};
 ghost use Rattle.leg_machine.specs.Replies as replies;
@@ -12,8 +13,8 @@ use call_signals::{
     Cause, Failure, Format, LocalNumber, Message, PeerRules, Replies, Reply, Stage, StepError,
     ending_cause,
 };
-use iax_frames::{CallNumber, Frame, Full, FullHead, Payload};
-use seq_window::{Acknowledged, Window};
+use iax_frames::{CallNumber, Full, FullHead, Payload};
+use seq_window::{Acknowledged, FrameView, Window};
 
 /// A leg's fields. Its steps never fail: who calls one has made room for its entries before.
 #[derive(Drop)]
@@ -39,16 +40,15 @@ pub struct Machine {
     pub window: Window,
 }
 
-/// The frame as the record keeps it, without its call numbers and sequence numbers; its data has at most 1,388 octets.
-pub fn stored(frame: &Full) -> Frame
-    requires { length frame.now.payload ≤ 1388 }
-    ensures { result ≡ steps.stored frame.now }
+/// The frame as the record keeps it, without its call numbers and sequence numbers.
+pub fn stored<'a>(frame: &'a Full) -> FrameView<'a>
+    ensures { frame_of result ≡ steps.stored frame.now }
 {
-    Frame {
+    FrameView {
         ts: frame.timestamp(),
         kind: frame.frame_type(),
         subclass: frame.subclass(),
-        payload: Payload::new(frame.payload()),
+        payload: frame.payload(),
     }
 }
 
@@ -177,9 +177,10 @@ impl Machine {
 
     /// Writes a frame as this leg sends it, with the octet of its number, behind fewer than 128 others; `again` says that it is
     /// sent again.
-    pub fn spell(&self, again: bool, oseqno: u8, frame: &Frame, outs: &mut Replies)
-        requires { length outs.old < 128 }
-        ensures { outs.new ≡ outs.old ++ spelling (replies.outgoing (leg_of self.now) again oseqno frame.now) ∷ [] }
+    pub fn spell(&self, again: bool, oseqno: u8, frame: FrameView<'_>, outs: &mut Replies)
+        requires more { length outs.old < 128 }
+        requires short { length frame.payload.now ≤ 1388 }
+        ensures { outs.new ≡ outs.old ++ spelling (replies.outgoing (leg_of self.now) again oseqno (frame_of frame.entry)) ∷ [] }
     {
         outs.write(
             &FullHead {
@@ -192,7 +193,7 @@ impl Machine {
                 frame_type: frame.kind,
                 subclass: frame.subclass,
             },
-            frame.payload.as_slice(),
+            frame.payload,
         );
     }
 
@@ -238,19 +239,20 @@ impl Machine {
         (now.saturating_sub(self.opened) % 0x1_0000_0000) as u32
     }
 
-    /// Sends a numbered frame at the moment `now`, in milliseconds: it goes out, is recorded, and is held ("Message Transport").
-    /// There is room for it in the window, in the record and in the list.
-    pub fn send_frame(&mut self, frame: Frame, now: u64, outs: &mut Replies)
+    /// Sends a numbered frame of at most 1,388 octets of data at the moment `now`, in milliseconds: it goes out, is recorded, and
+    /// is held ("Message Transport"). There is room for it in the window, in the record and in the list.
+    pub fn send_frame(&mut self, frame: FrameView<'_>, now: u64, outs: &mut Replies)
         requires room { HasRoom 1 self.old }
+        requires short { length frame.payload.now ≤ 1388 }
         requires more { length outs.old < 128 }
         requires window { held_count self.old.window.state < self.old.window.state.width }
-        ensures leg { leg_of self.new ≡ steps.sent (leg_of self.old) frame now }
+        ensures leg { leg_of self.new ≡ steps.sent (leg_of self.old) (frame_of frame.entry) now }
         ensures room { HasRoom 2 self.old → HasRoom 1 self.new }
         ensures out { outs.new ≡ outs.old ++ spelling (replies.outgoing (leg_of self.old) false
-            (replies.next_byte (leg_of self.old)) frame) ∷ [] }
+            (replies.next_byte (leg_of self.old)) (frame_of frame.entry)) ∷ [] }
         ensures capacity { capacity_of (whole_leg self.old) ≤ capacity_of (whole_leg self.new) }
     {
-        self.spell(false, self.window.next(), &frame, outs);
+        self.spell(false, self.window.next(), frame, outs);
         let _ = self.window.send(frame, now);
     }
 
@@ -265,7 +267,9 @@ impl Machine {
             (replies.next_byte (leg_of self.old)) (replies.reply_frame (leg_of self.old) now reply)) ∷ [] }
         ensures capacity { capacity_of (whole_leg self.old) ≤ capacity_of (whole_leg self.new) }
     {
-        let frame = self.reply_frame(reply, now);
+        let mut elements = Payload::empty();
+        self.write_elements(&reply, &mut elements);
+        let frame = self.reply_frame(&reply, now, elements.as_slice());
         self.send_frame(frame, now, outs);
     }
 

@@ -8,7 +8,6 @@ ghost use Rattle.leg_machine.specs.OrderTable as orders;
 use crate::leg_table::is_media;
 use crate::machine::Machine;
 use call_signals::{MediaSpan, OrderError, Replies};
-use iax_frames::write_mini;
 
 /// How media went out ("Mini Frames", "Voice Frames").
 #[derive(Clone, Copy, Debug, PartialEq, Eq)]
@@ -79,8 +78,7 @@ impl Machine {
     {
         self.room_for_sending(self.local_room())?;
         let present = self.present(now);
-        let frame = self.voice_frame(media, now);
-        self.send_frame(frame, now, outs);
+        self.send_frame(self.voice_frame(media, now), now, outs);
         self.voice_sent = Some(present);
         Ok(())
     }
@@ -127,10 +125,7 @@ impl Machine {
         requires empty { outs.old ≡ [] }
         ensures { outs.new ≡ mini_spelling (record { source = self.now.number; timestamp = timestamp; media = media.now }) ∷ [] }
     {
-        match write_mini(self.number.get(), timestamp, media) {
-            Ok(out) => outs.push(out),
-            Err(_) => unreachable!(),
-        }
+        outs.write_mini(self.number.get(), timestamp, media);
     }
 
     /// Media of at most 1,380 octets goes out at the moment `now`, in milliseconds: a full frame or a mini frame is written to

@@ -1,13 +1,15 @@
 //! The frames that a leg sends, with their data.
-ghost use Rattle.std.specs.Prelude.{◌≡◌, ◌+◌, ◌≤◌, ◌++◌, [], ◌∷◌, length, option_map, map};
+ghost use Rattle.std.specs.Prelude.{◌≡◌, ◌≤◌, [], length};
+ghost use Rattle.seq_window.specs.Record.{frame_of};
 ghost use Rattle.leg_machine.specs.Replies as replies;
 
 use crate::machine::Machine;
 use call_signals::codes::{FRAME_IAX, FRAME_VOICE, IAX_NEW};
-use call_signals::reply_elements::{auth_req_elements, cause_elements, new_elements, one_element};
+use call_signals::reply_elements::{append_auth_req, append_cause, append_new};
 use call_signals::{Caller, Reply};
-use iax_frames::{Frame, Payload};
-use info_elements::{FORMAT, IAX_UNKNOWN, MD5_RESULT};
+use iax_frames::Payload;
+use info_elements::{FORMAT, IAX_UNKNOWN, MD5_RESULT, append_to};
+use seq_window::FrameView;
 
 impl Machine {
     ghost use Rattle.leg_machine.specs.Legs.{leg_of};
@@ -24,66 +26,71 @@ impl Machine {
         }
     }
 
-    fn reply_data(&self, reply: Reply) -> Payload
-        ensures { result ≡ replies.data_of (leg_of self.now) reply }
+    /// Writes the elements of a reply where there is none yet.
+    pub fn write_elements(&self, reply: &Reply, elements: &mut Payload)
+        requires { elements.old ≡ [] }
+        ensures { elements.new ≡ replies.data_of (leg_of self.now) reply.now }
     {
         match reply {
-            Reply::AuthReq => auth_req_elements(&self.rules.user, self.challenge_text()),
-            Reply::AuthRep(digits) => one_element(MD5_RESULT, &digits),
-            Reply::Accept(format) => one_element(FORMAT, &format.bit().to_be_bytes()),
-            Reply::Reject(cause) => cause_elements(cause),
-            Reply::Hangup(cause) => cause_elements(cause),
-            Reply::Unsupport(octet) => one_element(IAX_UNKNOWN, &[octet]),
-            Reply::Ping => Payload::empty(),
-            Reply::Pong(_) => Payload::empty(),
-            Reply::LagRp(_) => Payload::empty(),
-            Reply::Indicate(_) => Payload::empty(),
-            Reply::Answer => Payload::empty(),
-            Reply::Dtmf(_) => Payload::empty(),
+            Reply::AuthReq => append_auth_req(elements, &self.rules.user, self.challenge_text()),
+            Reply::AuthRep(digits) => append_to(elements, MD5_RESULT, digits),
+            Reply::Accept(format) => append_to(elements, FORMAT, &format.bit().to_be_bytes()),
+            Reply::Reject(cause) => append_cause(elements, *cause),
+            Reply::Hangup(cause) => append_cause(elements, *cause),
+            Reply::Unsupport(octet) => append_to(elements, IAX_UNKNOWN, &[*octet]),
+            Reply::Ping => {}
+            Reply::Pong(_) => {}
+            Reply::LagRp(_) => {}
+            Reply::Indicate(_) => {}
+            Reply::Answer => {}
+            Reply::Dtmf(_) => {}
         }
     }
 
-    /// A reply as a frame of the moment `now`, in milliseconds, with its data.
-    pub fn reply_frame(&self, reply: Reply, now: u64) -> Frame
-        ensures { result ≡ replies.reply_frame (leg_of self.now) now reply }
+    /// A reply as a frame of the moment `now`, in milliseconds, with its elements.
+    pub fn reply_frame<'a>(&self, reply: &Reply, now: u64, elements: &'a [u8]) -> FrameView<'a>
+        requires { elements.now ≡ replies.data_of (leg_of self.now) reply.now }
+        ensures { frame_of result ≡ replies.reply_frame (leg_of self.now) now reply.now }
     {
-        let ts = reply.timestamp(self.present(now));
-        let kind = reply.frame_type();
-        let subclass = reply.subclass();
-        let payload = self.reply_data(reply);
-        Frame {
-            ts,
-            kind,
-            subclass,
-            payload,
+        FrameView {
+            ts: reply.timestamp(self.present(now)),
+            kind: reply.frame_type(),
+            subclass: reply.subclass(),
+            payload: elements,
         }
     }
 
-    /// The NEW of a call from here, at the moment `now`, in milliseconds ("Call Setup"). The number that is called has at most
-    /// 255 octets.
-    pub fn new_frame(&self, called: &[u8], caller: &Caller, now: u64) -> Frame
-        requires { length called.now ≤ 255 }
-        ensures { result ≡ replies.new_frame (leg_of self.now) now called.now caller.now }
+    /// Writes the elements of the NEW of a call from here where there is none yet ("Call Setup"). The number that is called has at
+    /// most 255 octets.
+    pub fn write_new(&self, called: &[u8], caller: &Caller, elements: &mut Payload)
+        requires called { length called.now ≤ 255 }
+        requires empty { elements.old ≡ [] }
+        ensures { elements.new ≡ replies.new_elements self.now.rules.user called.now caller.now self.now.format }
     {
-        Frame {
+        append_new(elements, &self.rules.user, called, caller, self.format);
+    }
+
+    /// The NEW of a call from here, at the moment `now`, in milliseconds, with its elements ("Call Setup").
+    pub fn new_frame<'a>(&self, elements: &'a [u8], now: u64) -> FrameView<'a>
+        ensures { frame_of result ≡ replies.new_frame_with (leg_of self.now) now elements.now }
+    {
+        FrameView {
             ts: self.present(now),
             kind: FRAME_IAX,
             subclass: IAX_NEW,
-            payload: new_elements(&self.rules.user, called, caller, self.format),
+            payload: elements,
         }
     }
 
-    /// Media of at most 1,388 octets as a full frame of voice in the leg's format, at the moment `now`, in milliseconds ("Voice
-    /// Frames").
-    pub fn voice_frame(&self, media: &[u8], now: u64) -> Frame
-        requires { length media.now ≤ 1388 }
-        ensures { result ≡ replies.voice_frame (leg_of self.now) now media.now }
+    /// Media as a full frame of voice in the leg's format, at the moment `now`, in milliseconds ("Voice Frames").
+    pub fn voice_frame<'a>(&self, media: &'a [u8], now: u64) -> FrameView<'a>
+        ensures { frame_of result ≡ replies.voice_frame (leg_of self.now) now media.now }
     {
-        Frame {
+        FrameView {
             ts: self.present(now),
             kind: FRAME_VOICE,
             subclass: self.format.bit() as u8,
-            payload: Payload::new(media),
+            payload: media,
         }
     }
 }

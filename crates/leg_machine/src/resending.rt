@@ -21,7 +21,7 @@ impl Machine {
     {
         for place in 0..self.window.held_len() {
             let held = self.window.held_frame(place);
-            self.spell(true, held.number, &held.frame, outs);
+            self.spell(true, held.number, held.frame, outs);
         }
     }
 
@@ -33,7 +33,7 @@ impl Machine {
         ensures one { length outs.new ≡ length outs.old + 1 }
     {
         let held = self.window.held_frame(place);
-        self.spell(true, held.number, &held.frame, outs);
+        self.spell(true, held.number, held.frame, outs);
     }
 
     /// The held frames that are due at the moment `now`, in milliseconds, go out again, each counted, in at most so many turns

@@ -2,8 +2,8 @@
 use Rattle.std.specs.Prelude.{ℕ, List}
 use Rattle.resend_queue.specs.declared.held_frame.Held.{Held}
 
-pub record Queue : Type 0 where
+pub record Queue (F : Type 0) : Type 0 where
   -- the oldest first
-  pub held : List Held
+  pub held : List (Held F)
   -- how many there may be
   pub width : ℕ

@@ -2,20 +2,21 @@
 use Rattle.std.specs.Prelude.{ℕ, zero, suc, ◌+◌, ◌-◌, ◌^◌, ◌&&◌, Bool, List, [], ◌∷◌, nat_le, min}
 use Rattle.resend_queue.specs.declared.held_frame.Held.{Held}
 
--- it was last sent so long ago
-abbrev pub is_due : ℕ → ℕ → Held → Bool
-is_due now retry_ms held = nat_le held.last now && nat_le retry_ms (now - held.last)
+module _ {F : Type 0} where
+  -- it was last sent so long ago
+  abbrev pub is_due : ℕ → ℕ → Held F → Bool
+  is_due now retry_ms held = nat_le held.last now && nat_le retry_ms (now - held.last)
 
--- sent again as one more try, of at most 2 ^ 32 - 1
-abbrev pub marked : ℕ → Held → Held
-marked now held = record held { last = now; tries = min (held.tries + 1) (2 ^ 32 - 1) }
+  -- sent again as one more try, of at most 2 ^ 32 - 1
+  abbrev pub marked : ℕ → Held F → Held F
+  marked now held = record held { last = now; tries = min (held.tries + 1) (2 ^ 32 - 1) }
 
--- sent again, which is no try
-abbrev pub touched : ℕ → Held → Held
-touched now held = record held { last = now }
+  -- sent again, which is no try
+  abbrev pub touched : ℕ → Held F → Held F
+  touched now held = record held { last = now }
 
--- the one at that place changed
-abbrev pub changed_at : (Held → Held) → ℕ → List Held → List Held
-changed_at change place [] = []
-changed_at change zero (held ∷ others) = change held ∷ others
-changed_at change (suc place) (held ∷ others) = held ∷ changed_at change place others
+  -- the one at that place changed
+  abbrev pub changed_at : (Held F → Held F) → ℕ → List (Held F) → List (Held F)
+  changed_at change place [] = []
+  changed_at change zero (held ∷ others) = change held ∷ others
+  changed_at change (suc place) (held ∷ others) = held ∷ changed_at change place others

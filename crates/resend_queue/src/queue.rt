@@ -6,6 +6,7 @@ ghost use Rattle.resend_queue.specs.Timing.{is_due, marked, touched, changed_at}
 
 use crate::held_frame::Held;
 use circular_buffer::HeapCircularBuffer;
+use iax_frames::Frame;
 use std::alloc::{AllocError, Global};
 use std::marker::Model;
 
@@ -13,23 +14,24 @@ use std::marker::Model;
 #[derive(Clone, Copy, Debug, PartialEq, Eq)]
 pub struct NoPlace;
 
-/// Frames that wait for their acknowledgement, in the order of their sequence numbers.
+/// Frames that wait for their acknowledgement, in the order of their sequence numbers: whole ones, or the places at which who holds
+/// them finds them.
 ///
 /// Contracts see them as a list, the oldest first, and how many there may be. Only `new` takes memory.
 #[derive(Drop)]
-pub struct Resend {
-    ring: HeapCircularBuffer<Held>,
+pub struct Resend<F = Frame> {
+    ring: HeapCircularBuffer<Held<F>>,
 }
 
-impl Model for Resend {
+impl<F> Model for Resend<F> {
     ghost use Rattle.resend_queue.specs.Queue.{Queue};
 
-    ghost Value = { Queue };
+    ghost Value = { Queue F };
 
     ghost view = { λ q. record { held = q.ring.items; width = q.ring.capacity } };
 }
 
-impl Resend {
+impl<F: Drop> Resend<F> {
     /// A queue without a frame, with room for `width` of them, 1 ..= 127. `Err` comes only where memory was refused.
     pub fn new(alloc: Global, width: u8) -> Result<Self, AllocError>
         requires some { 1 ≤ width }
@@ -58,7 +60,7 @@ impl Resend {
     /// Adds a frame as the youngest.
     ///
     /// `NoPlace` comes exactly where as many frames wait as the queue's width; the frame comes back, and nothing is changed.
-    pub fn push(&mut self, held: Held) -> Result<(), (Held, NoPlace)>
+    pub fn push(&mut self, held: Held<F>) -> Result<(), (Held<F>, NoPlace)>
         ensures variant { IsOk result ↔ (length self.old.held < self.old.width) }
         ensures ok { OnOk result (self.new ≡ record { held = self.old.held ++ held ∷ []; width = self.old.width }) }
         ensures err { IfErr result (λ e. (e.0 ≡ held) × (self.new ≡ self.old)) }
@@ -90,7 +92,7 @@ impl Resend {
     }
 
     /// The frame at a place, 0 for the oldest; `None` where there is none.
-    pub fn get(&self, place: usize) -> Option<&Held>
+    pub fn get(&self, place: usize) -> Option<&Held<F>>
         ensures { option_copied result ≡ slice_get self.now.held place }
     {
         self.ring.get(place)

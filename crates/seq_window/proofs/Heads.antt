@@ -38,9 +38,9 @@ frame_at-more octets more h within =
     rw kept refl
 
 entry_at-more : (octets more : List ℕ) (h : Head) → EndsBelow (length octets) h → entry_at (octets ++ more) h ≡ entry_at octets h
-entry_at-more octets more (head.Sent h) within = ap (λ f. Sent f) (frame_at-more octets more h within)
+entry_at-more octets more (head.Sent h) within = ap (λ f. Sent f) (frame_at-more octets more h within.0)
 entry_at-more octets more (head.Acked count) within = refl
-entry_at-more octets more (head.Taken h) within = ap (λ f. Taken f) (frame_at-more octets more h within)
+entry_at-more octets more (head.Taken h) within = ap (λ f. Taken f) (frame_at-more octets more h within.0)
 
 entries_in-more : (octets more : List ℕ) (heads : List Head) → All (EndsBelow (length octets)) heads → entries_in (octets ++ more) heads ≡ entries_in octets heads
 entries_in-more octets more [] within = refl

@@ -1,5 +1,5 @@
 -- The fields of a window after each call.
-use Rattle.std.proofs.Common.{◌≡◌, ℕ, ◌+◌, ◌-◌, ◌%◌, ◌<◌, ◌≤◌, [], ◌∷◌, ◌++◌, length, drop, map, sym, refl, ap, ◌∙◌, arith, add-zero}
+use Rattle.std.proofs.Common.{◌≡◌, ℕ, ◌+◌, ◌-◌, ◌%◌, ◌<◌, ◌≤◌, [], ◌∷◌, ◌++◌, length, drop, map, Some, slice_get, sym, refl, ap, ◌∙◌, arith, add-zero}
 use Rattle.std.proofs.lemmas.List.{length-map}
 use Rattle.std.proofs.lemmas.Bool.{leb-true, leb-false}
 use Rattle.std.proofs.lemmas.Grind.{common_steps}
@@ -13,11 +13,11 @@ use Rattle.seq_window.specs.Entry.{Sent, Acked, Taken}
 use Rattle.seq_window.specs.History.{sent_count, acked_count, held, IsWithinWindow}
 use Rattle.seq_window.specs.Record.{RecordState}
 use Rattle.seq_window.specs.Sequence.{byte_of, distance, reading_from}
-use Rattle.seq_window.specs.Window.{WindowState, judged_acknowledgement, count_of, entries_for_count, after_count, after_acknowledgement, numbered_from}
-use Rattle.seq_window.specs.WindowFields.{AreHeld, IsSound, sending_of}
+use Rattle.seq_window.specs.Window.{WindowState, judged_acknowledgement, count_of, entries_for_count, after_count, after_acknowledgement, held_frames}
+use Rattle.seq_window.specs.WindowFields.{AreHeld, IsSound, sending_of, window_of}
 use Rattle.seq_window.proofs.Numbers.{from_reads, acknowledged_near, acknowledged_far, acknowledged_within}
 use Rattle.seq_window.proofs.Records.{legal_now, legal_sent, legal_acked, legal_taken, sent_count-append, acked_count-append, taken_count-append, length-held}
-use Rattle.seq_window.proofs.Kept.{length-kept, numbered_from-kept, kept-sent, kept-acked, kept-taken}
+use Rattle.seq_window.proofs.Kept.{LiesAt, length-kept, kept-lies, length-numbered, kept-sent, kept-acked, kept-taken}
 
 module _ (w : Inside) (sound : IsSound w) where
   acked_below : acked_count w.history.entries ≤ sent_count w.history.entries
@@ -26,16 +26,21 @@ module _ (w : Inside) (sound : IsSound w) where
       within.acked
 
   pub held_is : length w.held.held + acked_count w.history.entries ≡ sent_count w.history.entries
-  held_is = omega (arith, acked_below, length-kept (acked_count w.history.entries) w.held.held (held w.history.entries) sound.kept, length-held w.history.entries)
+  held_is = omega (arith, acked_below, length-kept w.history.entries (acked_count w.history.entries) w.held.held (held w.history.entries) sound.kept, length-held w.history.entries)
 
   pub held_within : length w.held.held ≤ w.width
   held_within =
       let within : IsWithinWindow w.width w.history.entries = legal_now w.width w.limit w.history.entries sound.legal in
       omega (arith, within.held, held_is)
 
-  -- what is kept are the held frames of the record
-  pub kept_is : numbered_from (acked_count w.history.entries) (held w.history.entries) (map sending_of w.held.held) ≡ w.held.held
-  kept_is = numbered_from-kept (acked_count w.history.entries) w.held.held (held w.history.entries) sound.kept
+  -- what is kept at a place is the held frame there
+  pub lies_at : (place : ℕ) (h : Held ℕ) → slice_get w.held.held place ≡ Some h
+      → LiesAt w.history.entries (held_frames (window_of w).state) place h
+  lies_at place h at = kept-lies w.history.entries (acked_count w.history.entries) w.held.held (held w.history.entries) place h sound.kept at
+
+  -- as many held frames as are kept
+  pub held_frames_count : length (held_frames (window_of w).state) ≡ length w.held.held
+  held_frames_count = length-numbered w.history.entries (acked_count w.history.entries) w.held.held (held w.history.entries) sound.kept
 
   -- the distance from the oldest held number
   pub distance_is : (byte : ℕ) → distance (acked_count w.history.entries) byte ≡ (byte + (256 - w.oldest)) % 256
@@ -60,7 +65,7 @@ module _ (w : Inside) (sound : IsSound w) where
       let (number, known) = acknowledged_within (acked_count w.history.entries) (sent_count w.history.entries) (reading_from (acked_count w.history.entries) byte) count (sym is) in
       omega (arith, held_is)
 
-  pub acked_sound : (grown : RecordState) (kept : Queue) (byte count : ℕ) → grown.entries ≡ w.history.entries ++ Acked count ∷ []
+  pub acked_sound : (grown : RecordState) (kept : Queue ℕ) (byte count : ℕ) → grown.entries ≡ w.history.entries ++ Acked count ∷ []
       → kept.held ≡ drop count w.held.held → kept.width ≡ w.held.width
       → byte < 256 → 1 ≤ count → Counted count ≡ judged_acknowledgement w.history.entries byte → length w.history.entries < w.limit
       → IsSound (record w { history = grown; held = kept; oldest = byte })
@@ -95,13 +100,13 @@ module _ (w : Inside) (sound : IsSound w) where
     room = sound.room;
   }
 
-  pub sent_sound : (grown : RecordState) (kept : Queue) (frame : Frame) (one : Held) → grown.entries ≡ w.history.entries ++ Sent frame ∷ []
+  pub sent_sound : (grown : RecordState) (kept : Queue ℕ) (frame : Frame) (one : Held ℕ) → grown.entries ≡ w.history.entries ++ Sent frame ∷ []
       → kept.held ≡ w.held.held ++ one ∷ [] → kept.width ≡ w.held.width
-      → one.number ≡ w.next → one.frame ≡ frame → length w.held.held < w.width → length w.history.entries < w.limit
+      → one.number ≡ w.next → one.frame ≡ length w.history.entries → length w.held.held < w.width → length w.history.entries < w.limit
       → IsSound (record w { history = grown; held = kept; next = (w.next + 1) % 256 })
-  sent_sound grown kept frame one is pushed capacity number same narrow room = record {
+  sent_sound grown kept frame one is pushed capacity number place narrow room = record {
     legal = rw is (legal_sent w.width w.limit w.history.entries frame sound.legal (omega (arith, held_is)) room);
-    kept = rw (is, pushed) (kept-sent w.history.entries w.held.held frame one sound.kept acked_below (omega (arith, held_is)) (number ∙ sound.next) same);
+    kept = rw (is, pushed) (kept-sent w.history.entries w.held.held frame one sound.kept acked_below (omega (arith, held_is)) (number ∙ sound.next) place);
     next = rw is (omega (arith, sound.next, sent_count-append w.history.entries (Sent frame ∷ [])));
     oldest = rw (is, acked_count-append, add-zero) sound.oldest;
     expected = rw (is, taken_count-append, add-zero) sound.expected;
@@ -113,7 +118,7 @@ module _ (w : Inside) (sound : IsSound w) where
   }
 
   -- the held frames stay, whatever is noted beside them
-  pub noted_sound : (kept : Queue) → AreHeld (acked_count w.history.entries) kept.held (held w.history.entries) → kept.width ≡ w.held.width
+  pub noted_sound : (kept : Queue ℕ) → AreHeld w.history.entries (acked_count w.history.entries) kept.held (held w.history.entries) → kept.width ≡ w.held.width
       → IsSound (record w { held = kept })
   noted_sound kept are capacity = record {
     legal = sound.legal;

@@ -1,4 +1,5 @@
 pub mod Entry
+pub mod HeldFrame
 pub mod History
 pub mod Network
 pub mod Record

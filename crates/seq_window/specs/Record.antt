@@ -1,5 +1,5 @@
 -- What a contract sees of a record.
-use Rattle.std.specs.Prelude.{ℕ, List}
+use Rattle.std.specs.Prelude.{ℕ, List, Option, None, Some}
 use Rattle.iax_frames.specs.declared.stored_frame.Frame.{Frame}
 use Rattle.seq_window.specs.declared.history.FrameView.{FrameView}
 use Rattle.seq_window.specs.declared.history.EntryView.{EntryView}
@@ -15,6 +15,13 @@ pub record RecordState : Type 0 where
 -- the frame that is looked at
 abbrev pub frame_of : FrameView → Frame
 frame_of v = record { ts = v.ts; kind = v.kind; subclass = v.subclass; payload = v.payload.now }
+
+-- it is the entry of a frame that was sent
+abbrev pub IsSent : Option Entry → Type 0
+IsSent None = ⊥
+IsSent (Some (Sent frame)) = Unit {0}
+IsSent (Some (Acked count)) = ⊥
+IsSent (Some (Taken frame)) = ⊥
 
 -- the entry that is looked at
 abbrev pub entry_of : EntryView → Entry

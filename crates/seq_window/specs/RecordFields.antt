@@ -41,11 +41,11 @@ taken_by (head.Taken h) = 1
 abbrev pub record_of : Inside → RecordState
 record_of r = record { entries = entries_in r.octets.items r.heads.items; spare = r.spare }
 
--- the octets of a head lie below this
+-- the octets of a head lie below this, and are no more than a frame carries
 abbrev pub EndsBelow : ℕ → Head → Type 0
-EndsBelow len (head.Sent h) = h.start + h.len ≤ len
+EndsBelow len (head.Sent h) = (h.start + h.len ≤ len) × (h.len ≤ 1388)
 EndsBelow len (head.Acked count) = Unit {0}
-EndsBelow len (head.Taken h) = h.start + h.len ≤ len
+EndsBelow len (head.Taken h) = (h.start + h.len ≤ len) × (h.len ≤ 1388)
 
 pub record IsRecord (r : Inside) : Type 0 where
   pub within : All (EndsBelow (length r.octets.items)) r.heads.items

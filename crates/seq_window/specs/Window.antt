@@ -99,17 +99,17 @@ after_receiving w byte frame = record {
 -- ---- sending again
 
 -- frames with their sendings, each under the octet of its number
-abbrev pub numbered_from : ℕ → List Frame → List Sending → List Held
+abbrev pub numbered_from : ℕ → List Frame → List Sending → List (Held Frame)
 numbered_from first [] sendings = []
 numbered_from first (frame ∷ frames) [] = []
 numbered_from first (frame ∷ frames) (s ∷ sendings) =
     record { number = byte_of first; frame = frame; last = s.last; tries = s.tries } ∷ numbered_from (first + 1) frames sendings
 
 -- the held frames, the oldest first: those that the record has as sent and not acknowledged
-abbrev pub held_frames : WindowState → List Held
+abbrev pub held_frames : WindowState → List (Held Frame)
 held_frames w = numbered_from (acked_count w.history) (held w.history) w.sendings
 
-abbrev pub held_at : WindowState → ℕ → Option Held
+abbrev pub held_at : WindowState → ℕ → Option (Held Frame)
 held_at w place = slice_get (held_frames w) place
 
 -- sent again, which is no try

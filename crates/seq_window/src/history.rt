@@ -1,15 +1,14 @@
 //! The record of a leg: what it sent, what was acknowledged and what it took.
 
-ghost use Rattle.std.specs.Prelude.{◌≡◌, ◌+◌, ◌-◌, ◌*◌, ◌<◌, ◌≤◌, ◌==◌, [], ◌∷◌, ◌++◌, length, slice_get, IsOk, OnOk, OnErr, max};
+ghost use Rattle.std.specs.Prelude.{◌≡◌, ◌+◌, ◌-◌, ◌*◌, ◌<◌, ◌≤◌, ◌==◌, [], ◌∷◌, ◌++◌, length, slice_get, Some, IsOk, OnOk, OnErr, max};
 ghost use Rattle.std.specs.Prelude.{sum_by};
 ghost use Rattle.std.specs.Option.{option_map};
 ghost use Rattle.seq_window.specs.Entry.{Sent as EntrySent, Acked as EntryAcked, Taken as EntryTaken};
 ghost use Rattle.seq_window.specs.History.{sent_count, acked_count, taken_count};
-ghost use Rattle.seq_window.specs.Record.{entry_of, frame_of};
+ghost use Rattle.seq_window.specs.Record.{entry_of, frame_of, IsSent};
 ghost use Rattle.seq_window.specs.RecordFields.{frame_at, sent_by, acked_by, taken_by};
 ghost use Rattle.std.specs.Vec.{vec_capacity};
 
-use iax_frames::Frame;
 use std::alloc::{AllocError, Global};
 use std::marker::Model;
 
@@ -165,11 +164,12 @@ impl Record {
         Ok(())
     }
 
-    /// Adds the entry of a frame that is sent. Only where nothing is spare it may ask for memory.
-    pub(crate) fn push_sent(&mut self, frame: &Frame) -> Result<(), AllocError>
-        requires { length self.old.entries < 65536 }
+    /// Adds the entry of a frame that is sent, of at most 1,388 octets. Only where nothing is spare it may ask for memory.
+    pub(crate) fn push_sent(&mut self, frame: FrameView<'_>) -> Result<(), AllocError>
+        requires few { length self.old.entries < 65536 }
+        requires short { length frame.payload.now ≤ 1388 }
         ensures ok { OnOk result (self.new ≡
-            record { entries = self.old.entries ++ EntrySent frame.now ∷ []; spare = self.old.spare - 1 }) }
+            record { entries = self.old.entries ++ EntrySent (frame_of frame.entry) ∷ []; spare = self.old.spare - 1 }) }
         ensures memory { OnErr result (self.old.spare ≡ 0) }
         ensures err { OnErr result (self.new ≡ self.old) }
     {
@@ -194,11 +194,12 @@ impl Record {
         Ok(())
     }
 
-    /// Adds the entry of a frame that is taken. Only where nothing is spare it may ask for memory.
-    pub(crate) fn push_taken(&mut self, frame: &Frame) -> Result<(), AllocError>
-        requires { length self.old.entries < 65536 }
+    /// Adds the entry of a frame that is taken, of at most 1,388 octets. Only where nothing is spare it may ask for memory.
+    pub(crate) fn push_taken(&mut self, frame: FrameView<'_>) -> Result<(), AllocError>
+        requires few { length self.old.entries < 65536 }
+        requires short { length frame.payload.now ≤ 1388 }
         ensures ok { OnOk result (self.new ≡
-            record { entries = self.old.entries ++ EntryTaken frame.now ∷ []; spare = self.old.spare - 1 }) }
+            record { entries = self.old.entries ++ EntryTaken (frame_of frame.entry) ∷ []; spare = self.old.spare - 1 }) }
         ensures memory { OnErr result (self.old.spare ≡ 0) }
         ensures err { OnErr result (self.new ≡ self.old) }
     {
@@ -217,6 +218,18 @@ impl Record {
             Head::Sent(head) => Some(EntryView::Sent(frame_in(self.octets.as_slice(), head))),
             Head::Acked(count) => Some(EntryView::Acked(count)),
             Head::Taken(head) => Some(EntryView::Taken(frame_in(self.octets.as_slice(), head))),
+        }
+    }
+
+    /// The frame of the entry at a place, which is one of a frame that was sent.
+    pub(crate) fn sent_frame(&self, place: usize) -> FrameView<'_>
+        requires { IsSent (slice_get self.now.entries place) }
+        ensures entry { slice_get self.now.entries place ≡ Some (EntrySent (frame_of result)) }
+        ensures short { length result.payload.now ≤ 1388 }
+    {
+        match self.heads.as_slice()[place] {
+            Head::Sent(head) => frame_in(self.octets.as_slice(), head),
+            _ => unreachable!(),
         }
     }
 
@@ -294,7 +307,8 @@ fn taken_in(heads: &[Head]) -> usize
 // The frame of a head among the octets of a record.
 fn frame_in(octets: &[u8], head: FrameHead) -> FrameView<'_>
     requires { head.start + head.len ≤ length octets.now }
-    ensures { frame_of result ≡ frame_at octets.now head }
+    ensures frame { frame_of result ≡ frame_at octets.now head }
+    ensures len { length result.payload.now ≡ head.len }
 {
     let start = head.start as usize;
     FrameView {
@@ -305,18 +319,19 @@ fn frame_in(octets: &[u8], head: FrameHead) -> FrameView<'_>
     }
 }
 
-// Appends the octets of a frame, for which there is room.
-fn push_octets(octets: &mut Vec<u8>, frame: &Frame) -> FrameHead
+// Appends the octets of a frame, at most 1,388, for which there is room.
+fn push_octets(octets: &mut Vec<u8>, frame: FrameView<'_>) -> FrameHead
     requires room { length octets.old.items + 1388 ≤ vec_capacity octets.old }
-    requires short { length octets.old.items ≤ 1388 * 65536 }
-    ensures octets { octets.new.items ≡ octets.old.items ++ frame.now.payload }
-    ensures frame { frame_at octets.new.items result ≡ frame.now }
+    requires few { length octets.old.items ≤ 1388 * 65536 }
+    requires short { length frame.payload.now ≤ 1388 }
+    ensures octets { octets.new.items ≡ octets.old.items ++ frame.entry.payload.now }
+    ensures frame { frame_at octets.new.items result ≡ frame_of frame.entry }
     ensures start { result.start ≡ length octets.old.items }
-    ensures len { result.len ≡ length frame.now.payload }
+    ensures len { result.len ≡ length frame.entry.payload.now }
     ensures fits { result.len ≤ 1388 }
     ensures capacity { vec_capacity octets.old ≤ vec_capacity octets.new }
 {
-    let payload = frame.payload.as_slice();
+    let payload = frame.payload;
     let start = octets.len() as u32;
     let appended = octets.extend_from_slice(payload);
     prove!(appended.is_ok());

@@ -1,17 +1,19 @@
 //! The window of one leg.
 
-ghost use Rattle.std.specs.Prelude.{◌≡◌, ℕ, ◌+◌, ◌≤◌, ◌<◌, ◌↔◌, [], option_copied, IfOk, IfSome, OnOk, OnErr, IsOk, IsTrue, Some};
+ghost use Rattle.std.specs.Prelude.{◌≡◌, ℕ, ◌+◌, ◌≤◌, ◌<◌, ◌↔◌, [], length, IfOk, IfSome, OnOk, OnErr, IsOk, IsTrue, Some};
+ghost use Rattle.std.specs.Option.{option_map};
 ghost use Rattle.seq_window.specs.Sequence.{byte_of};
 ghost use Rattle.seq_window.specs.History.{sent_count, taken_count, acked_count, IsLegal};
+ghost use Rattle.seq_window.specs.Record.{frame_of};
+ghost use Rattle.seq_window.specs.HeldFrame.{held_of};
 ghost use Rattle.seq_window.specs.Window.{held_count, entry_count, is_full, judged_acknowledgement, count_of, judged_number};
 ghost use Rattle.seq_window.specs.Window.{after_sending, after_acknowledgement, after_receiving, held_at, after_touching};
 ghost use Rattle.seq_window.specs.Window.{after_touching_all, first_due, tries_at, after_marking, resent, after_resent};
 ghost use Rattle.seq_window.specs.Window.{IsPlaceBelow};
 
 use crate::errors::{RecordError, SendError};
-use crate::history::Record;
+use crate::history::{FrameView, Record};
 use crate::judgements::{Acknowledged, Received, Resent};
-use iax_frames::Frame;
 use resend_queue::{Held, Resend};
 use std::alloc::{AllocError, Global};
 use std::marker::Model;
@@ -19,11 +21,12 @@ use std::marker::Model;
 /// The window of one leg: the frames that it holds to send them again, and its record.
 ///
 /// Contracts see the record, and of each held frame when it was sent. Which frames are held, under which numbers, follows
-/// from the record: those that were sent and not yet acknowledged.
+/// from the record: those that were sent and not yet acknowledged. There they lie, and nowhere else.
 #[derive(Drop)]
 pub struct Window {
     history: Record,
-    held: Resend,
+    // Of each held frame, the place of its entry in the record.
+    held: Resend<u32>,
     width: u8,
     limit: u32,
     // The octet of the next number that is sent.
@@ -70,15 +73,16 @@ impl Window {
         })
     }
 
-    /// Records a frame as sent at the moment `now`, in milliseconds, and holds it ("Message Transport"). The answer is the octet
-    /// of its number, OSeqno.
+    /// Records a frame, of at most 1,388 octets, as sent at the moment `now`, in milliseconds, and holds it ("Message
+    /// Transport"). The answer is the octet of its number, OSeqno.
     ///
     /// Refusals are looked for in this order: `WindowFull` where as many frames are held as the width, `RecordFull` where the
-    /// record has as many entries as its limit, `Memory` where memory was refused, which never comes with a reserved entry. A
-    /// refused frame is dropped, and nothing is changed.
-    pub fn send(&mut self, frame: Frame, now: u64) -> Result<u8, SendError>
+    /// record has as many entries as its limit, `Memory` where memory was refused, which never comes with a reserved entry. Then
+    /// nothing is changed.
+    pub fn send(&mut self, frame: FrameView<'_>, now: u64) -> Result<u8, SendError>
+        requires short { length frame.payload.now ≤ 1388 }
         ensures ok { IfOk result (λ number. number ≡ byte_of (sent_count self.old.state.history)) }
-        ensures state { OnOk result (self.new.state ≡ after_sending self.old.state frame now) }
+        ensures state { OnOk result (self.new.state ≡ after_sending self.old.state (frame_of frame.entry) now) }
         ensures spare { OnOk result (self.old.spare ≤ self.new.spare + 1) }
         ensures capacity { OnOk result (0 < self.old.spare →
             self.new.spare + entry_count self.new.state ≡ self.old.spare + entry_count self.old.state) }
@@ -96,11 +100,12 @@ impl Window {
         if self.free_entries() == 0 {
             return Err(SendError::RecordFull);
         }
-        self.history.push_sent(&frame)?;
+        let place = self.history.len() as u32;
+        self.history.push_sent(frame)?;
         let number = self.next;
         let pushed = self.held.push(Held {
             number,
-            frame,
+            frame: place,
             last: now,
             tries: 0,
         });
@@ -169,14 +174,15 @@ impl Window {
         }
     }
 
-    /// Judges a numbered frame by its OSeqno, and records it where it is the next one ("Message Transport"). A frame that isn't
-    /// is dropped, and isn't refused.
+    /// Judges a numbered frame, of at most 1,388 octets, by its OSeqno, and records it where it is the next one ("Message
+    /// Transport"). A frame that isn't isn't refused.
     ///
     /// Refusals are looked for in this order: `RecordFull` where the record has as many entries as its limit, `Memory` where
     /// memory was refused, which never comes with a reserved entry. Then nothing is changed.
-    pub fn receive(&mut self, oseq: u8, frame: Frame) -> Result<Received, RecordError>
+    pub fn receive(&mut self, oseq: u8, frame: FrameView<'_>) -> Result<Received, RecordError>
+        requires short { length frame.payload.now ≤ 1388 }
         ensures ok { IfOk result (λ received. received ≡ judged_number self.old.state.history oseq) }
-        ensures state { OnOk result (self.new.state ≡ after_receiving self.old.state oseq frame) }
+        ensures state { OnOk result (self.new.state ≡ after_receiving self.old.state oseq (frame_of frame.entry)) }
         ensures spare { OnOk result (self.old.spare ≤ self.new.spare + 1) }
         ensures capacity { OnOk result (0 < self.old.spare →
             self.new.spare + entry_count self.new.state ≡ self.old.spare + entry_count self.old.state) }
@@ -194,7 +200,7 @@ impl Window {
         if self.free_entries() == 0 {
             return Err(RecordError::RecordFull);
         }
-        self.history.push_taken(&frame)?;
+        self.history.push_taken(frame)?;
         self.expected = self.expected.wrapping_add(1);
         Ok(Received::Taken)
     }
@@ -275,19 +281,31 @@ impl Window {
         self.history.reserve(count)
     }
 
-    /// The held frame at a place, 0 for the oldest; `None` where there is none.
-    pub fn held(&self, place: usize) -> Option<&Held>
-        ensures { option_copied result ≡ held_at self.now.state place }
+    /// The held frame at a place, 0 for the oldest, looked at where the record has it; `None` where there is none.
+    pub fn held(&self, place: usize) -> Option<Held<FrameView<'_>>>
+        ensures { option_map held_of result ≡ held_at self.now.state place }
     {
-        self.held.get(place)
+        if place < self.held.len() {
+            Some(self.held_frame(place))
+        } else {
+            None
+        }
     }
 
-    /// The held frame at a place, 0 for the oldest, which is below `held_len`.
-    pub fn held_frame(&self, place: usize) -> &Held
+    /// The held frame at a place, 0 for the oldest, which is below `held_len`, looked at where the record has it: at most 1,388
+    /// octets.
+    pub fn held_frame(&self, place: usize) -> Held<FrameView<'_>>
         requires { place < held_count self.now.state }
-        ensures { held_at self.now.state place ≡ Some result.now }
+        ensures held { held_at self.now.state place ≡ Some (held_of result) }
+        ensures short { length result.frame.payload.now ≤ 1388 }
     {
-        self.held.get(place).unwrap()
+        let held = self.held.get(place).unwrap();
+        Held {
+            number: held.number,
+            frame: self.history.sent_frame(held.frame as usize),
+            last: held.last,
+            tries: held.tries,
+        }
     }
 
     /// How many frames are held, 0 ..= the window's width.

@@ -6,10 +6,10 @@ ghost use Rattle.std.specs.Prelude.{◌≤◌, length};
 
 use crate::leg::{ANSWERING, Event, Line, Tested, Wish, full_of, octets_of, opened};
 use crate::same::{holds, same};
-use iax_frames::{CallNumber, Frame, Full, Payload};
+use iax_frames::{CallNumber, Full};
 use leg_machine::{Digit, Heard, Judged, MediaSpan, OrderError, Signal, Stage, StepError};
 use peer_plan::{Plan, PlanError};
-use seq_window::{Acknowledged, Received, Window};
+use seq_window::{Acknowledged, FrameView, Received, Window};
 use std::alloc::Global;
 use std::process::Abort;
 use test_plans::frames::NEW_300;
@@ -259,12 +259,14 @@ fn hangup_without_memory(rt: HostRuntime) {
 }
 
 // A PING of two octets of data, which no leg would send: a window doesn't look into frames.
-fn frame() -> Frame {
-    Frame {
+fn frame() -> FrameView<'static>
+    ensures { length result.payload.now ≤ 1388 }
+{
+    FrameView {
         ts: 20,
         kind: 6,
         subclass: 2,
-        payload: Payload::new(b"ab"),
+        payload: b"ab",
     }
 }
 

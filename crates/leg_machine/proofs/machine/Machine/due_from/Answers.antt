@@ -1,5 +1,6 @@
 use Rattle.std.proofs.Common.{◌≡◌, ◌+◌, ◌<◌, ◌^◌, ◌-◌, min, false, sym, ap, subst, ◌∙◌, arith}
 use Rattle.std.proofs.lemmas.List.{take_all}
+use Rattle.seq_window.specs.HeldFrame.{held_of}
 use Rattle.seq_window.specs.History.{acked_count, held}
 use Rattle.leg_machine.specs.Legs.{leg_of}
 use Rattle.leg_machine.specs.Ticks.{is_none_due}
@@ -9,9 +10,9 @@ use Rattle.leg_machine.proofs.machine.Machine.due_from.Goals as goal
 pub loop-place-preserved : goal.loop-place-preserved
 loop-place-preserved c =
     let w = c.args.self.now.window.state in
-    let h = c.held_frame.result.now in
+    let h = held_of c.held_frame-sent.result in
     let more = due_at-more c.args.self.now.rules.retry_ms w.sendings c.loop-place.place (record { last = h.last; tries = h.tries })
-    (sending_of (acked_count w.history) (held w.history) w.sendings c.loop-place.place h c.held_frame.ensures) in
+    (sending_of (acked_count w.history) (held w.history) w.sendings c.loop-place.place h c.held_frame-sent.ensures.held) in
     c.min-first.ensures ∙ ap (min c.loop-place.first) c.saturating_add.ensures
     ∙ ap (λ n. min n (min (h.last + c.args.self.now.rules.retry_ms) (2 ^ 64 - 1))) c.loop-place.invariant ∙ sym more
 

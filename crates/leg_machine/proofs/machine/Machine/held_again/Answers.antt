@@ -1,6 +1,8 @@
 use Rattle.std.proofs.Common.{◌≤◌, ◌++◌, List, [], ◌∷◌, ℕ, length, arith, sym, ap, ◌∙◌, length-append}
 use Rattle.iax_frames.specs.FullFrame.{spelling}
+use Rattle.iax_frames.specs.declared.stored_frame.Frame.{Frame}
 use Rattle.resend_queue.specs.declared.held_frame.Held.{Held}
+use Rattle.seq_window.specs.HeldFrame.{held_of}
 use Rattle.seq_window.specs.Window.{held_frames}
 use Rattle.seq_window.specs.History.{acked_count, held}
 use Rattle.leg_machine.specs.Replies.{sent_again}
@@ -11,9 +13,9 @@ use Rattle.leg_machine.proofs.machine.Machine.held_again.Goals as goal
 pub loop-place-preserved : goal.loop-place-preserved
 loop-place-preserved c =
     let again_held = held_frames c.args.self.now.window.state in
-    let h = c.held_frame-held.result.now in
-    let bytes : Held → List ℕ = λ h. spelling (sent_again (leg_of c.args.self.now) h) in
-    let more = map-take_more bytes again_held c.loop-place.place h c.held_frame-held.ensures in (
+    let h = held_of c.held_frame-held.result in
+    let bytes : Held Frame → List ℕ = λ h. spelling (sent_again (leg_of c.args.self.now) h) in
+    let more = map-take_more bytes again_held c.loop-place.place h c.held_frame-held.ensures.held in (
       c.spell.ensures ∙ ap (λ (a : List (List ℕ)). a ++ bytes h ∷ []) c.loop-place.invariant.0 ∙ sym more,
       omega (arith, c.loop-place.invariant.1, ap length c.spell.ensures, length-append {A = List ℕ}),
     )
@@ -21,7 +23,7 @@ loop-place-preserved c =
 pub returns : goal.returns
 returns c =
     let again_held = held_frames c.args.self.now.window.state in
-    let bytes : Held → List ℕ = λ h. spelling (sent_again (leg_of c.args.self.now) h) in
+    let bytes : Held Frame → List ℕ = λ h. spelling (sent_again (leg_of c.args.self.now) h) in
     let w = c.args.self.now.window.state in
     let short : length again_held ≤ c.loop-place.place =
     omega (arith, c.loop-place-test.false, c.held_len-place-end.ensures.value, length-numbered_from (acked_count w.history) (held w.history) w.sendings) in

@@ -1,4 +1,4 @@
-use Rattle.std.proofs.Common.{◌≡◌, ◌+◌, length, ◌∙◌, sym, ap, subst, arith}
+use Rattle.std.proofs.Common.{◌≡◌, ℕ, ◌+◌, length, ◌∙◌, sym, ap, subst, arith}
 use Rattle.std.proofs.lemmas.List.{drop-map}
 use Rattle.resend_queue.specs.Queue.{Queue}
 use Rattle.seq_window.specs.declared.judgements.Acknowledged.TheVariants.{Acked}
@@ -19,7 +19,7 @@ invariant_of-self-2 c =
     = subst (λ (w : Window). c.free_entries.result + entry_count w.state ≡ w.state.limit) (sym c.self.view_is) c.free_entries.ensures in
     acked_sound c.self.inside c.self.invariant c.push_acked.new.self c.drop_front.new.self c.args.iseq c.in-Acked.count
     (ap (λ (r : RecordState). r.entries) c.in_ok-push_acked.ensures.ok)
-    (ap (λ (q : Queue). q.held) c.drop_front.ensures) (ap (λ (q : Queue). q.width) c.drop_front.ensures) (omega arith) (omega arith)
+    (ap (λ (q : Queue ℕ). q.held) c.drop_front.ensures) (ap (λ (q : Queue ℕ). q.width) c.drop_front.ensures) (omega arith) (omega arith)
     (c.in-Acked.ensures ∙ ap (λ (w : Window). judged_acknowledgement w.state.history c.args.iseq) (sym c.self.view_is))
     (omega arith)
 

@@ -1,4 +1,4 @@
-use Rattle.std.proofs.Common.{ap, refl, ◌∙◌}
+use Rattle.std.proofs.Common.{ℕ, ap, refl, ◌∙◌}
 use Rattle.resend_queue.specs.Timing as queue
 use Rattle.resend_queue.specs.Queue.{Queue}
 use Rattle.seq_window.specs.History.{acked_count, held}
@@ -11,8 +11,8 @@ pub invariant_of-self : goal.invariant_of-self
 invariant_of-self c =
     let w = c.self.inside in
     noted_sound w c.self.invariant c.mark.new.self
-    (rw c.mark.ensures (kept-changed (queue.marked c.args.now) (acked_count w.history.entries) c.args.place w.held.held (held w.history.entries) (marked_keeps c.args.now) c.self.invariant.kept))
-    (ap (λ (q : Queue). q.width) c.mark.ensures)
+    (rw c.mark.ensures (kept-changed w.history.entries (queue.marked c.args.now) (acked_count w.history.entries) c.args.place w.held.held (held w.history.entries) (marked_keeps c.args.now) c.self.invariant.kept))
+    (ap (λ (q : Queue ℕ). q.width) c.mark.ensures)
 
 pub returns-clause-state : goal.returns-clause-state
 returns-clause-state c =

@@ -1,8 +1,8 @@
-use Rattle.std.proofs.Common.{◌≡◌, ◌+◌, Result, Ok, Err, true, false, length, map, ap, ◌∙◌, refl, sym, subst, arith}
+use Rattle.std.proofs.Common.{◌≡◌, ℕ, ◌+◌, Result, Ok, Err, true, false, length, map, ap, ◌∙◌, refl, sym, subst, arith}
 use Rattle.std.specs.Prelude.{OnOk, is_ok, nat_le}
 use Rattle.resend_queue.specs.Queue.{Queue}
 use Rattle.resend_queue.specs.declared.held_frame.Held.{Held}
-use Rattle.seq_window.specs.Record.{RecordState}
+use Rattle.seq_window.specs.Record.{RecordState, frame_of}
 use Rattle.seq_window.specs.Window.{Window, entry_count, held_count, is_full}
 use Rattle.seq_window.specs.WindowFields.{sending_of}
 use Rattle.seq_window.proofs.Sound.{sent_sound, full_is, not_full_is}
@@ -16,13 +16,13 @@ pub invariant_of-self-2 : goal.invariant_of-self-2
 invariant_of-self-2 c =
     let free : c.free_entries.result + length c.self.inside.history.entries ≡ c.self.inside.limit
     = subst (λ (w : Window). c.free_entries.result + entry_count w.state ≡ w.state.limit) (sym c.self.view_is) c.free_entries.ensures in
-    let one : Held = record { number = c.self.inside.next; frame = c.args.frame; last = c.args.now; tries = 0 } in
+    let one : Held ℕ = record { number = c.self.inside.next; frame = c.len-place.result; last = c.args.now; tries = 0 } in
     let room : nat_le c.self.inside.width (length (map sending_of c.self.inside.held.held)) ≡ false
     = ap (λ (w : Window). is_full w.state) c.self.view_is ∙ sym c.is_full.ensures ∙ c.if-is_full.false in
     let pushed = on_ok _ _ (sym c.is_ok-fits.ensures.value ∙ c.if-prove.false) c.push-pushed.ensures.ok in
-    sent_sound c.self.inside c.self.invariant c.push_sent.new.self c.push-pushed.new.self c.args.frame one
+    sent_sound c.self.inside c.self.invariant c.push_sent.new.self c.push-pushed.new.self (frame_of c.args.frame) one
     (ap (λ (r : RecordState). r.entries) c.in_ok-push_sent.ensures.ok)
-    (ap (λ (q : Queue). q.held) pushed) (ap (λ (q : Queue). q.width) pushed) refl refl
+    (ap (λ (q : Queue ℕ). q.held) pushed) (ap (λ (q : Queue ℕ). q.width) pushed) refl c.len-place.ensures.len
     (not_full_is c.self.inside c.self.invariant room) (omega arith)
 
 pub returns-then-is_full-clause-window_full : goal.returns-then-is_full-clause-window_full

@@ -1,4 +1,4 @@
-use Rattle.std.proofs.Common.{ap, refl}
+use Rattle.std.proofs.Common.{ℕ, ap, refl}
 use Rattle.resend_queue.specs.Timing as queue
 use Rattle.resend_queue.specs.Queue.{Queue}
 use Rattle.seq_window.specs.History.{acked_count, held}
@@ -10,8 +10,8 @@ pub invariant_of-self : goal.invariant_of-self
 invariant_of-self c =
     let w = c.self.inside in
     noted_sound w c.self.invariant c.touch_all.new.self
-    (rw c.touch_all.ensures (kept-map (queue.touched c.args.now) (acked_count w.history.entries) w.held.held (held w.history.entries) (touched_keeps c.args.now) c.self.invariant.kept))
-    (ap (λ (q : Queue). q.width) c.touch_all.ensures)
+    (rw c.touch_all.ensures (kept-map w.history.entries (queue.touched c.args.now) (acked_count w.history.entries) w.held.held (held w.history.entries) (touched_keeps c.args.now) c.self.invariant.kept))
+    (ap (λ (q : Queue ℕ). q.width) c.touch_all.ensures)
 
 pub returns-clause-state : goal.returns-clause-state
 returns-clause-state c =

@@ -1,6 +1,7 @@
 use Rattle.std.proofs.Common.{sym}
+use Rattle.seq_window.specs.HeldFrame.{held_of}
 use Rattle.seq_window.proofs.Kept.{tries_at-held}
 use Rattle.seq_window.proofs.sliding_window.Window.tries.Goals as goal
 
 pub returns : goal.returns
-returns c = sym (tries_at-held _ _ c.args.self.now.state.sendings c.args.place c.held_frame.result.now c.held_frame.ensures)
+returns c = sym (tries_at-held _ _ c.args.self.now.state.sendings c.args.place (held_of c.held_frame.result) c.held_frame.ensures.held)
