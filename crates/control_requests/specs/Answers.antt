@@ -59,18 +59,13 @@ allow_line status.Unprocessable = []
 allow_line status.HeadTooLarge = []
 allow_line status.Unavailable = []
 
-abbrev pub status_line : Status → List ℕ
-status_line status = codes "HTTP/1.1 " ++ (decimal (code_of status) ++ (codes " " ++ (reason_of status ++ codes "\r\n")))
-
--- the fields that each answer has, with the octets of its body
-abbrev pub field_lines : ℕ → List ℕ
-field_lines n =
-    codes "Content-Type: application/json\r\nContent-Length: " ++ decimal n ++ codes "\r\nConnection: close\r\n"
-
--- the status line, the fields, an empty line, the body
+-- the status line, the fields that each answer has, with the octets of its body, and those that only some have; an empty line;
+-- the body
 abbrev pub answer_text : Status → List ℕ → List ℕ
 answer_text status body =
-    status_line status ++ (field_lines (length body) ++ (allow_line status ++ (codes "\r\n" ++ body)))
+    codes "HTTP/1.1 " ++ (decimal (code_of status) ++ (codes " " ++ (reason_of status
+    ++ (codes "\r\nContent-Type: application/json\r\nContent-Length: " ++ (decimal (length body)
+    ++ (codes "\r\nConnection: close\r\n" ++ (allow_line status ++ (codes "\r\n" ++ body))))))))
 
 -- {"error": why}
 abbrev pub error_data : List ℕ → Data

@@ -1,49 +1,36 @@
--- The members of what is shown, a group at a time, put among those that there are.
-use Rattle.std.specs.Prelude.{codes, option_copied}
-use Rattle.serde_json.specs.Data.{number, unsigned, string, Members, put}
-use Rattle.control_requests.specs.Rows.{optional, optional_text}
-use Rattle.control_requests.specs.declared.views.PeerRow.{PeerRow}
-use Rattle.control_requests.specs.declared.views.CallRow.{CallRow}
+-- The members of JSON objects.
+use Rattle.std.specs.Prelude.{ℕ, List, [], ◌∷◌, Option, Some, None, option_copied}
+use Rattle.std.specs.Borrow.{Bor}
+use Rattle.serde_json.specs.Data.{Data, null, number, unsigned, string, object, Members, no_members, put}
+use Rattle.control_requests.specs.declared.json_text.Shown.{Shown}
+use Rattle.control_requests.specs.declared.json_text.Shown.TheVariants.{Number, NumberOrNull, Text, TextOrNull}
 
--- who a peer is, and what it has
-abbrev pub with_peer : PeerRow → Members → Members
-with_peer row members =
-    put (codes "worker") (number (unsigned row.worker)) (
-    put (codes "numbers") (number (unsigned row.numbers)) (
-    put (codes "name") (string row.name.now) (
-    put (codes "legs") (number (unsigned row.legs)) (
-    put (codes "endpoint") (string row.endpoint.now) members))))
+-- a number, or null
+abbrev pub optional : Option ℕ → Data
+optional None = null
+optional (Some n) = number (unsigned n)
 
--- what was counted of its datagrams
-abbrev pub with_traffic : PeerRow → Members → Members
-with_traffic row members =
-    put (codes "silent_ms") (optional row.silent_ms) (
-    put (codes "sent") (number (unsigned row.sent)) (
-    put (codes "refused") (number (unsigned row.refused)) (
-    put (codes "received") (number (unsigned row.received)) (
-    put (codes "lost") (number (unsigned row.lost)) members))))
+-- a text, or null
+abbrev pub optional_text : Option (List ℕ) → Data
+optional_text None = null
+optional_text (Some text) = string text
 
--- who calls whom
-abbrev pub with_parties : CallRow → Members → Members
-with_parties row members =
-    put (codes "stage") (string row.stage.now) (
-    put (codes "peer") (string row.peer.now) (
-    put (codes "format") (string row.format.now) (
-    put (codes "calling") (optional_text (option_copied row.calling)) (
-    put (codes "called") (optional_text (option_copied row.called)) members))))
+-- what a member has
+abbrev pub shown_data : Shown → Data
+shown_data (Number n) = number (unsigned n)
+shown_data (NumberOrNull n) = optional n
+shown_data (Text text) = string text.now
+shown_data (TextOrNull text) = optional_text (option_copied text)
 
--- by which numbers a leg is named
-abbrev pub with_names : CallRow → Members → Members
-with_names row members =
-    put (codes "serial") (number (unsigned row.serial)) (
-    put (codes "remote") (optional row.remote) (
-    put (codes "partner") (optional row.partner) (
-    put (codes "number") (number (unsigned row.number)) members)))
+-- a member, by its name and what it has
+abbrev pub Named : Type 0
+Named = Bor (List ℕ) × Shown
 
--- how long it is there, and what it keeps
-abbrev pub with_state : CallRow → Members → Members
-with_state row members =
-    put (codes "record_limit") (number (unsigned row.record_limit)) (
-    put (codes "held") (number (unsigned row.held)) (
-    put (codes "entries") (number (unsigned row.entries)) (
-    put (codes "age_ms") (number (unsigned row.age_ms)) members)))
+-- the members, with these put among them, the last of two with one name
+abbrev pub with_shown : List Named → Members → Members
+with_shown [] members = members
+with_shown (named ∷ more) members = with_shown more (put named.0.now (shown_data named.1) members)
+
+-- an object of these
+abbrev pub object_of : List Named → Data
+object_of named = object (with_shown named no_members)

@@ -41,6 +41,14 @@ IsFaultOf body NoNumber = Says body (Err NoNumber)
 IsFaultOf body NumberTooLong = Says body (Err NumberTooLong)
 IsFaultOf body Memory = ⊤
 
+-- the same of the value that was read
+abbrev pub IsFaultIn : Data → PlaceFault → Type 0
+IsFaultIn value NotJson = ⊥
+IsFaultIn value NoPeer = parts_of value ≡ Err NoPeer
+IsFaultIn value NoNumber = parts_of value ≡ Err NoNumber
+IsFaultIn value NumberTooLong = parts_of value ≡ Err NumberTooLong
+IsFaultIn value Memory = ⊤
+
 -- the same of reading alone
 abbrev pub IsNoValue : List ℕ → PlaceFault → Type 0
 IsNoValue body NotJson = IsNotJson body

@@ -1,19 +1,12 @@
 -- The JSON of peers, calls and accounts. The members stand in the order of their names.
-use Rattle.std.specs.Prelude.{ℕ, ◌==◌, List, [], ◌∷◌, ◌++◌, length, codes, option_copied, Option, Some, None, if◌then◌else◌}
-use Rattle.serde_json.specs.Data.{Data, null, number, unsigned, string, array, object, Items, no_items, item, Members, no_members}
+use Rattle.std.specs.Prelude.{ℕ, ◌==◌, List, [], ◌∷◌, ◌++◌, length, codes, option_copied, if◌then◌else◌}
+use Rattle.serde_json.specs.Data.{Data, number, unsigned, string, array, object, Items, no_items, item, Members, no_members}
 use Rattle.serde_json.specs.Data.{member}
 use Rattle.serde_json.specs.Written.{compact_text}
+use Rattle.control_requests.specs.Members.{optional, optional_text}
 use Rattle.control_requests.specs.declared.views.PeerRow.{PeerRow}
 use Rattle.control_requests.specs.declared.views.CallRow.{CallRow}
 use Rattle.control_requests.specs.declared.views.AccountsRow.{AccountsRow}
-
-abbrev pub optional : Option ℕ → Data
-optional None = null
-optional (Some n) = number (unsigned n)
-
-abbrev pub optional_text : Option (List ℕ) → Data
-optional_text None = null
-optional_text (Some text) = string text
 
 abbrev pub peer_data : PeerRow → Data
 peer_data row = object (

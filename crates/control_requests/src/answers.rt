@@ -1,13 +1,10 @@
 //! The answers to clients, in HTTP/1.1.
 ghost use Rattle.std.specs.Prelude.{◌≡◌, IfOk, string_bytes};
-ghost use Rattle.serde_json.specs.View.{view};
 ghost use Rattle.serde_json.specs.Written.{compact_text};
-ghost use Rattle.control_requests.specs.Answers.{code_of, reason_of, allow_text, allow_line, status_line, field_lines};
-ghost use Rattle.control_requests.specs.Answers.{error_data, answer_text};
+ghost use Rattle.control_requests.specs.Answers.{code_of, reason_of, allow_line, error_data, answer_text};
 
 use crate::commands::Methods;
-use crate::json_text::text_of;
-use serde_json::{Value, json};
+use crate::json_text::{Shown, object_text};
 use std::alloc::{AllocError, Global};
 
 /// The status of an answer.
@@ -67,52 +64,23 @@ impl Status {
     }
 }
 
-// The methods as the field `Allow` lists them.
-fn allow_text(methods: Methods) -> &'static str
-    ensures { result.now ≡ allow_text methods }
-{
-    match (methods.get, methods.post, methods.delete) {
-        (true, true, true) => "GET, POST, DELETE",
-        (true, true, false) => "GET, POST",
-        (true, false, true) => "GET, DELETE",
-        (true, false, false) => "GET",
-        (false, true, true) => "POST, DELETE",
-        (false, true, false) => "POST",
-        (false, false, true) => "DELETE",
-        (false, false, false) => "",
-    }
-}
-
 // The line `Allow` of an answer that has one.
-fn allow_line(alloc: Global, status: Status) -> Result<String, AllocError>
-    ensures { IfOk result (λ line. string_bytes line ≡ allow_line status) }
+fn allow_line(status: Status) -> &'static str
+    ensures { result.now ≡ allow_line status }
 {
-    match status {
-        Status::NotAllowed(methods) => format!(in alloc; "Allow: {}\r\n", allow_text(methods)),
-        _ => Ok(String::new(alloc)),
+    let Status::NotAllowed(methods) = status else {
+        return "";
+    };
+    match (methods.get, methods.post, methods.delete) {
+        (true, true, true) => "Allow: GET, POST, DELETE\r\n",
+        (true, true, false) => "Allow: GET, POST\r\n",
+        (true, false, true) => "Allow: GET, DELETE\r\n",
+        (true, false, false) => "Allow: GET\r\n",
+        (false, true, true) => "Allow: POST, DELETE\r\n",
+        (false, true, false) => "Allow: POST\r\n",
+        (false, false, true) => "Allow: DELETE\r\n",
+        (false, false, false) => "Allow: \r\n",
     }
-}
-
-fn status_line(alloc: Global, status: Status) -> Result<String, AllocError>
-    ensures { IfOk result (λ line. string_bytes line ≡ status_line status) }
-{
-    format!(in alloc; "HTTP/1.1 {} {}\r\n", status.code(), status.reason())
-}
-
-// The fields that each answer has, with the octets of the body.
-fn field_lines(alloc: Global, length: usize) -> Result<String, AllocError>
-    ensures { IfOk result (λ lines. string_bytes lines ≡ field_lines length) }
-{
-    format!(in alloc;
-        "Content-Type: application/json\r\nContent-Length: {}\r\nConnection: close\r\n",
-        length
-    )
-}
-
-fn error_value(alloc: Global, why: &str) -> Result<Value, AllocError>
-    ensures { IfOk result (λ value. view value ≡ error_data why.now) }
-{
-    json!(in alloc; {"error": why})
 }
 
 /// An answer: its status, and its body in JSON.
@@ -130,7 +98,7 @@ impl Answer {
         ensures status { IfOk result (λ answer. answer.status ≡ status) }
         ensures body { IfOk result (λ answer. string_bytes answer.body ≡ compact_text (error_data why.now)) }
     {
-        let body = text_of(alloc, &error_value(alloc, why)?)?;
+        let body = object_text(alloc, &[("error", Shown::Text(why))])?;
         Ok(Answer { status, body })
     }
 
@@ -141,10 +109,14 @@ impl Answer {
     pub fn octets(&self, alloc: Global) -> Result<Vec<u8>, AllocError>
         ensures { IfOk result (λ octets. octets.items ≡ answer_text self.now.status (string_bytes self.now.body)) }
     {
-        let line = status_line(alloc, self.status)?;
-        let fields = field_lines(alloc, self.body.len())?;
-        let allow = allow_line(alloc, self.status)?;
-        let text = format!(in alloc; "{}{}{}\r\n{}", line, fields, allow, self.body)?;
+        let text = format!(in alloc;
+            "HTTP/1.1 {} {}\r\nContent-Type: application/json\r\nContent-Length: {}\r\nConnection: close\r\n{}\r\n{}",
+            self.status.code(),
+            self.status.reason(),
+            self.body.len(),
+            allow_line(self.status),
+            self.body
+        )?;
         Ok(text.into_bytes())
     }
 }

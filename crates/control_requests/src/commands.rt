@@ -43,7 +43,7 @@ pub enum NoCommand {
 }
 
 // What each method asks for at a path.
-#[derive(Clone, Copy, Debug, PartialEq, Eq)]
+#[derive(Clone, Copy)]
 pub(crate) struct Row {
     pub get: Option<Command>,
     pub post: Option<Command>,
@@ -104,14 +104,11 @@ fn row_of(path: &str) -> Option<Row>
 fn command_by(row: Row, method: &str) -> Option<Command>
     ensures { result ≡ command_by row method.now }
 {
-    if method == "GET" {
-        row.get
-    } else if method == "POST" {
-        row.post
-    } else if method == "DELETE" {
-        row.delete
-    } else {
-        None
+    match method {
+        "GET" => row.get,
+        "POST" => row.post,
+        "DELETE" => row.delete,
+        _ => None,
     }
 }
 

@@ -3,7 +3,7 @@ ghost use Rattle.std.specs.Prelude.{◌≡◌, Some, Ok, IfOk, IfErr, IsUtf8, st
 ghost use Rattle.std.specs.Result.{result_map_both};
 ghost use Rattle.serde_json.specs.Read.{read};
 ghost use Rattle.serde_json.specs.View.{view};
-ghost use Rattle.control_requests.specs.Placing.{text_at, parts_of, Says, IsFaultOf, IsNoValue};
+ghost use Rattle.control_requests.specs.Placing.{text_at, parts_of, Says, IsFaultIn, IsFaultOf, IsNoValue};
 
 use serde_json::Value;
 use std::alloc::{AllocError, Global};
@@ -57,21 +57,37 @@ fn text_at<'v>(value: &'v Value, key: &str) -> Option<&'v str>
 fn parts_of(value: &Value) -> Result<(&str, &str), PlaceFault>
     ensures { result_map_both (λ parts. (parts.0.now, parts.1.now)) (λ fault. fault) result ≡ parts_of (view value.now) }
 {
-    let peer = text_at(value, "peer").ok_or(PlaceFault::NoPeer)?;
-    let number = text_at(value, "number").ok_or(PlaceFault::NoNumber)?;
+    let Some(peer) = text_at(value, "peer") else {
+        return Err(PlaceFault::NoPeer);
+    };
+    let Some(number) = text_at(value, "number") else {
+        return Err(PlaceFault::NoNumber);
+    };
     if number.is_empty() || number.len() > NUMBER_LIMIT {
         return Err(PlaceFault::NumberTooLong);
     }
     Ok((peer, number))
 }
 
-fn order_of(alloc: Global, peer: &str, number: &str) -> Result<PlaceOrder, AllocError>
+fn with_parts(alloc: Global, peer: &str, number: &str) -> Result<PlaceOrder, AllocError>
     ensures { IfOk result (λ order. (string_bytes order.peer ≡ peer.now) × (string_bytes order.number ≡ number.now)) }
 {
     Ok(PlaceOrder {
         peer: String::from_str(alloc, peer)?,
         number: String::from_str(alloc, number)?,
     })
+}
+
+// The call that a value places.
+fn order_of(alloc: Global, value: &Value) -> Result<PlaceOrder, PlaceFault>
+    ensures ok { IfOk result (λ order. parts_of (view value.now) ≡ Ok (string_bytes order.peer, string_bytes order.number)) }
+    ensures err { IfErr result (IsFaultIn (view value.now)) }
+{
+    let (peer, number) = parts_of(value)?;
+    match with_parts(alloc, peer, number) {
+        Ok(order) => Ok(order),
+        Err(_) => Err(PlaceFault::Memory),
+    }
 }
 
 /// Reads the body of `POST /calls`, `{"peer": NAME, "number": DIGITS}`. Other members aren't looked at; of two with one name
@@ -84,9 +100,5 @@ pub fn place_of(alloc: Global, body: &[u8]) -> Result<PlaceOrder, PlaceFault>
     ensures err { IfErr result (IsFaultOf body.now) }
 {
     let value = value_of(alloc, body)?;
-    let (peer, number) = parts_of(&value)?;
-    match order_of(alloc, peer, number) {
-        Ok(order) => Ok(order),
-        Err(_) => Err(PlaceFault::Memory),
-    }
+    order_of(alloc, &value)
 }

@@ -20,36 +20,57 @@ impl From<AllocError> for TableFault {
     }
 }
 
-const PEER_COLUMNS: [&str; 10] = [
-    "name",
-    "endpoint",
-    "worker",
-    "legs",
-    "numbers",
-    "silent_ms",
-    "received",
-    "refused",
-    "sent",
-    "lost",
-];
+// A table of an answer's JSON.
+struct Kind {
+    // The member that is the list of its rows, if there is one.
+    list: Option<&'static str>,
+    // The member by which the JSON is known to be its one row, if it can be.
+    one: Option<&'static str>,
+    columns: &'static [&'static str],
+}
 
-const CALL_COLUMNS: [&str; 13] = [
-    "number",
-    "serial",
-    "peer",
-    "stage",
-    "calling",
-    "called",
-    "format",
-    "age_ms",
-    "remote",
-    "partner",
-    "held",
-    "entries",
-    "record_limit",
-];
+const PEERS: Kind = Kind {
+    list: Some("peers"),
+    one: None,
+    columns: &[
+        "name",
+        "endpoint",
+        "worker",
+        "legs",
+        "numbers",
+        "silent_ms",
+        "received",
+        "refused",
+        "sent",
+        "lost",
+    ],
+};
 
-const ACCOUNTS_COLUMNS: [&str; 5] = ["accepted", "packed", "queued", "dropped", "quelched"];
+const CALLS: Kind = Kind {
+    list: Some("calls"),
+    one: Some("number"),
+    columns: &[
+        "number",
+        "serial",
+        "peer",
+        "stage",
+        "calling",
+        "called",
+        "format",
+        "age_ms",
+        "remote",
+        "partner",
+        "held",
+        "entries",
+        "record_limit",
+    ],
+};
+
+const ACCOUNTS: Kind = Kind {
+    list: None,
+    one: Some("accepted"),
+    columns: &["accepted", "packed", "queued", "dropped", "quelched"],
+};
 
 fn value_of(alloc: Global, body: &str) -> Result<Value, TableFault> {
     match Value::from_str(alloc, body) {
@@ -59,8 +80,12 @@ fn value_of(alloc: Global, body: &str) -> Result<Value, TableFault> {
     }
 }
 
-// What a row has in a column: the text of a string, a number as it is, and `-` where there is nothing.
-fn cell(alloc: Global, row: &Value, column: &str) -> Result<String, AllocError> {
+// What a row has in a column: the text of a string, a number as it is, and `-` where there is nothing. Where there is no row, it
+// is the head line, and has the column's name.
+fn cell(alloc: Global, row: Option<&Value>, column: &str) -> Result<String, AllocError> {
+    let Some(row) = row else {
+        return String::from_str(alloc, column);
+    };
     match row.get(column) {
         None | Some(Value::Null) => String::from_str(alloc, "-"),
         Some(Value::String(text)) => String::from_str(alloc, text),
@@ -68,13 +93,32 @@ fn cell(alloc: Global, row: &Value, column: &str) -> Result<String, AllocError> 
     }
 }
 
-// The characters of the longest cell of a column, or of its name.
+// A column: its name, and the characters of its longest cell, or of its name.
+#[derive(Clone, Copy)]
+struct Column {
+    name: &'static str,
+    width: usize,
+}
+
 fn width_of(alloc: Global, rows: &[Value], column: &str) -> Result<usize, AllocError> {
     let mut width = column.chars().count();
     for row in rows {
-        width = width.max(cell(alloc, row, column)?.chars().count());
+        width = width.max(cell(alloc, Some(row), column)?.chars().count());
     }
     Ok(width)
+}
+
+fn columns_of(
+    alloc: Global,
+    rows: &[Value],
+    names: &[&'static str],
+) -> Result<Vec<Column>, AllocError> {
+    let mut columns = Vec::new(alloc);
+    for name in names {
+        let width = width_of(alloc, rows, name)?;
+        columns.push(Column { name, width })?;
+    }
+    Ok(columns)
 }
 
 fn push_cell(line: &mut String, cell: &str, width: usize) -> Result<(), AllocError> {
@@ -85,75 +129,82 @@ fn push_cell(line: &mut String, cell: &str, width: usize) -> Result<(), AllocErr
     line.push_str("  ")
 }
 
-fn push_line(table: &mut String, line: &str) -> Result<(), AllocError> {
+fn push_cells(
+    alloc: Global,
+    line: &mut String,
+    row: Option<&Value>,
+    columns: &[Column],
+) -> Result<(), AllocError> {
+    for column in columns {
+        push_cell(line, &cell(alloc, row, column.name)?, column.width)?;
+    }
+    Ok(())
+}
+
+fn push_line(
+    alloc: Global,
+    table: &mut String,
+    row: Option<&Value>,
+    columns: &[Column],
+) -> Result<(), AllocError> {
+    let mut line = String::new(alloc);
+    push_cells(alloc, &mut line, row, columns)?;
     table.push_str(line.trim_end())?;
     table.push_str("\n")
 }
 
-fn widths_of(alloc: Global, rows: &[Value], columns: &[&str]) -> Result<Vec<usize>, AllocError> {
-    let mut widths = Vec::new(alloc);
-    for column in columns {
-        widths.push(width_of(alloc, rows, column)?)?;
-    }
-    Ok(widths)
-}
-
-fn head_line(alloc: Global, columns: &[&str], widths: &[usize]) -> Result<String, AllocError> {
-    let mut line = String::new(alloc);
-    for (column, width) in columns.iter().zip(widths) {
-        push_cell(&mut line, column, *width)?;
-    }
-    Ok(line)
-}
-
-fn row_line(
-    alloc: Global,
-    row: &Value,
-    columns: &[&str],
-    widths: &[usize],
-) -> Result<String, AllocError> {
-    let mut line = String::new(alloc);
-    for (column, width) in columns.iter().zip(widths) {
-        push_cell(&mut line, &cell(alloc, row, column)?, *width)?;
-    }
-    Ok(line)
-}
-
 // A head line with the names of the columns, and a line for each row.
-fn table(alloc: Global, rows: &[Value], columns: &[&str]) -> Result<String, AllocError> {
-    let widths = widths_of(alloc, rows, columns)?;
-    let mut table = String::new(alloc);
-    push_line(&mut table, &head_line(alloc, columns, &widths)?)?;
+fn push_lines(
+    alloc: Global,
+    table: &mut String,
+    rows: &[Value],
+    columns: &[Column],
+) -> Result<(), AllocError> {
+    push_line(alloc, table, None, columns)?;
     for row in rows {
-        push_line(&mut table, &row_line(alloc, row, columns, &widths)?)?;
+        push_line(alloc, table, Some(row), columns)?;
     }
+    Ok(())
+}
+
+fn table(alloc: Global, rows: &[Value], names: &[&'static str]) -> Result<String, AllocError> {
+    let columns = columns_of(alloc, rows, names)?;
+    let mut table = String::new(alloc);
+    push_lines(alloc, &mut table, rows, &columns)?;
     Ok(table)
 }
 
-fn list_of<'v>(value: &'v Value, list: &str) -> Option<&'v [Value]> {
-    Some(value.get(list)?.as_array()?)
-}
-
-fn calls_of(value: &Value) -> Option<&[Value]> {
-    match list_of(value, "calls") {
-        Some(rows) => Some(rows),
-        None if value.get("number").is_some() => Some(slice::from_ref(value)),
-        None => None,
+fn list_of<'v>(value: &'v Value, name: Option<&str>) -> Option<&'v [Value]> {
+    match value.get(name?) {
+        Some(Value::Array(rows)) => Some(rows),
+        _ => None,
     }
 }
 
-fn accounts_of(value: &Value) -> Option<&[Value]> {
-    match value.get("accepted") {
+fn one_of<'v>(value: &'v Value, name: Option<&str>) -> Option<&'v [Value]> {
+    match value.get(name?) {
         Some(_) => Some(slice::from_ref(value)),
         None => None,
     }
 }
 
-fn table_of(alloc: Global, rows: Option<&[Value]>, columns: &[&str]) -> Result<String, TableFault> {
-    match rows {
-        Some(rows) => Ok(table(alloc, rows, columns)?),
+fn rows_of<'v>(value: &'v Value, kind: &Kind) -> Option<&'v [Value]> {
+    match list_of(value, kind.list) {
+        Some(rows) => Some(rows),
+        None => one_of(value, kind.one),
+    }
+}
+
+fn table_in(alloc: Global, value: &Value, kind: &Kind) -> Result<String, TableFault> {
+    match rows_of(value, kind) {
+        Some(rows) => Ok(table(alloc, rows, kind.columns)?),
         None => Err(TableFault::NoRows),
     }
+}
+
+fn table_of(alloc: Global, body: &str, kind: &Kind) -> Result<String, TableFault> {
+    let value = value_of(alloc, body)?;
+    table_in(alloc, &value, kind)
 }
 
 /// The table of the answer to `GET /peers`: a head line, and a line for each peer. Columns are as wide as their longest cell,
@@ -162,8 +213,7 @@ fn table_of(alloc: Global, rows: Option<&[Value]>, columns: &[&str]) -> Result<S
 /// `NotJson`: the text is no JSON. `NoRows`: the JSON has no list `peers`. `Memory`: a request for memory was refused, at any
 /// time.
 pub fn peers_table(alloc: Global, body: &str) -> Result<String, TableFault> {
-    let value = value_of(alloc, body)?;
-    table_of(alloc, list_of(&value, "peers"), &PEER_COLUMNS)
+    table_of(alloc, body, &PEERS)
 }
 
 /// The table of the answer to `GET /calls` or `GET /calls/<number>`: a head line, and a line for each call. Columns are as wide
@@ -172,8 +222,7 @@ pub fn peers_table(alloc: Global, body: &str) -> Result<String, TableFault> {
 /// `NotJson`: the text is no JSON. `NoRows`: the JSON has no list `calls`, and no member `number`. `Memory`: a request for
 /// memory was refused, at any time.
 pub fn calls_table(alloc: Global, body: &str) -> Result<String, TableFault> {
-    let value = value_of(alloc, body)?;
-    table_of(alloc, calls_of(&value), &CALL_COLUMNS)
+    table_of(alloc, body, &CALLS)
 }
 
 /// The table of the answer to `GET /accounts`: a head line, and one line. Columns are as wide as their longest cell, in
@@ -182,6 +231,5 @@ pub fn calls_table(alloc: Global, body: &str) -> Result<String, TableFault> {
 /// `NotJson`: the text is no JSON. `NoRows`: the JSON has no member `accepted`. `Memory`: a request for memory was refused, at
 /// any time.
 pub fn accounts_table(alloc: Global, body: &str) -> Result<String, TableFault> {
-    let value = value_of(alloc, body)?;
-    table_of(alloc, accounts_of(&value), &ACCOUNTS_COLUMNS)
+    table_of(alloc, body, &ACCOUNTS)
 }

@@ -1,13 +1,9 @@
 //! What the daemon shows: peers, calls, the accounts. Each as JSON.
-ghost use Rattle.std.specs.Prelude.{◌≡◌, ◌++◌, IfOk, OnErr, OnOk, codes, option_copied, string_bytes};
-ghost use Rattle.serde_json.specs.Data.{number, string, unsigned, put as with_member};
-ghost use Rattle.serde_json.specs.View.{view, members_view};
+ghost use Rattle.std.specs.Prelude.{◌≡◌, ◌++◌, IfOk, OnErr, OnOk, codes, string_bytes};
 ghost use Rattle.serde_json.specs.Written.{compact_text};
-ghost use Rattle.control_requests.specs.Members.{with_peer, with_traffic, with_parties, with_names, with_state};
-ghost use Rattle.control_requests.specs.Rows.{optional, optional_text, peer_data, call_data, accounts_data, followed, list_text};
+ghost use Rattle.control_requests.specs.Rows.{peer_data, call_data, accounts_data, followed, list_text};
 
-use crate::json_text::text_of;
-use serde_json::{Map, Value, put};
+use crate::json_text::{Shown, object_text};
 use std::alloc::{AllocError, Global};
 use std::marker::Model;
 
@@ -78,190 +74,28 @@ pub struct AccountsRow {
     pub quelched: u64,
 }
 
-// A number, or `null`.
-fn optional(number: Option<u64>) -> Value
-    ensures { view result ≡ optional number }
-{
-    match number {
-        Some(number) => Value::from(number),
-        None => Value::Null,
-    }
-}
-
-// A text, or `null`.
-fn optional_text(alloc: Global, text: Option<&str>) -> Result<Value, AllocError>
-    ensures { IfOk result (λ value. view value ≡ optional_text (option_copied text.entry)) }
-{
-    match text {
-        Some(text) => Ok(Value::String(String::from_str(alloc, text)?)),
-        None => Ok(Value::Null),
-    }
-}
-
-// A number by a name.
-fn put_number(
-    alloc: Global,
-    members: &mut Map<String, Value>,
-    name: &str,
-    value: u64,
-) -> Result<(), AllocError>
-    ensures { OnOk result (members_view members.new.entries ≡
-        with_member name.now (number (unsigned value)) (members_view members.old.entries)) }
-{
-    put(members, alloc, name, Value::from(value))
-}
-
-// A text by a name.
-fn put_text(
-    alloc: Global,
-    members: &mut Map<String, Value>,
-    name: &str,
-    text: &str,
-) -> Result<(), AllocError>
-    ensures { OnOk result (members_view members.new.entries ≡
-        with_member name.now (string text.now) (members_view members.old.entries)) }
-{
-    let text = String::from_str(alloc, text)?;
-    put(members, alloc, name, Value::String(text))
-}
-
-// A number, or `null`, by a name.
-fn put_optional(
-    alloc: Global,
-    members: &mut Map<String, Value>,
-    name: &str,
-    value: Option<u64>,
-) -> Result<(), AllocError>
-    ensures { OnOk result (members_view members.new.entries ≡
-        with_member name.now (optional value) (members_view members.old.entries)) }
-{
-    put(members, alloc, name, optional(value))
-}
-
-// A text, or `null`, by a name.
-fn put_optional_text(
-    alloc: Global,
-    members: &mut Map<String, Value>,
-    name: &str,
-    text: Option<&str>,
-) -> Result<(), AllocError>
-    ensures { OnOk result (members_view members.new.entries ≡
-        with_member name.now (optional_text (option_copied text.entry)) (members_view members.old.entries)) }
-{
-    put(members, alloc, name, optional_text(alloc, text)?)
-}
-
-// Who a peer is, and what it has.
-fn put_peer(
-    alloc: Global,
-    members: &mut Map<String, Value>,
-    row: &PeerRow<'_>,
-) -> Result<(), AllocError>
-    ensures { OnOk result (members_view members.new.entries ≡ with_peer row.now (members_view members.old.entries)) }
-{
-    put_text(alloc, members, "endpoint", row.endpoint)?;
-    put_number(alloc, members, "legs", u64::from(row.legs))?;
-    put_text(alloc, members, "name", row.name)?;
-    put_number(alloc, members, "numbers", u64::from(row.numbers))?;
-    put_number(alloc, members, "worker", u64::from(row.worker))
-}
-
-// What was counted of a peer's datagrams.
-fn put_traffic(
-    alloc: Global,
-    members: &mut Map<String, Value>,
-    row: &PeerRow<'_>,
-) -> Result<(), AllocError>
-    ensures { OnOk result (members_view members.new.entries ≡ with_traffic row.now (members_view members.old.entries)) }
-{
-    put_number(alloc, members, "lost", row.lost)?;
-    put_number(alloc, members, "received", row.received)?;
-    put_number(alloc, members, "refused", row.refused)?;
-    put_number(alloc, members, "sent", row.sent)?;
-    put_optional(alloc, members, "silent_ms", row.silent_ms)
-}
-
-fn peer_value(alloc: Global, row: PeerRow<'_>) -> Result<Value, AllocError>
-    ensures { IfOk result (λ value. view value ≡ peer_data row.entry) }
-{
-    let mut members = Map::new(alloc);
-    put_peer(alloc, &mut members, &row)?;
-    put_traffic(alloc, &mut members, &row)?;
-    Ok(Value::Object(members))
-}
-
-// Who calls whom.
-fn put_parties(
-    alloc: Global,
-    members: &mut Map<String, Value>,
-    row: &CallRow<'_>,
-) -> Result<(), AllocError>
-    ensures { OnOk result (members_view members.new.entries ≡ with_parties row.now (members_view members.old.entries)) }
-{
-    put_optional_text(alloc, members, "called", row.called)?;
-    put_optional_text(alloc, members, "calling", row.calling)?;
-    put_text(alloc, members, "format", row.format)?;
-    put_text(alloc, members, "peer", row.peer)?;
-    put_text(alloc, members, "stage", row.stage)
-}
-
-// By which numbers a leg is named.
-fn put_names(
-    alloc: Global,
-    members: &mut Map<String, Value>,
-    row: &CallRow<'_>,
-) -> Result<(), AllocError>
-    ensures { OnOk result (members_view members.new.entries ≡ with_names row.now (members_view members.old.entries)) }
-{
-    put_number(alloc, members, "number", u64::from(row.number))?;
-    put_optional(alloc, members, "partner", row.partner)?;
-    put_optional(alloc, members, "remote", row.remote)?;
-    put_number(alloc, members, "serial", row.serial)
-}
-
-// How long a leg is there, and what it keeps.
-fn put_state(
-    alloc: Global,
-    members: &mut Map<String, Value>,
-    row: &CallRow<'_>,
-) -> Result<(), AllocError>
-    ensures { OnOk result (members_view members.new.entries ≡ with_state row.now (members_view members.old.entries)) }
-{
-    put_number(alloc, members, "age_ms", row.age_ms)?;
-    put_number(alloc, members, "entries", row.entries)?;
-    put_number(alloc, members, "held", row.held)?;
-    put_number(alloc, members, "record_limit", row.record_limit)
-}
-
-fn call_value(alloc: Global, row: CallRow<'_>) -> Result<Value, AllocError>
-    ensures { IfOk result (λ value. view value ≡ call_data row.entry) }
-{
-    let mut members = Map::new(alloc);
-    put_parties(alloc, &mut members, &row)?;
-    put_names(alloc, &mut members, &row)?;
-    put_state(alloc, &mut members, &row)?;
-    Ok(Value::Object(members))
-}
-
-fn accounts_value(alloc: Global, row: AccountsRow) -> Result<Value, AllocError>
-    ensures { IfOk result (λ value. view value ≡ accounts_data row) }
-{
-    let mut members = Map::new(alloc);
-    put_number(alloc, &mut members, "accepted", row.accepted)?;
-    put_number(alloc, &mut members, "dropped", row.dropped)?;
-    put_number(alloc, &mut members, "packed", row.packed)?;
-    put_number(alloc, &mut members, "quelched", row.quelched)?;
-    put_number(alloc, &mut members, "queued", row.queued)?;
-    Ok(Value::Object(members))
-}
-
 /// The JSON of one call, an object; `null` stands where there is no value.
 ///
 /// `AllocError`: a request for memory was refused.
 pub fn call_body(alloc: Global, row: CallRow<'_>) -> Result<String, AllocError>
     ensures { IfOk result (λ body. string_bytes body ≡ compact_text (call_data row.entry)) }
 {
-    text_of(alloc, &call_value(alloc, row)?)
+    let members = [
+        ("age_ms", Shown::Number(row.age_ms)),
+        ("called", Shown::TextOrNull(row.called)),
+        ("calling", Shown::TextOrNull(row.calling)),
+        ("entries", Shown::Number(row.entries)),
+        ("format", Shown::Text(row.format)),
+        ("held", Shown::Number(row.held)),
+        ("number", Shown::Number(u64::from(row.number))),
+        ("partner", Shown::NumberOrNull(row.partner)),
+        ("peer", Shown::Text(row.peer)),
+        ("record_limit", Shown::Number(row.record_limit)),
+        ("remote", Shown::NumberOrNull(row.remote)),
+        ("serial", Shown::Number(row.serial)),
+        ("stage", Shown::Text(row.stage)),
+    ];
+    object_text(alloc, &members)
 }
 
 /// The JSON of the accounts, an object of numbers of octets.
@@ -270,23 +104,44 @@ pub fn call_body(alloc: Global, row: CallRow<'_>) -> Result<String, AllocError>
 pub fn accounts_body(alloc: Global, row: AccountsRow) -> Result<String, AllocError>
     ensures { IfOk result (λ body. string_bytes body ≡ compact_text (accounts_data row)) }
 {
-    text_of(alloc, &accounts_value(alloc, row)?)
+    let members = [
+        ("accepted", Shown::Number(row.accepted)),
+        ("dropped", Shown::Number(row.dropped)),
+        ("packed", Shown::Number(row.packed)),
+        ("quelched", Shown::Number(row.quelched)),
+        ("queued", Shown::Number(row.queued)),
+    ];
+    object_text(alloc, &members)
 }
 
 fn peer_text(alloc: Global, row: PeerRow<'_>) -> Result<String, AllocError>
     ensures { IfOk result (λ text. string_bytes text ≡ compact_text (peer_data row.entry)) }
 {
-    text_of(alloc, &peer_value(alloc, row)?)
+    let members = [
+        ("endpoint", Shown::Text(row.endpoint)),
+        ("legs", Shown::Number(u64::from(row.legs))),
+        ("lost", Shown::Number(row.lost)),
+        ("name", Shown::Text(row.name)),
+        ("numbers", Shown::Number(u64::from(row.numbers))),
+        ("received", Shown::Number(row.received)),
+        ("refused", Shown::Number(row.refused)),
+        ("sent", Shown::Number(row.sent)),
+        ("silent_ms", Shown::NumberOrNull(row.silent_ms)),
+        ("worker", Shown::Number(u64::from(row.worker))),
+    ];
+    object_text(alloc, &members)
 }
 
-fn followed(alloc: Global, rows: &str, row: String) -> Result<String, AllocError>
-    ensures { IfOk result (λ piece. rows.now ++ string_bytes piece ≡ followed rows.now (string_bytes row)) }
+// A row behind the others.
+fn push_row(alloc: Global, rows: &mut String, row: &str) -> Result<(), AllocError>
+    ensures ok { OnOk result (string_bytes rows.new ≡ followed (string_bytes rows.old) row.now) }
+    ensures err { OnErr result (string_bytes rows.new ≡ string_bytes rows.old) }
 {
     if rows.is_empty() {
-        Ok(row)
-    } else {
-        format!(in alloc; ",{}", row)
+        return rows.push_str(row);
     }
+    let piece = format!(in alloc; ",{}", row)?;
+    rows.push_str(&piece)
 }
 
 /// Rows of peers or of calls as JSON, one after the other. Contracts see their text, with a comma between each two.
@@ -323,8 +178,7 @@ impl Rows {
         ensures err { OnErr result (self.new ≡ self.old) }
     {
         let text = peer_text(alloc, row)?;
-        let piece = followed(alloc, &self.text, text)?;
-        self.text.push_str(&piece)
+        push_row(alloc, &mut self.text, &text)
     }
 
     /// One more call, behind the others.
@@ -335,8 +189,7 @@ impl Rows {
         ensures err { OnErr result (self.new ≡ self.old) }
     {
         let text = call_body(alloc, row)?;
-        let piece = followed(alloc, &self.text, text)?;
-        self.text.push_str(&piece)
+        push_row(alloc, &mut self.text, &text)
     }
 
     /// The rows as the list of peers: `{"peers":[..]}`.
