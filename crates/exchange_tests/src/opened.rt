@@ -8,6 +8,7 @@ use crate::looking::looked;
 use crate::same::holds;
 use crate::scenes::{Sums, ended};
 use crate::settling::queue_filled;
+use crate::storm::storm_and_end;
 use crate::workers::two_tickers;
 use exchange_core::{Exchange, NoGate, Pass};
 use media_ledger::Blank;
@@ -39,6 +40,8 @@ pub enum Scene {
     Looked,
     /// An accepted call ends, and its legs are told.
     Left,
+    /// A storm of datagrams, then an end to all calls.
+    Storm,
     /// Two threads tick both peers.
     TwoTickers,
 }
@@ -59,6 +62,7 @@ fn play<R: Abort + Sync + Threads + Wait, J: Naming>(
         (Scene::FromNobody, [pass]) => from_nobody(rt, exchange, pass),
         (Scene::OutboxFilled, [pass]) => outbox_filled(rt, exchange, pass),
         (Scene::Poked, [pass]) => poked(rt, exchange, pass),
+        (Scene::Storm, [pass]) => storm_and_end(rt, exchange, pass),
         _ => holds(rt, "as many passes as the plan says", false),
     }
 }

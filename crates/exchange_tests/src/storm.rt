@@ -1,19 +1,13 @@
 //! A storm of datagrams on calls of all numbers: no leg changes but those concerned, and in the end all settles.
 
-ghost use Rattle.std.specs.Prelude.{◌≡◌, ◌+◌, ◌^◌, length};
-
 use crate::datagrams::{Call, Dice, Sent, new_call};
 use crate::legs::Legs;
-use crate::scenes::{EAST_PLACE, Sums, Told, WEST_PLACE, ended, heard, recovers, take_out, ticked};
+use crate::opened::{Scene, play_on};
+use crate::scenes::{EAST_PLACE, Told, WEST_PLACE, heard, recovers, take_out, ticked};
 use exchange_core::{Exchange, NoGate, Pass, Refusal};
-use media_ledger::Blank;
-use peer_lock::{Naming, Service};
-use peer_plan::{Plan, PlanError};
-use std::alloc::Global;
-use std::marker::Brand;
+use peer_lock::Naming;
 use std::process::Abort;
 use std::sync::Wait;
-use std::sync::ledger::Ledger;
 use std::test::*;
 use test_plans::plans::ONE_WORKER;
 
@@ -242,7 +236,7 @@ fn tick_both<R: Wait, J: Naming>(
     legs.part_gone();
 }
 
-/// A hundred thousand datagrams, many of them spoilt.
+// A hundred thousand datagrams, many of them spoilt.
 fn storm<R: Abort + Wait, J: Naming>(
     rt: &R,
     exchange: &Exchange<NoGate, J>,
@@ -266,13 +260,12 @@ fn storm<R: Abort + Wait, J: Naming>(
     tally
 }
 
-// The storm, then an end to all calls.
-fn storm_and_end<R: Abort + Wait, J: Naming>(
+/// The storm, then an end to all calls.
+pub fn storm_and_end<R: Abort + Wait, J: Naming>(
     rt: &R,
     exchange: &Exchange<NoGate, J>,
-    passes: &mut [Pass<J>],
+    pass: &mut Pass<J>,
 ) {
-    let pass = passes.first_mut().expect(rt, "a pass");
     let tally = storm(rt, exchange, pass);
     // The storm isn't all refusals.
     more_than(rt, "answered", tally.answered, DATAGRAMS / 4);
@@ -281,69 +274,14 @@ fn storm_and_end<R: Abort + Wait, J: Naming>(
     assert!(rt; is_so, "recovery");
 }
 
-// The storm, then the end of the exchange.
-fn in_the_storm<R: Abort + Wait, J: Naming>(
-    rt: &R,
-    exchange: Exchange<NoGate, J>,
-    passes: Vec<Pass<J>>,
-) -> Option<Sums> {
-    let mut passes = passes;
-    storm_and_end(rt, &exchange, passes.as_mut_slice());
-    ended(exchange, passes)
-}
-
 // More than so many.
 fn more_than(rt: &impl Abort, what: &str, count: u64, least: u64) {
     assert!(rt; count > least, "{count} {what}");
 }
 
-// The storm on an exchange of two ledgers.
-fn storm_opened<R: Abort + Wait, J: Naming>(
-    rt: &R,
-    alloc: Global,
-    plan: Plan,
-    octets: Blank,
-    steps: Blank,
-) -> Result<Option<Sums>, PlanError>
-    requires octets { (octets.name ≡ J.Octets.name) × (octets.parts ≡ J.Octets.parts) ×
-        (octets.parts ≡ length plan.peers + plan.passes) }
-    requires steps { (steps.name ≡ J.Steps.name) × (steps.parts ≡ J.Steps.parts) ×
-        (steps.parts ≡ length plan.peers + plan.passes) }
-    requires first { (J.first_octets ≡ 2 ^ 48) × (J.first_steps ≡ 2 ^ 48) }
-{
-    match Exchange::<NoGate, J>::open(alloc, plan, NoGate, octets, steps) {
-        Ok((exchange, passes)) => Ok(in_the_storm(rt, exchange, passes)),
-        Err(_) => Err(PlanError::Memory),
-    }
-}
-
-// The same, by the ledgers that the caller names.
-fn storm_named<R: Abort + Wait, O: Ledger + Send + Sync, T: Ledger + Send + Sync>(
-    rt: &R,
-    alloc: Global,
-    plan: Plan,
-    octets: Blank,
-    steps: Blank,
-) -> Result<Option<Sums>, PlanError>
-    requires octets { (octets.name ≡ O.name) × (octets.parts ≡ O.parts) × (octets.parts ≡ length plan.peers + plan.passes) }
-    requires steps { (steps.name ≡ T.name) × (steps.parts ≡ T.parts) × (steps.parts ≡ length plan.peers + plan.passes) }
-{
-    storm_opened::<R, Service<O, T>>(rt, alloc, plan, octets, steps)
-}
-
-// Opens an exchange of the plan, for the storm.
-fn storm_on_plan<R: Abort + Wait>(rt: &R, alloc: Global) -> Result<Option<Sums>, PlanError> {
-    let plan = match Plan::read(alloc, ONE_WORKER.as_bytes()) {
-        Ok(plan) => plan,
-        Err(error) => return Err(error),
-    };
-    let parts = u64::from(plan.peer_count()) + u64::from(plan.passes());
-    storm_named::<R, Brand, Brand>(rt, alloc, plan, Blank::new(parts), Blank::new(parts))
-}
-
 #[test]
 fn storm_of_datagrams(rt: HostRuntime) {
-    let played = storm_on_plan(&rt, rt.alloc()).expect(&rt, "an exchange");
+    let played = play_on(&rt, rt.alloc(), ONE_WORKER, Scene::Storm).expect(&rt, "an exchange");
     let sums = played.expect(&rt, "balanced accounts");
     more_than(&rt, "packed", sums.packed, 1000);
 }
