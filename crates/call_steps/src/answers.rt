@@ -17,6 +17,7 @@ impl Work {
     /// Takes the answer to the step that `next` names.
     ///
     /// Another answer than that to this step is taken as a refusal.
+    #[inline(always)]
     pub fn told(&mut self, reply: Reply)
         ensures work { self.new.work ≡ work.after_told self.old.work reply }
         ensures onwards { self.new.onwards ≡ onwards_after self.old.work.place reply self.old.onwards }
@@ -29,6 +30,7 @@ impl Work {
     }
 
     // (the match that owns the answer is the short one: each of its arms has to drop it)
+    #[inline(always)]
     fn told_without_list(&mut self, place: Place, reply: &Reply)
         requires { brings_list place ≡ false }
         ensures work { self.new.work ≡ work.told_at place reply.now self.old.work.rest }
@@ -72,6 +74,7 @@ impl Work {
         }
     }
 
+    #[inline(always)]
     fn after_datagram(&mut self, reply: Reply, peer: u16)
         ensures work { self.new.work ≡ work.after_datagram reply peer self.old.work.rest }
         ensures onwards { self.new.onwards ≡ onwards_after (places.Datagram peer) reply self.old.onwards }

@@ -69,6 +69,7 @@ impl Place {
     ghost use Rattle.call_steps.specs.Work.{next_at, place_for};
 
     /// The step that is to be made here; `None` where there is none.
+    #[inline(always)]
     pub fn next(&self) -> Option<Need>
         ensures { result ≡ next_at self.now }
     {

@@ -96,6 +96,9 @@ impl Work {
     }
 
     /// The step that is to be made next; `None` at the end.
+    // (inlined, as what takes an answer is: a step and an answer are many variants wide, and a mini frame would move each of its four
+    // through memory, at places where the processor waits for what it has just written)
+    #[inline(always)]
     pub fn next(&self) -> Option<Need>
         ensures { result ≡ work.next_of self.now.work }
     {
@@ -165,6 +168,7 @@ impl Work {
     }
 
     // A step of a peer was made.
+    #[inline(always)]
     pub(crate) fn hear(&mut self, heard: Heard)
         ensures work { self.new.work ≡ work.after_heard heard self.old.work.rest }
         ensures onwards { self.new.onwards ≡ Some heard.onwards }

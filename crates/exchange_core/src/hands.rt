@@ -96,6 +96,7 @@ impl Hands {
     }
 
     // Tells the steps of the call an answer, and notes why the call is refused, where this is the answer to a first step of it.
+    #[inline(always)]
     pub(crate) fn tell(&mut self, work: &mut Work, reply: Reply)
         ensures work { work.new ≡ told work.old reply }
         ensures denial { self.new.denial ≡ noted (beginning_at work.old.work.place) reply self.old.denial }

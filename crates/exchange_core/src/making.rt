@@ -260,6 +260,8 @@ impl<G: Gate, J: Naming> Exchange<G, J> {
 
     // Makes the step that the call needs, and nothing else. The pass has the credit for the media of an order, and the call has
     // the lease that the step takes, and what a first step asks for.
+    // (inlined, as `Work::next` is)
+    #[inline(always)]
     #[tactic(auto, using(crate::proofs::Leaving::none_leave))]
     pub(crate) fn make<R: Wait>(
         &self,
