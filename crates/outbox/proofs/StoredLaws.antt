@@ -1,7 +1,7 @@
--- Datagrams in a ring of octets: how much room they take, one more at the end, and what is taken from two pieces.
+-- Datagrams one after another in a list of octets: how much room they take, and one more at the end.
 use native.Mathlib.Omega.{arith}
-use Rattle.std.proofs.Common.{◌≡◌, ◌<◌, ◌≤◌, ℕ, zero, suc, ◌+◌, ◌-◌, ◌*◌, min, ltb, Bool, true, false}
-use Rattle.std.proofs.Common.{List, [], ◌∷◌, ◌++◌, length, take, drop, ap, ◌∙◌, sym, subst, refl}
+use Rattle.std.proofs.Common.{◌≡◌, ◌<◌, ◌≤◌, ℕ, suc, ◌+◌, ◌*◌, ltb, Bool, true, false}
+use Rattle.std.proofs.Common.{List, [], ◌∷◌, ◌++◌, length, drop, ap, ◌∙◌, sym, subst, refl}
 use Rattle.std.specs.List.{AllByRecursion, sum}
 use Rattle.std.proofs.lemmas.List.{take-append-le, drop-append-le, take_all, length-append, length-take, length-drop}
 use Rattle.std.proofs.lemmas.List.Sums.{sum_by-cons}
@@ -37,7 +37,7 @@ datagrams_in-push (n ∷ lens) octets datagram len whole size =
     ∙ datagrams_in-push lens (drop n octets) datagram len left size in
     λ i. take-append-le n octets datagram within i ∷ others i
 
--- a ring with one datagram more
+-- octets with one datagram more
 pub record HasPut (lens octets new_lens new_octets datagram : List ℕ) : Type 0 where
   pub datagrams : datagrams_in new_lens new_octets ≡ datagrams_in lens octets ++ datagram ∷ []
   pub holds : HoldsDatagrams new_lens new_octets
@@ -69,26 +69,6 @@ short (len ∷ lens) octets each whole =
 -- no datagram has more than 1,400 octets
 pub HoldsDatagrams-length : (lens octets : List ℕ) → HoldsDatagrams lens octets → length octets ≤ 1400 * length lens
 HoldsDatagrams-length lens octets holds = short lens octets holds.each holds.whole
-
-take-in_two : (front back : List ℕ) (len first : ℕ) → first ≤ len → first ≤ length front → (first < len → first ≡ length front)
-    → take first front ++ take (len - first) back ≡ take len (front ++ back)
-take-in_two [] back len zero below within all = let whole : len - 0 ≡ len = omega arith in ap (λ n. take n back) whole
-take-in_two [] back len (suc first) below within all = absurd (omega (arith, within))
-take-in_two (x ∷ front) back zero zero below within all = refl
-take-in_two (x ∷ front) back (suc len) zero below within all = absurd (omega (arith, all (omega arith)))
-take-in_two (x ∷ front) back zero (suc first) below within all = absurd (omega (arith, below))
-take-in_two (x ∷ front) back (suc len) (suc first) below within all =
-    let rest : suc len - suc first ≡ len - first = omega arith in
-    let all_others : first < len → first ≡ length front = λ lt. omega (arith, all (omega (arith, lt))) in
-    let others = take-in_two front back len first (omega (arith, below)) (omega (arith, within)) all_others in
-    ap (λ (l : List ℕ). x ∷ l) (ap (λ n. take first front ++ take n back) rest ∙ others)
-
--- what lies in two pieces is taken from both
-pub take_both : (front back octets : List ℕ) (len first : ℕ) → first ≡ min len (length front) → front ++ back ≡ octets
-    → take first front ++ take (len - first) back ≡ take len octets
-take_both front back octets len first least whole =
-    take-in_two front back len first (omega (arith, least)) (omega (arith, least)) (λ below. omega (arith, least, below))
-    ∙ ap (take len) whole
 
 -- a ring that takes no length more has 256
 pub full_at : (count capacity : ℕ) (room : Bool) → ltb count capacity ≡ room → (count < capacity → false ≡ true)

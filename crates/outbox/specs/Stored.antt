@@ -1,4 +1,4 @@
--- How the datagrams of an outbox lie in a ring of octets: one after another, as long as the numbers in a ring of lengths say.
+-- How the datagrams of an outbox lie in its octets: one after another, as long as the numbers in a ring of lengths say.
 use Rattle.std.specs.Prelude.{◌≡◌, ℕ, ◌≤◌, List, [], ◌∷◌, length, take, drop, sum}
 use Rattle.std.specs.List.{AllByRecursion}
 use Rattle.iax_frames.specs.Datagram.{IsFrame}

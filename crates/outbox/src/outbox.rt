@@ -1,9 +1,8 @@
 //! The datagrams that wait to be sent to a peer.
-ghost use Rattle.std.specs.Prelude.{◌≡◌, ◌+◌, ◌<◌, ◌≤◌, ◌↔◌, IsTrue, [], ◌∷◌, ◌++◌, length, take, drop, IfOk, MatchOption};
+ghost use Rattle.std.specs.Prelude.{◌≡◌, ◌+◌, ◌<◌, ◌≤◌, ◌↔◌, IsTrue, [], ◌∷◌, ◌++◌, length, take, drop, vec_capacity, IfOk, MatchOption};
 ghost use Rattle.std.specs.Bool.{OnTrue, OnFalse};
 ghost use Rattle.iax_frames.specs.Datagram.{IsFrame};
 ghost use Rattle.iax_frames.specs.MiniFrame.{mini_spelling};
-ghost use Rattle.circular_buffer.specs.Buffer.{buffer};
 ghost use Rattle.outbox.specs.Outbox.{put};
 
 use circular_buffer::HeapCircularBuffer;
@@ -22,22 +21,26 @@ const CAPACITY: usize = 358400;
 /// loses what is put into it.
 #[derive(Drop)]
 pub struct Outbox {
-    // The octets of the datagrams, one after another.
-    octets: HeapCircularBuffer<u8>,
-    // How many octets each of them has.
+    // The octets of the datagrams, one after another, behind those that were taken out. They begin anew whenever none waits, so
+    // that an outbox that is often emptied stays in a processor's own memory: a ring goes round all of its memory.
+    octets: Vec<u8>,
+    // How many octets were taken out.
+    taken: usize,
+    // How many octets each datagram has.
     lens: HeapCircularBuffer<u16>,
 }
 
 impl Model for Outbox {
-    ghost use Rattle.std.specs.Prelude.{◌≡◌, ℕ, List};
+    ghost use Rattle.std.specs.Prelude.{◌≡◌, ◌≤◌, ℕ, List, length, drop, vec_capacity};
     ghost use Rattle.outbox.specs.Stored.{datagrams_in, HoldsDatagrams};
 
     ghost Value = { List (List ℕ) };
 
-    ghost view = { λ o. datagrams_in o.lens.items o.octets.items };
+    ghost view = { λ o. datagrams_in o.lens.items (drop o.taken o.octets.items) };
 
     ghost invariant = { λ o.
-        (o.octets.capacity ≡ 358400) × (o.lens.capacity ≡ 256) × HoldsDatagrams o.lens.items o.octets.items };
+        (358400 ≤ vec_capacity o.octets) × (o.lens.capacity ≡ 256) × (o.taken ≤ length o.octets.items) ×
+        (length o.octets.items ≤ 358400) × HoldsDatagrams o.lens.items (drop o.taken o.octets.items) };
 }
 
 impl Outbox {
@@ -46,7 +49,8 @@ impl Outbox {
         ensures { IfOk result (λ outbox. outbox ≡ []) }
     {
         Ok(Outbox {
-            octets: HeapCircularBuffer::with_capacity(alloc, CAPACITY)?,
+            octets: Vec::with_capacity(alloc, CAPACITY)?,
+            taken: 0,
             lens: HeapCircularBuffer::with_capacity(alloc, MAX_DATAGRAMS)?,
         })
     }
@@ -102,7 +106,10 @@ impl Outbox {
     {
         let len = front.len() + back.len();
         match self.lens.try_push_back(len as u16) {
-            Ok(()) => extend(&mut self.octets, front, back),
+            Ok(()) => {
+                make_room(&mut self.octets, &mut self.taken, len);
+                extend(&mut self.octets, front, back);
+            }
             Err(_) => {}
         }
     }
@@ -116,7 +123,7 @@ impl Outbox {
         match self.lens.pop_front() {
             None => false,
             Some(len) => {
-                move_front(&mut self.octets, len as usize, out);
+                move_front(&mut self.octets, &mut self.taken, len as usize, out);
                 true
             }
         }
@@ -135,26 +142,54 @@ impl Outbox {
     }
 }
 
-// Appends octets for which there is room.
-fn extend(octets: &mut HeapCircularBuffer<u8>, front: &[u8], back: &[u8])
-    requires { length octets.old.items + length front.now + length back.now ≤ octets.old.capacity }
-    ensures { octets.new ≡ buffer (octets.old.items ++ front.now ++ back.now) octets.old.capacity }
+// Makes room at the end for so many octets more: where there is too little, those that were taken out give theirs.
+fn make_room(octets: &mut Vec<u8>, taken: &mut usize, len: usize)
+    requires taken { taken.old ≤ length octets.old.items }
+    requires fits { length octets.old.items + len ≤ taken.old + 358400 }
+    requires capacity { 358400 ≤ vec_capacity octets.old }
+    ensures left { drop taken.new octets.new.items ≡ drop taken.old octets.old.items }
+    ensures taken { taken.new ≤ length octets.new.items }
+    ensures room { length octets.new.items + len ≤ 358400 }
+    ensures capacity { 358400 ≤ vec_capacity octets.new }
 {
-    octets.fill_from_slice(front);
-    octets.fill_from_slice(back);
+    if octets.len() + len <= CAPACITY {
+        return;
+    }
+    let left = octets.len() - *taken;
+    octets.rotate_left(*taken);
+    octets.truncate(left);
+    *taken = 0;
 }
 
-// Takes so many octets from the front, which spell a frame, and writes them over another.
-fn move_front(octets: &mut HeapCircularBuffer<u8>, len: usize, out: &mut Out)
-    requires within { len ≤ length octets.old.items }
-    requires frame { IsFrame (take len octets.old.items) }
-    requires fits { len ≤ 1400 }
-    ensures taken { out.new ≡ take len octets.old.items }
-    ensures left { octets.new ≡ buffer (drop len octets.old.items) octets.old.capacity }
+// Appends octets for which there is room.
+fn extend(octets: &mut Vec<u8>, front: &[u8], back: &[u8])
+    requires room { length octets.old.items + length front.now + length back.now ≤ 358400 }
+    requires capacity { 358400 ≤ vec_capacity octets.old }
+    ensures items { octets.new.items ≡ octets.old.items ++ front.now ++ back.now }
+    ensures capacity { 358400 ≤ vec_capacity octets.new }
 {
-    let (front, back) = octets.as_slices();
-    let in_front = len.min(front.len());
-    out.replace(&front[..in_front], &back[..len - in_front]);
-    let left = octets.len() - len;
-    octets.truncate_front(left);
+    let _ = octets.extend_from_slice(front);
+    let _ = octets.extend_from_slice(back);
+}
+
+// Takes so many octets from the front of those that wait, which spell a frame, and writes them over another. Where none is left,
+// there is room from the beginning again.
+fn move_front(octets: &mut Vec<u8>, taken: &mut usize, len: usize, out: &mut Out)
+    requires within { taken.old + len ≤ length octets.old.items }
+    requires frame { IsFrame (take len (drop taken.old octets.old.items)) }
+    requires fits { len ≤ 1400 }
+    ensures taken { out.new ≡ take len (drop taken.old octets.old.items) }
+    ensures left { drop taken.new octets.new.items ≡ drop len (drop taken.old octets.old.items) }
+    ensures within { taken.new ≤ length octets.new.items }
+    ensures fewer { length octets.new.items ≤ length octets.old.items }
+    ensures capacity { vec_capacity octets.new ≡ vec_capacity octets.old }
+{
+    let end = *taken + len;
+    out.replace(&octets[*taken..end], &[]);
+    if end == octets.len() {
+        octets.clear();
+        *taken = 0;
+    } else {
+        *taken = end;
+    }
 }

@@ -1,4 +1,5 @@
-use Rattle.std.proofs.Common.{◌++◌, List, ℕ, [], ◌∷◌, length, ap, sym, ◌∙◌, arith, refl, length-append, append_assoc, ltb}
+use Rattle.std.proofs.Common.{◌≡◌, ◌+◌, ◌++◌, List, ℕ, [], ◌∷◌, length, drop, ap, sym, ◌∙◌, arith, refl, length-append, append_assoc, ltb}
+use Rattle.std.proofs.lemmas.List.{drop-append-le, length-drop}
 use Rattle.circular_buffer.specs.Buffer.{Buffer}
 use Rattle.outbox.specs.Stored.{datagrams_in}
 use Rattle.outbox.proofs.Puts.{put_fits, put_full}
@@ -6,30 +7,45 @@ use Rattle.outbox.proofs.StoredLaws.{HasPut, HasPut-pushed, HoldsDatagrams-lengt
 use Rattle.outbox.proofs.outbox.Outbox.put_in_two.Goals as goal
 use Rattle.outbox.proofs.outbox.Outbox.put_in_two.Goals.{After-extend}
 
-pub extend-requires : goal.extend-requires
-extend-requires c =
-    omega (arith, HoldsDatagrams-length _ _ c.self.invariant.2, c.self.invariant.0, c.self.invariant.1, c.in-Ok.ensures.variant.0 refl, c.requires.fits)
+pub make_room-requires-clause-fits : goal.make_room-requires-clause-fits
+make_room-requires-clause-fits c =
+    let waiting = length-drop c.self.inside.taken c.self.inside.octets.items in
+    omega (arith, HoldsDatagrams-length _ _ c.self.invariant.4, waiting, c.self.invariant.1, c.self.invariant.2, c.in-Ok.ensures.variant.0 refl, c.requires.fits)
 
-has_put : (c : After-extend) → HasPut c.self.inside.lens.items c.self.inside.octets.items
-    c.try_push_back.new.self.items c.extend.new.octets.items (c.args.front.now ++ c.args.back.now)
+has_put : (c : After-extend) → HasPut c.self.inside.lens.items (drop c.self.inside.taken c.self.inside.octets.items)
+    c.try_push_back.new.self.items (drop c.make_room.new.taken c.extend.new.octets.items) (c.args.front.now ++ c.args.back.now)
 has_put c =
+    let datagram = c.args.front.now ++ c.args.back.now in
     let size = length-append c.args.front.now c.args.back.now in
-    let joined = append_assoc c.self.inside.octets.items c.args.front.now c.args.back.now in
+    let joined = append_assoc c.make_room.new.octets.items c.args.front.now c.args.back.now in
+    let behind = ap (drop c.make_room.new.taken) (c.extend.ensures.items ∙ joined)
+    ∙ drop-append-le c.make_room.new.taken c.make_room.new.octets.items datagram c.make_room.ensures.taken
+    ∙ ap (λ (l : List ℕ). l ++ datagram) c.make_room.ensures.left in
     HasPut-pushed _ _ _ _ _ _
-    (ap (λ (b : Buffer ℕ). b.items) c.in-Ok.ensures.ok) (ap (λ (b : Buffer ℕ). b.items) c.extend.ensures ∙ joined)
-    c.self.invariant.2 (c.requires.frame, omega (arith, size, c.requires.fits)) (sym size)
+    (ap (λ (b : Buffer ℕ). b.items) c.in-Ok.ensures.ok) behind
+    c.self.invariant.4 (c.requires.frame, omega (arith, size, c.requires.fits)) (sym size)
     (omega (arith, c.self.invariant.1, c.in-Ok.ensures.variant.0 refl))
 
+-- how long the octets are then
+size_of : (c : After-extend)
+    → length c.extend.new.octets.items ≡ length c.make_room.new.octets.items + length c.args.front.now + length c.args.back.now
+size_of c =
+    let before = c.make_room.new.octets.items in
+    omega (arith, ap length c.extend.ensures.items, length-append (before ++ c.args.front.now) c.args.back.now, length-append before c.args.front.now)
+
 pub invariant_of-self : goal.invariant_of-self
-invariant_of-self c = (
-  ap (λ (b : Buffer ℕ). b.capacity) c.extend.ensures ∙ c.self.invariant.0,
-  ap (λ (b : Buffer ℕ). b.capacity) c.in-Ok.ensures.ok ∙ c.self.invariant.1,
-  (has_put c).holds,
-)
+invariant_of-self c =
+    let size = size_of c in (
+      c.extend.ensures.capacity,
+      ap (λ (b : Buffer ℕ). b.capacity) c.in-Ok.ensures.ok ∙ c.self.invariant.1,
+      omega (arith, size, c.make_room.ensures.taken),
+      omega (arith, size, c.make_room.ensures.room),
+      (has_put c).holds,
+    )
 
 pub returns-in-Ok : goal.returns-in-Ok
 returns-in-Ok c =
-    let many = as_many c.self.inside.lens.items c.self.inside.octets.items in
+    let many = as_many c.self.inside.lens.items (drop c.self.inside.taken c.self.inside.octets.items) in
     let datagram = c.args.front.now ++ c.args.back.now in
     (has_put c).datagrams ∙ ap (λ (l : List (List ℕ)). l ++ datagram ∷ []) c.self.view_is
     ∙ put_fits c.args.self.now datagram (omega (arith, ap length c.self.view_is, many, c.self.invariant.1, c.in-Ok.ensures.variant.0 refl))
@@ -39,8 +55,9 @@ returns-in-Err c =
     let count = length c.self.inside.lens.items in
     let capacity = c.self.inside.lens.capacity in
     let full = full_at count capacity (ltb count capacity) refl c.in-Err.ensures.variant.1 in
-    let many = as_many c.self.inside.lens.items c.self.inside.octets.items in
-    ap (λ (b : Buffer ℕ). datagrams_in b.items c.self.inside.octets.items) c.in-Err.ensures.err.1 ∙ c.self.view_is
+    let waiting = drop c.self.inside.taken c.self.inside.octets.items in
+    let many = as_many c.self.inside.lens.items waiting in
+    ap (λ (b : Buffer ℕ). datagrams_in b.items waiting) c.in-Err.ensures.err.1 ∙ c.self.view_is
     ∙ put_full c.args.self.now ((c.args.front.now ++ c.args.back.now) ∷ [])
-    (omega (arith, ap length c.self.view_is, many, c.self.invariant.2.few))
+    (omega (arith, ap length c.self.view_is, many, c.self.invariant.4.few))
     (omega (arith, ap length c.self.view_is, many, c.self.invariant.1, full))
