@@ -1,5 +1,5 @@
 //! Hexadecimal digits.
-ghost use Rattle.std.specs.Prelude.{◌≡◌, ◌++◌, ◌*◌, ◌<◌, OnOk, length, slice_index};
+ghost use Rattle.std.specs.Prelude.{◌≡◌, ◌++◌, ◌∷◌, ◌*◌, ◌<◌, [], OnOk, length, slice_index};
 ghost use Rattle.hex.specs.Hex.{encode_lower, lower_digits};
 
 use std::alloc::AllocError;
@@ -28,10 +28,10 @@ fn write_digits(octets: &[u8], digits: &mut [u8])
     }
 }
 
-/// Puts the octets behind a text, each as two digits. An error where there is no memory for them, or where there are 65,536 or
-/// more.
-pub(crate) fn push_hex(text: &mut Vec<u8>, octets: &[u8]) -> Result<(), AllocError>
-    ensures { OnOk result (text.new.items ≡ text.old.items ++ encode_lower octets.now) }
+/// Puts the octets behind a text, each as two digits, and ends the line. An error where there is no memory for them, or where
+/// there are 65,536 or more.
+pub(crate) fn end_in_hex(text: &mut Vec<u8>, octets: &[u8]) -> Result<(), AllocError>
+    ensures { OnOk result (text.new.items ≡ text.old.items ++ encode_lower octets.now ++ 10 ∷ []) }
 {
     if octets.len() >= TOO_LONG {
         return Err(AllocError);
@@ -39,5 +39,6 @@ pub(crate) fn push_hex(text: &mut Vec<u8>, octets: &[u8]) -> Result<(), AllocErr
     let before = text.len();
     text.resize(before + 2 * octets.len(), 0)?;
     write_digits(octets, &mut text[before..]);
+    text.push(b'\n')?;
     Ok(())
 }

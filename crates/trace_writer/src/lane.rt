@@ -87,6 +87,8 @@ impl<'t> TraceLane<'t> {
 
     // A call begins, of this input and with these octets, which come in two pieces, as the one that is open ends. Without room it
     // isn't noted.
+    // (inlined, with what it calls, so that an input isn't moved through memory from one to the next)
+    #[inline(always)]
     fn begin<R: Wait>(&mut self, rt: &R, input: Input, front: &[u8], back: &[u8]) {
         if self.trace.has_ended() {
             self.end();
@@ -101,6 +103,7 @@ impl<'t> TraceLane<'t> {
     }
 
     // The next call; the one that is open has ended.
+    #[inline(always)]
     fn next_call(&mut self) -> OpenCall {
         let Some((call, input)) = self.open.take() else {
             return self.trace.calls.begin();
@@ -120,6 +123,7 @@ impl<'t> TraceLane<'t> {
 
     // A call is noted, with its octets; one that there is no room for as a call that did nothing, since the writer waits for each
     // number. Gives what is noted.
+    #[inline(always)]
     fn note(&mut self, call: OpenCall, input: Input, front: &[u8], back: &[u8]) -> Input {
         let mark = Mark {
             number: call.number,
@@ -139,6 +143,7 @@ impl<'t> TraceLane<'t> {
     }
 
     // How the call has ended that was noted last. Of a datagram it is known only now whether it was turned away.
+    #[inline(always)]
     fn note_end(&mut self, input: Input, is_beside: bool) {
         let input = match input {
             Input::Datagram { peer, challenge } if self.trace.take_turned_away(self.thread) => {
@@ -163,10 +168,15 @@ impl<'t> TraceLane<'t> {
 
     /// The worker is in a turn. Its moment, in milliseconds since the exchange was opened, and its challenge are those that the
     /// trace was told last. Where it is in one already, nothing changes.
+    #[inline(always)]
     pub fn be_in_turn<R: Wait>(&mut self, rt: &R) {
-        if self.is_in_turn {
-            return;
+        if !self.is_in_turn {
+            self.begin_turn(rt);
         }
+    }
+
+    // A turn of the worker begins.
+    fn begin_turn<R: Wait>(&mut self, rt: &R) {
         self.is_in_turn = true;
         self.trace.begin_turn();
         self.resume(rt);

@@ -104,6 +104,7 @@ impl Batch {
     }
 
     /// A mark more, with its octets, which come in two pieces. False where there is no room for it; then nothing has changed.
+    #[inline(always)]
     pub(crate) fn push(&mut self, mark: Mark, front: &[u8], back: &[u8]) -> bool
         ensures marks { self.new.marks.items ≡ (if result
             then self.old.marks.items ++ record mark { octets = length front.now + length back.now } ∷ []
@@ -125,6 +126,7 @@ impl Batch {
     }
 
     /// The call of the last mark has ended: it had this input, and another call was open while it was, or none.
+    #[inline(always)]
     pub(crate) fn end_last(&mut self, input: Input, is_beside: bool)
         ensures marks { (before : List Mark) (mark : Mark) → self.old.marks.items ≡ before ++ mark ∷ []
             → self.new.marks.items ≡ before ++ record mark { input = input; is_beside = is_beside } ∷ [] }

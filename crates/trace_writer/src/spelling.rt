@@ -1,9 +1,9 @@
 //! The lines of the script.
-ghost use Rattle.std.specs.Prelude.{◌≡◌, ◌++◌, ◌≤◌, OnOk, length};
+ghost use Rattle.std.specs.Prelude.{◌≡◌, ◌++◌, ◌∷◌, ◌≤◌, [], OnOk, length};
 ghost use Rattle.hex.specs.Hex.{encode_lower};
 ghost use Rattle.trace_writer.specs.Digits.{spells_digit, hidden, shown};
 
-use crate::hexadecimal::push_hex;
+use crate::hexadecimal::end_in_hex;
 use crate::marks::{Input, Mark};
 use peer_plan::{Endpoint, Plan};
 use std::alloc::{AllocError, Global};
@@ -34,6 +34,7 @@ pub(crate) struct Script<'p> {
     alloc: Global,
     plan: &'p Plan,
     manner: Manner,
+    heads: Vec<Vec<u8>>,
     pub(crate) text: Vec<u8>,
     now: u64,
     challenge: Vec<u8>,
@@ -48,31 +49,47 @@ fn is_digit(octets: &[u8]) -> bool
     octets.len() >= 12 && octets[0] >= 0x80 && matches!(octets[10] & 0x7f, 1 | 12)
 }
 
-// The octets of a frame that is a digit, with 0 in its place, in hexadecimal digits.
-fn push_hidden(alloc: Global, text: &mut Vec<u8>, octets: &[u8]) -> Result<(), AllocError>
+// The octets of a frame that is a digit, with 0 in its place, in hexadecimal digits; the line ends.
+fn end_hidden(alloc: Global, text: &mut Vec<u8>, octets: &[u8]) -> Result<(), AllocError>
     requires { 12 ≤ length octets.now }
-    ensures { OnOk result (text.new.items ≡ text.old.items ++ encode_lower (hidden octets.now)) }
+    ensures { OnOk result (text.new.items ≡ text.old.items ++ encode_lower (hidden octets.now) ++ 10 ∷ []) }
 {
     let mut hidden = Vec::new(alloc);
     hidden.extend_from_slice(octets)?;
     hidden[11] = b'0';
-    push_hex(text, &hidden)
+    end_in_hex(text, &hidden)
 }
 
-// The octets of a datagram; of one that is a digit only that it is one, where they are hidden.
-fn push_octets(
+// The octets of a datagram; of one that is a digit only that it is one, where they are hidden. The line ends.
+fn end_in_octets(
     alloc: Global,
     manner: Manner,
     text: &mut Vec<u8>,
     octets: &[u8],
 ) -> Result<(), AllocError>
-    ensures { OnOk result (text.new.items ≡ text.old.items ++ encode_lower (shown manner.shows_digits octets.now)) }
+    ensures { OnOk result (text.new.items
+        ≡ text.old.items ++ encode_lower (shown manner.shows_digits octets.now) ++ 10 ∷ []) }
 {
     if manner.shows_digits || !is_digit(octets) {
-        push_hex(text, octets)
+        end_in_hex(text, octets)
     } else {
-        push_hidden(alloc, text, octets)
+        end_hidden(alloc, text, octets)
     }
+}
+
+// How the line of a datagram begins, of each peer by its place in the plan.
+fn heads_of(alloc: Global, plan: &Plan) -> Result<Vec<Vec<u8>>, AllocError> {
+    let mut heads = Vec::new(alloc);
+    for peer in 0..plan.peer_count() {
+        let mut head = Vec::new(alloc);
+        head.extend_from_slice(b"rx ")?;
+        head.extend_from_slice(plan.name(peer).as_bytes())?;
+        head.push(b' ')?;
+        if heads.push(head).is_err() {
+            return Err(AllocError);
+        }
+    }
+    Ok(heads)
 }
 
 // Ticks of the peers of a worker.
@@ -123,16 +140,23 @@ fn name_of(plan: &Plan, peer: u16) -> &str {
 
 impl<'p> Script<'p> {
     /// No line is there.
-    pub(crate) fn new(alloc: Global, plan: &'p Plan, manner: Manner) -> Script<'p> {
-        Script {
+    ///
+    /// `AllocError`: a request for memory was refused.
+    pub(crate) fn new(
+        alloc: Global,
+        plan: &'p Plan,
+        manner: Manner,
+    ) -> Result<Script<'p>, AllocError> {
+        Ok(Script {
             alloc,
             plan,
             manner,
+            heads: heads_of(alloc, plan)?,
             text: Vec::new(alloc),
             now: 0,
             challenge: Vec::new(alloc),
             missing: 0,
-        }
+        })
     }
 
     /// The first lines of a file that begins at the moment 0, with the challenge `0`, as a replay does.
@@ -168,7 +192,14 @@ impl<'p> Script<'p> {
     pub(crate) fn push(&mut self, thread: usize, mark: &Mark, octets: &[u8]) -> bool {
         let (length, now) = (self.text.len(), self.now);
         self.missing = self.missing.saturating_add(mark.lost);
-        if self.push_lines(thread, mark, octets).is_ok() {
+        let are_there = match mark.input {
+            Input::Datagram { peer, challenge: 0 } if self.goes_on(mark) => {
+                self.push_datagram(peer, octets).is_ok()
+            }
+            _ => self.push_lines(thread, mark, octets).is_ok(),
+        };
+        // (room for the end of the file, which is written with them)
+        if are_there && self.text.reserve(1).is_ok() {
             return true;
         }
         self.text.truncate(length);
@@ -176,6 +207,11 @@ impl<'p> Script<'p> {
         self.challenge.clear();
         self.missing = self.missing.saturating_add(1);
         false
+    }
+
+    // Whether nothing is to be said before what a call was given.
+    fn goes_on(&self, mark: &Mark) -> bool {
+        self.missing == 0 && !mark.is_beside && mark.now == self.now
     }
 
     // The same; where there is no memory for a line, those before it are there.
@@ -195,8 +231,6 @@ impl<'p> Script<'p> {
         }
         self.push_moment(mark.now)?;
         self.push_input(thread, mark.input, octets)?;
-        // (for the end of the file, which is written with them)
-        self.text.reserve(1)?;
         self.missing = 0;
         Ok(())
     }
@@ -218,11 +252,15 @@ impl<'p> Script<'p> {
             Input::Datagram { peer, challenge } => {
                 let (challenge, octets) = octets.split_at(octets.len().min(usize::from(challenge)));
                 self.push_challenge(challenge)?;
-                self.push_datagram("rx ", peer, octets)
+                self.push_datagram(peer, octets)?;
+                Ok(())
             }
             Input::TurnedAway { peer, challenge } => {
                 let octets = octets.get(usize::from(challenge)..).unwrap_or(b"");
-                self.push_datagram("# Turned away, since the service drains: rx ", peer, octets)
+                self.text
+                    .write_all(b"# Turned away, since the service drains: ")?;
+                self.push_datagram(peer, octets)?;
+                Ok(())
             }
             Input::Stranger { from } => self.push_stranger(from, octets),
             Input::Tick => push_ticks(self.plan, thread, &mut self.text),
@@ -246,17 +284,14 @@ impl<'p> Script<'p> {
     }
 
     // A datagram of a peer. One without octets can't be said by a script, and does nothing.
-    fn push_datagram(&mut self, command: &str, peer: u16, octets: &[u8]) -> io::Result<()> {
+    fn push_datagram(&mut self, peer: u16, octets: &[u8]) -> Result<(), AllocError> {
         if octets.is_empty() {
             self.text.extend_from_slice(b"# Without an octet: ")?;
         }
-        self.text.extend_from_slice(command.as_bytes())?;
-        let name = name_of(self.plan, peer);
-        self.text.extend_from_slice(name.as_bytes())?;
-        self.text.push(b' ')?;
-        push_octets(self.alloc, self.manner, &mut self.text, octets)?;
-        self.text.push(b'\n')?;
-        Ok(())
+        if let Some(head) = self.heads.get(usize::from(peer)) {
+            self.text.extend_from_slice(head)?;
+        }
+        end_in_octets(self.alloc, self.manner, &mut self.text, octets)
     }
 
     // A datagram of nobody in the plan.
@@ -266,8 +301,8 @@ impl<'p> Script<'p> {
         }
         let [a, b, c, d] = from.address;
         write!(self.text, "stranger {a}.{b}.{c}.{d}:{} ", from.port)?;
-        push_hex(&mut self.text, octets)?;
-        self.text.write_all(b"\n")
+        end_in_hex(&mut self.text, octets)?;
+        Ok(())
     }
 
     // A call that an order had go out.

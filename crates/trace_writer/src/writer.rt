@@ -26,7 +26,7 @@ const MUCH: u64 = 3200;
 // takes to write some eight thousand octets.
 const PIECE: usize = 262_144;
 
-// There is no memory for the head of a file.
+// There is no memory for the head of a file, or for those of its lines.
 const NO_MEMORY: Fault = Fault { code: Some(12) };
 
 // What a thread has handed over, and how much of it is written: so many batches, and of the next one so many marks and octets.
@@ -289,12 +289,16 @@ fn write_trace<R: Clock + Wait, D: Folder>(
     let manner = Manner {
         shows_digits: settings.shows_digits,
     };
+    let Ok(script) = Script::new(alloc, plan, manner) else {
+        trace.give_up(NO_MEMORY);
+        return;
+    };
     let mut writer = Writer {
         disk,
         alloc,
         trace,
         settings,
-        script: Script::new(alloc, plan, manner),
+        script,
         file,
         part: 0,
         next: 0,
