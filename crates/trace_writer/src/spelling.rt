@@ -34,6 +34,7 @@ pub(crate) struct Script<'p> {
     alloc: Global,
     plan: &'p Plan,
     manner: Manner,
+    // How the line of a datagram begins, of each peer by its place in the plan.
     heads: Vec<Vec<u8>>,
     pub(crate) text: Vec<u8>,
     now: u64,
@@ -77,7 +78,7 @@ fn end_in_octets(
     }
 }
 
-// How the line of a datagram begins, of each peer by its place in the plan.
+// How the line of a datagram begins, of each peer.
 fn heads_of(alloc: Global, plan: &Plan) -> Result<Vec<Vec<u8>>, AllocError> {
     let mut heads = Vec::new(alloc);
     for peer in 0..plan.peer_count() {
@@ -191,7 +192,8 @@ impl<'p> Script<'p> {
     /// none is there, and the next ones say so.
     pub(crate) fn push(&mut self, thread: usize, mark: &Mark, octets: &[u8]) -> bool {
         let (length, now) = (self.text.len(), self.now);
-        self.missing = self.missing.saturating_add(mark.lost);
+        let missing = self.missing.saturating_add(mark.lost);
+        self.missing = missing;
         let are_there = match mark.input {
             Input::Datagram { peer, challenge: 0 } if self.goes_on(mark) => {
                 self.push_datagram(peer, octets).is_ok()
@@ -205,13 +207,8 @@ impl<'p> Script<'p> {
         self.text.truncate(length);
         self.now = now;
         self.challenge.clear();
-        self.missing = self.missing.saturating_add(1);
+        self.missing = missing.saturating_add(1);
         false
-    }
-
-    // Whether nothing is to be said before what a call was given.
-    fn goes_on(&self, mark: &Mark) -> bool {
-        self.missing == 0 && !mark.is_beside && mark.now == self.now
     }
 
     // The same; where there is no memory for a line, those before it are there.
@@ -233,6 +230,11 @@ impl<'p> Script<'p> {
         self.push_input(thread, mark.input, octets)?;
         self.missing = 0;
         Ok(())
+    }
+
+    // Whether nothing is to be said before what a call was given.
+    fn goes_on(&self, mark: &Mark) -> bool {
+        self.missing == 0 && !mark.is_beside && mark.now == self.now
     }
 
     // The moment, where it is another than before.
