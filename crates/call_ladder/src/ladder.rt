@@ -2,7 +2,7 @@
 use crate::frames::{write_full, write_numbers};
 use crate::media_runs::{Direction, MediaKind, MediaPiece, MediaRuns, RunKey};
 use crate::number_pairs::NumberPairs;
-use crate::rows::{Row, RowKind, row_of};
+use crate::row::{Row, RowKind, row_of};
 use crate::sides::{Peer, Sides};
 use crate::svg::write_svg;
 use crate::text::write_text;

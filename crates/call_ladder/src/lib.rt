@@ -11,7 +11,7 @@ mod ladder;
 pub mod laws;
 mod media_runs;
 mod number_pairs;
-mod rows;
+mod row;
 mod sides;
 mod svg;
 mod text;

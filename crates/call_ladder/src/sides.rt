@@ -1,5 +1,5 @@
 //! Where the lifelines stand: the exchange between its peers.
-use crate::rows::Row;
+use crate::row::Row;
 use std::alloc::{AllocError, Global};
 
 /// A peer: its name, and its call numbers at the exchange.

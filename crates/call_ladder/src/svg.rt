@@ -1,6 +1,6 @@
 //! A ladder as SVG. Lengths are in pixels; a letter of a label is 8 wide at most.
 use crate::media_runs::Direction;
-use crate::rows::{Row, RowKind};
+use crate::row::{Row, RowKind};
 use crate::sides::{Peer, Side, Sides};
 use crate::wrapping::split_line;
 use crate::xml::push_escaped;

@@ -3,7 +3,7 @@
 ghost use Rattle.std.specs.Prelude.{◌<◌};
 
 use crate::media_runs::Direction;
-use crate::rows::{Row, RowKind};
+use crate::row::{Row, RowKind};
 use crate::sides::{Peer, Side, Sides};
 use crate::wrapping::split_line;
 use std::alloc::Global;

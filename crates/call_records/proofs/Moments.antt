@@ -2,8 +2,8 @@
 use Rattle.std.proofs.Common.{◌≡◌, Bool, true, false, cond, ◌||◌, List, [], ◌∷◌, ◌++◌, Option, Some, None, is_some, refl, sym, ap, ◌∙◌, subst, append_assoc, ◌⊎◌, inl, inr}
 use Rattle.std.specs.Prelude.{IsSome}
 use Rattle.std.specs.List.{AllByRecursion}
-use Rattle.call_signals.specs.declared.messages.Message.{Message}
-use Rattle.call_signals.specs.declared.messages.Message.TheVariants as messages
+use Rattle.call_signals.specs.declared.message.Message.{Message}
+use Rattle.call_signals.specs.declared.message.Message.TheVariants as messages
 use Rattle.call_records.specs.SideFrames.{SideFrame, meaning_of}
 use Rattle.call_records.specs.Courses.{accepts, answers, peer_rejection, ending_by, ending_of, moment_of, accepted_of, answered_from, answered_of, end_by, end_or, end_from}
 use Rattle.call_records.specs.CourseFacts.{GoesOn, HasEnding, HasAccept, HasAnswer, HasAcceptAndAnswer, HasNoHangup, IsHangup}

@@ -1,7 +1,7 @@
 -- What the moments of a call say of its frames, in one sentence each.
 use Rattle.std.specs.Prelude.{◌≡◌, Bool, true, false, Option, None, List, [], ◌∷◌, ◌++◌, ◌⊎◌}
 use Rattle.std.specs.List.{AllByRecursion}
-use Rattle.call_signals.specs.declared.messages.Message.TheVariants as messages
+use Rattle.call_signals.specs.declared.message.Message.TheVariants as messages
 use Rattle.call_records.specs.SideFrames.{SideFrame, meaning_of}
 use Rattle.call_records.specs.Courses.{accepts, answers, ending_of, end_by}
 use Rattle.call_records.specs.declared.call_end.CallEnd.{CallEnd}

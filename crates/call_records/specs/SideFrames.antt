@@ -2,8 +2,8 @@
 use Rattle.std.specs.Prelude.{List, [], ◌∷◌}
 use Rattle.iax_frames.specs.FullFrame.{subclass_meaning}
 use Rattle.iax_frames.specs.declared.stored_frame.Frame.{Frame}
-use Rattle.call_signals.specs.Messages.{message_by}
-use Rattle.call_signals.specs.declared.messages.Message.{Message}
+use Rattle.call_signals.specs.Message.{message_by}
+use Rattle.call_signals.specs.declared.message.Message.{Message}
 use Rattle.seq_window.specs.Entry.{Entry, Sent, Acked, Taken}
 use Rattle.seq_window.specs.Record.{frame_of}
 use Rattle.call_records.specs.declared.side.Side.{Side}

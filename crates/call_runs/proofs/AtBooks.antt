@@ -6,14 +6,14 @@ use Rattle.call_book.specs.Book.{Book, has_name, reserve_answer, after_reserve, 
 use Rattle.call_book.specs.declared.errors.BridgeError.{BridgeError}
 use Rattle.call_book.specs.declared.errors.ReserveError.{ReserveError}
 use Rattle.call_book.specs.declared.leg_name.LegName.{LegName}
-use Rattle.call_steps.specs.Acts.{act_kind}
+use Rattle.call_steps.specs.Act.{act_kind}
 use Rattle.call_steps.specs.Scene.{Leg, Scene, Choice, Goes, KeepsLeg, Answer, answer, answered, is_leased, dropped, leg_at, if_named, at_leg, status_of, told_cause, reserves, bridges}
 use Rattle.call_steps.specs.SeenReply.{seen_reply}
-use Rattle.call_steps.specs.declared.acts.Act.{Act}
-use Rattle.call_steps.specs.declared.needs.Need.{Need}
-use Rattle.call_steps.specs.declared.needs.Need.TheVariants as needs
-use Rattle.call_steps.specs.declared.replies.Reply.{Reply}
-use Rattle.call_steps.specs.declared.replies.Reply.TheVariants as replies
+use Rattle.call_steps.specs.declared.act.Act.{Act}
+use Rattle.call_steps.specs.declared.need.Need.{Need}
+use Rattle.call_steps.specs.declared.need.Need.TheVariants as needs
+use Rattle.call_steps.specs.declared.reply.Reply.{Reply}
+use Rattle.call_steps.specs.declared.reply.Reply.TheVariants as replies
 use Rattle.peer_lock.specs.Peer.{PeerView}
 use Rattle.peer_lock.specs.declared.errors.OrderError.TheVariants as order_errors
 use Rattle.call_runs.specs.Stored.{Stored, ArePeers, AreSeenIn}

@@ -13,8 +13,8 @@ use Rattle.call_steps.specs.Leases.{lease_needed}
 use Rattle.call_steps.specs.Scene.{Leg, is_leased, leg_at as world_leg_at, leg_named as world_leg_named}
 use Rattle.call_steps.specs.Work.{next_of}
 use Rattle.call_steps.specs.World.{World, Caller}
-use Rattle.call_steps.specs.declared.needs.Need.{Need}
-use Rattle.call_steps.specs.declared.needs.Need.TheVariants as needs
+use Rattle.call_steps.specs.declared.need.Need.{Need}
+use Rattle.call_steps.specs.declared.need.Need.TheVariants as needs
 use Rattle.peer_lock.specs.Legs.{PeerLegs, NamedLeg, leg_at, if_named, is_free_name}
 use Rattle.peer_lock.specs.Seen.{SeenNamed}
 use Rattle.call_runs.specs.LookedAfter.{IsKept, AllAreLookedAfter, AllHavePartners}

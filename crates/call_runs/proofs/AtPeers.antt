@@ -5,11 +5,11 @@ use Rattle.call_book.specs.declared.leg_name.LegName.{LegName}
 use Rattle.call_steps.specs.Scene.{Leg, Scene, answered, is_leased, dropped, leg_at, without}
 use Rattle.call_steps.specs.SeenReply.{heard, seen_reply}
 use Rattle.call_steps.specs.Sees.{IsWorldStep}
-use Rattle.call_steps.specs.declared.acts.Act.{Act}
-use Rattle.call_steps.specs.declared.needs.Need.{Need}
-use Rattle.call_steps.specs.declared.needs.Need.TheVariants as needs
-use Rattle.call_steps.specs.declared.replies.Reply.{Reply}
-use Rattle.call_steps.specs.declared.replies.Reply.TheVariants as replies
+use Rattle.call_steps.specs.declared.act.Act.{Act}
+use Rattle.call_steps.specs.declared.need.Need.{Need}
+use Rattle.call_steps.specs.declared.need.Need.TheVariants as needs
+use Rattle.call_steps.specs.declared.reply.Reply.{Reply}
+use Rattle.call_steps.specs.declared.reply.Reply.TheVariants as replies
 use Rattle.peer_lock.specs.Arrivals.{datagram_step}
 use Rattle.peer_lock.specs.Openings.{is_free_name, opens_in, opens_out}
 use Rattle.peer_lock.specs.Peer.{PeerView}

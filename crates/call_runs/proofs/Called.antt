@@ -9,20 +9,20 @@ use Rattle.call_book.specs.declared.errors.ReserveError.{ReserveError}
 use Rattle.call_book.specs.declared.leg_name.LegName.{LegName}
 use Rattle.call_signals.specs.declared.openings.Opening.{Opening}
 use Rattle.call_signals.specs.declared.openings.Opening.TheVariants.{Offers}
-use Rattle.call_signals.specs.declared.orders.OrderKind.{OrderKind}
-use Rattle.call_signals.specs.declared.stages.Stage.{Stage}
+use Rattle.call_signals.specs.declared.order.OrderKind.{OrderKind}
+use Rattle.call_signals.specs.declared.stage.Stage.{Stage}
 use Rattle.leg_machine.specs.Seen.{Lapse, SeenFrame, stage_after}
-use Rattle.call_steps.specs.Acts.{act_kind}
+use Rattle.call_steps.specs.Act.{act_kind}
 use Rattle.call_steps.specs.Law.{times}
 use Rattle.call_steps.specs.Scene.{Leg, Scene, Choice, RefusesDatagram, RefusesOpening, RefusesOrder, RefusesTick, KeepsLeg, Brings, Lapses, Opens, LeadsTo, Answer, answered, is_call, leg_at, if_named, leg_named, replaced, without, brought, brings, let_lapse, lapsed_at, all_lapsed, can_open, opens_in, busy_in, opens_out, busy_out, carried, obeys, at_leg, at_order, refused, is_done, retires, keeps, reserves, bridges, is_leased, releases, is_stale}
 use Rattle.call_steps.specs.SeenReply.{seen_reply}
 use Rattle.call_steps.specs.Work.{next_at}
-use Rattle.call_steps.specs.declared.needs.Need.{Need}
-use Rattle.call_steps.specs.declared.needs.Need.TheVariants as needs
-use Rattle.call_steps.specs.declared.places.Place.{Place}
-use Rattle.call_steps.specs.declared.places.Place.TheVariants as places
-use Rattle.call_steps.specs.declared.replies.Reply.{Reply}
-use Rattle.call_steps.specs.declared.replies.Reply.TheVariants as replies
+use Rattle.call_steps.specs.declared.need.Need.{Need}
+use Rattle.call_steps.specs.declared.need.Need.TheVariants as needs
+use Rattle.call_steps.specs.declared.place.Place.{Place}
+use Rattle.call_steps.specs.declared.place.Place.TheVariants as places
+use Rattle.call_steps.specs.declared.reply.Reply.{Reply}
+use Rattle.call_steps.specs.declared.reply.Reply.TheVariants as replies
 use Rattle.peer_lock.specs.declared.errors.OrderError.TheVariants as order_errors
 use Rattle.call_runs.specs.Spent.{called_at}
 use Rattle.call_runs.specs.Stored.{AreCalled}

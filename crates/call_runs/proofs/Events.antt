@@ -9,10 +9,10 @@ use Rattle.call_steps.specs.SeenReply.{seen_reply}
 use Rattle.call_steps.specs.Sees.{Sees}
 use Rattle.call_steps.specs.Work.{next_of, after_told}
 use Rattle.call_steps.specs.World.{World, Caller, Starts, Steps, work_of, scene_of, happens, starts, begins, steps, makes, after_answer}
-use Rattle.call_steps.specs.declared.needs.Need.{Need}
-use Rattle.call_steps.specs.declared.needs.Need.TheVariants as needs
-use Rattle.call_steps.specs.declared.replies.Reply.{Reply}
-use Rattle.call_steps.specs.declared.replies.Reply.TheVariants as replies
+use Rattle.call_steps.specs.declared.need.Need.{Need}
+use Rattle.call_steps.specs.declared.need.Need.TheVariants as needs
+use Rattle.call_steps.specs.declared.reply.Reply.{Reply}
+use Rattle.call_steps.specs.declared.reply.Reply.TheVariants as replies
 use Rattle.peer_lock.specs.Peer.{PeerView}
 use Rattle.call_runs.specs.Runs.{Begins, TakesOut}
 use Rattle.call_runs.specs.Runs.{Steps as StoredSteps}

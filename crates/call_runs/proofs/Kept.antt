@@ -5,9 +5,9 @@ use Rattle.call_book.specs.Book.{Book, reserve_answer, taken, tail, free_of, bri
 use Rattle.call_book.specs.declared.errors.BridgeError.{BridgeError}
 use Rattle.call_book.specs.declared.errors.ReserveError.{ReserveError}
 use Rattle.call_book.specs.declared.leg_name.LegName.{LegName}
-use Rattle.call_steps.specs.declared.needs.Need.{Need}
-use Rattle.call_steps.specs.declared.needs.Need.TheVariants as needs
-use Rattle.call_steps.specs.declared.replies.Reply.{Reply}
+use Rattle.call_steps.specs.declared.need.Need.{Need}
+use Rattle.call_steps.specs.declared.need.Need.TheVariants as needs
+use Rattle.call_steps.specs.declared.reply.Reply.{Reply}
 use Rattle.peer_lock.specs.Legs.{leg_named}
 use Rattle.peer_lock.specs.Openings.{opens_in, opens_out}
 use Rattle.peer_lock.specs.Peer.{PeerView}

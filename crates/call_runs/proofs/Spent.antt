@@ -1,15 +1,15 @@
 -- A step that isn't refused because the steps of a peer are spent, is a choice that isn't such a refusal.
 use Rattle.std.specs.Prelude.{Ok, Err}
 use Rattle.std.proofs.Common.{◌≡◌, Bool, true, false, Option, Some, None, refl, sym, ◌⊎◌, inl, inr}
-use Rattle.call_signals.specs.declared.orders.OrderKind.{OrderKind}
-use Rattle.call_steps.specs.Acts.{act_kind}
+use Rattle.call_signals.specs.declared.order.OrderKind.{OrderKind}
+use Rattle.call_steps.specs.Act.{act_kind}
 use Rattle.call_steps.specs.Law.{is_spent as is_spent_choice}
 use Rattle.call_steps.specs.Scene.{Leg, Scene, Choice, Goes, RefusesDatagram, RefusesOpening, RefusesOrder, RefusesTick, Answer, answered, at_leg, leg_named}
 use Rattle.call_steps.specs.SeenReply.{seen_reply}
-use Rattle.call_steps.specs.declared.needs.Need.{Need}
-use Rattle.call_steps.specs.declared.needs.Need.TheVariants as needs
-use Rattle.call_steps.specs.declared.replies.Reply.{Reply}
-use Rattle.call_steps.specs.declared.replies.Reply.TheVariants as replies
+use Rattle.call_steps.specs.declared.need.Need.{Need}
+use Rattle.call_steps.specs.declared.need.Need.TheVariants as needs
+use Rattle.call_steps.specs.declared.reply.Reply.{Reply}
+use Rattle.call_steps.specs.declared.reply.Reply.TheVariants as replies
 use Rattle.peer_lock.specs.declared.errors.OpenError.TheVariants as open_errors
 use Rattle.peer_lock.specs.declared.errors.OrderError.TheVariants as order_errors
 use Rattle.peer_lock.specs.declared.errors.PeerError.TheVariants as peer_errors

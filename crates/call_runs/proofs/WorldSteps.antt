@@ -2,17 +2,17 @@
 use Rattle.std.specs.Prelude.{option_map, Ok, Err}
 use Rattle.std.proofs.Common.{◌≡◌, ℕ, ◌≤◌, Bool, true, List, ◌∷◌, Option, None, Some}
 use Rattle.call_book.specs.declared.leg_name.LegName.{LegName}
-use Rattle.call_signals.specs.declared.formats.Format.{Format}
-use Rattle.call_signals.specs.declared.orders.Order.{Order}
-use Rattle.call_steps.specs.Acts.{act_kind}
+use Rattle.call_signals.specs.declared.format.Format.{Format}
+use Rattle.call_signals.specs.declared.order.Order.{Order}
+use Rattle.call_steps.specs.Act.{act_kind}
 use Rattle.call_steps.specs.Scene.{Scene, Choice, answered, is_leased, dropped, leg_at as world_leg_at, without}
 use Rattle.call_steps.specs.SeenReply.{heard, seen_reply}
 use Rattle.call_steps.specs.Sees.{Sees, IsWorldStep}
-use Rattle.call_steps.specs.declared.acts.Act.{Act}
-use Rattle.call_steps.specs.declared.needs.Need.{Need}
-use Rattle.call_steps.specs.declared.needs.Need.TheVariants as needs
-use Rattle.call_steps.specs.declared.replies.Reply.{Reply}
-use Rattle.call_steps.specs.declared.replies.Reply.TheVariants as replies
+use Rattle.call_steps.specs.declared.act.Act.{Act}
+use Rattle.call_steps.specs.declared.need.Need.{Need}
+use Rattle.call_steps.specs.declared.need.Need.TheVariants as needs
+use Rattle.call_steps.specs.declared.reply.Reply.{Reply}
+use Rattle.call_steps.specs.declared.reply.Reply.TheVariants as replies
 use Rattle.iax_frames.specs.FullFrame.{FullFrame}
 use Rattle.iax_frames.specs.declared.datagram.Datagram.{Datagram}
 use Rattle.leg_machine.specs.OrderTable.{wants_memory}

@@ -2,8 +2,8 @@
 use Rattle.std.specs.Prelude.{◌≡◌, ℕ, List, [], ◌∷◌, None, Some, slice_get, slice_set}
 use Rattle.call_steps.specs.Work.{next_of, after_told}
 use Rattle.call_steps.specs.World.{Caller, Start, work_of}
-use Rattle.call_steps.specs.declared.needs.Need.{Need}
-use Rattle.call_steps.specs.declared.replies.Reply.{Reply}
+use Rattle.call_steps.specs.declared.need.Need.{Need}
+use Rattle.call_steps.specs.declared.reply.Reply.{Reply}
 use Rattle.peer_lock.specs.Peer.{PeerView}
 use Rattle.call_runs.specs.Stored.{Stored}
 use Rattle.call_runs.specs.StoredSteps.{Makes, leases_after}

@@ -1,10 +1,10 @@
 -- Whether the steps of peers are spent, and which legs calls from outside opened, as the answers tell it.
 use Rattle.std.specs.Prelude.{◌≡◌, ◌++◌, Bool, true, false, List, [], ◌∷◌, Ok, Err}
 use Rattle.call_book.specs.declared.leg_name.LegName.{LegName}
-use Rattle.call_steps.specs.declared.places.Place.{Place}
-use Rattle.call_steps.specs.declared.places.Place.TheVariants as places
-use Rattle.call_steps.specs.declared.replies.Reply.{Reply}
-use Rattle.call_steps.specs.declared.replies.Reply.TheVariants as replies
+use Rattle.call_steps.specs.declared.place.Place.{Place}
+use Rattle.call_steps.specs.declared.place.Place.TheVariants as places
+use Rattle.call_steps.specs.declared.reply.Reply.{Reply}
+use Rattle.call_steps.specs.declared.reply.Reply.TheVariants as replies
 use Rattle.peer_lock.specs.declared.errors.OpenError.TheVariants as open_errors
 use Rattle.peer_lock.specs.declared.errors.OrderError.TheVariants as order_errors
 use Rattle.peer_lock.specs.declared.errors.PeerError.TheVariants as peer_errors

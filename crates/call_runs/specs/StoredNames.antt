@@ -3,15 +3,15 @@ use Rattle.std.specs.Prelude.{◌≡◌, ◌≢◌, ℕ, ◌+◌, Bool, true, fa
 use Rattle.std.specs.List.{AllByRecursion}
 use Rattle.call_book.specs.Book.{has_name}
 use Rattle.call_book.specs.declared.leg_name.LegName.{LegName}
-use Rattle.call_signals.specs.declared.stages.Stage.TheVariants.{Offered}
+use Rattle.call_signals.specs.declared.stage.Stage.TheVariants.{Offered}
 use Rattle.call_steps.specs.Law.{IsIdle, times, leases_of, is_talk}
 use Rattle.call_steps.specs.Leases.{lease_needed}
 use Rattle.call_steps.specs.Scene.{is_leased}
 use Rattle.call_steps.specs.Work.{next_of}
 use Rattle.call_steps.specs.World.{Caller}
-use Rattle.call_steps.specs.declared.acts.Act.{Act}
-use Rattle.call_steps.specs.declared.needs.Need.{Need}
-use Rattle.call_steps.specs.declared.needs.Need.TheVariants as needs
+use Rattle.call_steps.specs.declared.act.Act.{Act}
+use Rattle.call_steps.specs.declared.need.Need.{Need}
+use Rattle.call_steps.specs.declared.need.Need.TheVariants as needs
 use Rattle.peer_lock.specs.Legs.{NamedLeg, leg_at, leg_named, is_free_name}
 use Rattle.peer_lock.specs.Peer.{PeerView}
 use Rattle.call_runs.specs.Runs.{IsRun, last_of}

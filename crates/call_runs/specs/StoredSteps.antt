@@ -7,17 +7,17 @@ use Rattle.call_book.specs.Book.{Book, has_name, reserve_answer, after_reserve, 
 use Rattle.call_book.specs.declared.errors.BridgeError.{BridgeError}
 use Rattle.call_book.specs.declared.errors.Stale.{Stale}
 use Rattle.call_book.specs.declared.leg_name.LegName.{LegName}
-use Rattle.call_signals.specs.declared.formats.Format.{Format}
-use Rattle.call_signals.specs.declared.orders.Order.{Order}
-use Rattle.call_steps.specs.Acts.{act_kind}
+use Rattle.call_signals.specs.declared.format.Format.{Format}
+use Rattle.call_signals.specs.declared.order.Order.{Order}
+use Rattle.call_steps.specs.Act.{act_kind}
 use Rattle.call_steps.specs.Scene.{dropped}
-use Rattle.call_steps.specs.declared.acts.Act.{Act}
-use Rattle.call_steps.specs.declared.needs.Need.{Need}
-use Rattle.call_steps.specs.declared.needs.Need.TheVariants as needs
-use Rattle.call_steps.specs.declared.needs.Route.{Route}
-use Rattle.call_steps.specs.declared.replies.Heard.{Heard}
-use Rattle.call_steps.specs.declared.replies.Reply.{Reply}
-use Rattle.call_steps.specs.declared.replies.Reply.TheVariants as replies
+use Rattle.call_steps.specs.declared.act.Act.{Act}
+use Rattle.call_steps.specs.declared.need.Need.{Need}
+use Rattle.call_steps.specs.declared.need.Need.TheVariants as needs
+use Rattle.call_steps.specs.declared.need.Route.{Route}
+use Rattle.call_steps.specs.declared.reply.Heard.{Heard}
+use Rattle.call_steps.specs.declared.reply.Reply.{Reply}
+use Rattle.call_steps.specs.declared.reply.Reply.TheVariants as replies
 use Rattle.iax_frames.specs.FullFrame.{FullFrame}
 use Rattle.iax_frames.specs.declared.datagram.Datagram.{Datagram}
 use Rattle.leg_machine.specs.OrderTable.{wants_memory}

@@ -2,8 +2,8 @@
 //! here for what its clauses say of that call.
 ghost use Rattle.std.specs.Prelude.{◌≡◌, [], ◌∷◌};
 ghost use Rattle.call_book.specs.Book.{after_reserve, bridge_answer, has_name, partner_of, reserve_answer};
-ghost use Rattle.call_steps.specs.declared.needs.Need.TheVariants as needs;
-ghost use Rattle.call_steps.specs.declared.replies.Reply.TheVariants as replies;
+ghost use Rattle.call_steps.specs.declared.need.Need.TheVariants as needs;
+ghost use Rattle.call_steps.specs.declared.reply.Reply.TheVariants as replies;
 ghost use Rattle.call_runs.specs.PeerCalls.{leases_in};
 ghost use Rattle.call_runs.specs.StoredSteps.{after_bridge, after_release, release_answer, leases_after};
 

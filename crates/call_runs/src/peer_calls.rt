@@ -1,8 +1,8 @@
 //! What the calls of a peer do, as steps on the exchange that is stored: each function makes one call and nothing else, and is
 //! here for what its clauses say of that call. Moments are in milliseconds.
 ghost use Rattle.std.specs.Prelude.{◌≡◌, ◌≤◌, [], ◌∷◌, length};
-ghost use Rattle.call_steps.specs.Acts.{act_kind};
-ghost use Rattle.call_steps.specs.declared.needs.Need.TheVariants as needs;
+ghost use Rattle.call_steps.specs.Act.{act_kind};
+ghost use Rattle.call_steps.specs.declared.need.Need.TheVariants as needs;
 ghost use Rattle.leg_machine.specs.OrderTable.{IsShortMedia};
 ghost use Rattle.leg_machine.specs.Seen.{kind_of};
 ghost use Rattle.peer_accounts.specs.HandedUp.{IsNothing};

@@ -5,11 +5,11 @@ use Rattle.std.proofs.lemmas.Bool.{false_from_ne_true, false≢true}
 use Rattle.std.proofs.lemmas.Bool.Decides.{nat_tests}
 use Rattle.iax_frames.specs.FullFrame.{FullFrame}
 use Rattle.info_elements.specs.Numbers.{CAPABILITY, FORMAT}
-use Rattle.call_signals.specs.Formats.{format_bit, has_format, lowest_format}
+use Rattle.call_signals.specs.Format.{format_bit, has_format, lowest_format}
 use Rattle.call_signals.specs.Openings.{bits_in, has_bit, common_formats, chosen_format, call_format, IsCommon, IsLowestCommon, IsWanted}
-use Rattle.call_signals.specs.declared.formats.Format.{Format}
-use Rattle.call_signals.specs.declared.formats.Format.TheVariants.{Gsm, Ulaw, Alaw}
-use Rattle.call_signals.specs.declared.formats.Formats.{Formats}
+use Rattle.call_signals.specs.declared.format.Format.{Format}
+use Rattle.call_signals.specs.declared.format.Format.TheVariants.{Gsm, Ulaw, Alaw}
+use Rattle.call_signals.specs.declared.format.Formats.{Formats}
 
 -- ---- what is common
 

@@ -1,18 +1,18 @@
 -- What a row of the tables says.
 use Rattle.std.specs.Prelude.{Bool, true, false, Option, None, Some, if◌then◌else◌}
-use Rattle.call_signals.specs.Stages.{is_over}
-use Rattle.call_signals.specs.declared.causes.Cause.{Cause}
+use Rattle.call_signals.specs.Stage.{is_over}
+use Rattle.call_signals.specs.declared.cause.Cause.{Cause}
 use Rattle.call_signals.specs.declared.effects.Answering.{Answering}
 use Rattle.call_signals.specs.declared.effects.Answering.TheVariants.{Acknowledged, Answered, Silent}
 use Rattle.call_signals.specs.declared.effects.Effect.{Effect}
 use Rattle.call_signals.specs.declared.effects.Mark.{Mark}
 use Rattle.call_signals.specs.declared.effects.Mark.TheVariants.{Nothing}
-use Rattle.call_signals.specs.declared.replies.Reply.{Reply}
-use Rattle.call_signals.specs.declared.replies.Reply.TheVariants.{Hangup, Reject}
-use Rattle.call_signals.specs.declared.signals.Signal.{Signal}
-use Rattle.call_signals.specs.declared.signals.Signal.TheVariants as signals
-use Rattle.call_signals.specs.declared.stages.Stage.{Stage}
-use Rattle.call_signals.specs.declared.stages.Stage.TheVariants.{Closing}
+use Rattle.call_signals.specs.declared.reply.Reply.{Reply}
+use Rattle.call_signals.specs.declared.reply.Reply.TheVariants.{Hangup, Reject}
+use Rattle.call_signals.specs.declared.signal.Signal.{Signal}
+use Rattle.call_signals.specs.declared.signal.Signal.TheVariants as signals
+use Rattle.call_signals.specs.declared.stage.Stage.{Stage}
+use Rattle.call_signals.specs.declared.stage.Stage.TheVariants.{Closing}
 
 -- the answer, the stage after, and what is handed up
 abbrev pub row : Answering → Stage → Option Signal → Effect

@@ -2,15 +2,15 @@
 use Rattle.std.specs.Prelude.{ℕ, List, [], ◌∷◌, ◌==◌, Option, None, Some, if◌then◌else◌}
 use Rattle.iax_frames.specs.FullFrame.{FullFrame, subclass_meaning}
 use Rattle.info_elements.specs.Numbers.{CAUSECODE}
-use Rattle.call_signals.specs.Causes.{cause_of_code}
+use Rattle.call_signals.specs.Cause.{cause_of_code}
 use Rattle.call_signals.specs.Codes.{CONTROL_BUSY, CONTROL_CONGESTION}
 use Rattle.call_signals.specs.FrameElements.{element_in}
-use Rattle.call_signals.specs.declared.causes.Cause.{Cause}
-use Rattle.call_signals.specs.declared.causes.Cause.TheVariants.{NormalClearing, UserBusy, NoUserResponding, Congestion}
+use Rattle.call_signals.specs.declared.cause.Cause.{Cause}
+use Rattle.call_signals.specs.declared.cause.Cause.TheVariants.{NormalClearing, UserBusy, NoUserResponding, Congestion}
 use Rattle.call_signals.specs.declared.failure.Failure.{Failure}
 use Rattle.call_signals.specs.declared.failure.Failure.TheVariants.{RetriesSpent, RecordFull, Inval}
-use Rattle.call_signals.specs.declared.messages.Message.{Message}
-use Rattle.call_signals.specs.declared.messages.Message.TheVariants.{Hangup, Reject, ClearsCall}
+use Rattle.call_signals.specs.declared.message.Message.{Message}
+use Rattle.call_signals.specs.declared.message.Message.TheVariants.{Hangup, Reject, ClearsCall}
 
 -- by the value of a CAUSECODE, if it has one octet
 abbrev pub told_cause : Option (List ℕ) → Cause

@@ -5,21 +5,21 @@ use Rattle.iax_frames.specs.FullFrame.{FullFrame}
 use Rattle.info_elements.specs.Element.{u32_in}
 use Rattle.info_elements.specs.Numbers.{CAPABILITY, FORMAT}
 use Rattle.call_signals.specs.Effects.{row, rejected}
-use Rattle.call_signals.specs.Formats.{format_bit, has_format, lowest_format, format_alone}
+use Rattle.call_signals.specs.Format.{format_bit, has_format, lowest_format, format_alone}
 use Rattle.call_signals.specs.FrameElements.{element_in}
 use Rattle.call_signals.specs.NewElements.{NewElements, new_elements}
-use Rattle.call_signals.specs.declared.causes.Cause.TheVariants.{CallRejected}
+use Rattle.call_signals.specs.declared.cause.Cause.TheVariants.{CallRejected}
 use Rattle.call_signals.specs.declared.effects.Answering.TheVariants.{Answered, Silent}
 use Rattle.call_signals.specs.declared.effects.Effect.{Effect}
-use Rattle.call_signals.specs.declared.formats.Format.{Format}
-use Rattle.call_signals.specs.declared.formats.Format.TheVariants.{Gsm, Ulaw, Alaw}
-use Rattle.call_signals.specs.declared.formats.Formats.{Formats}
+use Rattle.call_signals.specs.declared.format.Format.{Format}
+use Rattle.call_signals.specs.declared.format.Format.TheVariants.{Gsm, Ulaw, Alaw}
+use Rattle.call_signals.specs.declared.format.Formats.{Formats}
 use Rattle.call_signals.specs.declared.openings.Opening.{Opening}
 use Rattle.call_signals.specs.declared.openings.Opening.TheVariants.{Refused, Challenges, Offers}
-use Rattle.call_signals.specs.declared.replies.Reply.TheVariants.{AuthReq}
+use Rattle.call_signals.specs.declared.reply.Reply.TheVariants.{AuthReq}
 use Rattle.call_signals.specs.declared.rules.PeerRules.{PeerRules}
-use Rattle.call_signals.specs.declared.signals.Signal.TheVariants as signals
-use Rattle.call_signals.specs.declared.stages.Stage.TheVariants as stages
+use Rattle.call_signals.specs.declared.signal.Signal.TheVariants as signals
+use Rattle.call_signals.specs.declared.stage.Stage.TheVariants as stages
 
 -- ---- the format of a call
 

@@ -1,7 +1,7 @@
 -- What a plan lets the rules of a peer be.
 use Rattle.std.specs.Prelude.{ℕ, ◌≤◌, IsSome}
 use Rattle.call_signals.specs.declared.rules.PeerRules.{PeerRules}
-use Rattle.call_signals.specs.Formats.{lowest_format}
+use Rattle.call_signals.specs.Format.{lowest_format}
 
 abbrev pub IsWithin : ℕ → ℕ → ℕ → Type 0
 IsWithin least most n = (least ≤ n) × (n ≤ most)

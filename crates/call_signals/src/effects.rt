@@ -2,10 +2,10 @@
 ghost use Rattle.std.specs.Prelude.{◌≡◌};
 ghost use Rattle.call_signals.specs.Effects as effects;
 
-use crate::causes::Cause;
-use crate::replies::Reply;
-use crate::signals::Signal;
-use crate::stages::Stage;
+use crate::cause::Cause;
+use crate::reply::Reply;
+use crate::signal::Signal;
+use crate::stage::Stage;
 
 /// How a taken frame is answered.
 #[derive(Clone, Copy, Debug, PartialEq, Eq)]

@@ -2,9 +2,9 @@
 ghost use Rattle.std.specs.Prelude.{◌≡◌, option_copied};
 ghost use Rattle.call_signals.specs.Endings as endings;
 
-use crate::causes::Cause;
+use crate::cause::Cause;
 use crate::codes::{CONTROL_BUSY, CONTROL_CONGESTION};
-use crate::messages::Message;
+use crate::message::Message;
 use iax_frames::{Full, subclass_meaning};
 use info_elements::{CAUSECODE, last_in};
 

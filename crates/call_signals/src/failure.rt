@@ -2,7 +2,7 @@
 ghost use Rattle.std.specs.Prelude.{◌≡◌};
 ghost use Rattle.call_signals.specs.Endings.{failure_cause};
 
-use crate::causes::Cause;
+use crate::cause::Cause;
 
 /// Why a leg ended without a HANGUP or REJECT of its own making it so.
 #[derive(Clone, Copy, Debug, PartialEq, Eq)]

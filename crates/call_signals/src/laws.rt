@@ -3,8 +3,8 @@
 ghost use Rattle.std.specs.Prelude.{◌≡◌, None, Some};
 ghost use Rattle.iax_frames.specs.FullFrame.{FullFrame};
 ghost use Rattle.call_signals.specs.Openings.{call_format, IsCommon, IsLowestCommon, IsWanted};
-ghost use Rattle.call_signals.specs.declared.formats.Format.{Format};
-ghost use Rattle.call_signals.specs.declared.formats.Formats.{Formats};
+ghost use Rattle.call_signals.specs.declared.format.Format.{Format};
+ghost use Rattle.call_signals.specs.declared.format.Formats.{Formats};
 
 /// The format of a call is FORMAT where that is exactly one bit that offer and peer have in common, else the lowest bit that they
 /// have in common. Where no bit is common, there is none ("Call Setup", "Media Formats").

@@ -3,14 +3,14 @@ ghost use Rattle.std.specs.Prelude.{◌≡◌, option_copied};
 ghost use Rattle.call_signals.specs.NewElements.{named};
 ghost use Rattle.call_signals.specs.Openings as opening;
 
-use crate::causes::Cause;
+use crate::cause::Cause;
 use crate::effects::{Answering, Effect, rejected, row};
-use crate::formats::{Format, Formats};
+use crate::format::{Format, Formats};
 use crate::new_elements::NewElements;
-use crate::replies::Reply;
+use crate::reply::Reply;
 use crate::rules::PeerRules;
-use crate::signals::Signal;
-use crate::stages::Stage;
+use crate::signal::Signal;
+use crate::stage::Stage;
 use call_auth::Challenge;
 
 /// What becomes of a NEW that came ("Call Setup").

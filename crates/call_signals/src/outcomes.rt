@@ -2,8 +2,8 @@
 ghost use Rattle.std.specs.Prelude.{◌≡◌};
 ghost use Rattle.call_signals.specs.declared.outcomes.StepError.TheVariants.{Memory};
 
-use crate::replies::Replies;
-use crate::signals::{Onward, Signal};
+use crate::reply::Replies;
+use crate::signal::{Onward, Signal};
 use std::alloc::AllocError;
 
 /// How a full frame was judged ("Message Transport").

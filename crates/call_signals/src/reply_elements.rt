@@ -1,10 +1,10 @@
 //! Information elements in their order, for the frames that a leg sends ("Information Elements").
 ghost use Rattle.std.specs.Prelude.{◌≡◌, ◌+◌, ◌≤◌, ◌++◌, length};
-ghost use Rattle.call_signals.specs.Replies as replies;
+ghost use Rattle.call_signals.specs.Reply as replies;
 
 use crate::caller::Caller;
-use crate::causes::Cause;
-use crate::formats::Format;
+use crate::cause::Cause;
+use crate::format::Format;
 use crate::rules::Credential;
 use iax_frames::Payload;
 use info_elements::{

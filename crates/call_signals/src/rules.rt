@@ -3,7 +3,7 @@ ghost use Rattle.std.specs.Prelude.{◌≡◌, ◌↔◌, IsSome, IfSome};
 ghost use Rattle.std.specs.List.{list_all};
 ghost use Rattle.call_signals.specs.Credential.{IsCredential, is_printable};
 
-use crate::formats::Formats;
+use crate::format::Formats;
 use arrayvec::ArrayVec;
 use std::marker::Model;
 

@@ -3,10 +3,10 @@ use Rattle.std.proofs.Common.{◌≡◌, ℕ, zero, suc, ◌+◌, ◌≤◌, Lis
 use Rattle.std.specs.List.{AllByRecursion}
 use Rattle.call_book.specs.Book.{Book, IsBook, IsNumberOf, has_name, is_name_in, is_same}
 use Rattle.call_book.specs.declared.leg_name.LegName.{LegName}
-use Rattle.call_steps.specs.declared.needs.Need.{Need}
-use Rattle.call_steps.specs.declared.needs.Need.TheVariants as needs
-use Rattle.call_steps.specs.declared.places.Place.{Place}
-use Rattle.call_steps.specs.declared.places.Place.TheVariants as places
+use Rattle.call_steps.specs.declared.need.Need.{Need}
+use Rattle.call_steps.specs.declared.need.Need.TheVariants as needs
+use Rattle.call_steps.specs.declared.place.Place.{Place}
+use Rattle.call_steps.specs.declared.place.Place.TheVariants as places
 use Rattle.call_steps.specs.Work.{Work, next_at, next_of, after_told, in_hand}
 use Rattle.call_steps.specs.Scene.{Leg, Choice, is_leased, leg_at, Answer, answered, is_call}
 use Rattle.call_steps.specs.World.{World, Caller, Event, Starts, Steps, Start, ADatagram, ATick, ACall, AHangUp, work_of, scene_of, makes, steps, begins, starts, happens, run, after_answer}

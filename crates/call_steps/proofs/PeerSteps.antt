@@ -4,10 +4,10 @@ use Rattle.std.proofs.Common.{◌≡◌, ◌≢◌, ℕ, ◌+◌, Bool, true, fa
 use Rattle.call_book.specs.Book.{is_same}
 use Rattle.call_book.specs.declared.leg_name.LegName.{LegName}
 use Rattle.leg_machine.specs.Seen.{SeenLeg, frame_effect, moved, opening_effect, fresh_leg, stage_after, ordered}
-use Rattle.call_signals.specs.declared.orders.OrderKind.{OrderKind}
-use Rattle.call_signals.specs.declared.signals.MediaSpan.{MediaSpan}
-use Rattle.call_signals.specs.declared.stages.Stage.{Stage}
-use Rattle.call_signals.specs.declared.stages.Stage.TheVariants as stages
+use Rattle.call_signals.specs.declared.order.OrderKind.{OrderKind}
+use Rattle.call_signals.specs.declared.signal.MediaSpan.{MediaSpan}
+use Rattle.call_signals.specs.declared.stage.Stage.{Stage}
+use Rattle.call_signals.specs.declared.stage.Stage.TheVariants as stages
 use Rattle.peer_lock.specs.Legs.{PeerLegs, NamedLeg, leg_at as peer_leg_at}
 use Rattle.peer_lock.specs.Peer.{PeerStep}
 use Rattle.peer_lock.specs.Seen as peer
@@ -15,15 +15,15 @@ use Rattle.peer_lock.specs.Seen.{SeenNamed, seen_named, seen_at, TurnsAt}
 use Rattle.peer_lock.specs.Statuses as statuses
 use Rattle.peer_lock.specs.declared.errors.OrderError.{OrderError}
 use Rattle.peer_lock.specs.declared.errors.OrderError.TheVariants as order_errors
-use Rattle.call_steps.specs.Acts.{act_kind}
+use Rattle.call_steps.specs.Act.{act_kind}
 use Rattle.call_steps.specs.Scene.{Leg, Scene, Choice, Goes, RefusesOrder, Brings, HasMedia, Opens, TellsCause, Answer, answer, answered, leg_at, if_named, leg_named, without, handed_up, brought, brings, media_up, all_media, is_leased, dropped, can_open, opens_in, opens_out, busy_in, busy_out, carried, refused, obeys, at_leg, at_order, refuses_order, status_of, told_cause, is_done, retires, keeps}
 use Rattle.call_steps.specs.SeenReply.{heard, seen_reply}
 use Rattle.call_steps.specs.Sees.{look_of, Sees, AreApart, IsWorldStep}
-use Rattle.call_steps.specs.declared.acts.Act.{Act}
-use Rattle.call_steps.specs.declared.needs.Need.{Need}
-use Rattle.call_steps.specs.declared.needs.Need.TheVariants as needs
-use Rattle.call_steps.specs.declared.replies.Reply.{Reply}
-use Rattle.call_steps.specs.declared.replies.Reply.TheVariants as replies
+use Rattle.call_steps.specs.declared.act.Act.{Act}
+use Rattle.call_steps.specs.declared.need.Need.{Need}
+use Rattle.call_steps.specs.declared.need.Need.TheVariants as needs
+use Rattle.call_steps.specs.declared.reply.Reply.{Reply}
+use Rattle.call_steps.specs.declared.reply.Reply.TheVariants as replies
 use Rattle.call_steps.proofs.BookNames.{same_name}
 use Rattle.call_steps.proofs.WorldLegs.{IsFound, none_seen, leg_seen, named_seen, IsSeenSo, turned_sees, added_sees, gone_sees}
 

@@ -11,8 +11,8 @@ use Rattle.peer_lock.specs.Seen as peer
 use Rattle.peer_lock.specs.Seen.{SeenNamed, seen_named, seen_at}
 use Rattle.call_steps.specs.Scene.{Leg, Scene, Lapses, answer, leg_at, replaced, let_lapse, lapsed_at, all_lapsed}
 use Rattle.call_steps.specs.Sees.{look_of, Sees, AreApart, IsWorldStep}
-use Rattle.call_steps.specs.declared.needs.Need.TheVariants as needs
-use Rattle.call_steps.specs.declared.replies.Reply.TheVariants as replies
+use Rattle.call_steps.specs.declared.need.Need.TheVariants as needs
+use Rattle.call_steps.specs.declared.reply.Reply.TheVariants as replies
 use Rattle.call_steps.proofs.Held.{found_at}
 use Rattle.call_steps.proofs.WorldLegs.{found_seen, replaced_apart, replaced_there}
 use Rattle.call_steps.proofs.PeerSteps.{world_step}

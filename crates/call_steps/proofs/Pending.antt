@@ -9,17 +9,17 @@ use Rattle.call_book.specs.declared.errors.ReserveError.{ReserveError}
 use Rattle.call_book.specs.declared.leg_name.LegName.{LegName}
 use Rattle.call_book.proofs.Changes.{IsReserved, reserved, partner_has, released_before, reserved_none, reserved_before}
 use Rattle.leg_machine.specs.Seen.{SeenFrame, AcceptsCall, RejectsCall, BreaksOff, Indicates, AnswersCall, Dials, Speaks, HangsUp, AcknowledgesAll, frame_effect, stage_after, moved, Lapse, Ends, ClosesDoomed}
-use Rattle.leg_machine.specs.Stages.{is_over}
+use Rattle.leg_machine.specs.Stage.{is_over}
 use Rattle.call_signals.specs.declared.openings.Opening.{Opening}
 use Rattle.call_signals.specs.declared.openings.Opening.TheVariants.{Offers}
-use Rattle.call_signals.specs.declared.orders.OrderKind.{OrderKind}
-use Rattle.call_signals.specs.declared.orders.OrderKind.TheVariants as kinds
-use Rattle.call_signals.specs.declared.stages.Stage.{Stage}
-use Rattle.call_signals.specs.declared.stages.Stage.TheVariants as stages
+use Rattle.call_signals.specs.declared.order.OrderKind.{OrderKind}
+use Rattle.call_signals.specs.declared.order.OrderKind.TheVariants as kinds
+use Rattle.call_signals.specs.declared.stage.Stage.{Stage}
+use Rattle.call_signals.specs.declared.stage.Stage.TheVariants as stages
 use Rattle.peer_lock.specs.declared.errors.OrderError.TheVariants as order_errors
-use Rattle.call_steps.specs.Acts.{act_kind}
-use Rattle.call_steps.specs.declared.needs.Need.{Need}
-use Rattle.call_steps.specs.declared.needs.Need.TheVariants as needs
+use Rattle.call_steps.specs.Act.{act_kind}
+use Rattle.call_steps.specs.declared.need.Need.{Need}
+use Rattle.call_steps.specs.declared.need.Need.TheVariants as needs
 use Rattle.call_steps.specs.Scene.{Leg, Scene, Choice, RefusesDatagram, RefusesOpening, RefusesOrder, RefusesTick, KeepsLeg, Brings, HasMedia, Lapses, Opens, LeadsTo, leg_at, leg_named, replaced, Answer, brought, brings, at_datagram, let_lapse, lapsed_at, all_lapsed, at_tick, is_leased, can_open, opens_in, busy_in, at_open_in, opens_out, busy_out, at_open_out, refuses_order, carried, refused, obeys, at_leg, at_order, is_done, retires, keeps, at_retire, reserves, bridges, releases, is_stale, at_release, at_route, answered}
 use Rattle.call_steps.proofs.BookNames.{bit, same_name, has_name_is}
 use Rattle.call_steps.proofs.Held.{found_if}

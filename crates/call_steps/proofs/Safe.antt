@@ -7,15 +7,15 @@ use Rattle.std.proofs.lemmas.Bool.Decides.{nat_tests}
 use Rattle.call_book.specs.Book.{Book, has_name, is_same, partner_of}
 use Rattle.call_book.specs.declared.leg_name.LegName.{LegName}
 use Rattle.leg_machine.specs.Seen.{SeenFrame, ProvesItself, FailsToProve, HangsUp, AcknowledgesAll, frame_effect, stage_after, moved, Lapse, Ends, ClosesDoomed}
-use Rattle.leg_machine.specs.Stages.{is_over}
-use Rattle.call_signals.specs.declared.causes.Cause.{Cause}
-use Rattle.call_signals.specs.declared.orders.OrderKind.{OrderKind}
-use Rattle.call_signals.specs.declared.orders.OrderKind.TheVariants as kinds
-use Rattle.call_signals.specs.declared.signals.Signal.{Signal}
-use Rattle.call_signals.specs.declared.signals.Signal.TheVariants as signals
-use Rattle.call_signals.specs.declared.stages.Stage.{Stage}
-use Rattle.call_signals.specs.declared.stages.Stage.TheVariants as stages
-use Rattle.call_steps.specs.declared.places.Place.{Place}
+use Rattle.leg_machine.specs.Stage.{is_over}
+use Rattle.call_signals.specs.declared.cause.Cause.{Cause}
+use Rattle.call_signals.specs.declared.order.OrderKind.{OrderKind}
+use Rattle.call_signals.specs.declared.order.OrderKind.TheVariants as kinds
+use Rattle.call_signals.specs.declared.signal.Signal.{Signal}
+use Rattle.call_signals.specs.declared.signal.Signal.TheVariants as signals
+use Rattle.call_signals.specs.declared.stage.Stage.{Stage}
+use Rattle.call_signals.specs.declared.stage.Stage.TheVariants as stages
+use Rattle.call_steps.specs.declared.place.Place.{Place}
 use Rattle.call_steps.specs.SeenReply.{heard}
 use Rattle.call_steps.specs.Work.{Work, Rest, at, go_on, in_hand}
 use Rattle.call_steps.specs.Scene.{Leg, Scene, leg_at, if_named, leg_named, turned, replaced, without, handed_up, brought, let_lapse, carried}

@@ -8,12 +8,12 @@ use Rattle.call_book.specs.declared.errors.BridgeError.{BridgeError}
 use Rattle.call_book.specs.declared.errors.ReserveError.{ReserveError}
 use Rattle.call_book.specs.declared.leg_name.LegName.{LegName}
 use Rattle.call_book.proofs.Changes.{IsReserved, reserved, IsBridged, bridged_by, partner_has, released_before, released_after, bridged_first, bridged_second, bridged_before, bridged_after, reserved_none, reserved_before, reserved_after}
-use Rattle.call_signals.specs.declared.causes.Cause.{Cause}
-use Rattle.call_signals.specs.declared.causes.Cause.TheVariants.{NormalClearing}
-use Rattle.call_signals.specs.declared.formats.Format.{Format}
-use Rattle.call_steps.specs.declared.places.Place.{Place}
-use Rattle.call_steps.specs.declared.places.Place.TheVariants as places
-use Rattle.call_steps.specs.declared.replies.Reply.TheVariants as replies
+use Rattle.call_signals.specs.declared.cause.Cause.{Cause}
+use Rattle.call_signals.specs.declared.cause.Cause.TheVariants.{NormalClearing}
+use Rattle.call_signals.specs.declared.format.Format.{Format}
+use Rattle.call_steps.specs.declared.place.Place.{Place}
+use Rattle.call_steps.specs.declared.place.Place.TheVariants as places
+use Rattle.call_steps.specs.declared.reply.Reply.TheVariants as replies
 use Rattle.call_steps.specs.Work.{Work, Rest, at, ended, go_on, told_at, in_hand}
 use Rattle.call_steps.specs.Scene.{Leg, Scene, Answer, is_leased, reserves, bridges, releases, is_stale, at_release}
 use Rattle.call_steps.specs.Law.{times, names_of}

@@ -4,13 +4,13 @@ use Rattle.std.specs.Prelude.{not, ◌||◌}
 use Rattle.call_book.specs.Book.{Book, is_same}
 use Rattle.call_book.specs.declared.leg_name.LegName.{LegName}
 use Rattle.leg_machine.specs.Seen.{stage_after}
-use Rattle.call_signals.specs.declared.causes.Cause.{Cause}
-use Rattle.call_signals.specs.declared.orders.OrderKind.TheVariants as kinds
-use Rattle.call_signals.specs.declared.stages.Stage.{Stage}
-use Rattle.call_signals.specs.declared.stages.Stage.TheVariants as stages
+use Rattle.call_signals.specs.declared.cause.Cause.{Cause}
+use Rattle.call_signals.specs.declared.order.OrderKind.TheVariants as kinds
+use Rattle.call_signals.specs.declared.stage.Stage.{Stage}
+use Rattle.call_signals.specs.declared.stage.Stage.TheVariants as stages
 use Rattle.peer_lock.specs.declared.errors.OrderError.TheVariants as order_errors
-use Rattle.call_steps.specs.declared.places.Place.{Place}
-use Rattle.call_steps.specs.declared.places.Place.TheVariants as places
+use Rattle.call_steps.specs.declared.place.Place.{Place}
+use Rattle.call_steps.specs.declared.place.Place.TheVariants as places
 use Rattle.call_steps.specs.Work.{Work, Rest, at, go_on, told_at}
 use Rattle.call_steps.specs.Scene.{Leg, Scene, Choice, RefusesOrder, leg_named, replaced, Answer, carried, at_leg, at_order}
 use Rattle.call_steps.specs.Law.{is_spent, is_heard}

@@ -3,18 +3,18 @@ use Rattle.std.proofs.Common.{◌≡◌, ℕ, ◌≤◌, List, [], Option, Some,
 use Rattle.std.proofs.lemmas.Bool.{cond_both, cases_Bool}
 use Rattle.call_book.specs.Book.{Book, is_same, partner_of}
 use Rattle.call_book.specs.declared.leg_name.LegName.{LegName}
-use Rattle.call_signals.specs.declared.causes.Cause.{Cause}
-use Rattle.call_signals.specs.declared.causes.Cause.TheVariants.{UnallocatedNumber, NormalClearing, CallRejected, NoChannelAvailable}
-use Rattle.call_signals.specs.declared.orders.OrderKind.TheVariants as kinds
+use Rattle.call_signals.specs.declared.cause.Cause.{Cause}
+use Rattle.call_signals.specs.declared.cause.Cause.TheVariants.{UnallocatedNumber, NormalClearing, CallRejected, NoChannelAvailable}
+use Rattle.call_signals.specs.declared.order.OrderKind.TheVariants as kinds
 use Rattle.peer_lock.specs.declared.steps.Status.{Status}
-use Rattle.call_steps.specs.Acts.{act_kind}
-use Rattle.call_steps.specs.declared.needs.Need.{Need}
-use Rattle.call_steps.specs.declared.needs.Need.TheVariants as needs
-use Rattle.call_steps.specs.declared.needs.Route.{Route}
-use Rattle.call_steps.specs.declared.needs.Route.TheVariants as routes
-use Rattle.call_steps.specs.declared.places.Place.{Place}
-use Rattle.call_steps.specs.declared.places.Place.TheVariants as places
-use Rattle.call_steps.specs.declared.replies.Reply.TheVariants as replies
+use Rattle.call_steps.specs.Act.{act_kind}
+use Rattle.call_steps.specs.declared.need.Need.{Need}
+use Rattle.call_steps.specs.declared.need.Need.TheVariants as needs
+use Rattle.call_steps.specs.declared.need.Route.{Route}
+use Rattle.call_steps.specs.declared.need.Route.TheVariants as routes
+use Rattle.call_steps.specs.declared.place.Place.{Place}
+use Rattle.call_steps.specs.declared.place.Place.TheVariants as places
+use Rattle.call_steps.specs.declared.reply.Reply.TheVariants as replies
 use Rattle.call_steps.specs.Work.{Work, Rest, at, ended, next_at, go_on, after_status, told_at, in_hand}
 use Rattle.call_steps.specs.Scene.{Leg, Scene, Choice, LeadsTo, leg_at, Answer, answer, status_of, told_cause, answered, is_call}
 use Rattle.call_steps.proofs.BookNames.{bit, same_name}

@@ -3,9 +3,9 @@ use Rattle.std.proofs.Common.{◌≡◌, ℕ, zero, suc, ◌+◌, ◌<◌, ◌�
 use Rattle.std.specs.List.{AllByRecursion}
 use Rattle.call_book.specs.Book.{Book, has_name}
 use Rattle.call_book.specs.declared.leg_name.LegName.{LegName}
-use Rattle.call_steps.specs.declared.needs.Need.{Need}
-use Rattle.call_steps.specs.declared.places.Place.{Place}
-use Rattle.call_steps.specs.declared.places.Place.TheVariants as places
+use Rattle.call_steps.specs.declared.need.Need.{Need}
+use Rattle.call_steps.specs.declared.place.Place.{Place}
+use Rattle.call_steps.specs.declared.place.Place.TheVariants as places
 use Rattle.call_steps.specs.Work.{Work, Rest, next_at, next_of, told_at, after_told, in_hand}
 use Rattle.call_steps.specs.Scene.{Choice, Answer, answered, is_call}
 use Rattle.call_steps.specs.World.{World, Caller, Event, Starts, Steps, Start, ADatagram, ATick, ACall, AHangUp, work_of, scene_of, makes, steps, begins, starts, happens, run, after_answer}

@@ -1,10 +1,10 @@
 -- What isn't seen of an answer plays no part in the steps of a call.
 use Rattle.std.proofs.Common.{◌≡◌, Some, None, refl}
 use Rattle.std.specs.Prelude.{Ok, Err}
-use Rattle.call_steps.specs.declared.places.Place.{Place}
-use Rattle.call_steps.specs.declared.places.Place.TheVariants as places
-use Rattle.call_steps.specs.declared.replies.Reply.{Reply}
-use Rattle.call_steps.specs.declared.replies.Reply.TheVariants as replies
+use Rattle.call_steps.specs.declared.place.Place.{Place}
+use Rattle.call_steps.specs.declared.place.Place.TheVariants as places
+use Rattle.call_steps.specs.declared.reply.Reply.{Reply}
+use Rattle.call_steps.specs.declared.reply.Reply.TheVariants as replies
 use Rattle.call_steps.specs.Work.{Rest, told_at}
 use Rattle.call_steps.specs.Law.{OnlyWhatIsSeenCounts}
 use Rattle.call_steps.specs.SeenReply.{seen_reply}

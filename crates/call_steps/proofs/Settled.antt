@@ -2,8 +2,8 @@
 use Rattle.std.proofs.Common.{◌≡◌, ℕ, ◌+◌, ◌<◌, ◌≤◌, List, Some, true, ◌⊎◌}
 use Rattle.call_book.specs.Book.{Book, partner_of}
 use Rattle.call_book.specs.declared.leg_name.LegName.{LegName}
-use Rattle.call_steps.specs.declared.places.Place.{Place}
-use Rattle.call_steps.specs.declared.places.Place.TheVariants as places
+use Rattle.call_steps.specs.declared.place.Place.{Place}
+use Rattle.call_steps.specs.declared.place.Place.TheVariants as places
 use Rattle.call_steps.specs.Work.{in_hand}
 use Rattle.call_steps.specs.Scene.{Leg, Scene}
 use Rattle.call_steps.proofs.Pending.{NonePending}

@@ -5,9 +5,9 @@ use Rattle.std.specs.List.{AllByRecursion}
 use Rattle.std.specs.FinMap.{get}
 use Rattle.call_book.specs.Book.{IsBook, IsNumberOf, has_name, is_same, partner_of}
 use Rattle.call_book.specs.declared.leg_name.LegName.{LegName}
-use Rattle.call_signals.specs.declared.signals.Signal.{Signal}
-use Rattle.call_signals.specs.declared.stages.Stage.{Stage}
-use Rattle.call_signals.specs.declared.stages.Stage.TheVariants as stages
+use Rattle.call_signals.specs.declared.signal.Signal.{Signal}
+use Rattle.call_signals.specs.declared.stage.Stage.{Stage}
+use Rattle.call_signals.specs.declared.stage.Stage.TheVariants as stages
 use Rattle.peer_lock.specs.declared.errors.OpenError.TheVariants as open_errors
 use Rattle.peer_lock.specs.declared.errors.OrderError.TheVariants as order_errors
 use Rattle.peer_lock.specs.declared.errors.PeerError.TheVariants as peer_errors
@@ -16,12 +16,12 @@ use Rattle.call_steps.specs.Scene.{leg_named, without}
 use Rattle.call_steps.specs.SeenReply.{seen_reply}
 use Rattle.call_steps.specs.Work.{Work, next_of, after_told, ended}
 use Rattle.call_steps.specs.World.{World, Caller, Event, Starts, Steps, run}
-use Rattle.call_steps.specs.declared.acts.Act.{Act}
-use Rattle.call_steps.specs.declared.acts.Act.TheVariants as acts
-use Rattle.call_steps.specs.declared.needs.Need.TheVariants as needs
-use Rattle.call_steps.specs.declared.places.Place.{Place}
-use Rattle.call_steps.specs.declared.places.Place.TheVariants as places
-use Rattle.call_steps.specs.declared.replies.Reply.{Reply}
+use Rattle.call_steps.specs.declared.act.Act.{Act}
+use Rattle.call_steps.specs.declared.act.Act.TheVariants as acts
+use Rattle.call_steps.specs.declared.need.Need.TheVariants as needs
+use Rattle.call_steps.specs.declared.place.Place.{Place}
+use Rattle.call_steps.specs.declared.place.Place.TheVariants as places
+use Rattle.call_steps.specs.declared.reply.Reply.{Reply}
 
 -- ---- runs
 

@@ -3,10 +3,10 @@ use Rattle.std.specs.Prelude.{true, Option, None, Some, Ok}
 use Rattle.call_book.specs.declared.leg_name.LegName.{LegName}
 use Rattle.call_steps.specs.Work.{Work, in_hand}
 use Rattle.call_steps.specs.WorkState.{first_of}
-use Rattle.call_steps.specs.declared.needs.Need.{Need}
-use Rattle.call_steps.specs.declared.needs.Need.TheVariants as needs
-use Rattle.call_steps.specs.declared.replies.Reply.{Reply}
-use Rattle.call_steps.specs.declared.replies.Reply.TheVariants as replies
+use Rattle.call_steps.specs.declared.need.Need.{Need}
+use Rattle.call_steps.specs.declared.need.Need.TheVariants as needs
+use Rattle.call_steps.specs.declared.reply.Reply.{Reply}
+use Rattle.call_steps.specs.declared.reply.Reply.TheVariants as replies
 
 -- the name for which the call has a lease, if it has one
 abbrev pub lease_in : Work → Option LegName

@@ -1,4 +1,4 @@
-pub mod Acts
+pub mod Act
 pub mod Work
 pub mod WorkState
 pub mod WorkInside

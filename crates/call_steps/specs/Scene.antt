@@ -8,16 +8,16 @@ use Rattle.call_book.specs.declared.errors.ReserveError.{ReserveError}
 use Rattle.call_book.specs.declared.leg_name.LegName.{LegName}
 use Rattle.leg_machine.specs.Seen.{SeenLeg, SeenFrame, Speaks, frame_effect, opening_effect, fresh_leg, stage_after, ordered}
 use Rattle.leg_machine.specs.Seen.{moved, Lapse, lapsed}
-use Rattle.leg_machine.specs.Stages.{is_ended}
-use Rattle.call_signals.specs.declared.causes.Cause.{Cause}
-use Rattle.call_signals.specs.declared.causes.Cause.TheVariants.{NormalClearing}
+use Rattle.leg_machine.specs.Stage.{is_ended}
+use Rattle.call_signals.specs.declared.cause.Cause.{Cause}
+use Rattle.call_signals.specs.declared.cause.Cause.TheVariants.{NormalClearing}
 use Rattle.call_signals.specs.declared.openings.Opening.{Opening}
 use Rattle.call_signals.specs.declared.openings.Opening.TheVariants.{Offers}
-use Rattle.call_signals.specs.declared.orders.OrderKind.{OrderKind}
-use Rattle.call_signals.specs.declared.signals.MediaSpan.{MediaSpan}
-use Rattle.call_signals.specs.declared.signals.Signal.{Signal}
-use Rattle.call_signals.specs.declared.stages.Stage.{Stage}
-use Rattle.call_signals.specs.declared.stages.Stage.TheVariants as stages
+use Rattle.call_signals.specs.declared.order.OrderKind.{OrderKind}
+use Rattle.call_signals.specs.declared.signal.MediaSpan.{MediaSpan}
+use Rattle.call_signals.specs.declared.signal.Signal.{Signal}
+use Rattle.call_signals.specs.declared.stage.Stage.{Stage}
+use Rattle.call_signals.specs.declared.stage.Stage.TheVariants as stages
 pub use Rattle.peer_lock.specs.Peer.{handed_up}
 pub use Rattle.peer_lock.specs.Seen.{refuses_order}
 use Rattle.peer_lock.specs.declared.errors.OpenError.{OpenError}
@@ -26,17 +26,17 @@ use Rattle.peer_lock.specs.declared.errors.OrderError.{OrderError}
 use Rattle.peer_lock.specs.declared.errors.OrderError.TheVariants as order_errors
 use Rattle.peer_lock.specs.declared.errors.PeerError.{PeerError}
 use Rattle.peer_lock.specs.declared.steps.Status.{Status}
-use Rattle.call_steps.specs.Acts.{act_kind}
+use Rattle.call_steps.specs.Act.{act_kind}
 use Rattle.call_steps.specs.SeenReply.{heard}
-use Rattle.call_steps.specs.declared.needs.Need.{Need}
-use Rattle.call_steps.specs.declared.needs.Need.TheVariants as needs
-use Rattle.call_steps.specs.declared.needs.Route.{Route}
-use Rattle.call_steps.specs.declared.needs.Route.TheVariants as routes
-use Rattle.call_steps.specs.declared.places.Place.{Place}
-use Rattle.call_steps.specs.declared.places.Place.TheVariants as places
-use Rattle.call_steps.specs.declared.replies.Heard.{Heard}
-use Rattle.call_steps.specs.declared.replies.Reply.{Reply}
-use Rattle.call_steps.specs.declared.replies.Reply.TheVariants as replies
+use Rattle.call_steps.specs.declared.need.Need.{Need}
+use Rattle.call_steps.specs.declared.need.Need.TheVariants as needs
+use Rattle.call_steps.specs.declared.need.Route.{Route}
+use Rattle.call_steps.specs.declared.need.Route.TheVariants as routes
+use Rattle.call_steps.specs.declared.place.Place.{Place}
+use Rattle.call_steps.specs.declared.place.Place.TheVariants as places
+use Rattle.call_steps.specs.declared.reply.Heard.{Heard}
+use Rattle.call_steps.specs.declared.reply.Reply.{Reply}
+use Rattle.call_steps.specs.declared.reply.Reply.TheVariants as replies
 
 pub record Leg : Type 0 where
   pub name : LegName

@@ -2,11 +2,11 @@
 -- holds.
 use Rattle.std.specs.Prelude.{List, Option, None, Some, Ok}
 use Rattle.call_book.specs.declared.leg_name.LegName.{LegName}
-use Rattle.call_signals.specs.declared.signals.Signal.{Signal}
+use Rattle.call_signals.specs.declared.signal.Signal.{Signal}
 use Rattle.peer_lock.specs.declared.steps.Status.{Status}
-use Rattle.call_steps.specs.declared.replies.Heard.{Heard}
-use Rattle.call_steps.specs.declared.replies.Reply.{Reply}
-use Rattle.call_steps.specs.declared.replies.Reply.TheVariants as replies
+use Rattle.call_steps.specs.declared.reply.Heard.{Heard}
+use Rattle.call_steps.specs.declared.reply.Reply.{Reply}
+use Rattle.call_steps.specs.declared.reply.Reply.TheVariants as replies
 
 -- the leg concerned, and what was handed up
 abbrev pub heard : Option LegName → List (LegName × Signal) → Heard

@@ -5,8 +5,8 @@ use Rattle.peer_lock.specs.Legs.{PeerLegs}
 use Rattle.peer_lock.specs.Seen.{SeenNamed, seen_at}
 use Rattle.call_steps.specs.Scene.{Leg, Scene, Choice, leg_at, answered}
 use Rattle.call_steps.specs.SeenReply.{seen_reply}
-use Rattle.call_steps.specs.declared.needs.Need.{Need}
-use Rattle.call_steps.specs.declared.replies.Reply.{Reply}
+use Rattle.call_steps.specs.declared.need.Need.{Need}
+use Rattle.call_steps.specs.declared.reply.Reply.{Reply}
 
 abbrev pub look_of : Leg → SeenNamed
 look_of leg = record { name = leg.name; seen = leg.seen }

@@ -4,7 +4,7 @@ use Rattle.call_book.specs.Book.{Book}
 use Rattle.call_book.specs.declared.leg_name.LegName.{LegName}
 use Rattle.call_steps.specs.Scene.{Leg, Scene, Choice, Answer, answered, is_call}
 use Rattle.call_steps.specs.Work.{Work, of_datagram, of_tick, of_call, of_hang_up, next_of, after_told}
-use Rattle.call_steps.specs.declared.needs.Need.{Need}
+use Rattle.call_steps.specs.declared.need.Need.{Need}
 
 -- a caller: it is idle where its work needs nothing more
 pub record Caller : Type 0 where

@@ -2,12 +2,12 @@
 ghost use Rattle.std.specs.Prelude.{◌≡◌, [], Option, None, Some, Ok, false};
 ghost use Rattle.call_steps.specs.Work as work;
 ghost use Rattle.call_steps.specs.WorkState.{onwards_after, brings_list};
-ghost use Rattle.call_steps.specs.declared.places.Place.TheVariants as places;
+ghost use Rattle.call_steps.specs.declared.place.Place.TheVariants as places;
 
-use crate::acts::Act;
-use crate::needs::Route;
-use crate::places::Place;
-use crate::replies::Reply;
+use crate::act::Act;
+use crate::need::Route;
+use crate::place::Place;
+use crate::reply::Reply;
 use crate::work::Work;
 use call_book::LegName;
 use leg_machine::{Cause, Format};

@@ -3,9 +3,9 @@ ghost use Rattle.std.specs.Prelude.{◌≡◌, ◌+◌, ◌≤◌, ◌^◌, [], 
 ghost use Rattle.call_steps.specs.Beginnings.{beginning_at};
 ghost use Rattle.call_steps.specs.Work as work;
 
-use crate::needs::Need;
-use crate::places::Place;
-use crate::replies::Heard;
+use crate::need::Need;
+use crate::place::Place;
+use crate::reply::Heard;
 use call_book::LegName;
 use leg_machine::Signal;
 use peer_lock::{Offer, Onwards};

@@ -2,8 +2,8 @@
 #![tactic(auto)]
 
 mod asking;
-mod orders;
+mod order;
 mod showing;
 
-pub use orders::{Order, order_of};
+pub use order::{Order, order_of};
 pub use showing::give_order;

@@ -1,6 +1,6 @@
 //! What an order's answer is for people.
 use crate::asking::{Answered, ask};
-use crate::orders::Order;
+use crate::order::Order;
 use control_requests::{accounts_table, calls_table, peers_table};
 use serde_json::Value;
 use std::alloc::{AllocError, Global};

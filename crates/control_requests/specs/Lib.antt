@@ -1,5 +1,5 @@
-pub mod Answers
-pub mod Commands
+pub mod Answer
+pub mod Command
 pub mod Digits
 pub mod Members
 pub mod Placing

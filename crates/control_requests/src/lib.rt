@@ -2,8 +2,8 @@
 //! or writes.
 #![tactic(auto)]
 
-mod answers;
-mod commands;
+mod answer;
+mod command;
 mod digits;
 mod json_text;
 pub mod laws;
@@ -12,8 +12,8 @@ mod request;
 mod tables;
 mod views;
 
-pub use answers::{Answer, Status};
-pub use commands::{Command, Methods, NoCommand, command_of};
+pub use answer::{Answer, Status};
+pub use command::{Command, Methods, NoCommand, command_of};
 pub use placing::{PlaceFault, PlaceOrder, place_of};
 pub use request::{BODY_LIMIT, FIELD_LIMIT, HEAD_LIMIT, Reading, Request, read_request};
 pub use tables::{TableFault, accounts_table, calls_table, peers_table};

@@ -6,8 +6,8 @@ use Rattle.call_book.specs.declared.leg_name.LegName.{LegName}
 use Rattle.call_steps.specs.Leases.{lease_in, lease_after}
 use Rattle.call_steps.specs.MediaLeft.{media_left, media_needed, handed_by}
 use Rattle.call_steps.specs.Work.{Work, next_of, after_told}
-use Rattle.call_steps.specs.declared.needs.Need.{Need}
-use Rattle.call_steps.specs.declared.replies.Reply.{Reply}
+use Rattle.call_steps.specs.declared.need.Need.{Need}
+use Rattle.call_steps.specs.declared.reply.Reply.{Reply}
 use Rattle.exchange_core.specs.Covered.{IsCovered}
 
 -- the laws of a call's media

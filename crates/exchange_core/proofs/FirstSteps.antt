@@ -8,13 +8,13 @@ use Rattle.peer_lock.specs.declared.errors.OpenError.TheVariants as open_errors
 use Rattle.peer_lock.specs.declared.errors.PeerError.TheVariants as peer_errors
 use Rattle.call_steps.specs.Beginnings.{Beginning, OfDatagram, beginning_at, is_over, is_answer, is_made, is_refusal}
 use Rattle.call_steps.specs.Work.{Work, Rest, at, next_at, next_of, told_at, after_told}
-use Rattle.call_steps.specs.declared.places.Place.{Place}
-use Rattle.call_steps.specs.declared.places.Place.TheVariants as places
-use Rattle.call_steps.specs.declared.replies.Reply.{Reply}
-use Rattle.call_steps.specs.declared.replies.Reply.TheVariants as replies
-use Rattle.exchange_core.specs.Denials.{Denies, denial_of, noted}
+use Rattle.call_steps.specs.declared.place.Place.{Place}
+use Rattle.call_steps.specs.declared.place.Place.TheVariants as places
+use Rattle.call_steps.specs.declared.reply.Reply.{Reply}
+use Rattle.call_steps.specs.declared.reply.Reply.TheVariants as replies
+use Rattle.exchange_core.specs.Denial.{Denies, denial_of, noted}
 use Rattle.exchange_core.specs.FirstSteps.{StartsInPlan, InPlan, IsOpened, IsOpenedOut, IsOpeningDue, KeepsPeer, CallIsMade, named_after}
-use Rattle.exchange_core.specs.declared.denials.Denial.{Denial}
+use Rattle.exchange_core.specs.declared.denial.Denial.{Denial}
 
 -- the laws of how a call begins
 abbrev pub MadeIsPast : Type 0

@@ -8,11 +8,11 @@ use Rattle.iax_frames.specs.FullFrame.{FullFrame}
 use Rattle.leg_machine.specs.Openings.{opening_of, opening_effect, leg_for_new}
 use Rattle.leg_machine.specs.Effects.{is_reply}
 use Rattle.leg_machine.specs.Steps.{Step, no_room, answered, taken}
-use Rattle.call_signals.specs.declared.messages.Message.TheVariants.{New}
+use Rattle.call_signals.specs.declared.message.Message.TheVariants.{New}
 use Rattle.seq_window.specs.Window.{is_full}
 use Rattle.call_signals.specs.declared.openings.Opening.{Opening}
 use Rattle.call_signals.specs.declared.openings.Opening.TheVariants.{Refused, Challenges, Offers}
-use Rattle.call_signals.specs.declared.signals.Signal.{Signal}
+use Rattle.call_signals.specs.declared.signal.Signal.{Signal}
 use Rattle.peer_lock.specs.Accounts.{Credit, with_step}
 use Rattle.peer_lock.specs.CarriedMedia.{LiesWithin, handed_octets}
 use Rattle.peer_lock.specs.Openings.{opens_in}

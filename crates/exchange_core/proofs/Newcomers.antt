@@ -6,8 +6,8 @@ use Rattle.iax_frames.specs.FullFrame.{FullFrame}
 use Rattle.iax_frames.specs.declared.full_frame.FullHead.{FullHead}
 use Rattle.iax_frames.specs.declared.datagram.Datagram.{Datagram}
 use Rattle.iax_frames.specs.declared.datagram.Datagram.TheVariants.{Full, Mini, Video, Trunk}
-use Rattle.leg_machine.specs.Legs.{is_short_of_entries}
-use Rattle.leg_machine.specs.Messages.{message_of, is_numbered}
+use Rattle.leg_machine.specs.Leg.{is_short_of_entries}
+use Rattle.leg_machine.specs.Message.{message_of, is_numbered}
 use Rattle.peer_lock.specs.Arrivals.{datagram_refused, mini_refused}
 use Rattle.peer_lock.specs.Delivery.{Delivery, NeedsNumber, Gets, NoCall, delivered, delivery_refused, found, inval_for, is_new, is_poke, pong_for}
 use Rattle.peer_lock.specs.Legs.{NamedLeg, leg_of_remote}

@@ -3,8 +3,8 @@ use Rattle.std.specs.Prelude.{◌≡◌, List, [], ◌∷◌, ◌++◌, Some, re
 use Rattle.std.proofs.Common.{append_assoc, append-nil, ap, sym, ◌∙◌}
 use Rattle.call_steps.specs.Work.{next_of}
 use Rattle.call_steps.specs.WorkState.{WorkState, offer_in}
-use Rattle.call_steps.specs.declared.needs.Need.{Need}
-use Rattle.call_steps.specs.declared.replies.Reply.{Reply}
+use Rattle.call_steps.specs.declared.need.Need.{Need}
+use Rattle.call_steps.specs.declared.reply.Reply.{Reply}
 use Rattle.noted_steps.specs.Notes.{Noted}
 use Rattle.noted_steps.specs.declared.made.Made.{Made}
 use Rattle.exchange_core.specs.Traces.{Call, IsMade, IsTrace, Makes, Traces, told}

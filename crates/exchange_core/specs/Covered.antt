@@ -2,7 +2,7 @@
 use Rattle.std.specs.Prelude.{◌≡◌, ℕ, ◌+◌, ◌≤◌, List}
 use Rattle.std.specs.List.{AllByRecursion}
 use Rattle.call_book.specs.declared.leg_name.LegName.{LegName}
-use Rattle.call_signals.specs.declared.signals.Signal.{Signal}
+use Rattle.call_signals.specs.declared.signal.Signal.{Signal}
 use Rattle.peer_lock.specs.Accounts.{Credit}
 use Rattle.peer_lock.specs.CarriedMedia.{LiesWithin, handed_octets}
 

@@ -1,5 +1,5 @@
 pub mod Covered
-pub mod Denials
+pub mod Denial
 pub mod FirstSteps
 pub mod Leaving
 pub mod Newcomers

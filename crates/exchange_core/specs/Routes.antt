@@ -1,14 +1,14 @@
 -- Where offered calls lead.
 use Rattle.std.specs.Prelude.{◌≡◌, ℕ, ◌<◌, Bool, true, false, Option, None, Some, All, option_map, slice_get}
-use Rattle.leg_machine.specs.Formats.{formats_of_both, format_among}
-use Rattle.call_signals.specs.declared.formats.Format.{Format}
-use Rattle.call_signals.specs.declared.formats.Formats.{Formats}
+use Rattle.leg_machine.specs.Format.{formats_of_both, format_among}
+use Rattle.call_signals.specs.declared.format.Format.{Format}
+use Rattle.call_signals.specs.declared.format.Formats.{Formats}
 use Rattle.call_signals.specs.declared.rules.PeerRules.{PeerRules}
 use Rattle.peer_accounts.specs.declared.onwards.Offer.{Offer}
 use Rattle.peer_plan.specs.Plan.{PlanView, fits, IsNearest}
 use Rattle.peer_plan.specs.declared.route.Route.{Route as Way}
-use Rattle.call_steps.specs.declared.needs.Route.{Route}
-use Rattle.call_steps.specs.declared.needs.Route.TheVariants as routes
+use Rattle.call_steps.specs.declared.need.Route.{Route}
+use Rattle.call_steps.specs.declared.need.Route.TheVariants as routes
 
 -- a peer that it leads to is one of so many
 abbrev pub LeadsInside : Route → ℕ → Type 0

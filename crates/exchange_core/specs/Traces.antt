@@ -3,17 +3,17 @@ use Rattle.std.specs.Prelude.{◌≡◌, ◌≢◌, ℕ, ◌≤◌, ◌++◌, �
 use Rattle.std.specs.Prelude.{is_some, length, option_copied, option_map, slice_get, All}
 use Rattle.call_book.specs.declared.leg_name.LegName.{LegName}
 use Rattle.call_signals.specs.Caller.{numbered}
-use Rattle.call_signals.specs.Formats.{lowest_format}
-use Rattle.call_signals.specs.declared.formats.Format.{Format}
-use Rattle.call_steps.specs.Acts.{act_kind, act_media}
+use Rattle.call_signals.specs.Format.{lowest_format}
+use Rattle.call_signals.specs.declared.format.Format.{Format}
+use Rattle.call_steps.specs.Act.{act_kind, act_media}
 use Rattle.call_steps.specs.Work.{next_of, after_told, of_datagram}
 use Rattle.call_steps.specs.WorkState.{WorkState, begun, offer_in, onwards_after}
-use Rattle.call_steps.specs.declared.acts.Act.{Act}
-use Rattle.call_steps.specs.declared.needs.Need.{Need}
-use Rattle.call_steps.specs.declared.needs.Need.TheVariants as needs
-use Rattle.call_steps.specs.declared.replies.Heard.{Heard}
-use Rattle.call_steps.specs.declared.replies.Reply.{Reply}
-use Rattle.call_steps.specs.declared.replies.Reply.TheVariants as replies
+use Rattle.call_steps.specs.declared.act.Act.{Act}
+use Rattle.call_steps.specs.declared.need.Need.{Need}
+use Rattle.call_steps.specs.declared.need.Need.TheVariants as needs
+use Rattle.call_steps.specs.declared.reply.Heard.{Heard}
+use Rattle.call_steps.specs.declared.reply.Reply.{Reply}
+use Rattle.call_steps.specs.declared.reply.Reply.TheVariants as replies
 use Rattle.iax_frames.specs.FullFrame.{SpellsFull}
 use Rattle.noted_steps.specs.Notes.{Noted, Notes}
 use Rattle.noted_steps.specs.declared.made.Made.{Made}

@@ -1,14 +1,14 @@
 //! The locked sections of the book: each takes its lock alone, and makes no step of a peer.
 ghost use Rattle.std.specs.Prelude.{◌≡◌, Err, Option, IfOk, IfErr};
-ghost use Rattle.call_steps.specs.declared.needs.Need.TheVariants as needs;
-ghost use Rattle.call_steps.specs.declared.replies.Reply.TheVariants as replies;
+ghost use Rattle.call_steps.specs.declared.need.Need.TheVariants as needs;
+ghost use Rattle.call_steps.specs.declared.reply.Reply.TheVariants as replies;
 ghost use Rattle.exchange_core.specs.Traces.{Call, Makes};
 ghost use Rattle.noted_steps.specs.Notes.{note, without_lease};
 ghost use Rattle.peer_accounts.specs.declared.onwards.Offer.{Offer as OfferValue};
 ghost use Rattle.noted_steps.specs.declared.made.Made.TheVariants as mades;
 
 use crate::exchange::Exchange;
-use crate::gates::Gate;
+use crate::gate::Gate;
 use call_book::{BridgeError, Lease, LegName, ReserveError, Stale};
 use noted_steps::Pass;
 use peer_lock::Naming;

@@ -4,14 +4,14 @@ ghost use Rattle.std.specs.Prelude.{◌≡◌, ◌+◌, ◌<◌, ◌≤◌, [], 
 ghost use Rattle.call_steps.specs.Beginnings.{OfDatagram, beginning_at};
 ghost use Rattle.call_steps.specs.Leases.{lease_in};
 ghost use Rattle.call_steps.specs.MediaLeft.{media_left};
-ghost use Rattle.exchange_core.specs.Denials.{Denies};
+ghost use Rattle.exchange_core.specs.Denial.{Denies};
 ghost use Rattle.exchange_core.specs.FirstSteps.{CallIsMade, StartsInPlan};
 ghost use Rattle.exchange_core.specs.Leaving.{LeftSince, leaving_of, nobody};
 ghost use Rattle.exchange_core.specs.Numbers.{IsCalled};
 ghost use Rattle.exchange_core.specs.Traces.{MakesAll, call_of};
 
 use crate::exchange::Exchange;
-use crate::gates::Gate;
+use crate::gate::Gate;
 use crate::hands::{Given, Hands};
 use call_steps::Work;
 use call_steps::laws::{leases_are_as_named, media_is_carried_once, refused_calls_end};

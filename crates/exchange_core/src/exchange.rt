@@ -1,7 +1,7 @@
 //! The exchange and its locks.
 ghost use Rattle.std.specs.Prelude.{◌≡◌};
 
-use crate::gates::Gate;
+use crate::gate::Gate;
 use media_ledger::Supply;
 use noted_steps::{NotedBook, NotedPeer};
 use peer_lock::Naming;

@@ -1,12 +1,12 @@
 //! What a call was given, and what it has in its hands.
 ghost use Rattle.std.specs.Prelude.{◌≡◌, ◌+◌, ◌≤◌, [], None, Some, option_copied, vec_len, vec_capacity};
 ghost use Rattle.call_steps.specs.Beginnings.{beginning_at};
-ghost use Rattle.exchange_core.specs.Denials.{noted};
+ghost use Rattle.exchange_core.specs.Denial.{noted};
 ghost use Rattle.exchange_core.specs.Leaving.{all_left, given_up_at, leaving_of, nobody};
 ghost use Rattle.exchange_core.specs.Traces.{told};
 ghost use Rattle.peer_lock.specs.Statuses.{IsHistory};
 
-use crate::denials::Denial;
+use crate::denial::Denial;
 use crate::leavers::Leavers;
 use call_auth::Challenge;
 use call_book::{Lease, LegName};

@@ -2,11 +2,11 @@
 ghost use Rattle.std.specs.Option.{ForSome};
 ghost use Rattle.std.specs.Prelude.{◌≡◌, ◌≢◌, ◌+◌, ◌<◌, ◌≤◌, length, None, Option, Some, Err, option_copied, option_map};
 ghost use Rattle.std.specs.Prelude.{slice_get, IfOk, IfErr, IsSome, OnOk, OnErr};
-ghost use Rattle.call_signals.specs.Formats.{lowest_format};
+ghost use Rattle.call_signals.specs.Format.{lowest_format};
 ghost use Rattle.exchange_core.specs.Covered.{TakesCredit};
 ghost use Rattle.exchange_core.specs.Newcomers.{SpellsOpening};
-ghost use Rattle.call_steps.specs.declared.needs.Need.TheVariants as needs;
-ghost use Rattle.call_steps.specs.declared.replies.Reply.TheVariants as replies;
+ghost use Rattle.call_steps.specs.declared.need.Need.TheVariants as needs;
+ghost use Rattle.call_steps.specs.declared.reply.Reply.TheVariants as replies;
 ghost use Rattle.exchange_core.specs.Numbers.{IsCalled};
 ghost use Rattle.exchange_core.specs.Routes.{format_for};
 ghost use Rattle.exchange_core.specs.declared.hands.Given.{Given as GivenValue};
@@ -18,7 +18,7 @@ ghost use Rattle.peer_lock.specs.Accounts.{with_step};
 ghost use Rattle.peer_lock.specs.Openings.{IsOpening};
 
 use crate::exchange::Exchange;
-use crate::gates::Gate;
+use crate::gate::Gate;
 use crate::hands::{Given, Hands};
 use crate::routing::format_for;
 use call_book::{Lease, LegName};

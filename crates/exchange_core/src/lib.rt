@@ -4,10 +4,10 @@
 
 mod answers;
 mod book_sections;
-mod denials;
+mod denial;
 mod driver;
 mod exchange;
-mod gates;
+mod gate;
 mod hands;
 pub mod laws;
 mod leavers;
@@ -24,6 +24,6 @@ mod settlement;
 
 pub use answers::{Answer, CallError, Refusal, Retired};
 pub use exchange::Exchange;
-pub use gates::{Gate, NoGate};
+pub use gate::{Gate, NoGate};
 pub use noted_steps::Pass;
 pub use settlement::{SettleError, Settlement};

@@ -2,7 +2,7 @@
 ghost use Rattle.std.specs.Prelude.{◌≡◌, ◌<◌, ◌≤◌, length};
 
 use crate::exchange::Exchange;
-use crate::gates::Gate;
+use crate::gate::Gate;
 use call_book::LegName;
 use noted_steps::Pass;
 use peer_lock::{Description, Naming, Status, Sums};

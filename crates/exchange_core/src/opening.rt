@@ -5,7 +5,7 @@ ghost use Rattle.exchange_core.specs.Start.{first_book, first_legs, IsStart};
 ghost use Rattle.peer_lock.specs.Accounts.{no_accounts};
 
 use crate::exchange::{Exchange, PeerCell};
-use crate::gates::Gate;
+use crate::gate::Gate;
 use call_book::CallBook;
 use media_ledger::shares::supply;
 use media_ledger::{Blank, Share, Supply, SupplyError};

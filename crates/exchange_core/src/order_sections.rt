@@ -1,6 +1,6 @@
 //! The locked sections of peers in which a leg is ordered, time goes on, or a leg is taken out.
 ghost use Rattle.std.specs.Prelude.{◌≡◌, ◌+◌, ◌<◌, ◌≤◌, Some, length, IfOk, IfSome, OnOk, OnErr};
-ghost use Rattle.call_signals.specs.Orders.{kind_of};
+ghost use Rattle.call_signals.specs.Order.{kind_of};
 ghost use Rattle.leg_machine.specs.OrderTable.{IsShortMedia};
 ghost use Rattle.noted_steps.specs.Notes.{Notes, given_up, media_of, note};
 ghost use Rattle.noted_steps.specs.declared.made.Made.TheVariants as mades;
@@ -9,7 +9,7 @@ ghost use Rattle.peer_lock.specs.Orders.{order_octets};
 ghost use Rattle.peer_lock.specs.Statuses.{IsHistory};
 
 use crate::exchange::Exchange;
-use crate::gates::Gate;
+use crate::gate::Gate;
 use call_book::{Lease, LegName};
 use leg_machine::Order;
 use noted_steps::Pass;

@@ -11,7 +11,7 @@ ghost use Rattle.peer_lock.specs.Makes.{IsNothing};
 ghost use Rattle.peer_lock.specs.Openings.{IsOpening};
 
 use crate::exchange::Exchange;
-use crate::gates::Gate;
+use crate::gate::Gate;
 use call_auth::Challenge;
 use call_book::Lease;
 use iax_frames::{Full, Out};

@@ -1,13 +1,13 @@
 //! Where offered calls lead.
 ghost use Rattle.std.specs.Prelude.{◌≡◌, length, Some, option_copied};
-ghost use Rattle.call_steps.specs.declared.needs.Need.TheVariants as needs;
-ghost use Rattle.call_steps.specs.declared.replies.Reply.TheVariants as replies;
+ghost use Rattle.call_steps.specs.declared.need.Need.TheVariants as needs;
+ghost use Rattle.call_steps.specs.declared.reply.Reply.TheVariants as replies;
 ghost use Rattle.exchange_core.specs.Routes.{IsRoute, LeadsInside, format_for};
 ghost use Rattle.exchange_core.specs.Traces.{Makes, call_of};
 ghost use Rattle.exchange_core.specs.declared.hands.Given.{Given as GivenValue};
 
 use crate::exchange::Exchange;
-use crate::gates::Gate;
+use crate::gate::Gate;
 use call_book::LegName;
 use call_steps::Route;
 use leg_machine::{Format, Formats};

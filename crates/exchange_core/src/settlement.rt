@@ -4,7 +4,7 @@ ghost use Rattle.exchange_core.specs.Sums.{accepted_of, packed_of, queued_of, dr
 ghost use Rattle.exchange_core.specs.Sums.{steps_under, begun_with, noted_under};
 
 use crate::exchange::Exchange;
-use crate::gates::Gate;
+use crate::gate::Gate;
 use crate::parting::{Parts, part_passes, part_peers};
 use call_book::CallBook;
 use media_ledger::{Share, Supply, gather};

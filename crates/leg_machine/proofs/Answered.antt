@@ -3,18 +3,18 @@ use Rattle.std.specs.Prelude.{◌<◌, ◌^◌, map, All, IfOk, OnOk, OnErr, Res
 use Rattle.std.proofs.Common.{◌≡◌, ℕ, List, Option, ◌∙◌, sym, subst}
 use Rattle.std.proofs.lemmas.List.Elements.{All-same}
 use Rattle.iax_frames.specs.FullFrame.{FullFrame, spelling}
-use Rattle.leg_machine.specs.Legs.{LegState}
+use Rattle.leg_machine.specs.Leg.{LegState}
 use Rattle.leg_machine.specs.Media.{media_sent, after_media, media_frames}
 use Rattle.leg_machine.specs.Onward.{onward_if, outcome_of}
 use Rattle.leg_machine.specs.OrderTable.{Carried, order_carried}
 use Rattle.leg_machine.specs.Seen.{seen, IsSeenFrame}
 use Rattle.leg_machine.specs.Steps.{Step, full_step, heard_of}
 use Rattle.leg_machine.specs.Tie.{TakesTurn, SendsAtMostOne, SendsNumbered, IsSendingOrMini, HasSent, HasSentOrMini}
-use Rattle.call_signals.specs.declared.orders.Order.{Order}
+use Rattle.call_signals.specs.declared.order.Order.{Order}
 use Rattle.call_signals.specs.declared.outcomes.Heard.{Heard}
 use Rattle.call_signals.specs.declared.outcomes.Judged.{Judged}
 use Rattle.call_signals.specs.declared.outcomes.Outcome.{Outcome}
-use Rattle.call_signals.specs.declared.signals.Onward.{Onward}
+use Rattle.call_signals.specs.declared.signal.Onward.{Onward}
 use Rattle.leg_machine.proofs.SeenFrames.{heard-seen}
 use Rattle.leg_machine.proofs.SendingSteps.{written, full-sent, media-sent}
 use Rattle.leg_machine.proofs.Sides.{order-sent}

@@ -8,15 +8,15 @@ use Rattle.std.proofs.lemmas.List.Elements.{All-nil, All-cons, All-push}
 use Rattle.seq_window.specs.Window.{Sending, held_count, is_due, first_due, tries_at, mark_at, resent, resent_if}
 use Rattle.seq_window.specs.declared.judgements.Resent.{Resent}
 use Rattle.seq_window.specs.declared.judgements.Resent.TheVariants as resents
-use Rattle.leg_machine.specs.Legs.{LegState, entered, failed, is_short_of_entries}
-use Rattle.call_signals.specs.Stages.{is_ended}
+use Rattle.leg_machine.specs.Leg.{LegState, entered, failed, is_short_of_entries}
+use Rattle.call_signals.specs.Stage.{is_ended}
 use Rattle.leg_machine.specs.Ticks.{Tick, quiet, sends_if, must_hang_up, hang_up_step, must_ping, pinged, last_step, due_frames, tick_step}
 use Rattle.leg_machine.specs.Tries.{Tried, tries, one_try, after_try, NoneDue, IsFinished}
 use Rattle.call_signals.specs.declared.failure.Failure.TheVariants as failures
-use Rattle.call_signals.specs.declared.replies.Reply.TheVariants as replies
+use Rattle.call_signals.specs.declared.reply.Reply.TheVariants as replies
 use Rattle.call_signals.specs.declared.rules.PeerRules.{PeerRules}
-use Rattle.call_signals.specs.declared.stages.Stage.{Stage}
-use Rattle.call_signals.specs.declared.stages.Stage.TheVariants as stages
+use Rattle.call_signals.specs.declared.stage.Stage.{Stage}
+use Rattle.call_signals.specs.declared.stage.Stage.TheVariants as stages
 use Rattle.leg_machine.proofs.Tied.{either, either_by}
 
 -- how many are due

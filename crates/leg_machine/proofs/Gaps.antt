@@ -10,14 +10,14 @@ use Rattle.seq_window.specs.declared.judgements.Received.TheVariants as received
 use Rattle.seq_window.specs.Window.{is_full, judged_number, judged_acknowledgement, count_of}
 use Rattle.leg_machine.specs.Effects.{is_reply}
 use Rattle.leg_machine.specs.LegTable.{effect_of}
-use Rattle.leg_machine.specs.Legs.{LegState}
+use Rattle.leg_machine.specs.Leg.{LegState}
 use Rattle.leg_machine.specs.Replies.{vnak}
 use Rattle.leg_machine.specs.Steps.{Step, full_step, inval_step, resend_step, nothing_sent, asking, not_asking, numbered_step, judged_step, taken, replied, answered, no_room, prepared}
 use Rattle.leg_machine.specs.Working.{counts, is_past, wants_vnak}
-use Rattle.call_signals.specs.Messages.{message_of, is_numbered, is_inval, is_vnak}
+use Rattle.call_signals.specs.Message.{message_of, is_numbered, is_inval, is_vnak}
 use Rattle.call_signals.specs.declared.effects.Answering.{Answering}
 use Rattle.call_signals.specs.declared.effects.Answering.TheVariants.{Acknowledged, Answered, Silent}
-use Rattle.call_signals.specs.declared.messages.Message.{Message}
+use Rattle.call_signals.specs.declared.message.Message.{Message}
 use Rattle.leg_machine.proofs.Tied.{either, prepared-history, taken-acks}
 
 -- ---- without `vnak_ms`

@@ -6,14 +6,14 @@ use Rattle.std.proofs.lemmas.Bool.Decides.{nat_tests}
 use Rattle.seq_window.specs.Window.{Sending, held_count, mark_at, resent}
 use Rattle.seq_window.specs.declared.judgements.Resent.{Resent}
 use Rattle.seq_window.specs.declared.judgements.Resent.TheVariants as resents
-use Rattle.leg_machine.specs.Legs.{LegState, entered, failed, local_room, is_short_of_entries}
+use Rattle.leg_machine.specs.Leg.{LegState, entered, failed, local_room, is_short_of_entries}
 use Rattle.leg_machine.specs.Seen.{seen as seen_leg, IsSeenTick}
-use Rattle.call_signals.specs.Stages.{is_ended, is_talking}
+use Rattle.call_signals.specs.Stage.{is_ended, is_talking}
 use Rattle.leg_machine.specs.Ticks.{Tick, quiet, sends_if, must_hang_up, must_ping, pinged, is_ping_time, last_step, due_frames, tick_step}
 use Rattle.leg_machine.specs.Tries.{Tried, tries, one_try, after_try}
 use Rattle.call_signals.specs.declared.failure.Failure.TheVariants as failures
-use Rattle.call_signals.specs.declared.replies.Reply.TheVariants as replies
-use Rattle.call_signals.specs.declared.stages.Stage.TheVariants as stages
+use Rattle.call_signals.specs.declared.reply.Reply.TheVariants as replies
+use Rattle.call_signals.specs.declared.stage.Stage.TheVariants as stages
 use Rattle.leg_machine.specs.Tie.{SendsAtMostOne}
 use Rattle.leg_machine.proofs.SeenTicks.{tick-seen}
 use Rattle.leg_machine.proofs.Tied.{either}

@@ -8,13 +8,13 @@ use Rattle.iax_frames.specs.declared.stored_frame.Frame.{Frame}
 use Rattle.resend_queue.specs.declared.held_frame.Held.{Held}
 use Rattle.seq_window.specs.Sequence.{byte_of}
 use Rattle.seq_window.specs.Window.{Sending, held_count, numbered_from, is_due, first_due, resent_if}
-use Rattle.leg_machine.specs.Legs.{LegState, entered, failed, is_short_of_entries}
-use Rattle.call_signals.specs.Stages.{is_ended}
+use Rattle.leg_machine.specs.Leg.{LegState, entered, failed, is_short_of_entries}
+use Rattle.call_signals.specs.Stage.{is_ended}
 use Rattle.leg_machine.specs.Ticks.{Tick, quiet, sends_if, must_hang_up, must_ping, pinged, last_step, due_frames, tick_step, is_none_due, is_idle}
 use Rattle.leg_machine.specs.Tries.{Tried, tried, tries, one_try}
 use Rattle.call_signals.specs.declared.failure.Failure.TheVariants as failures
-use Rattle.call_signals.specs.declared.replies.Reply.TheVariants as replies
-use Rattle.call_signals.specs.declared.stages.Stage.TheVariants as stages
+use Rattle.call_signals.specs.declared.reply.Reply.TheVariants as replies
+use Rattle.call_signals.specs.declared.stage.Stage.TheVariants as stages
 use Rattle.leg_machine.proofs.Tied.{either_by}
 
 -- what is so of an idle leg that hasn't ended

@@ -3,7 +3,7 @@ use Rattle.std.proofs.Common.{◌≡◌, ℕ, suc, ◌≤◌, ◌++◌, refl, ap
 use Rattle.seq_window.specs.Window.{WindowState, resent, after_resent, entry_count}
 use Rattle.seq_window.specs.declared.judgements.Resent.TheVariants as resents
 use Rattle.seq_window.specs.declared.judgements.Resent.{Resent}
-use Rattle.leg_machine.specs.Legs.{LegState, whole_leg, capacity_of, HasRoom}
+use Rattle.leg_machine.specs.Leg.{LegState, whole_leg, capacity_of, HasRoom}
 use Rattle.leg_machine.specs.declared.machine.Machine.{Machine}
 use Rattle.leg_machine.specs.Tries.{tries, after_try, frames_again}
 

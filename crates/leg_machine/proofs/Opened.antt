@@ -2,12 +2,12 @@
 use Rattle.std.specs.Prelude.{map}
 use Rattle.std.proofs.Common.{◌≡◌, ℕ, ◌≤◌, List, [], ◌++◌, ap, ◌∙◌}
 use Rattle.iax_frames.specs.FullFrame.{FullFrame, spelling}
-use Rattle.leg_machine.specs.Legs.{LegState}
+use Rattle.leg_machine.specs.Leg.{LegState}
 use Rattle.leg_machine.specs.Openings.{opening_of, opening_effect, leg_for_new, open_in_step}
 use Rattle.leg_machine.specs.Seen.{seen as seen_leg, IsSeenOpening}
 use Rattle.leg_machine.specs.Steps.{Step, heard_of, taken_step}
 use Rattle.call_signals.specs.declared.effects.Effect.{Effect}
-use Rattle.call_signals.specs.declared.messages.Message.TheVariants.{New}
+use Rattle.call_signals.specs.declared.message.Message.TheVariants.{New}
 use Rattle.call_signals.specs.declared.outcomes.Heard.{Heard}
 use Rattle.call_signals.specs.declared.rules.PeerRules.{PeerRules}
 use Rattle.leg_machine.specs.Tie.{HasSent}

@@ -1,14 +1,14 @@
 -- Where a table goes on in another.
 use Rattle.std.proofs.Common.{◌≡◌, ℕ, refl}
 use Rattle.iax_frames.specs.FullFrame.{FullFrame}
-use Rattle.leg_machine.specs.Legs.{LegState}
+use Rattle.leg_machine.specs.Leg.{LegState}
 use Rattle.leg_machine.specs.LegTable.{linked, talking, any_stage}
-use Rattle.call_signals.specs.declared.messages.Message.{Message}
-use Rattle.call_signals.specs.declared.messages.Message.TheVariants as messages
-use Rattle.call_signals.specs.declared.signals.Indication.{Indication}
-use Rattle.call_signals.specs.declared.formats.Format.{Format}
-use Rattle.call_signals.specs.declared.stages.Stage.{Stage}
-use Rattle.call_signals.specs.declared.stages.Stage.TheVariants as stages
+use Rattle.call_signals.specs.declared.message.Message.{Message}
+use Rattle.call_signals.specs.declared.message.Message.TheVariants as messages
+use Rattle.call_signals.specs.declared.signal.Indication.{Indication}
+use Rattle.call_signals.specs.declared.format.Format.{Format}
+use Rattle.call_signals.specs.declared.stage.Stage.{Stage}
+use Rattle.call_signals.specs.declared.stage.Stage.TheVariants as stages
 
 pub linked-other : (leg : LegState) (frame : FullFrame) (m : Message) → ((i : Indication) → m ≡ messages.Indicates i → ⊥) → (m ≡ messages.Answer → ⊥)
     → linked leg frame m ≡ talking stages.Linked leg frame m

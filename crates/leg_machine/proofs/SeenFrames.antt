@@ -9,30 +9,30 @@ use Rattle.seq_window.specs.Window.{is_full, held_count, judged_number, judged_a
 use Rattle.info_elements.specs.Element.{u32_in}
 use Rattle.info_elements.specs.Numbers.{FORMAT, MD5_RESULT}
 use Rattle.leg_machine.specs.Effects.{row, no_effect, reply_alone, hung_up, rejected, goes_on, unless_over, marked, is_reply}
-use Rattle.call_signals.specs.Formats.{same_format}
+use Rattle.call_signals.specs.Format.{same_format}
 use Rattle.leg_machine.specs.LegTable.{any_stage, challenged, waiting, talking, linked, effect_at, effect_of, is_answer, element_in, auth_rep_row, auth_rep_digits, is_wanted, voice_row, is_media}
-use Rattle.leg_machine.specs.Legs.{LegState, entered}
-use Rattle.call_signals.specs.Messages.{message_of, is_numbered, is_inval, is_vnak}
+use Rattle.leg_machine.specs.Leg.{LegState, entered}
+use Rattle.call_signals.specs.Message.{message_of, is_numbered, is_inval, is_vnak}
 use Rattle.leg_machine.specs.Seen.{SeenLeg, SeenEffect, seen, moved, SeenFrame, Plain, ProvesItself, FailsToProve, AcceptsCall, RejectsCall, BreaksOff, Indicates, AnswersCall, Dials, Speaks, HangsUp, AcknowledgesAll, seen_effect, frame_effect, IsSeenFrame}
-use Rattle.call_signals.specs.Stages.{is_over, is_closing}
+use Rattle.call_signals.specs.Stage.{is_over, is_closing}
 use Rattle.leg_machine.specs.Steps.{Step, heard_of, full_step, inval_step, vnak_step, resend_step, nothing_sent, asking, not_asking, numbered_step, judged_step, taken_step, taken, replied, answered, no_room, prepared}
 use Rattle.leg_machine.specs.Working.{learnt, acknowledged, counts, wants_vnak, end_noted}
-use Rattle.call_signals.specs.declared.causes.Cause.TheVariants.{CallRejected}
+use Rattle.call_signals.specs.declared.cause.Cause.TheVariants.{CallRejected}
 use Rattle.call_signals.specs.declared.effects.Answering.{Answering}
 use Rattle.call_signals.specs.declared.effects.Answering.TheVariants.{Acknowledged, Answered, Silent}
 use Rattle.call_signals.specs.declared.effects.Effect.{Effect}
 use Rattle.call_signals.specs.declared.effects.Mark.{Mark}
 use Rattle.call_signals.specs.declared.effects.Mark.TheVariants as marks
-use Rattle.call_signals.specs.declared.formats.Format.{Format}
-use Rattle.call_signals.specs.declared.messages.Message.{Message}
-use Rattle.call_signals.specs.declared.messages.Message.TheVariants as messages
+use Rattle.call_signals.specs.declared.format.Format.{Format}
+use Rattle.call_signals.specs.declared.message.Message.{Message}
+use Rattle.call_signals.specs.declared.message.Message.TheVariants as messages
 use Rattle.call_signals.specs.declared.outcomes.Heard.{Heard}
-use Rattle.call_signals.specs.declared.replies.Reply.{Reply}
-use Rattle.call_signals.specs.declared.signals.MediaSpan.{MediaSpan}
-use Rattle.call_signals.specs.declared.signals.Signal.{Signal}
-use Rattle.call_signals.specs.declared.signals.Signal.TheVariants as signals
-use Rattle.call_signals.specs.declared.stages.Stage.{Stage}
-use Rattle.call_signals.specs.declared.stages.Stage.TheVariants as stages
+use Rattle.call_signals.specs.declared.reply.Reply.{Reply}
+use Rattle.call_signals.specs.declared.signal.MediaSpan.{MediaSpan}
+use Rattle.call_signals.specs.declared.signal.Signal.{Signal}
+use Rattle.call_signals.specs.declared.signal.Signal.TheVariants as signals
+use Rattle.call_signals.specs.declared.stage.Stage.{Stage}
+use Rattle.call_signals.specs.declared.stage.Stage.TheVariants as stages
 use Rattle.leg_machine.proofs.Tied.{either, either_by}
 
 -- ---- the rows

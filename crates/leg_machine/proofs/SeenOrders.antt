@@ -2,25 +2,25 @@
 use Rattle.std.specs.Prelude.{◌↔◌, not, nat_le, OnOk, IfErr, Result, Ok, Err}
 use Rattle.std.proofs.Common.{◌≡◌, ℕ, Bool, true, false, cond, List, Option, None, Some, refl, ap, ◌∙◌}
 use Rattle.seq_window.specs.Window.{held_count}
-use Rattle.leg_machine.specs.Legs.{LegState, is_short_of_entries}
+use Rattle.leg_machine.specs.Leg.{LegState, is_short_of_entries}
 use Rattle.leg_machine.specs.Media.{media_sent, after_media}
 use Rattle.leg_machine.specs.OrderTable.{when, row_refused, row_carried, order_refused, order_carried, media_refused, media_refused_as, sending_refused, IsRefusal}
 use Rattle.leg_machine.specs.Seen.{seen, moved, ordered, kind_of, stage_after, IsSeenOrder}
-use Rattle.call_signals.specs.Stages.{is_offered, is_linked, is_talking, is_over}
-use Rattle.call_signals.specs.declared.causes.Cause.{Cause}
-use Rattle.call_signals.specs.declared.formats.Format.{Format}
+use Rattle.call_signals.specs.Stage.{is_offered, is_linked, is_talking, is_over}
+use Rattle.call_signals.specs.declared.cause.Cause.{Cause}
+use Rattle.call_signals.specs.declared.format.Format.{Format}
 use Rattle.leg_machine.specs.declared.media.MediaSent.{MediaSent}
 use Rattle.leg_machine.specs.declared.media.MediaSent.TheVariants as media
-use Rattle.call_signals.specs.declared.orders.Order.{Order}
-use Rattle.call_signals.specs.declared.orders.Order.TheVariants as orders
-use Rattle.call_signals.specs.declared.orders.OrderError.{OrderError}
-use Rattle.call_signals.specs.declared.orders.OrderError.TheVariants as errors
-use Rattle.call_signals.specs.declared.orders.OrderKind.{OrderKind}
-use Rattle.call_signals.specs.declared.orders.OrderKind.TheVariants as kinds
+use Rattle.call_signals.specs.declared.order.Order.{Order}
+use Rattle.call_signals.specs.declared.order.Order.TheVariants as orders
+use Rattle.call_signals.specs.declared.order.OrderError.{OrderError}
+use Rattle.call_signals.specs.declared.order.OrderError.TheVariants as errors
+use Rattle.call_signals.specs.declared.order.OrderKind.{OrderKind}
+use Rattle.call_signals.specs.declared.order.OrderKind.TheVariants as kinds
 use Rattle.leg_machine.specs.declared.orders.Ordered.{Ordered}
-use Rattle.call_signals.specs.declared.signals.Indication.{Indication}
-use Rattle.call_signals.specs.declared.stages.Stage.{Stage}
-use Rattle.call_signals.specs.declared.stages.Stage.TheVariants as stages
+use Rattle.call_signals.specs.declared.signal.Indication.{Indication}
+use Rattle.call_signals.specs.declared.stage.Stage.{Stage}
+use Rattle.call_signals.specs.declared.stage.Stage.TheVariants as stages
 use Rattle.leg_machine.proofs.SeenFrames.{moved-same}
 use Rattle.leg_machine.proofs.Tied.{either, either_by}
 

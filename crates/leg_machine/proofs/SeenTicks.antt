@@ -7,22 +7,22 @@ use Rattle.seq_window.specs.Window.{held_count, is_full, resent}
 use Rattle.seq_window.specs.declared.judgements.Resent.{Resent}
 use Rattle.seq_window.specs.declared.judgements.Resent.TheVariants as resents
 use Rattle.leg_machine.specs.Effects.{is_reply}
-use Rattle.leg_machine.specs.Legs.{LegState, entered, failed, is_short_of_entries}
+use Rattle.leg_machine.specs.Leg.{LegState, entered, failed, is_short_of_entries}
 use Rattle.leg_machine.specs.Openings.{opening_of, opening_effect, leg_for_new, open_in_step}
 use Rattle.leg_machine.specs.Seen.{SeenLeg, seen, moved, fresh_leg, opening_effect as seen_opening, IsSeenOpening, Ends, ClosesDoomed, IsSeenTick}
-use Rattle.call_signals.specs.Stages.{is_over, is_ended}
+use Rattle.call_signals.specs.Stage.{is_over, is_ended}
 use Rattle.leg_machine.specs.Steps.{Step, heard_of, taken_step, taken, answered, no_room}
 use Rattle.leg_machine.specs.Ticks.{Tick, quiet, sends_if, must_hang_up, must_ping, pinged, last_step, due_frames, tick_step}
 use Rattle.leg_machine.specs.Tries.{Tried, tries, one_try, after_try}
 use Rattle.call_signals.specs.declared.failure.Failure.TheVariants as failures
 use Rattle.call_signals.specs.declared.effects.Effect.{Effect}
-use Rattle.call_signals.specs.declared.messages.Message.TheVariants.{New}
+use Rattle.call_signals.specs.declared.message.Message.TheVariants.{New}
 use Rattle.call_signals.specs.declared.openings.Opening.{Opening}
 use Rattle.call_signals.specs.declared.openings.Opening.TheVariants as openings
 use Rattle.call_signals.specs.declared.outcomes.Heard.{Heard}
-use Rattle.call_signals.specs.declared.replies.Reply.TheVariants as replies
+use Rattle.call_signals.specs.declared.reply.Reply.TheVariants as replies
 use Rattle.call_signals.specs.declared.rules.PeerRules.{PeerRules}
-use Rattle.call_signals.specs.declared.stages.Stage.TheVariants as stages
+use Rattle.call_signals.specs.declared.stage.Stage.TheVariants as stages
 use Rattle.leg_machine.proofs.SeenFrames.{or-none, seen-taken}
 use Rattle.leg_machine.proofs.Tied.{either, either_by}
 

@@ -15,13 +15,13 @@ use Rattle.seq_window.specs.declared.judgements.Resent.TheVariants as resents
 use Rattle.seq_window.specs.Window.{held_count, held_frames, held_at, is_full, judged_number, judged_acknowledgement, count_of, entries_for_count, entries_for_number, resent}
 use Rattle.leg_machine.specs.Effects.{is_reply}
 use Rattle.leg_machine.specs.LegTable.{effect_of}
-use Rattle.leg_machine.specs.Legs.{LegState, entered, failed, is_short_of_entries}
+use Rattle.leg_machine.specs.Leg.{LegState, entered, failed, is_short_of_entries}
 use Rattle.leg_machine.specs.Media.{after_media, media_frames}
-use Rattle.call_signals.specs.Messages.{message_of, is_numbered, is_inval, is_vnak}
+use Rattle.call_signals.specs.Message.{message_of, is_numbered, is_inval, is_vnak}
 use Rattle.leg_machine.specs.Openings.{leg_for_call, open_out_step}
 use Rattle.leg_machine.specs.OrderTable.{row_carried}
 use Rattle.leg_machine.specs.Replies.{reply_frame, voice_frame, new_frame, outgoing, next_byte, ack, vnak, sent_again}
-use Rattle.call_signals.specs.Stages.{is_ended}
+use Rattle.call_signals.specs.Stage.{is_ended}
 use Rattle.leg_machine.specs.Steps.{Step, full_step, inval_step, resend_step, nothing_sent, asking, not_asking, numbered_step, judged_step, taken_step, taken, replied, answers, answered, no_room, prepared}
 use Rattle.leg_machine.specs.Ticks.{Tick, quiet, sends_if, must_hang_up, must_ping, pinged, last_step, due_frames, tick_step}
 use Rattle.leg_machine.specs.Tie.{IsNumberedFrame, SendsNumbered, IsSendingOf, IsSending, IsSendingOrMini, HasSent, HasSentOrMini}
@@ -31,15 +31,15 @@ use Rattle.call_signals.specs.declared.failure.Failure.TheVariants as failures
 use Rattle.call_signals.specs.declared.effects.Answering.{Answering}
 use Rattle.call_signals.specs.declared.effects.Answering.TheVariants.{Acknowledged, Answered, Silent}
 use Rattle.call_signals.specs.declared.effects.Effect.{Effect}
-use Rattle.call_signals.specs.declared.formats.Format.{Format}
+use Rattle.call_signals.specs.declared.format.Format.{Format}
 use Rattle.leg_machine.specs.declared.media.MediaSent.{MediaSent}
 use Rattle.leg_machine.specs.declared.media.MediaSent.TheVariants as media
-use Rattle.call_signals.specs.declared.messages.Message.{Message}
-use Rattle.call_signals.specs.declared.messages.Message.TheVariants.{New}
+use Rattle.call_signals.specs.declared.message.Message.{Message}
+use Rattle.call_signals.specs.declared.message.Message.TheVariants.{New}
 use Rattle.leg_machine.specs.declared.orders.Ordered.{Ordered}
-use Rattle.call_signals.specs.declared.replies.Reply.TheVariants as replies
+use Rattle.call_signals.specs.declared.reply.Reply.TheVariants as replies
 use Rattle.call_signals.specs.declared.rules.PeerRules.{PeerRules}
-use Rattle.call_signals.specs.declared.stages.Stage.TheVariants as stages
+use Rattle.call_signals.specs.declared.stage.Stage.TheVariants as stages
 use Rattle.leg_machine.proofs.Sendings.{reply-numbered, voice-numbered, new-sending, ack-sending, vnak-sending, held-all, all-at, IsHeldIn, Extends, extends-itself, extends-push, again-sending, AllSent, none-sent, one-sent}
 use Rattle.leg_machine.proofs.Tied.{either, prepared-history, taken-history}
 use Rattle.leg_machine.proofs.TiedSends.{kept-tries, last-none}

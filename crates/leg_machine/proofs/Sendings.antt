@@ -10,18 +10,18 @@ use Rattle.seq_window.specs.Entry.{Entry, Sent, Acked, Taken}
 use Rattle.seq_window.specs.History.{sent as sent_frames, taken as taken_frames, sent_count, taken_count, acked_count, held as held_of}
 use Rattle.seq_window.specs.Sequence.{byte_of}
 use Rattle.seq_window.specs.Window.{WindowState, Sending, numbered_from, held_frames}
-use Rattle.call_signals.specs.Formats.{format_bit}
-use Rattle.leg_machine.specs.Legs.{LegState}
-use Rattle.call_signals.specs.Messages.{message_by, is_numbered, is_inval}
+use Rattle.call_signals.specs.Format.{format_bit}
+use Rattle.leg_machine.specs.Leg.{LegState}
+use Rattle.call_signals.specs.Message.{message_by, is_numbered, is_inval}
 use Rattle.leg_machine.specs.Replies.{reply_frame, outgoing, next_byte, ack, vnak, sent_again}
 use Rattle.leg_machine.specs.Tie.{IsNumberedFrame, SendsNumbered, IsSendingOf}
-use Rattle.call_signals.specs.declared.formats.Format.{Format}
-use Rattle.call_signals.specs.declared.formats.Format.TheVariants as formats
-use Rattle.call_signals.specs.declared.messages.Message.{Message}
-use Rattle.call_signals.specs.declared.messages.Message.TheVariants as messages
-use Rattle.call_signals.specs.declared.replies.Reply.{Reply}
-use Rattle.call_signals.specs.declared.replies.Reply.TheVariants as replies
-use Rattle.call_signals.specs.declared.signals.Indication.TheVariants as indications
+use Rattle.call_signals.specs.declared.format.Format.{Format}
+use Rattle.call_signals.specs.declared.format.Format.TheVariants as formats
+use Rattle.call_signals.specs.declared.message.Message.{Message}
+use Rattle.call_signals.specs.declared.message.Message.TheVariants as messages
+use Rattle.call_signals.specs.declared.reply.Reply.{Reply}
+use Rattle.call_signals.specs.declared.reply.Reply.TheVariants as replies
+use Rattle.call_signals.specs.declared.signal.Indication.TheVariants as indications
 use Rattle.leg_machine.proofs.Tied.{either}
 
 -- ---- records that grow by a sent frame

@@ -8,7 +8,7 @@ use Rattle.seq_window.specs.Entry.{Entry}
 use Rattle.seq_window.specs.Turn.{entries_for_reply}
 use Rattle.seq_window.specs.Window.{judged_number, entries_for_number, is_full}
 use Rattle.leg_machine.specs.Effects.{is_reply}
-use Rattle.leg_machine.specs.Legs.{LegState}
+use Rattle.leg_machine.specs.Leg.{LegState}
 use Rattle.leg_machine.specs.Media.{media_sent, after_media, media_frames, is_voice_due}
 use Rattle.leg_machine.specs.Openings.{opening_of, opening_effect, leg_for_new, open_in_step, open_out_step}
 use Rattle.leg_machine.specs.OrderTable.{order_row, order_carried, media_datagrams, doomed, paid}
@@ -17,10 +17,10 @@ use Rattle.leg_machine.specs.Steps.{Step, taken_step, taken, answered, no_room}
 use Rattle.leg_machine.specs.Tie.{TakesFirstTurn, HasSentAtMostOne, SendsNumbered, IsNumberedFrame, IsSendingOrMini, HasSent, HasSentOrMini}
 use Rattle.leg_machine.specs.Working.{stored}
 use Rattle.call_signals.specs.declared.effects.Effect.{Effect}
-use Rattle.call_signals.specs.declared.formats.Format.{Format}
-use Rattle.call_signals.specs.declared.messages.Message.TheVariants.{New}
-use Rattle.call_signals.specs.declared.orders.Order.{Order}
-use Rattle.call_signals.specs.declared.orders.Order.TheVariants.{Accept, Reject, Indicate, Answer, Dtmf, Media, Hangup, Doom, Paid}
+use Rattle.call_signals.specs.declared.format.Format.{Format}
+use Rattle.call_signals.specs.declared.message.Message.TheVariants.{New}
+use Rattle.call_signals.specs.declared.order.Order.{Order}
+use Rattle.call_signals.specs.declared.order.Order.TheVariants.{Accept, Reject, Indicate, Answer, Dtmf, Media, Hangup, Doom, Paid}
 use Rattle.call_signals.specs.declared.rules.PeerRules.{PeerRules}
 use Rattle.leg_machine.specs.declared.media.MediaSent.{MediaSent}
 use Rattle.leg_machine.specs.declared.media.MediaSent.TheVariants as media

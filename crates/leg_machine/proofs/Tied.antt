@@ -13,8 +13,8 @@ use Rattle.seq_window.specs.Turn.{entries_for_reply, entries_for_acknowledgement
 use Rattle.seq_window.specs.Window.{WindowState, after_receiving, judged_number, entries_for_number, entries_for_count, judged_acknowledgement, count_of}
 use Rattle.leg_machine.specs.Effects.{marked}
 use Rattle.leg_machine.specs.LegTable.{effect_of}
-use Rattle.leg_machine.specs.Legs.{LegState, entered}
-use Rattle.call_signals.specs.Messages.{message_of, is_numbered, is_inval, is_vnak}
+use Rattle.leg_machine.specs.Leg.{LegState, entered}
+use Rattle.call_signals.specs.Message.{message_of, is_numbered, is_inval, is_vnak}
 use Rattle.leg_machine.specs.Replies.{reply_frame}
 use Rattle.leg_machine.specs.Steps.{Step, full_step, inval_step, vnak_step, resend_step, nothing_sent, asking, not_asking, numbered_step, judged_step, taken_step, taken as taken_leg, replied, answered, no_room, prepared}
 use Rattle.leg_machine.specs.Tie.{TakesTurn, numbered_frame}
@@ -24,7 +24,7 @@ use Rattle.call_signals.specs.declared.effects.Answering.TheVariants.{Acknowledg
 use Rattle.call_signals.specs.declared.effects.Effect.{Effect}
 use Rattle.call_signals.specs.declared.effects.Mark.{Mark}
 use Rattle.call_signals.specs.declared.effects.Mark.TheVariants as marks
-use Rattle.call_signals.specs.declared.messages.Message.{Message}
+use Rattle.call_signals.specs.declared.message.Message.{Message}
 
 pub either : {A : Type 0} (P : A → Type 0) (b : Bool) (x y : A) → P x → P y → P (cond b x y)
 either P true x y p q = p

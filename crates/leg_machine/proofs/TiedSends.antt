@@ -7,11 +7,11 @@ use Rattle.seq_window.specs.declared.judgements.Resent.{Resent}
 use Rattle.seq_window.specs.declared.judgements.Resent.TheVariants as resents
 use Rattle.seq_window.specs.Turn.{entries_for_reply}
 use Rattle.seq_window.specs.Window.{WindowState, resent, held_count}
-use Rattle.leg_machine.specs.Legs.{LegState, entered, failed, local_room, is_short_of_entries}
+use Rattle.leg_machine.specs.Leg.{LegState, entered, failed, local_room, is_short_of_entries}
 use Rattle.leg_machine.specs.Media.{media_sent, after_media}
 use Rattle.leg_machine.specs.OrderTable.{order_row, row_carried, order_carried, doomed, paid}
 use Rattle.leg_machine.specs.Replies.{reply_frame, voice_frame}
-use Rattle.call_signals.specs.Stages.{is_talking, is_ended}
+use Rattle.call_signals.specs.Stage.{is_talking, is_ended}
 use Rattle.leg_machine.specs.Tie.{SendsAtMostOne}
 use Rattle.leg_machine.specs.Ticks.{Tick, quiet, sends_if, must_hang_up, must_ping, pinged, last_step, due_frames, tick_step, is_ping_time}
 use Rattle.leg_machine.specs.Tries.{Tried, tries, one_try, after_try}
@@ -19,13 +19,13 @@ use Rattle.leg_machine.specs.Working.{agreed}
 use Rattle.call_signals.specs.declared.failure.Failure.TheVariants as failures
 use Rattle.leg_machine.specs.declared.media.MediaSent.{MediaSent}
 use Rattle.leg_machine.specs.declared.media.MediaSent.TheVariants as media
-use Rattle.call_signals.specs.declared.orders.Order.{Order}
-use Rattle.call_signals.specs.declared.orders.Order.TheVariants.{Accept, Reject, Indicate, Answer, Dtmf, Media, Hangup, Doom, Paid}
+use Rattle.call_signals.specs.declared.order.Order.{Order}
+use Rattle.call_signals.specs.declared.order.Order.TheVariants.{Accept, Reject, Indicate, Answer, Dtmf, Media, Hangup, Doom, Paid}
 use Rattle.leg_machine.specs.declared.orders.Ordered.{Ordered}
-use Rattle.call_signals.specs.declared.replies.Reply.{Reply}
-use Rattle.call_signals.specs.declared.replies.Reply.TheVariants as replies
-use Rattle.call_signals.specs.declared.stages.Stage.{Stage}
-use Rattle.call_signals.specs.declared.stages.Stage.TheVariants as stages
+use Rattle.call_signals.specs.declared.reply.Reply.{Reply}
+use Rattle.call_signals.specs.declared.reply.Reply.TheVariants as replies
+use Rattle.call_signals.specs.declared.stage.Stage.{Stage}
+use Rattle.call_signals.specs.declared.stage.Stage.TheVariants as stages
 use Rattle.leg_machine.proofs.Tied.{either}
 
 -- nothing is sent

@@ -2,7 +2,7 @@
 pub use Rattle.call_signals.specs.Effects.{row, marking, no_effect, reply_alone, hung_up, rejected, goes_on, unless_over}
 pub use Rattle.call_signals.specs.Effects.{is_reply}
 use Rattle.std.specs.Prelude.{true, false}
-use Rattle.leg_machine.specs.Legs.{LegState}
+use Rattle.leg_machine.specs.Leg.{LegState}
 use Rattle.call_signals.specs.declared.effects.Mark.{Mark}
 use Rattle.call_signals.specs.declared.effects.Mark.TheVariants.{Nothing, Quelches, Unquelches, Authenticates}
 

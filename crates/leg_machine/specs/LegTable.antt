@@ -8,19 +8,19 @@ use Rattle.iax_frames.specs.FullFrame.{FullFrame}
 use Rattle.info_elements.specs.Element.{u16_in, u32_in}
 use Rattle.info_elements.specs.Numbers.{FORMAT, AUTHMETHODS, CHALLENGE, MD5_RESULT}
 use Rattle.leg_machine.specs.Effects.{row, marking, no_effect, reply_alone, hung_up, rejected, goes_on, unless_over}
-use Rattle.call_signals.specs.Formats.{format_bit, same_format}
-use Rattle.leg_machine.specs.Legs.{LegState}
-use Rattle.call_signals.specs.declared.causes.Cause.TheVariants.{NormalClearing, CallRejected}
+use Rattle.call_signals.specs.Format.{format_bit, same_format}
+use Rattle.leg_machine.specs.Leg.{LegState}
+use Rattle.call_signals.specs.declared.cause.Cause.TheVariants.{NormalClearing, CallRejected}
 use Rattle.call_signals.specs.declared.effects.Answering.TheVariants.{Acknowledged, Answered, Silent}
 use Rattle.call_signals.specs.declared.effects.Effect.{Effect}
 use Rattle.call_signals.specs.declared.effects.Mark.TheVariants.{Quelches, Unquelches, Authenticates}
-use Rattle.call_signals.specs.declared.formats.Format.{Format}
-use Rattle.call_signals.specs.declared.messages.Message.{Message}
-use Rattle.call_signals.specs.declared.messages.Message.TheVariants as messages
-use Rattle.call_signals.specs.declared.replies.Reply.TheVariants as replies
-use Rattle.call_signals.specs.declared.signals.Signal.TheVariants as signals
-use Rattle.call_signals.specs.declared.stages.Stage.{Stage}
-use Rattle.call_signals.specs.declared.stages.Stage.TheVariants as stages
+use Rattle.call_signals.specs.declared.format.Format.{Format}
+use Rattle.call_signals.specs.declared.message.Message.{Message}
+use Rattle.call_signals.specs.declared.message.Message.TheVariants as messages
+use Rattle.call_signals.specs.declared.reply.Reply.TheVariants as replies
+use Rattle.call_signals.specs.declared.signal.Signal.TheVariants as signals
+use Rattle.call_signals.specs.declared.stage.Stage.{Stage}
+use Rattle.call_signals.specs.declared.stage.Stage.TheVariants as stages
 
 -- ---- Challenged
 

@@ -1,6 +1,6 @@
 pub mod Effects
 pub mod LegTable
-pub mod Legs
+pub mod Leg
 pub mod Media
 pub mod Onward
 pub mod Openings
@@ -13,10 +13,10 @@ pub mod Tie
 pub mod Tries
 pub mod Working
 pub use Rattle.call_signals.specs.Caller
-pub use Rattle.call_signals.specs.Causes
+pub use Rattle.call_signals.specs.Cause
 pub use Rattle.call_signals.specs.Credential
-pub use Rattle.call_signals.specs.Formats
-pub use Rattle.call_signals.specs.Messages
+pub use Rattle.call_signals.specs.Format
+pub use Rattle.call_signals.specs.Message
 pub use Rattle.call_signals.specs.PeerRules
-pub use Rattle.call_signals.specs.Signals
-pub use Rattle.call_signals.specs.Stages
+pub use Rattle.call_signals.specs.Signal
+pub use Rattle.call_signals.specs.Stage

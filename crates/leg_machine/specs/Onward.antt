@@ -1,17 +1,17 @@
 -- What a call of a leg answers, with what its signal speaks of.
 use Rattle.std.specs.Prelude.{◌≡◌, map, Option, None, Some}
 use Rattle.iax_frames.specs.FullFrame.{spelling}
-use Rattle.leg_machine.specs.Legs.{LegState}
+use Rattle.leg_machine.specs.Leg.{LegState}
 use Rattle.leg_machine.specs.Openings.{called_of, calling_of}
 use Rattle.leg_machine.specs.OrderTable.{Carried}
 use Rattle.leg_machine.specs.Steps.{Step}
 use Rattle.call_signals.specs.declared.outcomes.Judged.TheVariants.{Unnumbered}
 use Rattle.call_signals.specs.declared.outcomes.Outcome.{Outcome}
-use Rattle.call_signals.specs.declared.signals.Indication.TheVariants as indications
-use Rattle.call_signals.specs.declared.signals.Onward.{Onward}
-use Rattle.call_signals.specs.declared.signals.Onward.TheVariants as onwards
-use Rattle.call_signals.specs.declared.signals.Signal.{Signal}
-use Rattle.call_signals.specs.declared.signals.Signal.TheVariants as signals
+use Rattle.call_signals.specs.declared.signal.Indication.TheVariants as indications
+use Rattle.call_signals.specs.declared.signal.Onward.{Onward}
+use Rattle.call_signals.specs.declared.signal.Onward.TheVariants as onwards
+use Rattle.call_signals.specs.declared.signal.Signal.{Signal}
+use Rattle.call_signals.specs.declared.signal.Signal.TheVariants as signals
 
 abbrev pub onward_of : LegState → Signal → Onward
 onward_of leg signals.Offered =

@@ -6,20 +6,20 @@ use Rattle.iax_frames.specs.FullFrame.{FullFrame}
 use Rattle.info_elements.specs.Element.{elements_of, last_of}
 use Rattle.info_elements.specs.Numbers.{CALLED_NUMBER, CALLING_NUMBER}
 use Rattle.seq_window.specs.Entry.{Entry, Sent, Acked, Taken}
-use Rattle.leg_machine.specs.Legs.{LegState}
+use Rattle.leg_machine.specs.Leg.{LegState}
 use Rattle.leg_machine.specs.Replies.{new_frame, outgoing, next_byte}
 use Rattle.leg_machine.specs.Steps.{Step, taken_step}
 use Rattle.leg_machine.specs.Working.{sent}
 use Rattle.call_signals.specs.Caller.{caller_by}
 use Rattle.call_signals.specs.NewElements.{new_elements}
-use Rattle.call_signals.specs.declared.causes.Cause.TheVariants.{NormalClearing}
-use Rattle.call_signals.specs.declared.formats.Format.{Format}
-use Rattle.call_signals.specs.declared.formats.Formats.{Formats}
-use Rattle.call_signals.specs.declared.formats.Format.TheVariants.{Gsm}
-use Rattle.call_signals.specs.declared.messages.Message.TheVariants.{New}
+use Rattle.call_signals.specs.declared.cause.Cause.TheVariants.{NormalClearing}
+use Rattle.call_signals.specs.declared.format.Format.{Format}
+use Rattle.call_signals.specs.declared.format.Formats.{Formats}
+use Rattle.call_signals.specs.declared.format.Format.TheVariants.{Gsm}
+use Rattle.call_signals.specs.declared.message.Message.TheVariants.{New}
 use Rattle.call_signals.specs.declared.outcomes.Judged.TheVariants.{Unnumbered}
 use Rattle.call_signals.specs.declared.rules.PeerRules.{PeerRules}
-use Rattle.call_signals.specs.declared.stages.Stage.TheVariants as stages
+use Rattle.call_signals.specs.declared.stage.Stage.TheVariants as stages
 
 -- ---- the leg before its first frame
 

@@ -4,24 +4,24 @@ use Rattle.std.specs.Prelude.{Some, if◌then◌else◌}
 use Rattle.iax_frames.specs.FullFrame.{spelling}
 use Rattle.iax_frames.specs.MiniFrame.{mini_spelling}
 use Rattle.seq_window.specs.Window.{held_count}
-use Rattle.leg_machine.specs.Legs.{LegState, entered, local_room, is_short_of_entries}
+use Rattle.leg_machine.specs.Leg.{LegState, entered, local_room, is_short_of_entries}
 use Rattle.leg_machine.specs.Media.{media_sent, after_media, media_frames}
 use Rattle.leg_machine.specs.Replies.{reply_frame, outgoing, next_byte}
-use Rattle.call_signals.specs.Stages.{is_offered, is_linked, is_talking, is_over}
+use Rattle.call_signals.specs.Stage.{is_offered, is_linked, is_talking, is_over}
 use Rattle.leg_machine.specs.Working.{sent, agreed}
-use Rattle.call_signals.specs.declared.causes.Cause.{Cause}
+use Rattle.call_signals.specs.declared.cause.Cause.{Cause}
 use Rattle.leg_machine.specs.declared.media.MediaSent.{MediaSent}
 use Rattle.leg_machine.specs.declared.media.MediaSent.TheVariants.{Quelched, Voice, Mini}
-use Rattle.call_signals.specs.declared.orders.Order.{Order}
-use Rattle.call_signals.specs.declared.orders.Order.TheVariants.{Accept, Reject, Indicate, Answer, Dtmf, Media, Hangup, Doom}
-use Rattle.call_signals.specs.declared.orders.Order.TheVariants.{Paid}
-use Rattle.call_signals.specs.declared.orders.OrderError.{OrderError}
-use Rattle.call_signals.specs.declared.orders.OrderError.TheVariants as errors
+use Rattle.call_signals.specs.declared.order.Order.{Order}
+use Rattle.call_signals.specs.declared.order.Order.TheVariants.{Accept, Reject, Indicate, Answer, Dtmf, Media, Hangup, Doom}
+use Rattle.call_signals.specs.declared.order.Order.TheVariants.{Paid}
+use Rattle.call_signals.specs.declared.order.OrderError.{OrderError}
+use Rattle.call_signals.specs.declared.order.OrderError.TheVariants as errors
 use Rattle.leg_machine.specs.declared.orders.Ordered.{Ordered}
-use Rattle.call_signals.specs.declared.replies.Reply.{Reply}
-use Rattle.call_signals.specs.declared.replies.Reply.TheVariants as replies
-use Rattle.call_signals.specs.declared.stages.Stage.{Stage}
-use Rattle.call_signals.specs.declared.stages.Stage.TheVariants as stages
+use Rattle.call_signals.specs.declared.reply.Reply.{Reply}
+use Rattle.call_signals.specs.declared.reply.Reply.TheVariants as replies
+use Rattle.call_signals.specs.declared.stage.Stage.{Stage}
+use Rattle.call_signals.specs.declared.stage.Stage.TheVariants as stages
 
 -- this frame goes out while fewer than so many are held, and the leg enters this stage
 abbrev pub ordered : Reply → Stage → ℕ → Ordered

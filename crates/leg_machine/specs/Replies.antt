@@ -1,6 +1,6 @@
 -- The frames that a leg writes ("Full Frames", "IAX Frames", "Control Frames", "Information Elements").
-pub use Rattle.call_signals.specs.Replies.{element_of, element_if, cause_elements, format_bits, new_elements, auth_req_elements}
-pub use Rattle.call_signals.specs.Replies.{type_of, indication_subclass, subclass_of, timestamp_of}
+pub use Rattle.call_signals.specs.Reply.{element_of, element_if, cause_elements, format_bits, new_elements, auth_req_elements}
+pub use Rattle.call_signals.specs.Reply.{type_of, indication_subclass, subclass_of, timestamp_of}
 use Rattle.std.specs.Prelude.{ℕ, Bool, true, false, ◌-◌, ◌%◌, ◌^◌, List, [], ◌∷◌, unwrap_or}
 use Rattle.iax_frames.specs.FullFrame.{FullFrame}
 use Rattle.iax_frames.specs.declared.stored_frame.Frame.{Frame}
@@ -8,11 +8,11 @@ use Rattle.info_elements.specs.Numbers.{FORMAT, MD5_RESULT, IAX_UNKNOWN}
 use Rattle.resend_queue.specs.declared.held_frame.Held.{Held}
 use Rattle.seq_window.specs.History.{sent_count, taken_count}
 use Rattle.call_signals.specs.Codes.{FRAME_VOICE, FRAME_IAX, IAX_NEW, IAX_ACK, IAX_VNAK}
-use Rattle.call_signals.specs.Formats.{format_bit}
-use Rattle.leg_machine.specs.Legs.{LegState}
-use Rattle.call_signals.specs.declared.replies.Reply.{Reply}
-use Rattle.call_signals.specs.declared.replies.Reply.TheVariants.{AuthReq, AuthRep, Accept, Reject, Hangup, Ping, Pong, LagRp}
-use Rattle.call_signals.specs.declared.replies.Reply.TheVariants.{Unsupport, Indicate, Answer, Dtmf}
+use Rattle.call_signals.specs.Format.{format_bit}
+use Rattle.leg_machine.specs.Leg.{LegState}
+use Rattle.call_signals.specs.declared.reply.Reply.{Reply}
+use Rattle.call_signals.specs.declared.reply.Reply.TheVariants.{AuthReq, AuthRep, Accept, Reject, Hangup, Ping, Pong, LagRp}
+use Rattle.call_signals.specs.declared.reply.Reply.TheVariants.{Unsupport, Indicate, Answer, Dtmf}
 
 -- the data of a reply
 abbrev pub data_of : LegState → Reply → List ℕ

@@ -1,19 +1,19 @@
 -- What callers at once see of a leg: where it stands, whether it is doomed and whether it owes; and what a frame, an order, a
 -- tick and an opening may do to that ("IAX Frames", "Call Setup").
-pub use Rattle.call_signals.specs.Orders.{kind_of}
+pub use Rattle.call_signals.specs.Order.{kind_of}
 use Rattle.std.specs.Prelude.{◌≡◌, ℕ, ◌||◌, ◌&&◌, not, ◌⊎◌, Bool, false, Option, None, Some, if◌then◌else◌}
-use Rattle.leg_machine.specs.Legs.{LegState}
-use Rattle.call_signals.specs.Stages.{is_over}
-use Rattle.call_signals.specs.declared.signals.Indication.{Indication}
+use Rattle.leg_machine.specs.Leg.{LegState}
+use Rattle.call_signals.specs.Stage.{is_over}
+use Rattle.call_signals.specs.declared.signal.Indication.{Indication}
 use Rattle.call_signals.specs.declared.openings.Opening.{Opening}
 use Rattle.call_signals.specs.declared.openings.Opening.TheVariants.{Refused, Challenges, Offers}
-use Rattle.call_signals.specs.declared.orders.OrderKind.{OrderKind}
-use Rattle.call_signals.specs.declared.orders.OrderKind.TheVariants as kinds
-use Rattle.call_signals.specs.declared.signals.MediaSpan.{MediaSpan}
-use Rattle.call_signals.specs.declared.signals.Signal.{Signal}
-use Rattle.call_signals.specs.declared.signals.Signal.TheVariants as signals
-use Rattle.call_signals.specs.declared.stages.Stage.{Stage}
-use Rattle.call_signals.specs.declared.stages.Stage.TheVariants as stages
+use Rattle.call_signals.specs.declared.order.OrderKind.{OrderKind}
+use Rattle.call_signals.specs.declared.order.OrderKind.TheVariants as kinds
+use Rattle.call_signals.specs.declared.signal.MediaSpan.{MediaSpan}
+use Rattle.call_signals.specs.declared.signal.Signal.{Signal}
+use Rattle.call_signals.specs.declared.signal.Signal.TheVariants as signals
+use Rattle.call_signals.specs.declared.stage.Stage.{Stage}
+use Rattle.call_signals.specs.declared.stage.Stage.TheVariants as stages
 
 pub record SeenLeg : Type 0 where
   pub stage : Stage

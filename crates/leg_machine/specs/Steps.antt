@@ -7,20 +7,20 @@ use Rattle.seq_window.specs.declared.judgements.Received.TheVariants as received
 use Rattle.seq_window.specs.Window.{held_count, held_frames, is_full, judged_number, judged_acknowledgement, after_touching_all}
 use Rattle.leg_machine.specs.Effects.{marked, unless_over, is_reply}
 use Rattle.leg_machine.specs.LegTable.{effect_of}
-use Rattle.leg_machine.specs.Legs.{LegState, entered, failed, resent_by, with_window}
-use Rattle.call_signals.specs.Messages.{message_of, is_numbered, is_inval, is_vnak}
+use Rattle.leg_machine.specs.Leg.{LegState, entered, failed, resent_by, with_window}
+use Rattle.call_signals.specs.Message.{message_of, is_numbered, is_inval, is_vnak}
 use Rattle.leg_machine.specs.Replies.{reply_frame, outgoing, next_byte, ack, vnak, sent_again}
 use Rattle.leg_machine.specs.Working.{learnt, acknowledged, counts, settled, end_noted, recorded, heard, wants_vnak, asked, sent}
 use Rattle.call_signals.specs.declared.effects.Answering.{Answering}
 use Rattle.call_signals.specs.declared.effects.Answering.TheVariants.{Acknowledged, Answered, Silent}
 use Rattle.call_signals.specs.declared.effects.Effect.{Effect}
 use Rattle.call_signals.specs.declared.failure.Failure.TheVariants as failures
-use Rattle.call_signals.specs.declared.messages.Message.{Message}
+use Rattle.call_signals.specs.declared.message.Message.{Message}
 use Rattle.call_signals.specs.declared.outcomes.Heard.{Heard}
 use Rattle.call_signals.specs.declared.outcomes.Judged.{Judged}
 use Rattle.call_signals.specs.declared.outcomes.Judged.TheVariants as judged
-use Rattle.call_signals.specs.declared.signals.Signal.{Signal}
-use Rattle.call_signals.specs.declared.signals.Signal.TheVariants as signals
+use Rattle.call_signals.specs.declared.signal.Signal.{Signal}
+use Rattle.call_signals.specs.declared.signal.Signal.TheVariants as signals
 
 -- the leg after a step, the frames that it sends, how the frame was judged, and what is handed up
 pub record Step : Type 0 where

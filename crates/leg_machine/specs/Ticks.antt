@@ -3,15 +3,15 @@ use Rattle.std.specs.Prelude.{ℕ, ◌+◌, not, nat_lt, nat_le, ◌==◌, ◌&&
 use Rattle.std.specs.Prelude.{if◌then◌else◌}
 use Rattle.iax_frames.specs.FullFrame.{FullFrame}
 use Rattle.seq_window.specs.Window.{held_count, is_full, first_due}
-use Rattle.leg_machine.specs.Legs.{LegState, entered, failed, local_room, is_short_of_entries}
+use Rattle.leg_machine.specs.Leg.{LegState, entered, failed, local_room, is_short_of_entries}
 use Rattle.leg_machine.specs.Replies.{reply_frame, outgoing, next_byte}
-use Rattle.call_signals.specs.Stages.{is_over, is_talking, is_ended}
+use Rattle.call_signals.specs.Stage.{is_over, is_talking, is_ended}
 use Rattle.leg_machine.specs.Tries.{tries}
 use Rattle.leg_machine.specs.Working.{sent}
 use Rattle.call_signals.specs.declared.failure.Failure.TheVariants as failures
-use Rattle.call_signals.specs.declared.replies.Reply.{Reply}
-use Rattle.call_signals.specs.declared.replies.Reply.TheVariants.{Hangup, Ping}
-use Rattle.call_signals.specs.declared.stages.Stage.TheVariants as stages
+use Rattle.call_signals.specs.declared.reply.Reply.{Reply}
+use Rattle.call_signals.specs.declared.reply.Reply.TheVariants.{Hangup, Ping}
+use Rattle.call_signals.specs.declared.stage.Stage.TheVariants as stages
 
 -- what a tick gives; skipped: so many frames were due and had no memory
 pub record Tick : Type 0 where

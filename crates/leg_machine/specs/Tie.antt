@@ -9,8 +9,8 @@ use Rattle.seq_window.specs.History.{sent, sent_count, taken_count, acked_count}
 use Rattle.seq_window.specs.Network.{Datagram}
 use Rattle.seq_window.specs.Sequence.{byte_of}
 use Rattle.seq_window.specs.Turn.{Turn, entries_in_turn, entries_for_reply}
-use Rattle.leg_machine.specs.Legs.{LegState}
-use Rattle.call_signals.specs.Messages.{message_by, message_of, is_numbered, is_inval}
+use Rattle.leg_machine.specs.Leg.{LegState}
+use Rattle.call_signals.specs.Message.{message_by, message_of, is_numbered, is_inval}
 use Rattle.leg_machine.specs.Working.{stored}
 
 -- the frame to be judged, where it is numbered

@@ -5,7 +5,7 @@ use Rattle.iax_frames.specs.FullFrame.{FullFrame}
 use Rattle.seq_window.specs.declared.judgements.Resent.{Resent}
 use Rattle.seq_window.specs.declared.judgements.Resent.TheVariants as resents
 use Rattle.seq_window.specs.Window.{held_at, is_due, resent, after_marking}
-use Rattle.leg_machine.specs.Legs.{LegState, resent_by, with_window}
+use Rattle.leg_machine.specs.Leg.{LegState, resent_by, with_window}
 use Rattle.leg_machine.specs.Replies.{sent_again}
 
 -- what the tries of one tick give; spent: a frame that is due has had all its tries

@@ -6,16 +6,16 @@ use Rattle.iax_frames.specs.declared.stored_frame.Frame.{Frame}
 use Rattle.seq_window.specs.declared.judgements.Acknowledged.{Acknowledged}
 use Rattle.seq_window.specs.declared.judgements.Acknowledged.TheVariants.{Acked, Ignored}
 use Rattle.seq_window.specs.Window.{held_count, after_acknowledgement, after_receiving, after_sending}
-use Rattle.leg_machine.specs.Legs.{LegState, entered, with_window}
+use Rattle.leg_machine.specs.Leg.{LegState, entered, with_window}
 use Rattle.call_signals.specs.Endings.{ending_cause}
-use Rattle.call_signals.specs.Messages.{is_voice_in}
-use Rattle.call_signals.specs.Stages.{is_closing, is_over}
-use Rattle.call_signals.specs.declared.formats.Format.{Format}
-use Rattle.call_signals.specs.declared.messages.Message.{Message}
-use Rattle.call_signals.specs.declared.replies.Reply.{Reply}
-use Rattle.call_signals.specs.declared.replies.Reply.TheVariants.{Accept}
-use Rattle.call_signals.specs.declared.stages.Stage.{Stage}
-use Rattle.call_signals.specs.declared.stages.Stage.TheVariants.{Ended}
+use Rattle.call_signals.specs.Message.{is_voice_in}
+use Rattle.call_signals.specs.Stage.{is_closing, is_over}
+use Rattle.call_signals.specs.declared.format.Format.{Format}
+use Rattle.call_signals.specs.declared.message.Message.{Message}
+use Rattle.call_signals.specs.declared.reply.Reply.{Reply}
+use Rattle.call_signals.specs.declared.reply.Reply.TheVariants.{Accept}
+use Rattle.call_signals.specs.declared.stage.Stage.{Stage}
+use Rattle.call_signals.specs.declared.stage.Stage.TheVariants.{Ended}
 
 -- the other side's number is learnt from the first frame
 abbrev pub learnt : LegState → ℕ → LegState

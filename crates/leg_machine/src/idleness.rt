@@ -5,7 +5,7 @@ ghost use Rattle.leg_machine.specs.Ticks as ticks;
 use crate::machine::Machine;
 
 impl Machine {
-    ghost use Rattle.leg_machine.specs.Legs.{leg_of};
+    ghost use Rattle.leg_machine.specs.Leg.{leg_of};
 
     // The first moment at which a held frame is due, as far as 64 bits go.
     fn due_from(&self) -> u64

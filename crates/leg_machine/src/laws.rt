@@ -5,7 +5,7 @@ ghost use Rattle.iax_frames.specs.FullFrame.{FullFrame, spelling};
 ghost use Rattle.seq_window.specs.History.{taken_count};
 ghost use Rattle.seq_window.specs.Window.{held_count};
 ghost use Rattle.seq_window.specs.declared.judgements.Received.TheVariants.{Gap};
-ghost use Rattle.leg_machine.specs.Legs.{LegState};
+ghost use Rattle.leg_machine.specs.Leg.{LegState};
 ghost use Rattle.leg_machine.specs.Media.{IsMediaOf};
 ghost use Rattle.leg_machine.specs.Openings.{open_in_step, open_out_step};
 ghost use Rattle.leg_machine.specs.OrderTable.{order_refused, order_carried};
@@ -17,12 +17,12 @@ ghost use Rattle.leg_machine.specs.Ticks.{quiet, hang_up_step, tick_step, is_idl
 ghost use Rattle.leg_machine.specs.Tie.{TakesTurn, SendsAtMostOne, TakesFirstTurn, HasSentAtMostOne, SendsNumbered, HasSent};
 ghost use Rattle.leg_machine.specs.Tie.{HasSentOrMini};
 ghost use Rattle.leg_machine.specs.Tries.{tries, NoneDue, IsFinished};
-ghost use Rattle.call_signals.specs.declared.formats.Format.{Format};
-ghost use Rattle.call_signals.specs.declared.messages.Message.{Message};
-ghost use Rattle.call_signals.specs.declared.orders.Order.{Order};
-ghost use Rattle.call_signals.specs.declared.orders.OrderError.TheVariants.{WrongStage};
+ghost use Rattle.call_signals.specs.declared.format.Format.{Format};
+ghost use Rattle.call_signals.specs.declared.message.Message.{Message};
+ghost use Rattle.call_signals.specs.declared.order.Order.{Order};
+ghost use Rattle.call_signals.specs.declared.order.OrderError.TheVariants.{WrongStage};
 ghost use Rattle.call_signals.specs.declared.rules.PeerRules.{PeerRules};
-ghost use Rattle.call_signals.specs.declared.stages.Stage.TheVariants.{Waiting, Ended};
+ghost use Rattle.call_signals.specs.declared.stage.Stage.TheVariants.{Waiting, Ended};
 
 /// A tick tries as often as is due: its turns, as many as frames were held when it began, never run out before a frame is
 /// spent or none is due any more.

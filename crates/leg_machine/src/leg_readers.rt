@@ -2,15 +2,15 @@
 ghost use Rattle.std.specs.Prelude.{◌≡◌, ℕ, ◌+◌, ◌^◌, ◌<◌, ◌≤◌, true, false, length, option_copied, if◌then◌else◌, IfSome};
 ghost use Rattle.std.specs.Option.{ForSome};
 ghost use Rattle.seq_window.specs.History.{IsLegal};
-ghost use Rattle.leg_machine.specs.Legs.{is_short_of_entries};
+ghost use Rattle.leg_machine.specs.Leg.{is_short_of_entries};
 ghost use Rattle.leg_machine.specs.Media.{accepts_media};
 ghost use Rattle.leg_machine.specs.Onward.{onward_of};
 ghost use Rattle.leg_machine.specs.Openings.{opening_data, new_data, called_of, calling_of, caller_of, formats_of};
 ghost use Rattle.leg_machine.specs.Ticks.{is_idle};
 ghost use Rattle.call_signals.specs.NewElements.{named, new_elements};
-ghost use Rattle.call_signals.specs.declared.signals.Signal.TheVariants.{Offered};
+ghost use Rattle.call_signals.specs.declared.signal.Signal.TheVariants.{Offered};
 
-use crate::legs::Leg;
+use crate::leg::Leg;
 use crate::machine::Machine;
 use call_signals::openings::offered_formats;
 use call_signals::{

@@ -71,7 +71,7 @@ fn auth_rep_row(digits: Option<[u8; 32]>) -> Effect
 }
 
 impl Machine {
-    ghost use Rattle.leg_machine.specs.Legs.{leg_of};
+    ghost use Rattle.leg_machine.specs.Leg.{leg_of};
 
     // The digits, in either case, are the MD5 answer.
     fn is_answer(&self, digits: Option<&[u8]>) -> bool

@@ -3,7 +3,7 @@ ghost use Rattle.std.specs.Prelude.{◌≡◌, ◌==◌, ◌≤◌, ◌<◌, ◌
 ghost use Rattle.std.specs.Prelude.{OnOk, OnErr};
 ghost use Rattle.std.specs.Option.{ForSome};
 ghost use Rattle.iax_frames.specs.FullFrame.{spelling};
-ghost use Rattle.leg_machine.specs.Legs.{capacity_of, is_short_of_entries};
+ghost use Rattle.leg_machine.specs.Leg.{capacity_of, is_short_of_entries};
 ghost use Rattle.leg_machine.specs.Onward.{outcome_of, order_outcome, HandsUp};
 ghost use Rattle.leg_machine.specs.Openings.{open_in_step, open_out_step};
 ghost use Rattle.leg_machine.specs.OrderTable.{order_refused, wants_memory, IsRefusal, IsShortMedia, order_carried};
@@ -14,9 +14,9 @@ ghost use Rattle.leg_machine.specs.Seen.{IsSeenTick};
 ghost use Rattle.leg_machine.specs.Steps.{full_step};
 ghost use Rattle.leg_machine.specs.Ticks.{tick_step};
 ghost use Rattle.leg_machine.specs.Tie.{TakesTurn, SendsAtMostOne, TakesFirstTurn, HasSentAtMostOne, IsSending, IsSendingOrMini};
-ghost use Rattle.call_signals.specs.declared.stages.Stage.TheVariants as stages;
+ghost use Rattle.call_signals.specs.declared.stage.Stage.TheVariants as stages;
 
-use crate::legs::Leg;
+use crate::leg::Leg;
 use call_auth::Challenge;
 use call_signals::{
     Caller, Format, Heard, Judged, Onward, Order, OrderError, Outcome, PeerRules, Replies, Signal,

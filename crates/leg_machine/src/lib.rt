@@ -4,9 +4,9 @@
 
 mod idleness;
 pub mod laws;
+mod leg;
 mod leg_readers;
 mod leg_table;
-mod legs;
 mod legs_by_value;
 mod machine;
 mod media;
@@ -21,5 +21,5 @@ pub use call_signals::{
     Judged, MediaIn, MediaSpan, Message, Onward, Order, OrderError, OrderKind, Outcome, PeerRules,
     Replies, Signal, Stage, StepError, TickOutcome,
 };
-pub use legs::Leg;
+pub use leg::Leg;
 pub use media::MediaSent;

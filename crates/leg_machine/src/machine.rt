@@ -3,7 +3,7 @@ ghost use Rattle.std.specs.Prelude.{◌≡◌, ◌+◌, ◌<◌, ◌≤◌, ◌^
 ghost use Rattle.iax_frames.specs.FullFrame.{spelling};
 ghost use Rattle.seq_window.specs.Record.{frame_of};
 ghost use Rattle.seq_window.specs.Window.{held_count, judged_acknowledgement};
-ghost use Rattle.leg_machine.specs.Legs.{local_room, is_short_of_entries};
+ghost use Rattle.leg_machine.specs.Leg.{local_room, is_short_of_entries};
 ghost use Rattle.leg_machine.specs.Replies as replies;
 ghost use Rattle.leg_machine.specs.Working as steps;
 
@@ -53,7 +53,7 @@ pub fn stored<'a>(frame: &'a Full) -> FrameView<'a>
 }
 
 impl Machine {
-    ghost use Rattle.leg_machine.specs.Legs.{leg_of, whole_leg, capacity_of, entered, failed, HasRoom};
+    ghost use Rattle.leg_machine.specs.Leg.{leg_of, whole_leg, capacity_of, entered, failed, HasRoom};
 
     /// The other side's number is learnt from the first frame; once it is known it stays.
     pub fn learn(&mut self, source: CallNumber)

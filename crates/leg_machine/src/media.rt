@@ -31,7 +31,7 @@ fn is_other_half(last: Option<u32>, present: u32) -> bool
 }
 
 impl Machine {
-    ghost use Rattle.leg_machine.specs.Legs.{leg_of, whole_leg, capacity_of};
+    ghost use Rattle.leg_machine.specs.Leg.{leg_of, whole_leg, capacity_of};
 
     /// Whether media of the other side counts: the leg is talking, took voice of its format, and the span has 1 to 1,380 octets.
     pub fn accepts_media(&self, span: MediaSpan) -> bool

@@ -27,7 +27,7 @@ fn when(holds: bool, reply: Reply, stage: Stage, most: usize) -> Option<Ordered>
 }
 
 impl Machine {
-    ghost use Rattle.leg_machine.specs.Legs.{leg_of, whole_leg, capacity_of, HasRoom};
+    ghost use Rattle.leg_machine.specs.Leg.{leg_of, whole_leg, capacity_of, HasRoom};
 
     /// The row of an order that sends a numbered frame; `None` where the stage is a wrong one, and of the other orders.
     pub fn order_row(&self, order: &Order) -> Option<Ordered>

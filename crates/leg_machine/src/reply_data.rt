@@ -12,7 +12,7 @@ use info_elements::{FORMAT, IAX_UNKNOWN, MD5_RESULT, append_to};
 use seq_window::FrameView;
 
 impl Machine {
-    ghost use Rattle.leg_machine.specs.Legs.{leg_of};
+    ghost use Rattle.leg_machine.specs.Leg.{leg_of};
     ghost use Rattle.std.specs.Prelude.{unwrap_or};
 
     // The challenge that was sent.

@@ -11,7 +11,7 @@ use call_signals::{Heard, Judged, Replies};
 use seq_window::Resent;
 
 impl Machine {
-    ghost use Rattle.leg_machine.specs.Legs.{leg_of, whole_leg, capacity_of, HasRoom};
+    ghost use Rattle.leg_machine.specs.Leg.{leg_of, whole_leg, capacity_of, HasRoom};
 
     // The held frames as they go out again, oldest first.
     fn held_again(&self, outs: &mut Replies)

@@ -2,14 +2,14 @@
 ghost use Rattle.std.specs.Prelude.{◌≡◌, ◌+◌, ◌<◌, ◌≤◌, ◌++◌, [], true, false, length, map};
 ghost use Rattle.iax_frames.specs.FullFrame.{spelling};
 ghost use Rattle.seq_window.specs.Window.{held_count, entry_count};
-ghost use Rattle.leg_machine.specs.Legs.{is_short_of_entries};
+ghost use Rattle.leg_machine.specs.Leg.{is_short_of_entries};
 ghost use Rattle.leg_machine.specs.Ticks as ticks;
 
 use crate::machine::Machine;
 use call_signals::{Failure, Replies, Reply, Stage};
 
 impl Machine {
-    ghost use Rattle.leg_machine.specs.Legs.{leg_of, whole_leg, capacity_of, HasRoom};
+    ghost use Rattle.leg_machine.specs.Leg.{leg_of, whole_leg, capacity_of, HasRoom};
 
     /// Whether a HANGUP is due: the leg is doomed, isn't over, and its window has room for one frame more.
     pub fn must_hang_up(&self) -> bool

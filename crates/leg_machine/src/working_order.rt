@@ -3,7 +3,7 @@ ghost use Rattle.std.specs.Prelude.{◌≡◌, ◌+◌, ◌<◌, ◌≤◌, ◌+
 ghost use Rattle.iax_frames.specs.FullFrame.{spelling};
 ghost use Rattle.seq_window.specs.Window.{held_count, judged_number, judged_acknowledgement};
 ghost use Rattle.leg_machine.specs.Effects.{is_reply, marked};
-ghost use Rattle.leg_machine.specs.Legs.{is_short_of_entries};
+ghost use Rattle.leg_machine.specs.Leg.{is_short_of_entries};
 ghost use Rattle.leg_machine.specs.Steps as steps;
 ghost use Rattle.leg_machine.specs.Working.{counts, wants_vnak};
 
@@ -16,7 +16,7 @@ use iax_frames::Full;
 use seq_window::Received;
 
 impl Machine {
-    ghost use Rattle.leg_machine.specs.Legs.{leg_of, whole_leg, capacity_of, HasRoom};
+    ghost use Rattle.leg_machine.specs.Leg.{leg_of, whole_leg, capacity_of, HasRoom};
 
     fn mark(&mut self, mark: Mark)
         ensures leg { leg_of self.new ≡ marked (leg_of self.old) mark }

@@ -2,8 +2,8 @@
 use Rattle.std.specs.Prelude.{◌≡◌, ℕ, List, [], ◌∷◌, ◌++◌, ◌+◌, Result, Ok, Err, Option, None, Some}
 use Rattle.peer_accounts.specs.Accounts.{Credit}
 use Rattle.peer_lock.specs.Peer.{PeerView}
-use Rattle.call_signals.specs.declared.orders.Order.{Order}
-use Rattle.call_signals.specs.declared.orders.Order.TheVariants as orders
+use Rattle.call_signals.specs.declared.order.Order.{Order}
+use Rattle.call_signals.specs.declared.order.Order.TheVariants as orders
 use Rattle.noted_steps.specs.declared.made.Made.{Made}
 use Rattle.noted_steps.specs.declared.made.Made.TheVariants as mades
 

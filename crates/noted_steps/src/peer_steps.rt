@@ -1,7 +1,7 @@
 //! The steps of a peer, each noted under its pass.
 ghost use Rattle.std.specs.Prelude.{◌≡◌, ◌+◌, ◌≤◌, ◌↔◌, ◌⊎◌, length, option_map, true, false, All, Err, None, Some, IfErr, IfOk};
 ghost use Rattle.std.specs.Prelude.{IfNone, IfSome, IsErr, IsNone, IsTrue, OnErr, OnOk, OnSome};
-ghost use Rattle.call_signals.specs.Orders.{kind_of};
+ghost use Rattle.call_signals.specs.Order.{kind_of};
 ghost use Rattle.call_signals.specs.declared.outcomes.Judged.TheVariants.{Unnumbered};
 ghost use Rattle.iax_frames.specs.declared.datagram.Datagram.{Datagram as DatagramValue};
 ghost use Rattle.leg_machine.specs.OrderTable.{IsShortMedia, wants_memory};

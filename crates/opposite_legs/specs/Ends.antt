@@ -1,10 +1,10 @@
 -- Two legs, each a leg of a peer, that are the opposite ends of one call ("Message Transport").
 use Rattle.std.specs.Prelude.{◌≡◌, ◌⊎◌, ℕ, ◌≤◌, true, List, [], ◌∷◌, ◌++◌, All, Option, None, Some, slice_get}
 use Rattle.call_book.specs.declared.leg_name.LegName.{LegName}
-use Rattle.call_signals.specs.Messages.{message_of}
+use Rattle.call_signals.specs.Message.{message_of}
 use Rattle.call_signals.specs.declared.rules.PeerRules.{PeerRules}
 use Rattle.iax_frames.specs.FullFrame.{FullFrame}
-use Rattle.leg_machine.specs.Legs.{LegState}
+use Rattle.leg_machine.specs.Leg.{LegState}
 use Rattle.peer_lock.specs.Delivery.{is_new}
 use Rattle.peer_lock.specs.Legs.{NamedLeg, leg_at}
 use Rattle.peer_lock.specs.Peer.{PeerView}

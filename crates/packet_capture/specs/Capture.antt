@@ -2,8 +2,8 @@
 use Rattle.std.specs.Prelude.{ℕ, ◌+◌, ◌*◌, ◌/◌, ◌%◌, ◌^◌, ◌==◌, List, [], ◌∷◌, ◌++◌, length, if◌then◌else◌}
 use Rattle.std.specs.Int.{w16, w32, to_be_bytes}
 use Rattle.packet_capture.specs.InternetChecksum.{checksum}
-use Rattle.packet_capture.specs.declared.packets.UdpEndpoint.{UdpEndpoint}
-use Rattle.packet_capture.specs.declared.packets.Packet.{Packet}
+use Rattle.packet_capture.specs.declared.packet.UdpEndpoint.{UdpEndpoint}
+use Rattle.packet_capture.specs.declared.packet.Packet.{Packet}
 
 -- the head of the file: magic number of microseconds, version 2.4, no zone, no accuracy told, packets of at most 65,535 octets,
 -- and link type 101, which is raw IP

@@ -2,7 +2,7 @@
 ghost use Rattle.std.specs.Prelude.{◌≡◌, ℕ, ◌+◌, ◌++◌, length};
 ghost use Rattle.packet_capture.specs.InternetChecksum.{end_around, ones_complement, word_sum};
 ghost use Rattle.packet_capture.specs.Capture.{ipv4_header, pseudo_header, udp_datagram};
-ghost use Rattle.packet_capture.specs.declared.packets.Packet.{Packet};
+ghost use Rattle.packet_capture.specs.declared.packet.Packet.{Packet};
 
 /// The one's complement sum of two sums is that of the two, added with the carry coming in at the lowest bit. A law about
 /// definitions, for provers; the call does nothing.

@@ -3,12 +3,12 @@
 //! `Capture::new` begins one, `push` adds a packet, `octets` are the file's. Nothing here reads or writes a file.
 #![tactic(auto)]
 
-mod captures;
+mod capture;
 mod internet_checksum;
 pub mod laws;
-mod packets;
+mod packet;
 mod spelling;
 
-pub use captures::{Capture, CaptureError};
+pub use capture::{Capture, CaptureError};
 pub use internet_checksum::checksum;
-pub use packets::{MOST_PAYLOAD, Packet, UdpEndpoint};
+pub use packet::{MOST_PAYLOAD, Packet, UdpEndpoint};

@@ -4,7 +4,7 @@ ghost use Rattle.packet_capture.specs.Capture.{record_header, ipv4_front, ipv4_h
 ghost use Rattle.packet_capture.specs.Capture.{udp_with, udp_summed, sent_checksum, udp_checksum, udp_datagram, packet_octets};
 
 use crate::internet_checksum::checksum;
-use crate::packets::Packet;
+use crate::packet::Packet;
 use std::alloc::{AllocError, Global};
 
 // The head of a packet of so many octets.

@@ -1,8 +1,8 @@
 -- What is handed up once the octet credit of a peer was looked at ("Mini Frames", "Meta Frames").
 use Rattle.std.specs.Prelude.{ℕ, ◌+◌, nat_le, Option, None, Some, if◌then◌else◌}
-use Rattle.leg_machine.specs.Signals.{span_len}
-use Rattle.call_signals.specs.declared.signals.Signal.{Signal}
-use Rattle.call_signals.specs.declared.signals.Signal.TheVariants.{Media}
+use Rattle.leg_machine.specs.Signal.{span_len}
+use Rattle.call_signals.specs.declared.signal.Signal.{Signal}
+use Rattle.call_signals.specs.declared.signal.Signal.TheVariants.{Media}
 
 -- what is handed up, and the octets of credit that it takes
 pub record Granted : Type 0 where

@@ -1,7 +1,7 @@
 -- What the legs of a peer hand up in one step.
 use Rattle.std.specs.Prelude.{◌≡◌, ℕ, List, [], Option, None}
 use Rattle.call_book.specs.declared.leg_name.LegName.{LegName}
-use Rattle.call_signals.specs.declared.signals.Signal.{Signal}
+use Rattle.call_signals.specs.declared.signal.Signal.{Signal}
 use Rattle.peer_accounts.specs.declared.onwards.Offer.{Offer}
 
 pub record HandedUp : Type 0 where

@@ -3,12 +3,12 @@ use Rattle.std.specs.Prelude.{◌&&◌, All}
 use Rattle.std.proofs.Common.{◌≡◌, ℕ, ◌+◌, ◌<◌, ◌≤◌, Bool, true, false, min, List, length, take, Option, None, Some, Result, Ok, Err, IfOk, OnOk, OnErr, get_or, slice_get, slice_set, refl, sym, ap, subst, ◌∙◌, arith}
 use Rattle.std.proofs.lemmas.List.Elements.{All-more, All-set}
 use Rattle.std.proofs.lemmas.Option.{slice_get_within, get_or_from_slice_get}
-use Rattle.leg_machine.specs.Legs.{LegState}
+use Rattle.leg_machine.specs.Leg.{LegState}
 use Rattle.leg_machine.specs.Media.{media_sent, after_media}
 use Rattle.leg_machine.specs.Ticks.{is_idle}
 use Rattle.leg_machine.specs.declared.media.MediaSent.{MediaSent}
 use Rattle.leg_machine.specs.declared.media.MediaSent.TheVariants as sents
-use Rattle.call_signals.specs.declared.orders.OrderError.{OrderError}
+use Rattle.call_signals.specs.declared.order.OrderError.{OrderError}
 use Rattle.peer_legs.specs.Legs.{NamedLeg}
 use Rattle.peer_legs.specs.LegsInside.{RestUntil}
 use Rattle.peer_legs.specs.Rests.{is_quiet, is_resting}

@@ -1,7 +1,7 @@
 -- A leg that changed, or came, stands under its number.
 use Rattle.std.proofs.Common.{◌≡◌, ◌+◌, ◌-◌, ◌≤◌, ℕ, Option, Some, None, IsSome, slice_get, slice_set, ap, refl, true, ◌∙◌, arith}
 use Rattle.std.proofs.lemmas.Option.{slice_get_within}
-use Rattle.leg_machine.specs.Legs.{LegState}
+use Rattle.leg_machine.specs.Leg.{LegState}
 use Rattle.peer_legs.specs.Finding.{can_reach}
 use Rattle.peer_legs.specs.Legs.{NamedLeg, PeerLegs, AreLegs, leg_at, with_leg}
 use Rattle.peer_legs.proofs.PlaceLaws.{slice_get-set_same, stands_at, leg_at_place, back}

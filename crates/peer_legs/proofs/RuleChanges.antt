@@ -3,7 +3,7 @@ use Rattle.std.proofs.Common.{◌≡◌, ℕ, ◌+◌, ◌-◌, ◌^◌, ◌<◌
 use Rattle.std.proofs.lemmas.Bool.{cases_eq}
 use Rattle.std.proofs.lemmas.Option.{slice_get_within}
 use Rattle.call_signals.specs.declared.rules.PeerRules.{PeerRules}
-use Rattle.leg_machine.specs.Legs.{LegState}
+use Rattle.leg_machine.specs.Leg.{LegState}
 use Rattle.leg_machine.specs.Tie.{SendsNumbered}
 use Rattle.seq_window.specs.History.{IsLegal, acked_count, sent_count}
 use Rattle.seq_window.specs.Window.{WindowState, held_count}

@@ -9,13 +9,13 @@ use Rattle.seq_window.specs.declared.judgements.Resent.TheVariants as resents
 use Rattle.seq_window.specs.Window.{held_count, judged_acknowledgement}
 use Rattle.leg_machine.specs.Effects.{marked}
 use Rattle.leg_machine.specs.LegTable.{effect_of}
-use Rattle.leg_machine.specs.Legs.{LegState, entered, failed, is_short_of_entries}
+use Rattle.leg_machine.specs.Leg.{LegState, entered, failed, is_short_of_entries}
 use Rattle.leg_machine.specs.Media.{after_media, media_sent}
-use Rattle.leg_machine.specs.Messages.{message_of, is_inval, is_vnak}
+use Rattle.leg_machine.specs.Message.{message_of, is_inval, is_vnak}
 use Rattle.leg_machine.specs.OrderTable.{order_row, row_carried, order_carried}
 use Rattle.leg_machine.specs.Openings.{open_in_step, open_out_step, leg_for_new, leg_for_call, opening_of, opening_effect}
 use Rattle.leg_machine.specs.Steps.{Step, nothing_sent, resend_step, taken, replied, taken_step, asking, not_asking, judged_step, numbered_step, vnak_step, prepared, inval_step, message_step, full_step}
-use Rattle.leg_machine.specs.Stages.{is_closing, is_ended}
+use Rattle.leg_machine.specs.Stage.{is_closing, is_ended}
 use Rattle.leg_machine.specs.Ticks.{Tick, quiet, hang_up_step, ping_step, last_step, due_frames, tick_step}
 use Rattle.leg_machine.specs.Tries.{Tried, tries, one_try, after_try}
 use Rattle.leg_machine.specs.Working.{learnt, settled, acknowledged, counts, wants_vnak, end_noted}
@@ -25,16 +25,16 @@ use Rattle.call_signals.specs.declared.effects.Answering.TheVariants.{Acknowledg
 use Rattle.call_signals.specs.declared.effects.Effect.{Effect}
 use Rattle.call_signals.specs.declared.effects.Mark.{Mark}
 use Rattle.call_signals.specs.declared.effects.Mark.TheVariants.{Nothing, Quelches, Unquelches, Authenticates}
-use Rattle.call_signals.specs.declared.formats.Format.{Format}
-use Rattle.call_signals.specs.declared.messages.Message.{Message}
-use Rattle.call_signals.specs.declared.messages.Message.TheVariants.{New}
+use Rattle.call_signals.specs.declared.format.Format.{Format}
+use Rattle.call_signals.specs.declared.message.Message.{Message}
+use Rattle.call_signals.specs.declared.message.Message.TheVariants.{New}
 use Rattle.leg_machine.specs.declared.media.MediaSent.{MediaSent}
 use Rattle.leg_machine.specs.declared.media.MediaSent.TheVariants.{Quelched, Voice, Mini}
-use Rattle.call_signals.specs.declared.orders.Order.{Order}
-use Rattle.call_signals.specs.declared.orders.Order.TheVariants as orders
+use Rattle.call_signals.specs.declared.order.Order.{Order}
+use Rattle.call_signals.specs.declared.order.Order.TheVariants as orders
 use Rattle.leg_machine.specs.declared.orders.Ordered.{Ordered}
 use Rattle.call_signals.specs.declared.rules.PeerRules.{PeerRules}
-use Rattle.call_signals.specs.declared.stages.Stage.TheVariants.{Ended}
+use Rattle.call_signals.specs.declared.stage.Stage.TheVariants.{Ended}
 
 -- the rules are as before, and the window is as wide and the record as long as it was
 pub record KeepsRules (old new : LegState) : Type 0 where

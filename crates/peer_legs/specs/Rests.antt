@@ -1,6 +1,6 @@
 -- When the legs of a peer have nothing to do.
 use Rattle.std.specs.Prelude.{ℕ, ◌&&◌, not, Bool, true, Option, None, Some}
-use Rattle.leg_machine.specs.Stages.{is_ended}
+use Rattle.leg_machine.specs.Stage.{is_ended}
 use Rattle.leg_machine.specs.Ticks.{is_idle}
 use Rattle.peer_legs.specs.Legs.{NamedLeg}
 

@@ -3,12 +3,12 @@ ghost use Rattle.std.specs.Prelude.{◌≡◌, ◌<◌, ◌≤◌, ◌↔◌, []
 ghost use Rattle.std.specs.Prelude.{IfSome, IsNone};
 ghost use Rattle.call_signals.specs.declared.rules.PeerRules.{PeerRules};
 ghost use Rattle.iax_frames.specs.FullFrame.{spelling};
-ghost use Rattle.leg_machine.specs.Legs.{is_short_of_entries};
+ghost use Rattle.leg_machine.specs.Leg.{is_short_of_entries};
 ghost use Rattle.leg_machine.specs.Steps.{full_step, heard_of};
 ghost use Rattle.peer_legs.specs.Finding.{can_reach, is_reached, found};
 ghost use Rattle.peer_legs.specs.Legs.{NamedLeg as NamedLegValue, AreLegsOf, is_free_name, leg_at, with_leg};
 
-use crate::named_legs::NamedLeg;
+use crate::named_leg::NamedLeg;
 use crate::peer_legs::PeerLegs;
 use call_book::LegName;
 use iax_frames::{CallNumber, Full};

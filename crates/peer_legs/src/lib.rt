@@ -2,12 +2,12 @@
 #![tactic(auto)]
 
 mod finding;
-mod named_legs;
+mod named_leg;
 mod openings;
 mod peer_legs;
 mod remote_index;
 mod rests;
 
-pub use named_legs::NamedLeg;
+pub use named_leg::NamedLeg;
 pub use openings::open_in;
 pub use peer_legs::PeerLegs;

@@ -5,7 +5,7 @@ ghost use Rattle.std.specs.Prelude.{replicate, slice_get, slice_set, true, None,
 ghost use Rattle.std.specs.Prelude.{IsNone, IsSome, IsTrue, All, OnErr, OnOk};
 ghost use Rattle.call_signals.specs.declared.rules.PeerRules.{PeerRules};
 ghost use Rattle.iax_frames.specs.FullFrame.{spelling};
-ghost use Rattle.leg_machine.specs.Legs.{is_short_of_entries};
+ghost use Rattle.leg_machine.specs.Leg.{is_short_of_entries};
 ghost use Rattle.leg_machine.specs.Media.{media_sent, after_media, media_frames};
 ghost use Rattle.leg_machine.specs.OrderTable.{order_refused, media_refused, is_voice, wants_memory, IsRefusal, IsShortMedia};
 ghost use Rattle.leg_machine.specs.OrderTable.{order_carried};
@@ -13,7 +13,7 @@ ghost use Rattle.leg_machine.specs.Steps.{full_step, heard_of};
 ghost use Rattle.leg_machine.specs.Ticks.{tick_step};
 ghost use Rattle.leg_machine.specs.Tie.{TakesTurn, SendsAtMostOne};
 
-use crate::named_legs::NamedLeg;
+use crate::named_leg::NamedLeg;
 use crate::remote_index::RemoteIndex;
 use call_book::{Lease, LegName};
 use iax_frames::{CallNumber, Full};

@@ -3,7 +3,7 @@ ghost use Rattle.std.specs.Prelude.{◌≡◌, ◌↔◌, true, All, IsTrue};
 ghost use Rattle.peer_legs.specs.LegsInside.{RestUntil};
 ghost use Rattle.peer_legs.specs.Rests.{is_quiet, is_resting};
 
-use crate::named_legs::NamedLeg;
+use crate::named_leg::NamedLeg;
 use crate::peer_legs::PeerLegs;
 
 // Whether no leg at this place has ended or owes.

@@ -10,14 +10,14 @@ use Rattle.iax_frames.specs.TrunkFrame.{entry_item, head_len, is_timed}
 use Rattle.iax_frames.specs.declared.datagram.Datagram.{Datagram}
 use Rattle.iax_frames.specs.declared.datagram.Datagram.TheVariants.{Full, Mini, Video, Trunk}
 use Rattle.leg_machine.specs.LegTable.{is_media}
-use Rattle.leg_machine.specs.Legs.{LegState}
+use Rattle.leg_machine.specs.Leg.{LegState}
 use Rattle.leg_machine.specs.Media.{accepts_media, IsMediaOf}
-use Rattle.leg_machine.specs.Signals.{span_len}
-use Rattle.leg_machine.specs.Stages.{is_talking}
+use Rattle.leg_machine.specs.Signal.{span_len}
+use Rattle.leg_machine.specs.Stage.{is_talking}
 use Rattle.leg_machine.specs.Steps.{full_step}
-use Rattle.call_signals.specs.declared.signals.MediaSpan.{MediaSpan}
-use Rattle.call_signals.specs.declared.signals.Signal.{Signal}
-use Rattle.call_signals.specs.declared.signals.Signal.TheVariants as signals
+use Rattle.call_signals.specs.declared.signal.MediaSpan.{MediaSpan}
+use Rattle.call_signals.specs.declared.signal.Signal.{Signal}
+use Rattle.call_signals.specs.declared.signal.Signal.TheVariants as signals
 use Rattle.peer_lock.specs.Arrivals.{delivered_step, datagram_step, media_at, mini_span, entries_media, entry_span, entries_len}
 use Rattle.peer_lock.specs.CarriedMedia.{LiesWithin, signal_octets, handed_octets, CarriesItsOwn}
 use Rattle.peer_lock.specs.Delivery.{Delivery, Reaches, NeedsNumber, Gets, NoCall, delivery}

@@ -4,7 +4,7 @@ use Rattle.std.proofs.Common.{◌≡◌, ◌≤◌, ℕ, suc, ◌+◌, ◌*◌, 
 use Rattle.std.proofs.lemmas.List.{append_assoc}
 use Rattle.std.proofs.Math.Nat.{add_assoc}
 use Rattle.iax_frames.specs.TrunkFrame.{head_len}
-use Rattle.call_signals.specs.declared.signals.MediaSpan.{MediaSpan}
+use Rattle.call_signals.specs.declared.signal.MediaSpan.{MediaSpan}
 use Rattle.peer_accounts.specs.Accounts.{Credit, with_accepted}
 use Rattle.peer_lock.specs.Arrivals.{MediaTaken, media_at, entry_span, entries_len, entries_media}
 use Rattle.peer_accounts.specs.HandedUp.{HandedUp}

@@ -1,8 +1,8 @@
 -- What a tick leaves under each local number.
 use Rattle.std.proofs.Common.{◌≡◌, ℕ, zero, suc, ◌-◌, ◌==◌, ◌≤◌, ◌⊎◌, nat_le, Bool, inl, inr, List, [], ◌∷◌, Option, Some, None, slice_get, refl, ap, subst, sym, ◌∙◌}
 use Rattle.std.proofs.lemmas.Bool.{cases_Bool}
-use Rattle.call_signals.specs.declared.stages.Stage.TheVariants.{Ended}
-use Rattle.leg_machine.specs.Legs.{LegState}
+use Rattle.call_signals.specs.declared.stage.Stage.TheVariants.{Ended}
+use Rattle.leg_machine.specs.Leg.{LegState}
 use Rattle.leg_machine.specs.Ticks.{tick_step}
 use Rattle.leg_machine.specs.Tries.{NoneDue}
 use Rattle.peer_legs.specs.Legs.{NamedLeg, PeerLegs, filled, leg_at}

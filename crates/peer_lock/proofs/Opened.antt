@@ -4,9 +4,9 @@ use Rattle.std.proofs.Common.{◌≡◌, ℕ, List, Option, Some, None, ap, ◌�
 use Rattle.call_book.specs.declared.leg_name.LegName.{LegName}
 use Rattle.call_signals.specs.declared.outcomes.Heard.{Heard}
 use Rattle.iax_frames.specs.FullFrame.{FullFrame, spelling}
-use Rattle.leg_machine.specs.Legs.{LegState}
+use Rattle.leg_machine.specs.Leg.{LegState}
 use Rattle.leg_machine.specs.Openings.{open_in_step, open_out_step}
-use Rattle.call_signals.specs.declared.formats.Format.{Format}
+use Rattle.call_signals.specs.declared.format.Format.{Format}
 use Rattle.leg_machine.specs.Steps.{heard_of}
 use Rattle.peer_legs.specs.Legs.{PeerLegs, leg_of_remote, with_place}
 use Rattle.peer_lock.specs.Openings.{opens_in}

@@ -9,19 +9,19 @@ use Rattle.iax_frames.specs.declared.datagram.Datagram.{Datagram}
 use Rattle.iax_frames.specs.declared.datagram.Datagram.TheVariants.{Full, Mini, Video, Trunk}
 use Rattle.iax_frames.specs.TrunkFrame.{entry_item, is_timed}
 use Rattle.iax_frames.specs.declared.full_frame.FullHead.{FullHead}
-use Rattle.leg_machine.specs.Legs.{LegState}
+use Rattle.leg_machine.specs.Leg.{LegState}
 use Rattle.leg_machine.specs.Media.{accepts_media}
-use Rattle.leg_machine.specs.Messages.{message_of, is_numbered}
+use Rattle.leg_machine.specs.Message.{message_of, is_numbered}
 use Rattle.leg_machine.specs.Seen.{SeenLeg, SeenFrame, Plain, ProvesItself, FailsToProve, AcceptsCall, RejectsCall, BreaksOff, Indicates, AnswersCall, Dials, Speaks, HangsUp, AcknowledgesAll, seen, moved, frame_effect, IsSeenFrame}
 use Rattle.leg_machine.specs.LegTable.{is_media}
-use Rattle.leg_machine.specs.Signals.{span_len}
-use Rattle.leg_machine.specs.Stages.{is_talking}
+use Rattle.leg_machine.specs.Signal.{span_len}
+use Rattle.leg_machine.specs.Stage.{is_talking}
 use Rattle.leg_machine.specs.Steps.{full_step}
-use Rattle.call_signals.specs.declared.signals.MediaSpan.{MediaSpan}
-use Rattle.call_signals.specs.declared.signals.Signal.{Signal}
-use Rattle.call_signals.specs.declared.signals.Signal.TheVariants as signals
-use Rattle.call_signals.specs.declared.stages.Stage.{Stage}
-use Rattle.call_signals.specs.declared.stages.Stage.TheVariants as stages
+use Rattle.call_signals.specs.declared.signal.MediaSpan.{MediaSpan}
+use Rattle.call_signals.specs.declared.signal.Signal.{Signal}
+use Rattle.call_signals.specs.declared.signal.Signal.TheVariants as signals
+use Rattle.call_signals.specs.declared.stage.Stage.{Stage}
+use Rattle.call_signals.specs.declared.stage.Stage.TheVariants as stages
 use Rattle.peer_lock.specs.Arrivals.{delivered_step, reached_step, datagram_step, media_at, mini_span, entries_media, entry_span}
 use Rattle.peer_legs.specs.Finding.{found, if_reached, is_reached}
 use Rattle.peer_lock.specs.Delivery.{Delivery, NeedsNumber, Gets, NoCall, delivered, inval_for, pong_for, unknown_call, is_new, is_poke}

@@ -6,7 +6,7 @@ use Rattle.std.proofs.lemmas.Bool.Decides.{nat_tests}
 use Rattle.std.proofs.lemmas.Option.{slice_get_within}
 use Rattle.call_book.specs.Book.{is_same}
 use Rattle.call_book.specs.declared.leg_name.LegName.{LegName}
-use Rattle.leg_machine.specs.Legs.{LegState}
+use Rattle.leg_machine.specs.Leg.{LegState}
 use Rattle.leg_machine.specs.Seen.{seen}
 use Rattle.peer_legs.specs.Legs.{NamedLeg, PeerLegs, AreLegs, filled, leg_at, leg_named, if_named, first_remote, leg_of_remote, is_remote, with_leg, with_place}
 use Rattle.peer_legs.proofs.PlaceLaws.{slice_get-set_other, stands_at, leg_at_place, placed_there}

@@ -5,22 +5,22 @@ use Rattle.std.proofs.lemmas.Bool.{cases_Bool, eqb-true, leb-true, ltb-true}
 use Rattle.call_book.specs.declared.leg_name.LegName.{LegName}
 use Rattle.iax_frames.specs.FullFrame.{FullFrame}
 use Rattle.iax_frames.specs.MiniFrame.{mini_spelling}
-use Rattle.leg_machine.specs.Legs.{LegState}
+use Rattle.leg_machine.specs.Leg.{LegState}
 use Rattle.leg_machine.specs.Media.{media_sent}
 use Rattle.leg_machine.specs.Openings.{open_in_step, open_out_step}
 use Rattle.leg_machine.specs.OrderTable.{order_refused, order_carried, wants_memory}
 use Rattle.leg_machine.specs.Seen.{SeenLeg, seen, kind_of, stage_after, fresh_leg, IsSeenOpening, IsSeenOrder, IsSeenTick}
 use Rattle.leg_machine.specs.Ticks.{tick_step}
-use Rattle.call_signals.specs.declared.formats.Format.{Format}
+use Rattle.call_signals.specs.declared.format.Format.{Format}
 use Rattle.leg_machine.specs.declared.media.MediaSent.{MediaSent}
 use Rattle.leg_machine.specs.declared.media.MediaSent.TheVariants as sent
-use Rattle.call_signals.specs.declared.orders.Order.{Order}
-use Rattle.call_signals.specs.declared.orders.Order.TheVariants as orders
-use Rattle.call_signals.specs.declared.orders.OrderError.{OrderError as LegError}
-use Rattle.call_signals.specs.declared.orders.OrderError.TheVariants as leg_errors
+use Rattle.call_signals.specs.declared.order.Order.{Order}
+use Rattle.call_signals.specs.declared.order.Order.TheVariants as orders
+use Rattle.call_signals.specs.declared.order.OrderError.{OrderError as LegError}
+use Rattle.call_signals.specs.declared.order.OrderError.TheVariants as leg_errors
 use Rattle.call_signals.specs.declared.rules.PeerRules.{PeerRules}
-use Rattle.call_signals.specs.declared.stages.Stage.{Stage}
-use Rattle.call_signals.specs.declared.stages.Stage.TheVariants.{Waiting}
+use Rattle.call_signals.specs.declared.stage.Stage.{Stage}
+use Rattle.call_signals.specs.declared.stage.Stage.TheVariants.{Waiting}
 use Rattle.peer_legs.specs.Legs.{NamedLeg, PeerLegs, filled, leg_at, leg_named, if_named, with_place, with_leg}
 use Rattle.peer_legs.specs.Legs.{is_free_name}
 use Rattle.peer_lock.specs.Openings.{opens_in, opens_out}

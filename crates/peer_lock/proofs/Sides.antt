@@ -3,17 +3,17 @@ use Rattle.std.specs.Prelude.{◌&&◌, map}
 use Rattle.std.proofs.Common.{◌≡◌, ◌^◌, ℕ, ◌-◌, ◌<◌, ◌==◌, ◌⊎◌, true, All, inl, inr, List, [], ◌∷◌, length, Option, Some, None, cond, refl, ap, sym, ◌∙◌, arith}
 use Rattle.std.proofs.lemmas.Bool.{cases_Bool}
 use Rattle.call_book.specs.declared.leg_name.LegName.{LegName}
-use Rattle.call_signals.specs.declared.formats.Format.{Format}
-use Rattle.call_signals.specs.declared.orders.Order.{Order}
-use Rattle.call_signals.specs.declared.orders.Order.TheVariants as orders
+use Rattle.call_signals.specs.declared.format.Format.{Format}
+use Rattle.call_signals.specs.declared.order.Order.{Order}
+use Rattle.call_signals.specs.declared.order.Order.TheVariants as orders
 use Rattle.call_signals.specs.declared.rules.PeerRules.{PeerRules}
 use Rattle.iax_frames.specs.FullFrame.{FullFrame, spelling}
 use Rattle.iax_frames.specs.MiniFrame.{mini_spelling}
 use Rattle.iax_frames.specs.declared.datagram.Datagram.{Datagram}
 use Rattle.iax_frames.specs.declared.datagram.Datagram.TheVariants.{Full, Mini, Video, Trunk}
-use Rattle.leg_machine.specs.Legs.{LegState}
+use Rattle.leg_machine.specs.Leg.{LegState}
 use Rattle.leg_machine.specs.Media.{media_sent}
-use Rattle.leg_machine.specs.Messages.{message_of, is_numbered}
+use Rattle.leg_machine.specs.Message.{message_of, is_numbered}
 use Rattle.leg_machine.specs.Openings.{open_in_step, open_out_step}
 use Rattle.leg_machine.specs.OrderTable.{media_datagrams, order_carried}
 use Rattle.leg_machine.specs.Steps.{full_step}

@@ -4,14 +4,14 @@ use Rattle.iax_frames.specs.FullFrame.{spelling}
 use Rattle.std.proofs.Common.{◌≡◌, ◌≤◌, ℕ, zero, suc, ◌+◌, ◌<◌, Bool, true, false, List, [], ◌∷◌, ◌++◌, Option, Some, None, slice_get, slice_set, length, take, drop, cond, ◌==◌, ap, sym, subst, refl, ◌∙◌, arith}
 use Rattle.std.proofs.Math.Nat.{add_assoc}
 use Rattle.std.proofs.lemmas.List.{append_assoc, append-nil, length-append, take_all, drop_all, take-append-drop}
-use Rattle.leg_machine.specs.Legs.{LegState, entered, failed, is_short_of_entries}
-use Rattle.leg_machine.specs.Stages.{is_ended}
+use Rattle.leg_machine.specs.Leg.{LegState, entered, failed, is_short_of_entries}
+use Rattle.leg_machine.specs.Stage.{is_ended}
 use Rattle.leg_machine.specs.Ticks.{Tick, quiet, sends_if, must_hang_up, hang_up_step, must_ping, pinged, ping_step, last_step, due_frames, tick_step, is_idle}
 use Rattle.leg_machine.specs.Tries.{tries}
 use Rattle.call_signals.specs.declared.failure.Failure.TheVariants as failures
-use Rattle.call_signals.specs.declared.replies.Reply.{Reply}
-use Rattle.call_signals.specs.declared.replies.Reply.TheVariants as replies
-use Rattle.call_signals.specs.declared.stages.Stage.TheVariants as stages
+use Rattle.call_signals.specs.declared.reply.Reply.{Reply}
+use Rattle.call_signals.specs.declared.reply.Reply.TheVariants as replies
+use Rattle.call_signals.specs.declared.stage.Stage.TheVariants as stages
 use Rattle.peer_legs.specs.Legs.{NamedLeg}
 use Rattle.outbox.specs.Outbox.{put}
 use Rattle.peer_lock.specs.Peer.{PeerView}

@@ -3,9 +3,9 @@ use Rattle.std.specs.Prelude.{◌≡◌, ℕ, ◌+◌, ◌≤◌, true, List, []
 use Rattle.std.specs.List.{AllByRecursion}
 use Rattle.call_book.specs.declared.leg_name.LegName.{LegName}
 use Rattle.leg_machine.specs.LegTable.{is_media}
-use Rattle.leg_machine.specs.Signals.{span_len}
-use Rattle.call_signals.specs.declared.signals.Signal.{Signal}
-use Rattle.call_signals.specs.declared.signals.Signal.TheVariants.{Media}
+use Rattle.leg_machine.specs.Signal.{span_len}
+use Rattle.call_signals.specs.declared.signal.Signal.{Signal}
+use Rattle.call_signals.specs.declared.signal.Signal.TheVariants.{Media}
 use Rattle.peer_lock.specs.Peer.{PeerStep}
 
 -- media lies within so many octets, and is 1 to 1,380 of them

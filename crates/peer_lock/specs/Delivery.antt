@@ -2,11 +2,11 @@
 use Rattle.std.specs.Prelude.{ℕ, ◌+◌, ◌%◌, ◌==◌, ◌&&◌, Bool, true, false, Option, None, Some, if◌then◌else◌}
 use Rattle.iax_frames.specs.FullFrame.{FullFrame}
 use Rattle.iax_frames.specs.declared.full_frame.FullHead.{FullHead}
-use Rattle.leg_machine.specs.Legs.{is_short_of_entries}
-use Rattle.leg_machine.specs.Messages.{message_of, is_numbered}
+use Rattle.leg_machine.specs.Leg.{is_short_of_entries}
+use Rattle.leg_machine.specs.Message.{message_of, is_numbered}
 use Rattle.call_signals.specs.Codes.{FRAME_IAX, IAX_INVAL, IAX_PONG}
-use Rattle.call_signals.specs.declared.messages.Message.{Message}
-use Rattle.call_signals.specs.declared.messages.Message.TheVariants.{New, Poke}
+use Rattle.call_signals.specs.declared.message.Message.{Message}
+use Rattle.call_signals.specs.declared.message.Message.TheVariants.{New, Poke}
 pub use Rattle.peer_legs.specs.Finding.{is_reached, can_reach, if_reached, found}
 use Rattle.peer_legs.specs.Legs.{NamedLeg}
 use Rattle.peer_lock.specs.Peer.{PeerView}

@@ -1,8 +1,8 @@
 -- How the refusals of the layers below are named here.
 use Rattle.iax_frames.specs.declared.datagram.FrameError.{FrameError}
 use Rattle.iax_frames.specs.declared.datagram.FrameError.TheVariants as unread
-use Rattle.call_signals.specs.declared.orders.OrderError.{OrderError as LegError}
-use Rattle.call_signals.specs.declared.orders.OrderError.TheVariants as leg_errors
+use Rattle.call_signals.specs.declared.order.OrderError.{OrderError as LegError}
+use Rattle.call_signals.specs.declared.order.OrderError.TheVariants as leg_errors
 use Rattle.call_signals.specs.declared.outcomes.StepError.{StepError}
 use Rattle.call_signals.specs.declared.outcomes.StepError.TheVariants as step_errors
 use Rattle.peer_lock.specs.declared.errors.OrderError.{OrderError}

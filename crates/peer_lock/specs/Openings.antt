@@ -2,9 +2,9 @@
 use Rattle.std.specs.Prelude.{◌≡◌, ℕ, ◌==◌, not, is_some, true, List, [], Option, None, Some, map, if◌then◌else◌}
 use Rattle.call_book.specs.declared.leg_name.LegName.{LegName}
 use Rattle.iax_frames.specs.FullFrame.{FullFrame, spelling}
-use Rattle.leg_machine.specs.Messages.{message_of}
+use Rattle.leg_machine.specs.Message.{message_of}
 use Rattle.leg_machine.specs.Openings.{open_in_step, open_out_step}
-use Rattle.call_signals.specs.declared.formats.Format.{Format}
+use Rattle.call_signals.specs.declared.format.Format.{Format}
 use Rattle.call_signals.specs.declared.outcomes.Judged.TheVariants.{Unnumbered}
 use Rattle.peer_accounts.specs.Accounts.{stepped}
 use Rattle.peer_lock.specs.Delivery.{is_new}

@@ -8,9 +8,9 @@ use Rattle.leg_machine.specs.Media.{media_sent, after_media, media_frames}
 use Rattle.leg_machine.specs.OrderTable.{Carried as OrderCarried, order_refused, order_carried}
 use Rattle.leg_machine.specs.declared.media.MediaSent.{MediaSent}
 use Rattle.leg_machine.specs.declared.media.MediaSent.TheVariants as sent
-use Rattle.call_signals.specs.declared.orders.Order.{Order}
-use Rattle.call_signals.specs.declared.orders.Order.TheVariants as orders
-use Rattle.call_signals.specs.declared.orders.OrderError.{OrderError as LegError}
+use Rattle.call_signals.specs.declared.order.Order.{Order}
+use Rattle.call_signals.specs.declared.order.Order.TheVariants as orders
+use Rattle.call_signals.specs.declared.order.OrderError.{OrderError as LegError}
 use Rattle.peer_accounts.specs.Accounts.{stepped, carry_to}
 use Rattle.peer_lock.specs.Errors.{from_leg}
 use Rattle.peer_legs.specs.Legs.{NamedLeg, leg_named, with_leg}

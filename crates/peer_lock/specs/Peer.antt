@@ -1,13 +1,13 @@
 -- A peer, and what its steps have in common.
 use Rattle.std.specs.Prelude.{ℕ, List, [], ◌∷◌, Option, None, Some}
 use Rattle.call_book.specs.declared.leg_name.LegName.{LegName}
-use Rattle.leg_machine.specs.Legs.{LegState}
+use Rattle.leg_machine.specs.Leg.{LegState}
 use Rattle.leg_machine.specs.Openings.{called_of, caller_of, formats_of}
 use Rattle.call_signals.specs.declared.outcomes.Judged.{Judged}
 use Rattle.call_signals.specs.declared.outcomes.Judged.TheVariants.{Unnumbered}
 use Rattle.call_signals.specs.declared.rules.PeerRules.{PeerRules}
-use Rattle.call_signals.specs.declared.signals.Signal.{Signal}
-use Rattle.call_signals.specs.declared.signals.Signal.TheVariants.{Offered}
+use Rattle.call_signals.specs.declared.signal.Signal.{Signal}
+use Rattle.call_signals.specs.declared.signal.Signal.TheVariants.{Offered}
 use Rattle.peer_accounts.specs.Accounts.{Accounts, stepped, with_accepted}
 pub use Rattle.peer_accounts.specs.Grants.{Granted, granted_media, granted}
 use Rattle.peer_legs.specs.Legs.{PeerLegs, with_leg}

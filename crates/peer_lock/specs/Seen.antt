@@ -5,13 +5,13 @@ use Rattle.std.specs.Prelude.{is_some}
 use Rattle.call_book.specs.declared.leg_name.LegName.{LegName}
 use Rattle.leg_machine.specs.Seen.{SeenLeg, SeenFrame, Speaks, seen, frame_effect, moved, opening_effect, fresh_leg, stage_after}
 use Rattle.leg_machine.specs.Seen.{IsSeenOrder, IsSeenTick}
-use Rattle.leg_machine.specs.Stages.{is_ended}
+use Rattle.leg_machine.specs.Stage.{is_ended}
 use Rattle.call_signals.specs.declared.openings.Opening.{Opening}
-use Rattle.call_signals.specs.declared.orders.OrderKind.{OrderKind}
-use Rattle.call_signals.specs.declared.orders.OrderKind.TheVariants as kinds
-use Rattle.call_signals.specs.declared.signals.MediaSpan.{MediaSpan}
-use Rattle.call_signals.specs.declared.signals.Signal.{Signal}
-use Rattle.call_signals.specs.declared.stages.Stage.TheVariants.{Waiting}
+use Rattle.call_signals.specs.declared.order.OrderKind.{OrderKind}
+use Rattle.call_signals.specs.declared.order.OrderKind.TheVariants as kinds
+use Rattle.call_signals.specs.declared.signal.MediaSpan.{MediaSpan}
+use Rattle.call_signals.specs.declared.signal.Signal.{Signal}
+use Rattle.call_signals.specs.declared.stage.Stage.TheVariants.{Waiting}
 use Rattle.peer_legs.specs.Legs.{NamedLeg, PeerLegs, leg_at}
 use Rattle.peer_lock.specs.Peer.{PeerStep, handed_up}
 use Rattle.peer_lock.specs.declared.errors.OrderError.{OrderError}

@@ -5,12 +5,12 @@ use Rattle.call_book.specs.declared.leg_name.LegName.{LegName}
 use Rattle.iax_frames.specs.FullFrame.{FullFrame, spelling}
 use Rattle.iax_frames.specs.declared.full_frame.FullHead.{FullHead}
 use Rattle.iax_frames.specs.MiniFrame.{MiniFrame, SpellsMini}
-use Rattle.call_signals.specs.Messages.{message_of, is_inval}
+use Rattle.call_signals.specs.Message.{message_of, is_inval}
 use Rattle.call_signals.specs.declared.rules.PeerRules.{PeerRules}
 use Rattle.iax_frames.specs.declared.datagram.Datagram.{Datagram}
 use Rattle.iax_frames.specs.declared.stored_frame.Frame.{Frame}
 use Rattle.iax_frames.specs.declared.datagram.Datagram.TheVariants.{Full, Mini, Video, Trunk}
-use Rattle.leg_machine.specs.Legs.{LegState}
+use Rattle.leg_machine.specs.Leg.{LegState}
 use Rattle.leg_machine.specs.Tie.{numbered_frame, TakesTurn, SendsAtMostOne, TakesFirstTurn, HasSentAtMostOne}
 use Rattle.leg_machine.specs.Tie.{IsSendingOf, IsSending, IsSendingOrMini}
 use Rattle.peer_legs.specs.Legs.{PeerLegs, NamedLeg, leg_at, with_leg, with_place}

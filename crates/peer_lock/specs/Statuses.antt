@@ -1,6 +1,6 @@
 -- How a leg stands, as those see it who look.
 use Rattle.std.specs.Prelude.{ℕ, ◌≤◌, List, ◌&&◌, not, Bool, false, Option, None, Some}
-use Rattle.leg_machine.specs.Stages.{is_ended}
+use Rattle.leg_machine.specs.Stage.{is_ended}
 use Rattle.seq_window.specs.Entry.{Entry}
 use Rattle.seq_window.specs.History.{IsLegal}
 use Rattle.seq_window.specs.Window.{held_count, entry_count}

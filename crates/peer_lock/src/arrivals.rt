@@ -1,7 +1,7 @@
 //! The steps of a peer in which a datagram comes ("Full Frames", "Mini Frames", "Meta Frames").
 ghost use Rattle.std.specs.Prelude.{◌≡◌, ◌≢◌, ◌+◌, ◌-◌, ◌<◌, ◌≤◌, ◌⊎◌, ◌↔◌, [], length, map, true, None, Some, Err, IsSome, IfOk};
 ghost use Rattle.std.specs.Prelude.{IfErr, OnOk, OnErr, IfSome, IsNone, IsTrue};
-ghost use Rattle.leg_machine.specs.Legs.{is_short_of_entries};
+ghost use Rattle.leg_machine.specs.Leg.{is_short_of_entries};
 ghost use Rattle.leg_machine.specs.Steps.{full_step, heard_of};
 ghost use Rattle.peer_accounts.specs.Accounts.{stepped, with_accepted, with_step as with_credit};
 ghost use Rattle.peer_accounts.specs.Grants.{granted};

@@ -1,7 +1,7 @@
 //! The steps of a peer in which a leg obeys an order ("Call Setup", "Control Frames", "Mini Frames", "Meta Frames").
 ghost use Rattle.std.specs.Prelude.{◌≡◌, ◌≢◌, ◌+◌, ◌-◌, ◌<◌, ◌≤◌, [], length, map, None, Some, Err, true, IsSome, IsTrue, ◌↔◌};
 ghost use Rattle.std.specs.Prelude.{IsNone, IfSome, IfOk, IfErr, OnOk, OnErr, ℕ};
-ghost use Rattle.call_signals.specs.declared.orders.Order.{Order as OrderValue};
+ghost use Rattle.call_signals.specs.declared.order.Order.{Order as OrderValue};
 ghost use Rattle.std.specs.Option.{ForSome};
 ghost use Rattle.leg_machine.specs.OrderTable.{IsRefusal, IsShortMedia, is_voice, wants_memory, media_refused, order_refused};
 ghost use Rattle.leg_machine.specs.OrderTable.{order_carried};

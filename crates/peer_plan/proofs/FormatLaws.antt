@@ -8,8 +8,8 @@ use Rattle.toml.specs.Data.{Data, Items, no_items, item, as_str, as_array}
 use Rattle.toml.specs.View.{view, items_view}
 use Rattle.toml.specs.declared.value.Value.{Value}
 use Rattle.toml.proofs.Views.{items_view-drop}
-use Rattle.call_signals.specs.declared.formats.Formats.{Formats}
-use Rattle.call_signals.specs.Formats.{lowest_format}
+use Rattle.call_signals.specs.declared.format.Formats.{Formats}
+use Rattle.call_signals.specs.Format.{lowest_format}
 use Rattle.peer_plan.specs.Reading.{with_format, with_format_in, formats_after, formats_from, formats_in, no_formats}
 
 pub formats_none : (ds : Items) → formats_after None ds ≡ None

@@ -13,7 +13,7 @@ use Rattle.std.proofs.lemmas.List.Quantifiers.{all_pairs_push}
 use Rattle.std.proofs.lemmas.Slice.Eq.{bytes_eq-Decides}
 use Rattle.toml.specs.Data.{Data, no_items, Members, get_member, as_array, as_bool, as_str}
 use Rattle.call_signals.specs.PeerRules.{IsWithin}
-use Rattle.call_signals.specs.Formats.{lowest_format}
+use Rattle.call_signals.specs.Format.{lowest_format}
 use Rattle.peer_plan.specs.declared.key.Key.{Key}
 use Rattle.peer_plan.specs.declared.key.Key.TheVariants as key
 use Rattle.peer_plan.specs.declared.error.PlanError.TheVariants as error

@@ -1,7 +1,7 @@
 -- The formats as a plan names them.
 use Rattle.std.specs.Prelude.{ℕ, List, codes}
-use Rattle.call_signals.specs.declared.formats.Format.{Format}
-use Rattle.call_signals.specs.declared.formats.Format.TheVariants.{Gsm, Ulaw, Alaw}
+use Rattle.call_signals.specs.declared.format.Format.{Format}
+use Rattle.call_signals.specs.declared.format.Format.TheVariants.{Gsm, Ulaw, Alaw}
 
 abbrev pub format_name : Format → List ℕ
 format_name Gsm = codes "gsm"

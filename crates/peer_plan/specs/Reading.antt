@@ -7,8 +7,8 @@ use Rattle.std.specs.Str.{is_utf8, bytes_eq}
 use Rattle.toml.specs.Data.{Data, Items, no_items, item, Members, get_member, as_array, as_bool, as_str}
 use Rattle.toml.specs.Parse.{parse_document}
 use Rattle.call_signals.specs.Credential.{is_printable}
-use Rattle.call_signals.specs.declared.formats.Format.TheVariants.{Gsm, Ulaw, Alaw}
-use Rattle.call_signals.specs.declared.formats.Formats.{Formats}
+use Rattle.call_signals.specs.declared.format.Format.TheVariants.{Gsm, Ulaw, Alaw}
+use Rattle.call_signals.specs.declared.format.Formats.{Formats}
 use Rattle.call_signals.specs.declared.rules.PeerRules.{PeerRules}
 use Rattle.peer_plan.specs.declared.key.Key.TheVariants as key
 use Rattle.peer_plan.specs.declared.error.PlanError.{PlanError}

@@ -1,6 +1,6 @@
 //! What a plan says, and may not mean.
 ghost use Rattle.std.specs.Prelude.{◌≡◌, ◌<◌, length};
-ghost use Rattle.call_signals.specs.Formats.{has_format};
+ghost use Rattle.call_signals.specs.Format.{has_format};
 ghost use Rattle.plan_report.specs.Warnings.{lacks};
 
 use call_signals::{Format, Formats};

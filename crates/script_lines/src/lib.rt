@@ -1,6 +1,6 @@
 //! The lines of a script for `replay`: what each asks for.
 #![tactic(auto)]
 
-mod lines;
+mod line;
 
-pub use lines::{Line, decimal, ends_script, line_of};
+pub use line::{Line, decimal, ends_script, line_of};

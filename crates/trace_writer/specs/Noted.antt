@@ -1,8 +1,8 @@
 -- What is noted of the calls of an exchange: what a thread has handed over, and behind it what it holds
 use Rattle.std.specs.Prelude.{ℕ, List, ◌++◌}
 use Rattle.std.specs.List.{flat_map}
-use Rattle.trace_writer.specs.declared.marks.Mark.{Mark}
-use Rattle.trace_writer.specs.declared.marks.Batch.{Batch}
+use Rattle.trace_writer.specs.declared.mark.Mark.{Mark}
+use Rattle.trace_writer.specs.declared.mark.Batch.{Batch}
 
 -- the marks of batches, one after another
 abbrev pub marks_of : List Batch → List Mark

@@ -2,7 +2,7 @@
 ghost use Rattle.std.specs.Prelude.{◌≡◌, ◌++◌, ◌<◌, [], vec_len, vec_capacity};
 ghost use Rattle.trace_writer.specs.Noted.{marks_of, octets_of};
 
-use crate::marks::Batch;
+use crate::mark::Batch;
 use std::alloc::{AllocError, Global};
 use std::mem;
 

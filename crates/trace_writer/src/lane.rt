@@ -1,7 +1,7 @@
 //! A thread of a service, as it notes what it hands to the exchange.
 use crate::calls::OpenCall;
 use crate::free_numbers::orders_of;
-use crate::marks::{Batch, Input, Mark};
+use crate::mark::{Batch, Input, Mark};
 use crate::trace::Trace;
 use call_auth::Challenge;
 use peer_plan::{Endpoint, Plan};

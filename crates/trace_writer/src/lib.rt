@@ -8,7 +8,7 @@ mod free_numbers;
 mod handed;
 mod hexadecimal;
 mod lane;
-mod marks;
+mod mark;
 mod parts;
 mod spelling;
 mod trace;

@@ -4,7 +4,7 @@ ghost use Rattle.hex.specs.Hex.{encode_lower};
 ghost use Rattle.trace_writer.specs.Digits.{spells_digit, hidden, shown};
 
 use crate::hexadecimal::end_in_hex;
-use crate::marks::{Input, Mark};
+use crate::mark::{Input, Mark};
 use peer_plan::{Endpoint, Plan};
 use std::alloc::{AllocError, Global};
 use std::io;

@@ -1,7 +1,7 @@
 //! What the threads of a service share with the writer of its trace.
 use crate::calls::Calls;
 use crate::handed::Handed;
-use crate::marks::Batch;
+use crate::mark::Batch;
 use call_auth::Challenge;
 use call_files::Fault;
 use std::alloc::{AllocError, Global};

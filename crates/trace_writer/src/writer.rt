@@ -1,7 +1,7 @@
 //! The thread that writes.
 use crate::folder::Folder;
 use crate::handed::Handed;
-use crate::marks::{Batch, Input, Mark};
+use crate::mark::{Batch, Input, Mark};
 use crate::parts::{TraceFile, TraceFolder};
 use crate::spelling::{Head, Manner, Script};
 use crate::trace::Trace;

@@ -4,8 +4,8 @@ use Rattle.peer_lock.specs.Openings.{opens_in, opens_out}
 use Rattle.peer_lock.specs.Orders.{ordered_step}
 use Rattle.leg_machine.specs.Seen.{kind_of}
 use Rattle.call_steps.specs.Scene.{RefusesDatagram, RefusesOpening, RefusesTick, KeepsLeg}
-use Rattle.call_steps.specs.declared.needs.Need.TheVariants as needs
-use Rattle.call_steps.specs.declared.replies.Reply.TheVariants as replies
+use Rattle.call_steps.specs.declared.need.Need.TheVariants as needs
+use Rattle.call_steps.specs.declared.reply.Reply.TheVariants as replies
 use Rattle.std.specs.Prelude.{Err}
 use Rattle.std.proofs.Common.{None, false, refl}
 use Rattle.call_steps.proofs.PeerSteps.{nothing_changed, datagram_is, call_in_is, call_out_is, order_is, refusal_is, look_is, retiring_is}

@@ -1,5 +1,5 @@
 use Rattle.std.proofs.Common.{◌∙◌, ap, rules, subst, sym}
-use Rattle.leg_machine.specs.Legs.{LegState}
+use Rattle.leg_machine.specs.Leg.{LegState}
 use Rattle.leg_machine.specs.Tie.{SendsNumbered}
 use Rattle.peer_legs.proofs.RuleChanges.{recorded}
 use Rattle.peer_legs.proofs.SameCall.{open_in_is}

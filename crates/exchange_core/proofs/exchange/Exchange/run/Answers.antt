@@ -3,7 +3,7 @@ use Rattle.call_steps.specs.Beginnings.{beginning_at, is_answer}
 use Rattle.call_steps.specs.Leases.{lease_needed}
 use Rattle.call_steps.specs.Work.{next_of}
 use Rattle.call_steps.specs.WorkState.{WorkState}
-use Rattle.exchange_core.specs.Denials.{noted}
+use Rattle.exchange_core.specs.Denial.{noted}
 use Rattle.exchange_core.specs.FirstSteps.{InPlan, IsOpened, KeepsPeer}
 use Rattle.exchange_core.specs.Leaving.{LeftSince, leaving_of}
 use Rattle.exchange_core.specs.Newcomers.{SpellsOpening}

@@ -2,7 +2,7 @@ use Rattle.std.proofs.Common.{◌≡◌, ◌+◌, ◌<◌, ◌^◌, ◌-◌, min
 use Rattle.std.proofs.lemmas.List.{take_all}
 use Rattle.seq_window.specs.HeldFrame.{held_of}
 use Rattle.seq_window.specs.History.{acked_count, held}
-use Rattle.leg_machine.specs.Legs.{leg_of}
+use Rattle.leg_machine.specs.Leg.{leg_of}
 use Rattle.leg_machine.specs.Ticks.{is_none_due}
 use Rattle.leg_machine.proofs.Idle.{due_at, due_at-more, sending_of, none_before, some_then}
 use Rattle.leg_machine.proofs.machine.Machine.due_from.Goals as goal

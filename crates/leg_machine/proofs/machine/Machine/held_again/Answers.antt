@@ -6,7 +6,7 @@ use Rattle.seq_window.specs.HeldFrame.{held_of}
 use Rattle.seq_window.specs.Window.{held_frames}
 use Rattle.seq_window.specs.History.{acked_count, held}
 use Rattle.leg_machine.specs.Replies.{sent_again}
-use Rattle.leg_machine.specs.Legs.{leg_of}
+use Rattle.leg_machine.specs.Leg.{leg_of}
 use Rattle.leg_machine.proofs.Again.{map-take_more, map-take_all, length-numbered_from}
 use Rattle.leg_machine.proofs.machine.Machine.held_again.Goals as goal
 

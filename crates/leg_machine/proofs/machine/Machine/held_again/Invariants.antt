@@ -3,7 +3,7 @@ use Rattle.std.specs.Prelude.{map}
 use Rattle.iax_frames.specs.FullFrame.{spelling}
 use Rattle.seq_window.specs.Window.{held_frames}
 use Rattle.leg_machine.specs.Replies.{sent_again}
-use Rattle.leg_machine.specs.Legs.{leg_of}
+use Rattle.leg_machine.specs.Leg.{leg_of}
 use Rattle.leg_machine.proofs.machine.Machine.held_again.Given as goal
 
 -- the datagrams so far are those of the front

@@ -2,7 +2,7 @@ use Rattle.std.proofs.Common.{◌∙◌}
 use Rattle.iax_frames.specs.FullFrame.{spelling}
 use Rattle.seq_window.specs.Window.{held_frames}
 use Rattle.leg_machine.specs.Replies.{sent_again}
-use Rattle.leg_machine.specs.Legs.{leg_of}
+use Rattle.leg_machine.specs.Leg.{leg_of}
 use Rattle.leg_machine.proofs.Again.{map-after-map}
 use Rattle.leg_machine.proofs.machine.Machine.resend.Goals as goal
 

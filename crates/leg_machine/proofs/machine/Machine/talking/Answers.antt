@@ -1,5 +1,5 @@
 use Rattle.std.proofs.Common.{sym, ◌∙◌}
-use Rattle.leg_machine.specs.Legs.{leg_of}
+use Rattle.leg_machine.specs.Leg.{leg_of}
 use Rattle.leg_machine.proofs.Rows.{talking-other}
 use Rattle.leg_machine.proofs.machine.Machine.talking.Goals as goal
 

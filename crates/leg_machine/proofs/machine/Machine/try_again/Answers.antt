@@ -4,7 +4,7 @@ use Rattle.std.specs.Prelude.{◌%◌, ◌^◌, map}
 use Rattle.iax_frames.specs.FullFrame.{spelling}
 use Rattle.seq_window.specs.Window.{resent, after_resent}
 use Rattle.seq_window.specs.declared.judgements.Resent.TheVariants as resents
-use Rattle.leg_machine.specs.Legs.{leg_of, resent_by, with_window}
+use Rattle.leg_machine.specs.Leg.{leg_of, resent_by, with_window}
 use Rattle.leg_machine.specs.Tries.{Tried, tries, after_try, frames_again}
 use Rattle.leg_machine.proofs.OneTry.{tries-again, room_kept, capacity_kept}
 use Rattle.leg_machine.proofs.machine.Machine.try_again.Goals as goal

@@ -1,7 +1,7 @@
 use Rattle.std.proofs.Common.{◌≡◌, ◌≤◌, ◌-◌, ◌+◌, ◌++◌, length}
 use Rattle.std.specs.Prelude.{map}
 use Rattle.iax_frames.specs.FullFrame.{spelling}
-use Rattle.leg_machine.specs.Legs.{leg_of, whole_leg, capacity_of, HasRoom}
+use Rattle.leg_machine.specs.Leg.{leg_of, whole_leg, capacity_of, HasRoom}
 use Rattle.leg_machine.specs.Tries.{tries}
 use Rattle.leg_machine.proofs.machine.Machine.try_again.Given as goal
 

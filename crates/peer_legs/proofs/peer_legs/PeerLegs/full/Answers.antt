@@ -1,7 +1,7 @@
 use Rattle.std.proofs.lemmas.Result.{on_ok_weaker, on_err_weaker}
 use Rattle.std.proofs.Common.{◌≡◌, Some, true, ap}
 use Rattle.std.specs.Prelude.{OnErr}
-use Rattle.leg_machine.specs.Legs.{Leg, LegState}
+use Rattle.leg_machine.specs.Leg.{Leg, LegState}
 use Rattle.leg_machine.specs.Steps.{full_step}
 use Rattle.peer_legs.specs.Legs.{NamedLeg, is_from}
 use Rattle.peer_legs.specs.LegsInside.{legs_of}

@@ -1,9 +1,9 @@
 use Rattle.std.proofs.lemmas.Result.{on_ok_weaker, on_err_weaker}
 use Rattle.std.proofs.Common.{Some, ap, ◌≡◌}
 use Rattle.std.specs.Prelude.{OnErr}
-use Rattle.leg_machine.specs.Legs.{Leg, LegState}
+use Rattle.leg_machine.specs.Leg.{Leg, LegState}
 use Rattle.leg_machine.specs.Media.{media_sent, after_media}
-use Rattle.call_signals.specs.declared.orders.Order.TheVariants as orders
+use Rattle.call_signals.specs.declared.order.Order.TheVariants as orders
 use Rattle.peer_legs.specs.Legs.{NamedLeg}
 use Rattle.peer_legs.specs.LegsInside.{legs_of}
 use Rattle.peer_legs.proofs.LegChanges.{AreIndexed, stepped, placed_is_with_leg, same_either, sends_either, still_there}

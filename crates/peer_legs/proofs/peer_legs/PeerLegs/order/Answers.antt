@@ -1,7 +1,7 @@
 use Rattle.std.proofs.lemmas.Result.{on_ok_weaker, on_err_weaker}
 use Rattle.std.proofs.Common.{Some, ap, ◌≡◌}
 use Rattle.std.specs.Prelude.{OnErr}
-use Rattle.leg_machine.specs.Legs.{Leg, LegState}
+use Rattle.leg_machine.specs.Leg.{Leg, LegState}
 use Rattle.leg_machine.specs.OrderTable.{order_carried}
 use Rattle.peer_legs.specs.Legs.{NamedLeg}
 use Rattle.peer_legs.specs.LegsInside.{legs_of}

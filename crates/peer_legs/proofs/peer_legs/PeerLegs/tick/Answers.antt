@@ -1,7 +1,7 @@
 use Rattle.std.specs.Prelude.{map}
 use Rattle.std.proofs.Common.{◌≡◌, ◌==◌, ◌<◌, None, Some, length, slice_get, slice_set, sym, ap, ◌∙◌, subst, arith, rules}
 use Rattle.iax_frames.specs.FullFrame.{spelling}
-use Rattle.leg_machine.specs.Legs.{LegState}
+use Rattle.leg_machine.specs.Leg.{LegState}
 use Rattle.leg_machine.specs.Ticks.{tick_step}
 use Rattle.leg_machine.specs.Tie.{SendsAtMostOne, SendsNumbered}
 use Rattle.peer_legs.specs.Legs.{NamedLeg, PeerLegs, filled}

@@ -1,6 +1,6 @@
 use Rattle.std.proofs.Common.{◌∙◌, ap}
 use Rattle.call_signals.specs.declared.outcomes.Heard.{Heard}
-use Rattle.leg_machine.specs.Legs.{LegState}
+use Rattle.leg_machine.specs.Leg.{LegState}
 use Rattle.leg_machine.specs.Openings.{open_in_step}
 use Rattle.peer_lock.specs.Peer.{handed_up, leg_alone, offer_with}
 use Rattle.peer_lock.proofs.Opened.{opened_heard, opened_leg, opened_peer}

@@ -1,6 +1,6 @@
 use Rattle.std.proofs.Common.{◌≡◌, ◌+◌, length, map, rules}
 use Rattle.iax_frames.specs.TrunkFrame.{entry_item, is_timed}
-use Rattle.call_signals.specs.declared.signals.MediaSpan.{MediaSpan}
+use Rattle.call_signals.specs.declared.signal.MediaSpan.{MediaSpan}
 use Rattle.peer_lock.specs.Arrivals.{trunk_media, entry_span}
 use Rattle.peer_lock.proofs.Entries.{one_less_at}
 use Rattle.peer_lock.proofs.state.PeerState.take_entries.Goals as goal

@@ -1,0 +1,68 @@
+//! What one leg is ordered when another hands something up.
+ghost use Rattle.std.specs.Prelude.{◌≡◌, length};
+
+use leg_machine::{Cause, Digit, Format, Indication, MediaSpan, Order, OrderKind};
+
+/// An order to a leg, in which media is a place in the datagram that brought it.
+#[derive(Clone, Copy, Debug, PartialEq, Eq)]
+pub enum Act {
+    /// Accepts the offered call, in this format.
+    Accept(Format),
+    /// Rejects the offered call.
+    Reject(Cause),
+    /// Tells how the call goes on.
+    Indicate(Indication),
+    /// Answers the call.
+    Answer,
+    /// Sends a digit.
+    Dtmf(Digit),
+    /// Sends these octets of the datagram as media.
+    Media(MediaSpan),
+    /// Hangs up, for this cause.
+    Hangup(Cause),
+    /// Hangs up as soon as a tick can, for this cause.
+    Doom(Cause),
+    /// The exchange is done with the end of the call.
+    Paid,
+}
+
+impl Act {
+    ghost use Rattle.leg_machine.specs.Seen.{kind_of};
+    ghost use Rattle.call_steps.specs.Act.{act_kind, act_media, order_media, LiesWithin};
+
+    /// The order's kind, without the octets of its media.
+    pub fn kind(&self) -> OrderKind
+        ensures { result ≡ act_kind self.now }
+    {
+        match self {
+            Act::Accept(format) => OrderKind::Accept(*format),
+            Act::Reject(cause) => OrderKind::Reject(*cause),
+            Act::Indicate(indication) => OrderKind::Indicate(*indication),
+            Act::Answer => OrderKind::Answer,
+            Act::Dtmf(digit) => OrderKind::Dtmf(*digit),
+            Act::Media(_) => OrderKind::Media,
+            Act::Hangup(cause) => OrderKind::Hangup(*cause),
+            Act::Doom(cause) => OrderKind::Doom(*cause),
+            Act::Paid => OrderKind::Paid,
+        }
+    }
+
+    /// The order with the octets of its media, which lies within these octets of the datagram.
+    pub fn order<'a>(&self, octets: &'a [u8]) -> Order<'a>
+        requires { LiesWithin self.now (length octets.now) }
+        ensures kind { kind_of result ≡ act_kind self.now }
+        ensures media { order_media result ≡ act_media self.now octets.now }
+    {
+        match self {
+            Act::Accept(format) => Order::Accept(*format),
+            Act::Reject(cause) => Order::Reject(*cause),
+            Act::Indicate(indication) => Order::Indicate(*indication),
+            Act::Answer => Order::Answer,
+            Act::Dtmf(digit) => Order::Dtmf(*digit),
+            Act::Media(span) => Order::Media(&octets[span.start..span.end]),
+            Act::Hangup(cause) => Order::Hangup(*cause),
+            Act::Doom(cause) => Order::Doom(*cause),
+            Act::Paid => Order::Paid,
+        }
+    }
+}

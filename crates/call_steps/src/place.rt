@@ -1,0 +1,121 @@
+//! Where a call stands.
+ghost use Rattle.std.specs.Prelude.{◌≡◌};
+
+use crate::act::Act;
+use crate::need::Need;
+use call_book::LegName;
+use leg_machine::{Cause, Format, Signal};
+
+/// Where a call stands. A peer is its place in the plan.
+#[derive(Clone, Copy, Debug, PartialEq, Eq)]
+pub enum Place {
+    /// A datagram of this peer came.
+    Datagram(u16),
+    /// The datagram needs a number for its leg.
+    ReserveIn(u16),
+    /// The leg of the NEW is opened under this name.
+    OpenIn(LegName),
+    /// The opening was refused; the name was never bridged.
+    GiveBack(LegName),
+    /// This leg is offered.
+    Routing(LegName),
+    /// The offered leg is rejected.
+    Rejecting(LegName, Cause),
+    /// The call of the offered leg leads to this peer, in this format.
+    ReserveOut(LegName, u16, Format),
+    /// The offered leg, and the name of its far leg.
+    Bridging(LegName, LegName, Format),
+    /// The offered leg is accepted, before its far leg is opened.
+    Accepting(LegName, LegName, Format),
+    /// The far leg of the offered one is opened.
+    OpenOut(LegName, LegName),
+    /// This far leg is new: has it still a partner?
+    Checking(LegName),
+    /// What the offered leg asks for was refused: the name of its far leg goes back, then the offered leg is doomed.
+    Undoing(LegName, LegName),
+    /// This leg is doomed, for this cause.
+    Dooming(LegName, Cause),
+    /// What this leg handed up goes to its partner.
+    Finding(LegName, Act),
+    /// The partner gets the order.
+    Passing(LegName, Act),
+    /// This leg is finished.
+    Looking(LegName),
+    /// The leg of this peer and number, if there is one, is finished.
+    LookingAt(u16, u16),
+    /// This leg owes: its partner is hung up, for the cause of the leg's end.
+    FindingPartner(LegName, Cause),
+    /// The leg that owes, and its partner.
+    HangingUp(LegName, LegName, Cause),
+    /// The partner of this leg is hung up, or there is none.
+    Paying(LegName, Cause),
+    /// This leg is taken out, if it can be.
+    Retiring(LegName, Cause),
+    /// This leg was taken out.
+    Freeing(LegName, Cause),
+    /// Time goes on at this peer.
+    Tick(u16),
+    /// This leg is hung up from outside.
+    HangUp(LegName),
+    /// A call to this peer is made from outside.
+    ReserveCall(u16),
+    /// The leg of that call is opened.
+    OpenCall(LegName),
+    /// Nothing is left to be done.
+    End,
+}
+
+impl Place {
+    ghost use Rattle.call_steps.specs.Work.{next_at, place_for};
+
+    /// The step that is to be made here; `None` where there is none.
+    #[inline(always)]
+    pub fn next(&self) -> Option<Need>
+        ensures { result ≡ next_at self.now }
+    {
+        match *self {
+            Place::Datagram(peer) => Some(Need::Datagram(peer)),
+            Place::ReserveIn(peer) | Place::ReserveOut(_, peer, _) | Place::ReserveCall(peer) => {
+                Some(Need::Reserve(peer))
+            }
+            Place::OpenIn(name) => Some(Need::OpenIn(name)),
+            Place::OpenOut(_, name) | Place::OpenCall(name) => Some(Need::OpenOut(name)),
+            Place::GiveBack(name) | Place::Undoing(_, name) | Place::Freeing(name, _) => {
+                Some(Need::Release(name))
+            }
+            Place::Routing(offered) => Some(Need::Route(offered)),
+            Place::Rejecting(offered, cause) => Some(Need::Order(offered, Act::Reject(cause))),
+            Place::Bridging(offered, target, _) => Some(Need::Bridge(offered, target)),
+            Place::Accepting(offered, _, format) => Some(Need::Order(offered, Act::Accept(format))),
+            Place::Checking(name) | Place::Finding(name, _) | Place::FindingPartner(name, _) => {
+                Some(Need::Partner(name))
+            }
+            Place::Dooming(name, cause) => Some(Need::Order(name, Act::Doom(cause))),
+            Place::Passing(partner, act) => Some(Need::Order(partner, act)),
+            Place::Looking(name) => Some(Need::Look(name.peer, name.number)),
+            Place::LookingAt(peer, number) => Some(Need::Look(peer, number)),
+            Place::HangingUp(_, partner, cause) => {
+                Some(Need::Order(partner, Act::Hangup(cause)))
+            }
+            Place::Paying(name, _) => Some(Need::Order(name, Act::Paid)),
+            Place::Retiring(name, _) => Some(Need::Retire(name)),
+            Place::Tick(peer) => Some(Need::Tick(peer)),
+            Place::HangUp(name) => { Some(Need::Order(name, Act::Hangup(Cause::NormalClearing))) }
+            Place::End => None,
+        }
+    }
+
+    /// Where a call first stands for what a leg handed up; `None` where nothing is to be done for it.
+    pub fn for_signal(name: LegName, signal: Signal) -> Option<Place>
+        ensures { result ≡ place_for name signal }
+    {
+        match signal {
+            Signal::Offered => Some(Place::Routing(name)),
+            Signal::Indicated(indication) => Some(Place::Finding(name, Act::Indicate(indication))),
+            Signal::Answered => Some(Place::Finding(name, Act::Answer)),
+            Signal::Dtmf(digit) => Some(Place::Finding(name, Act::Dtmf(digit))),
+            Signal::Media(span) => Some(Place::Finding(name, Act::Media(span))),
+            Signal::Hangup => None,
+        }
+    }
+}

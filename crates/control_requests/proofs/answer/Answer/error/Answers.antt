@@ -1,0 +1,5 @@
+use Rattle.std.proofs.Common.{rules}
+use Rattle.control_requests.proofs.answer.Answer.error.Goals as goal
+
+pub returns-clause-status : goal.returns-clause-status
+returns-clause-status c = search rules

@@ -1,5 +1,0 @@
-use Rattle.std.proofs.Common.{rules}
-use Rattle.control_requests.proofs.answers.Answer.error.Goals as goal
-
-pub returns-clause-status : goal.returns-clause-status
-returns-clause-status c = search rules

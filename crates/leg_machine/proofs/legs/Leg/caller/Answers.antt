@@ -1,5 +1,0 @@
-use Rattle.std.proofs.Common.{rules}
-use Rattle.leg_machine.proofs.legs.Leg.caller.Goals as goal
-
-pub returns : goal.returns
-returns c = search rules

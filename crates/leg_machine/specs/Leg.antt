@@ -1,0 +1,118 @@
+-- A leg of a call, as its steps see it ("IAX Frames", "Message Transport").
+use Rattle.std.specs.Prelude.{ℕ, ◌+◌, ◌-◌, ◌/◌, ◌%◌, ◌^◌, ◌≤◌, Bool, ◌||◌, ◌&&◌, not, nat_lt, List, Option, Some, if◌then◌else◌}
+use Rattle.seq_window.specs.Window.{WindowState, entry_count}
+use Rattle.call_signals.specs.declared.cause.Cause.{Cause}
+use Rattle.call_signals.specs.Endings.{failure_cause}
+use Rattle.call_signals.specs.declared.failure.Failure.{Failure}
+use Rattle.call_signals.specs.declared.format.Format.{Format}
+use Rattle.call_signals.specs.declared.rules.PeerRules.{PeerRules}
+use Rattle.call_signals.specs.declared.stage.Stage.{Stage}
+use Rattle.call_signals.specs.declared.stage.Stage.TheVariants.{Ended}
+use Rattle.leg_machine.specs.declared.machine.Machine.{Machine}
+use Rattle.call_signals.specs.Stage.{is_ended, is_over}
+
+pub record LegState : Type 0 where
+  pub rules : PeerRules
+  -- the local number, and the moment of the opening
+  pub number : ℕ
+  pub opened : ℕ
+  pub stage : Stage
+  pub format : Format
+  -- the other side's number, once it is known
+  pub remote : Option ℕ
+  -- the layer above isn't done with the end of the call
+  pub owes : Bool
+  -- to be hung up by a tick
+  pub doomed : Bool
+  -- why it ends, or for what it is to be hung up
+  pub cause : Cause
+  -- the other side wants no media
+  pub quelched : Bool
+  -- the challenge that was sent
+  pub challenge : Option (List ℕ)
+  -- an AUTHREQ was answered
+  pub authenticated : Bool
+  -- a voice frame of the format was taken
+  pub voice_taken : Bool
+  -- the timestamp of the last voice frame that was sent
+  pub voice_sent : Option ℕ
+  -- the moment of the last PING, or of the opening
+  pub pinged : ℕ
+  -- the moment of the last VNAK, until a frame is taken: what is missing then is another one
+  pub vnak_sent : Option ℕ
+  -- why it ended, where no HANGUP or REJECT did that
+  pub failure : Option Failure
+  -- so many full frames went out again, modulo 2 ^ 64
+  pub resent : ℕ
+  -- the record, and when each held frame was last sent
+  pub window : WindowState
+
+-- and how many more entries its record takes without asking for memory
+pub record Leg : Type 0 where
+  pub state : LegState
+  pub spare : ℕ
+
+-- the leg without the memory that its record has left
+abbrev pub leg_of : Machine → LegState
+leg_of m = record {
+  rules = m.rules;
+  number = m.number;
+  opened = m.opened;
+  stage = m.stage;
+  format = m.format;
+  remote = m.remote;
+  owes = m.owes;
+  doomed = m.doomed;
+  cause = m.cause;
+  quelched = m.quelched;
+  challenge = m.challenge;
+  authenticated = m.authenticated;
+  voice_taken = m.voice_taken;
+  voice_sent = m.voice_sent;
+  pinged = m.pinged;
+  vnak_sent = m.vnak_sent;
+  failure = m.failure;
+  resent = m.resent;
+  window = m.window.state;
+}
+
+abbrev pub whole_leg : Machine → Leg
+whole_leg m = record { state = leg_of m; spare = m.window.spare }
+
+-- so many entries fit in the memory of a leg's record: those that it has, and the spare ones
+abbrev pub capacity_of : Leg → ℕ
+capacity_of leg = entry_count leg.state.window + leg.spare
+
+-- A leg enters a stage. From the first that is Closing or Ended on it owes.
+abbrev pub entered : LegState → Stage → LegState
+entered leg stage = record leg {
+  stage = stage;
+  owes = leg.owes || (is_over stage && not (is_over leg.stage));
+}
+
+-- The leg ends since it can't go on. What ended before stays as it ended.
+abbrev pub failed : LegState → Failure → LegState
+failed leg why = record (entered leg Ended) {
+  failure = if is_ended leg.stage then leg.failure else Some why;
+  cause = if leg.rules.carries_cause && not (is_over leg.stage) then failure_cause why else leg.cause;
+}
+
+-- so many full frames more went out again
+abbrev pub resent_by : LegState → ℕ → LegState
+resent_by leg frames = record leg { resent = (leg.resent + frames) % 2 ^ 64 }
+
+abbrev pub with_window : LegState → WindowState → LegState
+with_window leg window = record leg { window = window }
+
+-- While fewer frames than this are held, frames go out that no frame of the other side asks for.
+abbrev pub local_room : ℕ → ℕ
+local_room width = width - width / 4
+
+-- fewer than four entries are free
+abbrev pub is_short_of_entries : LegState → Bool
+is_short_of_entries leg = nat_lt leg.window.limit (entry_count leg.window + 4)
+
+-- so many entries fit, with no further memory
+pub record HasRoom (entries : ℕ) (m : Machine) : Type 0 where
+  pub limit : entry_count m.window.state + entries ≤ m.window.state.limit
+  pub spare : entries ≤ m.window.spare

@@ -1,0 +1,289 @@
+//! A leg, by the calls of the layer above.
+ghost use Rattle.std.specs.Prelude.{◌≡◌, ◌==◌, ℕ, ◌+◌, ◌≤◌, ◌<◌, ◌↔◌, true, None, Some, Err, [], length, map, All, IfOk, IfErr};
+ghost use Rattle.std.specs.Prelude.{OnOk, OnErr};
+ghost use Rattle.iax_frames.specs.FullFrame.{spelling};
+ghost use Rattle.leg_machine.specs.Leg.{capacity_of, is_short_of_entries};
+ghost use Rattle.leg_machine.specs.Media.{media_sent, after_media, media_frames};
+ghost use Rattle.leg_machine.specs.Openings.{open_in_step, open_out_step};
+ghost use Rattle.leg_machine.specs.OrderTable.{order_refused, media_refused, is_voice, wants_memory, IsRefusal, IsShortMedia};
+ghost use Rattle.leg_machine.specs.OrderTable.{order_carried};
+ghost use Rattle.call_signals.specs.PeerRules.{IsPeerRules};
+ghost use Rattle.leg_machine.specs.Seen.{seen, kind_of, stage_after, fresh_leg, IsSeenFrame, IsSeenOpening, IsSeenOrder};
+ghost use Rattle.leg_machine.specs.Seen.{IsSeenTick};
+ghost use Rattle.leg_machine.specs.Steps.{full_step, heard_of};
+ghost use Rattle.leg_machine.specs.Ticks.{tick_step};
+ghost use Rattle.leg_machine.specs.Tie.{TakesTurn, SendsAtMostOne, TakesFirstTurn, HasSentAtMostOne, IsSending, IsSendingOrMini};
+ghost use Rattle.call_signals.specs.declared.order.OrderKind.TheVariants as kinds;
+
+use crate::machine::Machine;
+use crate::media::MediaSent;
+use call_auth::Challenge;
+use call_signals::openings::{call_format, opening_of};
+use call_signals::{
+    Caller, Cause, Format, Heard, LocalNumber, Message, NewElements, Order, OrderError, PeerRules,
+    Replies, Stage, StepError,
+};
+use iax_frames::{CallNumber, Full, Payload};
+use seq_window::Window;
+use std::alloc::{AllocError, Global};
+use std::marker::Model;
+
+/// One end of a call with one peer.
+///
+/// It begins by `open_in` or `open_out`. Events come by `full` and `tick`, orders by `order`; the readers, `media_in` among them,
+/// only look. Each of these calls that can send gives its datagrams in what it answers, and has a form, by its name and `_into`,
+/// that writes them to a list that the caller lends, empty. Media of the layer above has only such a form, `media_into`. No call
+/// waits or looks at a clock: moments are milliseconds that are handed in.
+///
+/// Contracts see the leg's state, and how many more entries its record takes without asking for memory.
+#[derive(Drop)]
+pub struct Leg {
+    pub(crate) machine: Machine,
+}
+
+impl Model for Leg {
+    ghost use Rattle.leg_machine.specs.Leg.{Leg as State, leg_of, whole_leg};
+    ghost use Rattle.leg_machine.specs.Tie.{SendsNumbered};
+
+    ghost Value = { State };
+
+    ghost view = { λ l. whole_leg l.machine };
+
+    // Each frame that the record has as sent is numbered.
+    ghost invariant = { λ l. SendsNumbered (leg_of l.machine) };
+}
+
+impl Leg {
+    /// A leg for a NEW that came ("Call Setup"), under this local number, 1 ..= 32,767, at the moment `now`, in milliseconds.
+    /// What is sent is written to the empty list.
+    ///
+    /// The NEW has OSeqno 0 and at most 1,388 octets of data. The challenge goes out where the peer has a secret. `Err` comes
+    /// only where memory was refused; then nothing is written.
+    pub fn open_in_into(
+        alloc: Global,
+        rules: &PeerRules,
+        number: CallNumber,
+        frame: &Full,
+        now: u64,
+        challenge: &Challenge,
+        replies: &mut Replies,
+    ) -> Result<(Leg, Heard), AllocError>
+        requires rules { IsPeerRules rules.now }
+        requires number { 1 ≤ number }
+        requires first { frame.now.head.oseqno ≡ 0 }
+        requires short { length frame.now.payload ≤ 1388 }
+        requires empty { replies.old ≡ [] }
+        ensures leg { IfOk result (λ opened. opened.0.state ≡ (open_in_step rules.now number frame.now now challenge.now).leg) }
+        ensures replies { OnOk result (replies.new ≡
+            map spelling (open_in_step rules.now number frame.now now challenge.now).replies) }
+        ensures heard { IfOk result (λ opened. opened.1 ≡ heard_of (open_in_step rules.now number frame.now now challenge.now)) }
+        // The record begins as that of one side of a network may.
+        ensures tied { IfOk result (λ opened. TakesFirstTurn frame.now opened.0.state) }
+        ensures sendings { IfOk result (λ opened. All (IsSending opened.0.state) replies.new) }
+        ensures seen { IfOk result (λ opened. IsSeenOpening (seen opened.0.state) opened.1.signal) }
+        ensures none_sent { OnErr result (replies.new ≡ replies.old) }
+    {
+        let mut window = Window::new(alloc, rules.window, rules.record_limit)?;
+        window.reserve(4)?;
+        let elements = NewElements::read(frame.payload());
+        let opening = opening_of(rules, &elements);
+        let mut machine = Machine {
+            rules: rules.copied(),
+            number: LocalNumber::new(number),
+            opened: now,
+            stage: Stage::Offered,
+            format: call_format(rules.formats, &elements).unwrap_or(Format::Gsm),
+            remote: Some(frame.source()),
+            owes: false,
+            doomed: false,
+            cause: Cause::NormalClearing,
+            quelched: false,
+            challenge: opening.challenge(challenge),
+            authenticated: false,
+            voice_taken: false,
+            voice_sent: None,
+            pinged: now,
+            vnak_sent: None,
+            failure: None,
+            resent: 0,
+            window,
+        };
+        let effect = opening.effect();
+        let heard = machine.take(&effect, frame, &Message::New, now, replies);
+        Ok((Leg { machine }, heard))
+    }
+
+    /// A leg for a NEW that goes out ("Call Setup"), under this local number, 1 ..= 32,767, for a number of at most 255 octets,
+    /// at the moment `now`, in milliseconds. What is sent is written to the empty list.
+    ///
+    /// `Err` comes only where memory was refused; then nothing is written.
+    pub fn open_out_into(
+        alloc: Global,
+        rules: &PeerRules,
+        number: CallNumber,
+        called: &[u8],
+        caller: &Caller,
+        format: Format,
+        now: u64,
+        replies: &mut Replies,
+    ) -> Result<Leg, AllocError>
+        requires rules { IsPeerRules rules.now }
+        requires number { 1 ≤ number }
+        requires called { length called.now ≤ 255 }
+        requires empty { replies.old ≡ [] }
+        ensures leg { IfOk result (λ leg. leg.state ≡ (open_out_step rules.now number called.now caller.now format now).leg) }
+        ensures replies { OnOk result (replies.new ≡
+            map spelling (open_out_step rules.now number called.now caller.now format now).replies) }
+        ensures tied { IfOk result (λ leg. HasSentAtMostOne leg.state) }
+        ensures sendings { IfOk result (λ leg. All (IsSending leg.state) replies.new) }
+        ensures seen { IfOk result (λ leg. seen leg.state ≡ fresh_leg Stage.Waiting) }
+        ensures none_sent { OnErr result (replies.new ≡ replies.old) }
+    {
+        let mut window = Window::new(alloc, rules.window, rules.record_limit)?;
+        window.reserve(4)?;
+        let mut machine = Machine {
+            rules: rules.copied(),
+            number: LocalNumber::new(number),
+            opened: now,
+            stage: Stage::Waiting,
+            format,
+            remote: None,
+            owes: false,
+            doomed: false,
+            cause: Cause::NormalClearing,
+            quelched: false,
+            challenge: None,
+            authenticated: false,
+            voice_taken: false,
+            voice_sent: None,
+            pinged: now,
+            vnak_sent: None,
+            failure: None,
+            resent: 0,
+            window,
+        };
+        let mut elements = Payload::empty();
+        machine.write_new(called, caller, &mut elements);
+        let frame = machine.new_frame(elements.as_slice(), now);
+        machine.send_frame(frame, now, replies);
+        Ok(Leg { machine })
+    }
+
+    /// A full frame comes, with at most 1,388 octets of data, at the moment `now`, in milliseconds ("Full Frames", "Message
+    /// Transport"). What is sent is written to the empty list.
+    ///
+    /// Refusals are looked for in this order: `RecordFull` where fewer than four entries of the record are free, whatever the
+    /// frame is; `Memory` where memory was refused, which never comes with four spare entries. Then nothing is changed or
+    /// written.
+    pub fn full_into(
+        &mut self,
+        frame: &Full,
+        now: u64,
+        replies: &mut Replies,
+    ) -> Result<Heard, StepError>
+        requires short { length frame.now.payload ≤ 1388 }
+        requires empty { replies.old ≡ [] }
+        ensures leg { OnOk result (self.new.state ≡ (full_step self.old.state frame.now now).leg) }
+        ensures replies { OnOk result (replies.new ≡ map spelling (full_step self.old.state frame.now now).replies) }
+        ensures heard { IfOk result (λ heard. heard ≡ heard_of (full_step self.old.state frame.now now)) }
+        // The record grows as one side of a network lets it.
+        ensures tied { OnOk result (TakesTurn self.old.state frame.now self.new.state) }
+        // What goes out is what such a side sends.
+        ensures sendings { OnOk result (All (IsSending self.new.state) replies.new) }
+        ensures seen { IfOk result (λ heard. IsSeenFrame (seen self.old.state) (seen self.new.state) heard.signal) }
+        ensures record_full { (result ≡ Err StepError.RecordFull) ↔ (is_short_of_entries self.old.state ≡ true) }
+        ensures memory { result ≡ Err StepError.Memory → self.old.spare < 4 }
+        ensures err { OnErr result (self.new ≡ self.old) }
+        ensures none_sent { OnErr result (replies.new ≡ replies.old) }
+        ensures capacity { capacity_of self.old ≤ capacity_of self.new }
+    {
+        self.machine.full_if_room(frame, now, replies)
+    }
+
+    /// Media of 1 to 1,380 octets goes out, at the moment `now`, in milliseconds. A full frame is written to the empty list; of
+    /// later media the caller writes the mini frame or the trunk entry. Quelched media goes nowhere ("Mini Frames", "Meta
+    /// Frames").
+    ///
+    /// Refusals are looked for in this order: `WrongStage` where the leg isn't talking; then, only of media that goes out as a
+    /// full frame, `WindowFull`, `RecordFull` where fewer than four entries of the record are free, and `Memory`, which never
+    /// comes with a spare entry. Then nothing is changed or written.
+    pub fn media_into(
+        &mut self,
+        media: &[u8],
+        now: u64,
+        replies: &mut Replies,
+    ) -> Result<MediaSent, OrderError>
+        requires short { length media.now ≤ 1380 }
+        requires empty { replies.old ≡ [] }
+        ensures sent { IfOk result (λ sent. sent ≡ media_sent self.old.state now) }
+        ensures leg { OnOk result (self.new.state ≡ after_media (media_sent self.old.state now) self.old.state media.now now) }
+        ensures replies { OnOk result (replies.new ≡
+            map spelling (media_frames (media_sent self.old.state now) self.old.state media.now now)) }
+        ensures tied { OnOk result (SendsAtMostOne self.old.state self.new.state) }
+        ensures sendings { OnOk result (All (IsSending self.new.state) replies.new) }
+        ensures seen { OnOk result (IsSeenOrder kinds.Media (seen self.old.state) (seen self.new.state)) }
+        ensures unrefused { OnOk result (media_refused self.old.state now ≡ None) }
+        ensures refused { IfErr result (IsRefusal (media_refused self.old.state now)) }
+        ensures memory { result ≡ Err OrderError.Memory → is_voice (media_sent self.old.state now) ≡ true }
+        ensures spare { result ≡ Err OrderError.Memory → self.old.spare ≡ 0 }
+        ensures wrong_stage { (result ≡ Err OrderError.WrongStage) ↔ (stage_after kinds.Media self.old.state.stage ≡ None) }
+        ensures err { OnErr result (self.new ≡ self.old) }
+        ensures none_sent { OnErr result (replies.new ≡ replies.old) }
+        ensures capacity { capacity_of self.old ≤ capacity_of self.new }
+    {
+        self.machine.media(media, now, replies)
+    }
+
+    /// An order is carried out, at the moment `now`, in milliseconds; media has 1 to 1,380 octets. What is sent is written to the
+    /// empty list.
+    ///
+    /// Refusals are looked for in this order: `WrongStage` where the leg's stage has no such order; then, only of what goes out
+    /// as a full frame, `WindowFull`, `RecordFull` where fewer than four entries of the record are free, and `Memory`, which
+    /// never comes with a spare entry. Then nothing is changed or written. Doom and Paid are never refused.
+    pub fn order_into(
+        &mut self,
+        order: &Order,
+        now: u64,
+        replies: &mut Replies,
+    ) -> Result<(), OrderError>
+        requires media { IsShortMedia order.now }
+        requires empty { replies.old ≡ [] }
+        ensures leg { OnOk result (self.new.state ≡ (order_carried self.old.state order.now now).leg) }
+        ensures replies { OnOk result (replies.new ≡ (order_carried self.old.state order.now now).datagrams) }
+        ensures tied { OnOk result (SendsAtMostOne self.old.state self.new.state) }
+        ensures sendings { OnOk result (All (IsSendingOrMini self.new.state) replies.new) }
+        ensures seen { OnOk result (IsSeenOrder (kind_of order.now) (seen self.old.state) (seen self.new.state)) }
+        ensures unrefused { OnOk result (order_refused self.old.state order.now now ≡ None) }
+        ensures refused { IfErr result (IsRefusal (order_refused self.old.state order.now now)) }
+        ensures memory { result ≡ Err OrderError.Memory → wants_memory self.old.state order.now now ≡ true }
+        ensures spare { result ≡ Err OrderError.Memory → self.old.spare ≡ 0 }
+        ensures wrong_stage { (result ≡ Err OrderError.WrongStage) ↔
+            (stage_after (kind_of order.now) self.old.state.stage ≡ None) }
+        ensures err { OnErr result (self.new ≡ self.old) }
+        ensures none_sent { OnErr result (replies.new ≡ replies.old) }
+        ensures capacity { capacity_of self.old ≤ capacity_of self.new }
+    {
+        // A mini frame bears the leg's number, which isn't 0.
+        let _ = self.machine.number.get();
+        self.machine.order(order, now, replies)
+    }
+
+    /// Time goes on, up to the moment `now`, in milliseconds ("Message Transport": retransmission; "PING"). What is sent is
+    /// written to the empty list.
+    ///
+    /// The answer is how many frames were due and had no memory; they stay due. With two spare entries it is 0.
+    pub fn tick_into(&mut self, now: u64, replies: &mut Replies) -> u32
+        requires { replies.old ≡ [] }
+        ensures leg { self.new.state ≡ (tick_step (result == 0) self.old.state now).leg }
+        ensures replies { replies.new ≡ map spelling (tick_step (result == 0) self.old.state now).replies }
+        ensures skipped { result ≡ (tick_step (result == 0) self.old.state now).skipped }
+        ensures spare { 2 ≤ self.old.spare → result ≡ 0 }
+        ensures tied { SendsAtMostOne self.old.state self.new.state }
+        ensures sendings { All (IsSending self.new.state) replies.new }
+        ensures seen { IsSeenTick (seen self.old.state) (seen self.new.state) }
+        ensures capacity { capacity_of self.old ≤ capacity_of self.new }
+    {
+        let grown = self.machine.grow(now);
+        self.machine.tick(grown, now, replies)
+    }
+}

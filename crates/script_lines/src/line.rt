@@ -1,0 +1,127 @@
+//! The lines of a script.
+ghost use Rattle.std.specs.List.{starts_with};
+ghost use Rattle.std.specs.Prelude.{◌≡◌, ◌∷◌, [], length, nat_eq, Some};
+ghost use Rattle.script_lines.specs.declared.line.Line.TheVariants.{Nothing};
+
+/// What a line asks for.
+#[derive(Clone, Copy, Debug, PartialEq, Eq)]
+pub enum Line<'a> {
+    /// An empty line or a comment.
+    Nothing,
+    /// `at <ms>`: the moment, in milliseconds. It goes on.
+    At(u64),
+    /// `back <ms>`: the moment goes back, to that of a caller whose clock was read earlier.
+    Back(u64),
+    /// `challenge <text>`: the challenge for callers from now on.
+    Challenge(&'a [u8]),
+    /// `rx <peer> <hex>`: a datagram comes from a peer.
+    Rx(&'a [u8], &'a [u8]),
+    /// `stranger <address:port> <hex>`: a datagram comes from an endpoint that no peer has.
+    Stranger(&'a [u8], &'a [u8]),
+    /// `call <peer> <number>`: a call goes out to a peer.
+    Call(&'a [u8], &'a [u8]),
+    /// `hangup <number>`: the leg of a local number hangs up.
+    HangUp(u64),
+    /// `tick`: time goes on at all peers.
+    Tick,
+    /// `tick <peer>`: time goes on at one peer.
+    TickOf(&'a [u8]),
+    /// `hold`: from here on what goes out waits in the outboxes, until `send`.
+    Hold,
+    /// `send`: what waits in all outboxes goes out.
+    Send,
+    /// `send <peer>`: what waits in the outbox of a peer goes out.
+    SendTo(&'a [u8]),
+    /// `free <peer> <numbers>`: the order in which the numbers of a peer that has no leg are given out, as `5-7,1,2-4`.
+    Free(&'a [u8], &'a [u8]),
+    /// `settle`: the accounts are closed. No line follows it.
+    Settle,
+}
+
+/// The number that decimal digits say. None where there is no octet, where one is no digit, or where it doesn't fit 64 bits.
+pub fn decimal(digits: &[u8]) -> Option<u64> {
+    if digits.is_empty() {
+        return None;
+    }
+    let mut number: u64 = 0;
+    for digit in digits {
+        if !digit.is_ascii_digit() {
+            return None;
+        }
+        number = number
+            .checked_mul(10)?
+            .checked_add(u64::from(*digit - b'0'))?;
+    }
+    Some(number)
+}
+
+// The words of a line, parted by one space: at most four, since no line has more.
+fn words(line: &[u8]) -> [Option<&[u8]>; 4] {
+    let mut parts = line.split(|octet| *octet == b' ');
+    [parts.next(), parts.next(), parts.next(), parts.next()]
+}
+
+// What a line of one word says.
+fn said_by_one(word: &[u8]) -> Option<Line<'_>> {
+    match word {
+        b"tick" => Some(Line::Tick),
+        b"hold" => Some(Line::Hold),
+        b"send" => Some(Line::Send),
+        b"settle" => Some(Line::Settle),
+        _ => None,
+    }
+}
+
+// What a line of a command and one word more says.
+fn said_by_two<'a>(command: &[u8], word: &'a [u8]) -> Option<Line<'a>> {
+    match command {
+        b"at" => Some(Line::At(decimal(word)?)),
+        b"back" => Some(Line::Back(decimal(word)?)),
+        b"challenge" => Some(Line::Challenge(word)),
+        b"hangup" => Some(Line::HangUp(decimal(word)?)),
+        b"tick" => Some(Line::TickOf(word)),
+        b"send" => Some(Line::SendTo(word)),
+        _ => None,
+    }
+}
+
+// What a line of a command, a peer and one word more says.
+fn said_by_three<'a>(command: &[u8], peer: &'a [u8], word: &'a [u8]) -> Option<Line<'a>> {
+    match command {
+        _ if word.is_empty() => None,
+        b"rx" => Some(Line::Rx(peer, word)),
+        b"stranger" => Some(Line::Stranger(peer, word)),
+        b"free" => Some(Line::Free(peer, word)),
+        b"call" => Some(Line::Call(peer, word)),
+        _ => None,
+    }
+}
+
+// What a line that asks for something says.
+fn said_by(line: &[u8]) -> Option<Line<'_>> {
+    match words(line) {
+        [Some(word), None, None, None] => said_by_one(word),
+        [Some(command), Some(word), None, None] => said_by_two(command, word),
+        [Some(command), Some(peer), Some(word), None] => said_by_three(command, peer, word),
+        _ => None,
+    }
+}
+
+/// Whether the script ends before this line, since it begins with the octet 0. So a file can be written over from its beginning:
+/// what stands behind the last line that was written isn't looked at.
+pub fn ends_script(line: &[u8]) -> bool
+    ensures { result ≡ starts_with nat_eq line.now (0 ∷ []) }
+{
+    line.starts_with(&[0])
+}
+
+/// What a line says, without its line feed: words with one space between each two. None where it isn't of these forms, or has a
+/// number that doesn't fit 64 bits. Of names, digits and lists nothing is judged here.
+pub fn line_of(line: &[u8]) -> Option<Line<'_>>
+    ensures empty { length line.now ≡ 0 → result ≡ Some Nothing }
+{
+    if line.is_empty() || line.starts_with(b"#") {
+        return Some(Line::Nothing);
+    }
+    said_by(line)
+}
