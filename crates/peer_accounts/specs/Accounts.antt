@@ -28,6 +28,17 @@ shown a = record {
   steps = a.steps;
 }
 
+-- the accounts that are kept so
+abbrev pub summed : Sums → Accounts
+summed s = record {
+  accepted = s.accepted;
+  packed = s.packed;
+  queued = s.queued;
+  dropped = s.dropped;
+  quelched = s.quelched;
+  steps = s.steps;
+}
+
 -- the media octets that were carried to the peer
 abbrev pub carried : Accounts → ℕ
 carried a = a.packed + a.queued + a.dropped

@@ -30,36 +30,24 @@ pub enum Carried {
 pub struct Account<J: Naming> {
     pub(crate) octets: Share<J::Octets>,
     pub(crate) steps: Share<J::Steps>,
+    // What the peer may still bring.
     pub(crate) unspent: u64,
-    pub(crate) accepted: u64,
-    pub(crate) packed: u64,
-    pub(crate) queued: u64,
-    pub(crate) dropped: u64,
-    pub(crate) quelched: u64,
-    pub(crate) made: u64,
+    pub(crate) sums: Sums,
     pub(crate) naming: PhantomData<J>,
 }
 
 impl<J: Naming> Model for Account<J> {
     ghost use Rattle.std.specs.Prelude.{◌≡◌, ◌+◌, ◌<◌, ◌≤◌, ◌^◌};
-    ghost use Rattle.peer_accounts.specs.Accounts.{Accounts};
+    ghost use Rattle.peer_accounts.specs.Accounts.{Accounts, summed};
 
     ghost Value = { Accounts };
 
-    ghost view = { λ s.
-        record {
-          accepted = s.accepted;
-          packed = s.packed;
-          queued = s.queued;
-          dropped = s.dropped;
-          quelched = s.quelched;
-          steps =
-              s.made;
-        } };
+    ghost view = { λ s. summed s.sums };
 
-    ghost invariant = { λ s. (s.octets + s.accepted ≡ J.first_octets + s.packed + s.queued + s.dropped) × (s.quelched ≤ s.dropped) ×
-        (s.octets < 2 ^ 64) × (s.unspent + s.accepted ≡ J.first_octets) × (s.steps + s.made ≡ J.first_steps) ×
-        (J.first_octets < 2 ^ 64) × (J.first_steps < 2 ^ 64) };
+    ghost invariant = { λ s.
+        (s.octets + s.sums.accepted ≡ J.first_octets + s.sums.packed + s.sums.queued + s.sums.dropped)
+        × (s.sums.quelched ≤ s.sums.dropped) × (s.octets < 2 ^ 64) × (s.unspent + s.sums.accepted ≡ J.first_octets)
+        × (s.steps + s.sums.steps ≡ J.first_steps) × (J.first_octets < 2 ^ 64) × (J.first_steps < 2 ^ 64) };
 }
 
 impl<J: Naming> Account<J> {
@@ -75,12 +63,7 @@ impl<J: Naming> Account<J> {
             octets,
             steps,
             unspent,
-            accepted: 0,
-            packed: 0,
-            queued: 0,
-            dropped: 0,
-            quelched: 0,
-            made: 0,
+            sums: Sums::default(),
             naming: PhantomData,
         }
     }
@@ -97,14 +80,7 @@ impl<J: Naming> Account<J> {
         ensures sums { result ≡ shown self.now }
         ensures part { result.quelched ≤ result.dropped }
     {
-        Sums {
-            accepted: self.accepted,
-            packed: self.packed,
-            queued: self.queued,
-            dropped: self.dropped,
-            quelched: self.quelched,
-            steps: self.made,
-        }
+        self.sums
     }
 
     /// Takes in media of n octets, and passes their credit on. False, and nothing is changed, exactly where the peer has less
@@ -120,7 +96,7 @@ impl<J: Naming> Account<J> {
         }
         pass_on(&mut self.octets, &mut pass.octets, n);
         self.unspent -= n;
-        self.accepted += n;
+        self.sums.accepted += n;
         true
     }
 
@@ -134,12 +110,12 @@ impl<J: Naming> Account<J> {
     {
         pass_on(&mut pass.octets, &mut self.octets, n);
         match outcome {
-            Carried::Packed => self.packed += n,
-            Carried::Queued => self.queued += n,
-            Carried::Dropped => self.dropped += n,
+            Carried::Packed => self.sums.packed += n,
+            Carried::Queued => self.sums.queued += n,
+            Carried::Dropped => self.sums.dropped += n,
             Carried::Quelched => {
-                self.dropped += n;
-                self.quelched += n;
+                self.sums.dropped += n;
+                self.sums.quelched += n;
             }
         }
     }
@@ -152,8 +128,8 @@ impl<J: Naming> Account<J> {
         ensures others { (self.new.accepted ≡ self.old.accepted) × (self.new.dropped ≡ self.old.dropped) ×
             (self.new.quelched ≡ self.old.quelched) × (self.new.steps ≡ self.old.steps) }
     {
-        self.queued -= n;
-        self.packed += n;
+        self.sums.queued -= n;
+        self.sums.packed += n;
     }
 
     /// Counts one step, and passes its credit on. There is step credit left.
@@ -163,7 +139,7 @@ impl<J: Naming> Account<J> {
         ensures credit { pass.new ≡ record pass.old { steps = pass.old.steps + 1 } }
     {
         pass_on(&mut self.steps, &mut pass.steps, 1);
-        self.made += 1;
+        self.sums.steps += 1;
     }
 
     /// Takes in what a leg hands up: media only where there is credit for all of its octets, which is passed on; without it
@@ -198,22 +174,12 @@ impl<J: Naming> Account<J> {
             octets,
             steps,
             unspent,
-            accepted,
-            packed,
-            queued,
-            dropped,
-            quelched,
-            made,
+            sums,
             naming,
         } = self;
         let closed = ClosedAccount {
             unspent,
-            accepted,
-            packed,
-            queued,
-            dropped,
-            quelched,
-            made,
+            sums,
             naming,
         };
         (closed, octets, steps)

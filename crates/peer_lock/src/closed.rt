@@ -60,28 +60,28 @@ impl<J: Naming> ClosedPeer<J> {
     pub fn accepted(&self) -> u64
         ensures { result ≡ self.now.accounts.accepted }
     {
-        self.account.accepted()
+        self.account.sums().accepted
     }
 
     /// The media octets for the peer that were written into frames.
     pub fn packed(&self) -> u64
         ensures { result ≡ self.now.accounts.packed }
     {
-        self.account.packed()
+        self.account.sums().packed
     }
 
     /// The media octets for the peer that wait in the trunk queue.
     pub fn queued(&self) -> u64
         ensures { result ≡ self.now.accounts.queued }
     {
-        self.account.queued()
+        self.account.sums().queued
     }
 
     /// The media octets for the peer that were dropped, the quelched ones among them.
     pub fn dropped(&self) -> u64
         ensures { result ≡ self.now.accounts.dropped }
     {
-        self.account.dropped()
+        self.account.sums().dropped
     }
 
     /// Of the dropped media octets, those that the other side wanted none of.
@@ -89,14 +89,14 @@ impl<J: Naming> ClosedPeer<J> {
         ensures value { result ≡ self.now.accounts.quelched }
         ensures part { result ≤ self.now.accounts.dropped }
     {
-        self.account.quelched()
+        self.account.sums().quelched
     }
 
     /// How many steps the peer made.
     pub fn steps(&self) -> u64
         ensures { result ≡ self.now.accounts.steps }
     {
-        self.account.steps()
+        self.account.sums().steps
     }
 
     /// The peer with its shares again, as `part` gave them.
