@@ -1,9 +1,9 @@
 -- A leg that changed, or came, stands under its number.
-use Rattle.std.proofs.Common.{◌≡◌, ◌+◌, ◌-◌, ◌≤◌, ℕ, Option, Some, None, IsSome, slice_get, slice_set, ap, refl, true, ◌∙◌, arith}
+use Rattle.std.proofs.Common.{◌≡◌, ◌+◌, ◌-◌, ◌≤◌, ℕ, Option, Some, None, Result, Ok, Err, IfOk, OnOk, slice_get, slice_set, ap, refl, true, ◌∙◌, arith}
 use Rattle.std.proofs.lemmas.Option.{slice_get_within}
 use Rattle.leg_machine.specs.Leg.{LegState}
 use Rattle.peer_legs.specs.Finding.{can_reach}
-use Rattle.peer_legs.specs.Legs.{NamedLeg, PeerLegs, AreLegs, leg_at, with_leg}
+use Rattle.peer_legs.specs.Legs.{NamedLeg, PeerLegs, AreLegs, is_from, leg_at, with_leg}
 use Rattle.peer_legs.proofs.PlaceLaws.{slice_get-set_same, stands_at, leg_at_place, back}
 
 same_place : (first number other : ℕ) → first ≤ number → other ≡ first + (number - first) → other - first ≡ number - first
@@ -20,8 +20,20 @@ kept_there legs number named leg are at =
     ∙ slice_get-set_same legs.places (number - legs.first) (Some (record { name = named.name; leg = leg }))
     (slice_get_within legs.places (number - legs.first) (Some named) here.place))
 
--- a leg that can be reached is one, and is one after its step
-pub some_there : (legs : PeerLegs) (source : ℕ) (old new : Option NamedLeg) (after : NamedLeg → NamedLeg) → can_reach legs source old ≡ true
-    → ((named : NamedLeg) → old ≡ Some named → new ≡ Some (after named)) → IsSome new
-some_there legs source None new after reached there = absurd (cc)
-some_there legs source (Some named) new after reached there = rw (there named refl) refl
+-- a frame that can reach a leg is from its other side
+pub from_reached : (legs : PeerLegs) (source : ℕ) (place : Option NamedLeg) (named : NamedLeg) → can_reach legs source place ≡ true
+    → place ≡ Some named → is_from legs named.leg.remote source ≡ true
+from_reached legs source None named reached is = absurd (cc)
+from_reached legs source (Some other) named reached is = let same : other ≡ named = cc in rw (← same) reached
+
+-- what is so of each leg where a step was made
+pub each_ok : {T E : Type 0} (result : Result T E) (place : Option NamedLeg) (P : NamedLeg → Type 0)
+    → ((named : NamedLeg) → place ≡ Some named → OnOk result (P named)) → OnOk result ((named : NamedLeg) → place ≡ Some named → P named)
+each_ok (Ok answer) place P each = each
+each_ok (Err refusal) place P each = tt
+
+pub each_if_ok : {T E : Type 0} (result : Result T E) (place : Option NamedLeg) (P : T → NamedLeg → Type 0)
+    → ((named : NamedLeg) → place ≡ Some named → IfOk result (λ answer. P answer named))
+    → IfOk result (λ answer. (named : NamedLeg) → place ≡ Some named → P answer named)
+each_if_ok (Ok answer) place P each = each
+each_if_ok (Err refusal) place P each = tt

@@ -12,6 +12,8 @@ ghost use Rattle.leg_machine.specs.OrderTable.{order_carried};
 ghost use Rattle.leg_machine.specs.Steps.{full_step, heard_of};
 ghost use Rattle.leg_machine.specs.Ticks.{tick_step};
 ghost use Rattle.leg_machine.specs.Tie.{TakesTurn, SendsAtMostOne};
+ghost use Rattle.peer_legs.specs.Finding.{can_reach};
+ghost use Rattle.peer_legs.specs.Legs.{NamedLeg as NamedLegValue};
 
 use crate::named_leg::NamedLeg;
 use crate::remote_index::RemoteIndex;
@@ -61,7 +63,7 @@ fn no_legs(alloc: Global, count: u16) -> Result<Vec<Option<NamedLeg>>, AllocErro
 }
 
 impl PeerLegs {
-    ghost use Rattle.peer_legs.specs.Legs.{AreLegs, IsLegOf, AreLegsOf, leg_at, leg_named, leg_of_remote, has_remote, is_from};
+    ghost use Rattle.peer_legs.specs.Legs.{AreLegs, IsLegOf, AreLegsOf, leg_at, leg_named, leg_of_remote, has_remote};
     ghost use Rattle.peer_legs.specs.Legs.{filled, with_place, with_leg};
 
     /// A peer without a leg, whose local numbers are so many, 1 ..= 512, from the first on, all of them 1 ..= 32,767. `Err` comes
@@ -224,33 +226,36 @@ impl PeerLegs {
         named
     }
 
-    // A full frame with at most 1,388 octets of data comes to the leg of a local number.
-    //
-    // What is sent is written to the empty list. `RecordFull` comes where fewer than four entries of the leg's record are
-    // free, whatever the frame is.
-    pub(crate) fn full(
+    /// A full frame comes to the leg of a local number, at the moment `now`, in milliseconds, as `Leg::full_into` takes it; the
+    /// leg stands under its number still. The frame's source can reach that leg, and its data has at most 1,388 octets. What is
+    /// sent is written to the empty list.
+    ///
+    /// Refusals are looked for in this order: `RecordFull` where fewer than four entries of the leg's record are free, whatever
+    /// the frame is, then `Memory`. Then the legs are as before.
+    pub fn full(
         &mut self,
         number: u16,
         frame: &Full,
         now: u64,
         replies: &mut Replies,
     ) -> Result<Heard, StepError>
-        requires leg { IsSome (leg_at self.old number) }
-        requires source { ForSome (leg_at self.old number) (λ named.
-            is_from self.old named.leg.remote frame.now.head.source ≡ true) }
+        requires there { can_reach self.old frame.now.head.source (leg_at self.old number) ≡ true }
         requires short { length frame.now.payload ≤ 1388 }
         requires empty { replies.old ≡ [] }
-        ensures leg { ForSome (leg_at self.old number) (λ named. OnOk result
-            (self.new ≡ with_leg self.old named.name (full_step named.leg frame.now now).leg)) }
-        ensures replies { ForSome (leg_at self.old number) (λ named. OnOk result
-            (replies.new ≡ map spelling (full_step named.leg frame.now now).replies)) }
-        ensures heard { ForSome (leg_at self.old number) (λ named. IfOk result
-            (λ heard. heard ≡ heard_of (full_step named.leg frame.now now))) }
+        ensures leg { OnOk result ((named : NamedLegValue) → leg_at self.old number ≡ Some named →
+            self.new ≡ with_leg self.old named.name (full_step named.leg frame.now now).leg) }
+        ensures replies { OnOk result ((named : NamedLegValue) → leg_at self.old number ≡ Some named →
+            replies.new ≡ map spelling (full_step named.leg frame.now now).replies) }
+        ensures heard { IfOk result (λ heard. (named : NamedLegValue) → leg_at self.old number ≡ Some named →
+            heard ≡ heard_of (full_step named.leg frame.now now)) }
         // The leg's record grows as one side of a network lets it.
-        ensures tied { ForSome (leg_at self.old number) (λ named. OnOk result
-            (TakesTurn named.leg frame.now (full_step named.leg frame.now now).leg)) }
-        ensures record_full { ForSome (leg_at self.old number) (λ named.
-            (result ≡ Err StepError.RecordFull) ↔ (is_short_of_entries named.leg ≡ true)) }
+        ensures tied { (named : NamedLegValue) → leg_at self.old number ≡ Some named →
+            OnOk result (TakesTurn named.leg frame.now (full_step named.leg frame.now now).leg) }
+        ensures kept { OnOk result (IsSome (leg_at self.new number)) }
+        ensures there { OnOk result ((named : NamedLegValue) → leg_at self.old number ≡ Some named
+            → leg_at self.new number ≡ Some (record { name = named.name; leg = (full_step named.leg frame.now now).leg })) }
+        ensures record_full { (named : NamedLegValue) → leg_at self.old number ≡ Some named →
+            (result ≡ Err StepError.RecordFull) ↔ (is_short_of_entries named.leg ≡ true) }
         ensures err { OnErr result (self.new ≡ self.old) }
         ensures none_sent { OnErr result (replies.new ≡ replies.old) }
         ensures sound { AreLegs self.new }

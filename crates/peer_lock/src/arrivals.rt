@@ -85,7 +85,7 @@ impl<J: Naming> PeerState<J> {
         ensures err { OnErr result (self.new ≡ self.old) }
     {
         self.replies.clear();
-        let heard = self.legs.full_kept(number, frame, now, &mut self.replies)?;
+        let heard = self.legs.full(number, frame, now, &mut self.replies)?;
         put_all(&mut self.outbox, &self.replies);
         Ok(heard)
     }

@@ -8,23 +8,23 @@ use Rattle.peer_lock.proofs.state.PeerState.hear.Goals as goal
 pub invariant_of-self : goal.invariant_of-self
 invariant_of-self g c = record {
   rules = c.self.invariant.rules;
-  ruled = c.full_kept.ensures.ruled c.self.inside.rules c.self.invariant.ruled;
+  ruled = c.full.ensures.ruled c.self.inside.rules c.self.invariant.ruled;
   queued = c.self.invariant.queued;
 }
 
 pub invariant_of-self-2 : goal.invariant_of-self-2
 invariant_of-self-2 g c = record {
   rules = c.self.invariant.rules;
-  ruled = c.full_kept.ensures.ruled c.self.inside.rules c.self.invariant.ruled;
+  ruled = c.full.ensures.ruled c.self.inside.rules c.self.invariant.ruled;
   queued = c.self.invariant.queued;
 }
 
 pub returns-clause-peer : goal.returns-clause-peer
 returns-clause-peer g c named here =
     let inside = subst (λ (v : PeerView). leg_at v.legs c.args.number ≡ Some named) (sym c.self.view_is) here in
-    let sent : c.put_all.new.outbox ≡ put c.self.inside.outbox c.full_kept.new.replies = search rules in
+    let sent : c.put_all.new.outbox ≡ put c.self.inside.outbox c.full.new.replies = search rules in
     sent_by_leg (record { rules = c.self.inside.rules; legs = c.self.inside.legs; outbox = c.self.inside.outbox; queue = c.self.inside.queue; accounts = c.self.inside.account })
-    c.args.self.now named c.args.frame.now c.args.now c.full_kept.new.self c.put_all.new.outbox c.full_kept.new.replies
+    c.args.self.now named c.args.frame.now c.args.now c.full.new.self c.put_all.new.outbox c.full.new.replies
     c.self.view_is (c.in_ok-heard.ensures.leg named inside) sent (c.in_ok-heard.ensures.replies named inside)
 
 pub returns-clause-heard : goal.returns-clause-heard
