@@ -12,33 +12,47 @@ use std::alloc::Global;
 use std::sync::Wait;
 
 // The number that these digits spell.
-fn number_of(digits: &[u8]) -> Result<u16, Stop> {
-    match decimal(digits) {
-        Some(number) => u16::try_from(number).map_err(|_| Stop::Script),
-        None => Err(Stop::Script),
-    }
+fn number_of(digits: &[u8]) -> Option<u16> {
+    u16::try_from(decimal(digits)?).ok()
 }
 
-// The numbers that a text lists, each alone or from one to another, as `5-7,1`. More than a peer can have are refused.
-fn numbers_in(alloc: Global, text: &[u8]) -> Result<Vec<u16>, Stop> {
-    let mut numbers = Vec::new(alloc);
-    for part in text.split(|octet| *octet == b',') {
-        let mut ends = part.splitn(2, |octet| *octet == b'-');
-        let first = number_of(ends.next().unwrap_or(b""))?;
-        let last = match ends.next() {
-            Some(digits) => number_of(digits)?,
-            None => first,
-        };
-        for number in first..=last {
-            if numbers.len() == 512 {
-                return Err(Stop::Script);
-            }
-            if numbers.push(number).is_err() {
-                return Err(Stop::Memory);
-            }
+// The numbers that a part of a text names: one alone, or from one to another. None where it names none.
+fn ends_of(part: &[u8]) -> Option<(u16, u16)> {
+    let mut ends = part.splitn(2, |octet| *octet == b'-');
+    let first = number_of(ends.next().unwrap_or(b""))?;
+    let last = match ends.next() {
+        Some(digits) => number_of(digits)?,
+        None => first,
+    };
+    Some((first, last))
+}
+
+// The numbers from one to another, behind those that are listed. More than a peer can have are refused.
+fn list_range(numbers: &mut Vec<u16>, first: u16, last: u16) -> Result<(), Stop> {
+    for number in first..=last {
+        if numbers.len() == 512 {
+            return Err(Stop::Script);
+        }
+        if numbers.push(number).is_err() {
+            return Err(Stop::Memory);
         }
     }
-    Ok(numbers)
+    Ok(())
+}
+
+// The numbers that a text lists, each alone or from one to another, as `5-7,1`.
+fn list_numbers(numbers: &mut Vec<u16>, text: &[u8]) -> Result<(), Stop> {
+    for part in text.split(|octet| *octet == b',') {
+        match ends_of(part) {
+            Some((first, last)) => {
+                if let Err(stop) = list_range(numbers, first, last) {
+                    return Err(stop);
+                }
+            }
+            None => return Err(Stop::Script),
+        }
+    }
+    Ok(())
 }
 
 // Whether a list has each number of a range once, and no other.
@@ -106,6 +120,34 @@ fn take_and_free<J: Naming, R: Wait>(
     Ok(())
 }
 
+// The numbers of a peer are given out in this order, if it is one. What waits in the peer's outbox is dropped.
+fn order_listed<J: Naming, R: Wait>(
+    rt: &R,
+    exchange: &Exchange<NoGate, J>,
+    pass: &mut Pass<J>,
+    peer: u16,
+    numbers: &[u16],
+    now: u64,
+    challenge: &Challenge,
+) -> Result<(), Stop>
+    requires { peer < length exchange.now.peers }
+{
+    if !is_order_of(numbers, exchange.plan().range(peer))
+        || has_leg(rt, exchange, pass, peer, numbers)
+    {
+        return Err(Stop::Script);
+    }
+    if let Err(stop) = take_and_free(rt, exchange, pass, peer, numbers, now, challenge) {
+        return Err(stop);
+    }
+    for _ in 0..u64::MAX {
+        if exchange.take_out(rt, pass, peer).is_none() {
+            break;
+        }
+    }
+    Ok(())
+}
+
 /// Has the numbers of a peer be given out in the order of this text from now on, unseen by anybody: calls take all of them, and
 /// end in that order. What waits in the peer's outbox is dropped.
 ///
@@ -121,17 +163,9 @@ pub(crate) fn order_free<J: Naming, R: Wait>(
     challenge: &Challenge,
 ) -> Result<(), Stop> {
     let peer = peer_of(exchange.plan(), peer)?;
-    let numbers = numbers_in(alloc, text)?;
-    if !is_order_of(&numbers, exchange.plan().range(peer))
-        || has_leg(rt, exchange, pass, peer, &numbers)
-    {
-        return Err(Stop::Script);
+    let mut numbers = Vec::new(alloc);
+    match list_numbers(&mut numbers, text) {
+        Ok(()) => order_listed(rt, exchange, pass, peer, &numbers, now, challenge),
+        Err(stop) => Err(stop),
     }
-    take_and_free(rt, exchange, pass, peer, &numbers, now, challenge)?;
-    for _ in 0..u64::MAX {
-        if exchange.take_out(rt, pass, peer).is_none() {
-            break;
-        }
-    }
-    Ok(())
 }

@@ -20,23 +20,13 @@ pub(crate) fn empty_outbox<J: Naming, R: Wait, V: Viewer>(
     let peer = PeerOfPlan::at(exchange.plan(), place);
     for _ in 0..u64::MAX {
         match exchange.take_out(rt, pass, place) {
-            Some(out) => viewer.sent(moment, peer, out.octets())?,
+            Some(out) => {
+                if let Err(stop) = viewer.sent(moment, peer, out.octets()) {
+                    return Err(stop);
+                }
+            }
             None => break,
         }
-    }
-    Ok(())
-}
-
-/// All datagrams go out, the peers in the order of the plan.
-pub(crate) fn empty_outboxes<J: Naming, R: Wait, V: Viewer>(
-    rt: &R,
-    exchange: &Exchange<NoGate, J>,
-    pass: &mut Pass<J>,
-    moment: u64,
-    viewer: &mut V,
-) -> Result<(), Stop> {
-    for place in 0..exchange.plan().peer_count() {
-        empty_outbox(rt, exchange, pass, place, moment, viewer)?;
     }
     Ok(())
 }

@@ -1,11 +1,11 @@
 //! The lines of a script are played on an exchange, and a viewer is told what came of each.
 use crate::free_order::order_free;
-use crate::outboxes::{empty_outbox, empty_outboxes};
+use crate::outboxes::empty_outbox;
 use crate::stages::Stages;
 use crate::viewer::{PeerOfPlan, Stop, Viewer};
-use crate::words::{endpoint_of, octets_of, peer_of};
+use crate::words::{Sender, octets_of, peer_of, places_of, sender_of};
 use call_auth::Challenge;
-use exchange_core::{Answer, Exchange, NoGate, Pass, Retired};
+use exchange_core::{Answer, Exchange, NoGate, Pass, Refusal, Retired};
 use exchange_report::{call_error_name, order_error_name, refusal_name};
 use peer_lock::{Naming, Status};
 use peer_plan::Plan;
@@ -31,6 +31,15 @@ fn is_full(octets: &[u8]) -> bool {
     match octets.first() {
         Some(octet) => *octet >= 0x80,
         None => false,
+    }
+}
+
+// Whether a line has something happen at the exchange, of which a viewer is told.
+fn is_event(line: &Line<'_>) -> bool {
+    match line {
+        Line::Rx(_, _) | Line::Stranger(_, _) | Line::Call(_, _) => true,
+        Line::HangUp(_) | Line::Tick | Line::TickOf(_) => true,
+        _ => false,
     }
 }
 
@@ -61,145 +70,103 @@ impl Player {
         line: &Line<'_>,
         viewer: &mut V,
     ) -> Result<(), Stop> {
+        match self.begin(line, viewer) {
+            Ok(sends) => match self.work(rt, alloc, exchange, pass, line, viewer) {
+                Ok(()) if sends => self.send(rt, exchange, pass, &Line::Send, viewer),
+                worked => worked,
+            },
+            Err(stop) => Err(stop),
+        }
+    }
+
+    // A line is begun, which the viewer is told of what happens at the exchange. Whether what that makes goes out at once.
+    fn begin<V: Viewer>(&self, line: &Line<'_>, viewer: &mut V) -> Result<bool, Stop> {
+        if !is_event(line) {
+            return Ok(false);
+        }
+        match viewer.asked(self.now, line) {
+            Ok(()) => Ok(!self.holds),
+            Err(stop) => Err(stop),
+        }
+    }
+
+    // What a line asks for.
+    fn work<J: Naming, R: Wait, V: Viewer>(
+        &mut self,
+        rt: &R,
+        alloc: Global,
+        exchange: &Exchange<NoGate, J>,
+        pass: &mut Pass<J>,
+        line: &Line<'_>,
+        viewer: &mut V,
+    ) -> Result<(), Stop> {
         match line {
-            Line::Nothing | Line::Settle => Ok(()),
-            Line::At(moment) => self.at(*moment),
-            Line::Back(moment) => self.back(*moment),
-            Line::Challenge(text) => self.challenge(text),
-            Line::Hold => {
-                self.holds = true;
-                Ok(())
+            Line::Rx(_, digits) | Line::Stranger(_, digits) => {
+                self.hear(rt, alloc, exchange, pass, line, digits, viewer)
             }
+            Line::Call(peer, number) => self.call(rt, exchange, pass, peer, number, viewer),
+            Line::HangUp(number) => self.hang_up(rt, exchange, pass, *number, viewer),
+            Line::Tick | Line::TickOf(_) => self.tick(rt, exchange, pass, line, viewer),
+            Line::Send | Line::SendTo(_) => self.send(rt, exchange, pass, line, viewer),
             Line::Free(peer, numbers) => {
                 self.stages.doubt();
                 let (now, challenge) = (self.now, &self.challenge);
                 order_free(rt, alloc, exchange, pass, peer, numbers, now, challenge)
             }
-            Line::Send => self.finish(rt, exchange, pass, viewer),
-            Line::SendTo(peer) => self.send_to(rt, exchange, pass, peer, viewer),
-            _ => self.asked(rt, alloc, exchange, pass, line, viewer),
+            _ => self.set(line),
         }
     }
 
-    // Something happens at the exchange by a line, and what it makes goes out, or waits.
-    fn asked<J: Naming, R: Wait, V: Viewer>(
-        &mut self,
-        rt: &R,
-        alloc: Global,
-        exchange: &Exchange<NoGate, J>,
-        pass: &mut Pass<J>,
-        line: &Line<'_>,
-        viewer: &mut V,
-    ) -> Result<(), Stop> {
-        viewer.asked(self.now, line)?;
-        self.event(rt, alloc, exchange, pass, line, viewer)?;
-        if self.holds {
-            return Ok(());
-        }
-        self.finish(rt, exchange, pass, viewer)
-    }
-
-    // What happens at the exchange by a line.
-    fn event<J: Naming, R: Wait, V: Viewer>(
-        &mut self,
-        rt: &R,
-        alloc: Global,
-        exchange: &Exchange<NoGate, J>,
-        pass: &mut Pass<J>,
-        line: &Line<'_>,
-        viewer: &mut V,
-    ) -> Result<(), Stop> {
+    // What a line says of those after it.
+    fn set(&mut self, line: &Line<'_>) -> Result<(), Stop> {
         match line {
-            Line::Rx(peer, digits) => self.rx(rt, alloc, exchange, pass, peer, digits, viewer),
-            Line::Stranger(from, digits) => {
-                self.stranger(rt, alloc, exchange, pass, from, digits, viewer)
-            }
-            Line::Call(peer, number) => self.call(rt, exchange, pass, peer, number, viewer),
-            Line::HangUp(number) => self.hang_up(rt, exchange, pass, *number, viewer),
-            Line::Tick => self.tick(rt, exchange, pass, viewer),
-            Line::TickOf(peer) => self.tick_of(rt, exchange, pass, peer, viewer),
-            _ => Ok(()),
+            Line::At(moment) if *moment >= self.now => self.now = *moment,
+            Line::Back(moment) if *moment <= self.now => self.now = *moment,
+            Line::At(_) | Line::Back(_) => return Err(Stop::Script),
+            Line::Challenge(text) => match Challenge::new(text) {
+                Some(challenge) => self.challenge = challenge,
+                None => return Err(Stop::Script),
+            },
+            Line::Hold => self.holds = true,
+            _ => {}
         }
-    }
-
-    // The moment goes on.
-    fn at(&mut self, moment: u64) -> Result<(), Stop> {
-        if moment < self.now {
-            return Err(Stop::Script);
-        }
-        self.now = moment;
         Ok(())
-    }
-
-    // The moment goes back.
-    fn back(&mut self, moment: u64) -> Result<(), Stop> {
-        if moment > self.now {
-            return Err(Stop::Script);
-        }
-        self.now = moment;
-        Ok(())
-    }
-
-    // Another challenge for callers.
-    fn challenge(&mut self, text: &[u8]) -> Result<(), Stop> {
-        match Challenge::new(text) {
-            Some(challenge) => {
-                self.challenge = challenge;
-                Ok(())
-            }
-            None => Err(Stop::Script),
-        }
     }
 
     // A datagram comes.
-    fn rx<J: Naming, R: Wait, V: Viewer>(
+    fn hear<J: Naming, R: Wait, V: Viewer>(
         &mut self,
         rt: &R,
         alloc: Global,
         exchange: &Exchange<NoGate, J>,
         pass: &mut Pass<J>,
-        peer: &[u8],
+        line: &Line<'_>,
         digits: &[u8],
         viewer: &mut V,
     ) -> Result<(), Stop> {
-        let peer = peer_of(exchange.plan(), peer)?;
+        let Sender { from, peer } = sender_of(exchange.plan(), line)?;
         let octets = octets_of(alloc, digits)?;
-        if is_full(octets.as_slice()) {
+        if peer.is_some() && is_full(&octets) {
             self.stages.doubt();
         }
-        let from = exchange.plan().endpoint(peer);
-        let answer = exchange.datagram(
-            rt,
-            pass,
-            from,
-            octets.as_slice(),
-            self.now,
-            &self.challenge,
-        );
-        let peer = PeerOfPlan::at(exchange.plan(), peer);
-        viewer.received(self.now, peer, octets.as_slice(), answer.refused)?;
-        self.keep(answer)
+        let (now, challenge) = (self.now, &self.challenge);
+        let answer = exchange.datagram(rt, pass, from, &octets, now, challenge);
+        let refused = self.keep(answer);
+        self.tell_heard(peer, &octets, refused, viewer)
     }
 
-    // A datagram comes from an endpoint that no peer has.
-    fn stranger<J: Naming, R: Wait, V: Viewer>(
-        &mut self,
-        rt: &R,
-        alloc: Global,
-        exchange: &Exchange<NoGate, J>,
-        pass: &mut Pass<J>,
-        from: &[u8],
-        digits: &[u8],
+    // The viewer is told of a datagram from a peer, and of a stranger's where that is refused.
+    fn tell_heard<V: Viewer>(
+        &self,
+        peer: Option<PeerOfPlan<'_>>,
+        octets: &[u8],
+        refused: Result<Option<Refusal>, Stop>,
         viewer: &mut V,
     ) -> Result<(), Stop> {
-        let from = endpoint_of(from)?;
-        if exchange.plan().peer_of(from).is_some() {
-            return Err(Stop::Script);
+        match peer {
+            Some(peer) => viewer.received(self.now, peer, octets, refused?),
+            None => self.tell_refusal(refused, viewer),
         }
-        let octets = octets_of(alloc, digits)?;
-        let (now, challenge) = (self.now, &self.challenge);
-        let answer = exchange.datagram(rt, pass, from, octets.as_slice(), now, challenge);
-        self.answered(answer, viewer)
     }
 
     // A call goes out.
@@ -214,10 +181,10 @@ impl Player {
     ) -> Result<(), Stop> {
         let peer = peer_of(exchange.plan(), peer)?;
         self.stages.doubt();
-        if let Err(error) = exchange.call(rt, pass, peer, number, self.now) {
-            viewer.refused(self.now, call_error_name(error))?;
+        match exchange.call(rt, pass, peer, number, self.now) {
+            Ok(_) => Ok(()),
+            Err(error) => viewer.refused(self.now, call_error_name(error)),
         }
-        Ok(())
     }
 
     // The leg of a number hangs up.
@@ -229,123 +196,108 @@ impl Player {
         number: u64,
         viewer: &mut V,
     ) -> Result<(), Stop> {
-        let status = match u16::try_from(number) {
-            Ok(number) => self.stages.status(rt, exchange, pass, number),
-            Err(_) => None,
-        };
-        let Some(Status { name, .. }) = status else {
-            return viewer.refused(self.now, "NoLeg");
-        };
-        if name.peer >= exchange.plan().peer_count() {
-            return viewer.refused(self.now, "NoLeg");
-        }
-        self.stages.doubt_live();
-        match exchange.hang_up(rt, pass, name, self.now) {
-            Ok(answer) => self.answered(answer, viewer),
-            Err(error) => viewer.refused(self.now, order_error_name(error)),
+        let number = u16::try_from(number).unwrap_or(0);
+        match self.stages.status(rt, exchange, pass, number) {
+            Some(Status { name, .. }) if name.peer < exchange.plan().peer_count() => {
+                self.stages.doubt_live();
+                match exchange.hang_up(rt, pass, name, self.now) {
+                    Ok(answer) => self.answered(answer, viewer),
+                    Err(error) => viewer.refused(self.now, order_error_name(error)),
+                }
+            }
+            _ => viewer.refused(self.now, "NoLeg"),
         }
     }
 
-    // Time goes on at all peers, in the order of the plan.
+    // Time goes on at the peers that the line means, in the order of the plan.
     fn tick<J: Naming, R: Wait, V: Viewer>(
         &mut self,
         rt: &R,
         exchange: &Exchange<NoGate, J>,
         pass: &mut Pass<J>,
+        line: &Line<'_>,
         viewer: &mut V,
     ) -> Result<(), Stop> {
+        let (first, end) = places_of(exchange.plan(), line)?;
         self.stages.doubt_live();
-        for peer in 0..exchange.plan().peer_count() {
+        for peer in first..end {
             let answer = exchange.tick(rt, pass, peer, self.now);
-            self.answered(answer, viewer)?;
-        }
-        Ok(())
-    }
-
-    // Time goes on at one peer.
-    fn tick_of<J: Naming, R: Wait, V: Viewer>(
-        &mut self,
-        rt: &R,
-        exchange: &Exchange<NoGate, J>,
-        pass: &mut Pass<J>,
-        peer: &[u8],
-        viewer: &mut V,
-    ) -> Result<(), Stop> {
-        let peer = peer_of(exchange.plan(), peer)?;
-        self.stages.doubt_live();
-        let answer = exchange.tick(rt, pass, peer, self.now);
-        self.answered(answer, viewer)
-    }
-
-    // A refusal is told, and the legs that were taken out are kept until datagrams go out.
-    fn answered<V: Viewer>(&mut self, answer: Answer, viewer: &mut V) -> Result<(), Stop> {
-        if let Some(refusal) = answer.refused {
-            viewer.refused(self.now, refusal_name(refusal))?;
-        }
-        self.keep(answer)
-    }
-
-    // The legs that were taken out are kept until datagrams go out.
-    fn keep(&mut self, answer: Answer) -> Result<(), Stop> {
-        for retired in answer.retired {
-            if self.retired.push(retired).is_err() {
-                return Err(Stop::Memory);
+            if let Err(stop) = self.answered(answer, viewer) {
+                return Err(stop);
             }
         }
         Ok(())
     }
 
-    // What a line left, or all lines since datagrams went out: the datagrams that go out now, and what changed.
-    fn finish<J: Naming, R: Wait, V: Viewer>(
-        &mut self,
-        rt: &R,
-        exchange: &Exchange<NoGate, J>,
-        pass: &mut Pass<J>,
-        viewer: &mut V,
-    ) -> Result<(), Stop> {
-        empty_outboxes(rt, exchange, pass, self.now, viewer)?;
-        self.tell_changes(rt, exchange, pass, viewer)
+    // The legs that were taken out are kept until datagrams go out, and a refusal is told.
+    fn answered<V: Viewer>(&mut self, answer: Answer, viewer: &mut V) -> Result<(), Stop> {
+        let refused = self.keep(answer);
+        self.tell_refusal(refused, viewer)
     }
 
-    // The same, where the datagrams to one peer go out.
-    fn send_to<J: Naming, R: Wait, V: Viewer>(
-        &mut self,
-        rt: &R,
-        exchange: &Exchange<NoGate, J>,
-        pass: &mut Pass<J>,
-        peer: &[u8],
+    // A refusal is told, where there is one.
+    fn tell_refusal<V: Viewer>(
+        &self,
+        refused: Result<Option<Refusal>, Stop>,
         viewer: &mut V,
     ) -> Result<(), Stop> {
-        let peer = peer_of(exchange.plan(), peer)?;
-        empty_outbox(rt, exchange, pass, peer, self.now, viewer)?;
-        self.tell_changes(rt, exchange, pass, viewer)
+        match refused {
+            Ok(Some(refusal)) => viewer.refused(self.now, refusal_name(refusal)),
+            Ok(None) => Ok(()),
+            Err(stop) => Err(stop),
+        }
     }
 
-    // The legs that were taken out, and the stages that changed.
-    fn tell_changes<J: Naming, R: Wait, V: Viewer>(
+    // The legs that were taken out are kept until datagrams go out. Why nothing was done, if so: then there are none.
+    fn keep(&mut self, answer: Answer) -> Result<Option<Refusal>, Stop> {
+        let Answer {
+            refused,
+            retired,
+            ..
+        } = answer;
+        match self.retired.extend(retired) {
+            Ok(()) => Ok(refused),
+            Err(_) => Err(Stop::Memory),
+        }
+    }
+
+    // What a line left, or all lines since datagrams went out: the datagrams that go out now, to the peers that the line means, in
+    // the order of the plan; then the legs that were taken out, and the stages that changed.
+    fn send<J: Naming, R: Wait, V: Viewer>(
         &mut self,
         rt: &R,
         exchange: &Exchange<NoGate, J>,
         pass: &mut Pass<J>,
+        line: &Line<'_>,
         viewer: &mut V,
     ) -> Result<(), Stop> {
-        self.tell_retired(viewer)?;
-        self.retired.clear();
-        self.stages.tell(rt, exchange, pass, self.now, viewer)
+        let (first, end) = places_of(exchange.plan(), line)?;
+        for peer in first..end {
+            if let Err(stop) = empty_outbox(rt, exchange, pass, peer, self.now, viewer) {
+                return Err(stop);
+            }
+        }
+        match self.tell_retired(viewer) {
+            Ok(()) => self.stages.tell(rt, exchange, pass, self.now, viewer),
+            Err(stop) => Err(stop),
+        }
     }
 
     // The legs that were taken out, by ascending number.
-    fn tell_retired<V: Viewer>(&self, viewer: &mut V) -> Result<(), Stop> {
+    fn tell_retired<V: Viewer>(&mut self, viewer: &mut V) -> Result<(), Stop> {
         if self.retired.is_empty() {
             return Ok(());
         }
         for place in 0..self.stages.count() {
             for retired in &self.retired {
                 if usize::from(retired.name.number) == place.saturating_add(1) {
-                    viewer.retired(self.now, retired)?;
+                    if let Err(stop) = viewer.retired(self.now, retired) {
+                        return Err(stop);
+                    }
                 }
             }
         }
+        self.retired.clear();
         Ok(())
     }
 }

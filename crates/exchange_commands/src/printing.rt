@@ -12,20 +12,31 @@ pub(crate) struct Printer<'a, W> {
     pub writer: &'a mut W,
 }
 
-// Two digits for each octet.
+// What a viewer answers where this came of writing.
+fn told(written: io::Result<()>) -> Result<(), Stop> {
+    match written {
+        Ok(()) => Ok(()),
+        Err(_) => Err(Stop::Writer),
+    }
+}
+
+// Two digits for each octet, and the end of the line.
 fn write_hex<W: Write>(octets: &[u8], writer: &mut W) -> io::Result<()> {
     let mut digits = [0; 2];
     for octet in octets {
         let _ = hex::encode_to_slice(&[*octet], &mut digits);
-        writer.write_all(&digits)?;
+        if let Err(error) = writer.write_all(&digits) {
+            return Err(error);
+        }
     }
-    Ok(())
+    writer.write_all(b"\n")
 }
 
 fn write_datagram<W: Write>(peer: &str, octets: &[u8], writer: &mut W) -> io::Result<()> {
-    write!(writer, "tx {peer} ")?;
-    write_hex(octets, writer)?;
-    writer.write_all(b"\n")
+    match write!(writer, "tx {peer} ") {
+        Ok(()) => write_hex(octets, writer),
+        Err(error) => Err(error),
+    }
 }
 
 fn write_retired<W: Write>(retired: &Retired, writer: &mut W) -> io::Result<()> {
@@ -48,28 +59,28 @@ impl<W: Write> Viewer for Printer<'_, W> {
         refusal: Option<Refusal>,
     ) -> Result<(), Stop> {
         match refusal {
-            Some(refusal) => Ok(writeln!(self.writer, "refused {}", refusal_name(refusal))?),
+            Some(refusal) => told(writeln!(self.writer, "refused {}", refusal_name(refusal))),
             None => Ok(()),
         }
     }
 
     fn refused(&mut self, _moment: u64, name: &'static str) -> Result<(), Stop> {
-        Ok(writeln!(self.writer, "refused {name}")?)
+        told(writeln!(self.writer, "refused {name}"))
     }
 
     fn sent(&mut self, _moment: u64, peer: PeerOfPlan<'_>, octets: &[u8]) -> Result<(), Stop> {
-        Ok(write_datagram(peer.name, octets, self.writer)?)
+        told(write_datagram(peer.name, octets, self.writer))
     }
 
     fn retired(&mut self, _moment: u64, leg: &Retired) -> Result<(), Stop> {
-        Ok(write_retired(leg, self.writer)?)
+        told(write_retired(leg, self.writer))
     }
 
     fn staged(&mut self, _moment: u64, number: u16, stage: Option<Stage>) -> Result<(), Stop> {
-        Ok(writeln!(self.writer, "leg {} {}", number, stage_name(stage))?)
+        told(writeln!(self.writer, "leg {} {}", number, stage_name(stage)))
     }
 
     fn settled(&mut self, accounts: &MediaAccounts) -> Result<(), Stop> {
-        Ok(write_accounts(accounts, self.writer)?)
+        told(write_accounts(accounts, self.writer))
     }
 }

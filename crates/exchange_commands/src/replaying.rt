@@ -11,6 +11,7 @@ use peer_lock::{Naming, Service};
 use peer_plan::{Plan, PlanError};
 use script_lines::{Line, ends_script, line_of};
 use std::alloc::{AllocError, Global};
+use std::io;
 use std::io::Write;
 use std::marker::Brand;
 use std::sync::Wait;
@@ -47,14 +48,35 @@ fn stopped_at(line: usize, stop: Stop) -> ReplayError {
 /// Writes why a replay ended, and answers the status: 0 where its script did, else 1. It writes `refused <fault>`, `refused
 /// Script <line>` or `refused Memory`; of a writer that can't write, nothing.
 pub fn tell_outcome<W: Write>(outcome: Result<(), ReplayError>, writer: &mut W) -> u8 {
-    let _ = match outcome {
-        Ok(()) => return 0,
-        Err(ReplayError::Plan(fault)) => writeln!(writer, "refused {fault}"),
-        Err(ReplayError::Script(line)) => writeln!(writer, "refused Script {line}"),
-        Err(ReplayError::Memory) => writeln!(writer, "refused Memory"),
-        Err(ReplayError::Writer) => Ok(()),
-    };
-    1
+    match outcome {
+        Ok(()) => 0,
+        Err(error) => {
+            let _ = write_error(error, writer);
+            1
+        }
+    }
+}
+
+// Why a replay ended, as it is printed.
+fn write_error<W: Write>(error: ReplayError, writer: &mut W) -> io::Result<()> {
+    match error {
+        ReplayError::Plan(fault) => writeln!(writer, "refused {fault}"),
+        ReplayError::Script(line) => writeln!(writer, "refused Script {line}"),
+        ReplayError::Memory => writeln!(writer, "refused Memory"),
+        ReplayError::Writer => Ok(()),
+    }
+}
+
+// The accounts are closed.
+fn settle<J: Naming, V: Viewer>(
+    exchange: Exchange<NoGate, J>,
+    passes: Vec<Pass<J>>,
+    viewer: &mut V,
+) -> Result<(), Stop> {
+    match closed_accounts(exchange, passes) {
+        Ok(accounts) => viewer.settled(&accounts),
+        Err(_) => Err(Stop::Memory),
+    }
 }
 
 // One line is worked. After `settle` no line may follow that isn't skipped.
@@ -66,43 +88,28 @@ fn work_line<J: Naming, R: Wait, V: Viewer>(
     line: &[u8],
     viewer: &mut V,
 ) -> Result<(), Stop> {
-    match line_of(line) {
-        None => Err(Stop::Script),
-        Some(Line::Nothing) => Ok(()),
-        Some(Line::Settle) => match open.take() {
-            Some((exchange, passes)) => viewer.settled(&closed_accounts(exchange, passes)?),
+    match (line_of(line), open) {
+        (Some(Line::Nothing), _) => Ok(()),
+        (Some(Line::Settle), open) => match open.take() {
+            Some((exchange, passes)) => settle(exchange, passes, viewer),
             None => Err(Stop::Script),
         },
-        Some(line) => match open {
-            Some((exchange, passes)) => match passes.first_mut() {
-                Some(pass) => player.line(rt, alloc, exchange, pass, &line, viewer),
-                None => Err(Stop::Script),
-            },
+        (Some(line), Some((exchange, passes))) => match passes.first_mut() {
+            Some(pass) => player.line(rt, alloc, exchange, pass, &line, viewer),
             None => Err(Stop::Script),
         },
+        _ => Err(Stop::Script),
+    }
+}
+
+// What is still open is closed. (Here it isn't dropped, since that would have to be proved here anew, field by field.)
+fn close<J: Naming>(open: Option<(Exchange<NoGate, J>, Vec<Pass<J>>)>) {
+    if let Some((exchange, passes)) = open {
+        let _accounts = closed_accounts(exchange, passes);
     }
 }
 
 // The lines, in order; the number of the line at which it stops.
-fn work_lines<J: Naming, R: Wait, V: Viewer>(
-    rt: &R,
-    alloc: Global,
-    exchange: Exchange<NoGate, J>,
-    passes: Vec<Pass<J>>,
-    script: &[u8],
-    viewer: &mut V,
-) -> Result<(), ReplayError> {
-    let Some(mut player) = Player::new(alloc, exchange.plan()) else {
-        return Err(ReplayError::Memory);
-    };
-    if let Err(stop) = viewer.opened(exchange.plan()) {
-        return Err(stopped_at(0, stop));
-    }
-    let mut open = Some((exchange, passes));
-    work_script(rt, alloc, &mut player, &mut open, script, viewer)
-}
-
-// The same, with what is known and open.
 fn work_script<J: Naming, R: Wait, V: Viewer>(
     rt: &R,
     alloc: Global,
@@ -122,11 +129,23 @@ fn work_script<J: Naming, R: Wait, V: Viewer>(
     Ok(())
 }
 
+// Who plays a script on an exchange of the plan, of which the viewer is told.
+fn player_of<V: Viewer>(alloc: Global, plan: &Plan, viewer: &mut V) -> Result<Player, Stop> {
+    let Some(player) = Player::new(alloc, plan) else {
+        return Err(Stop::Memory);
+    };
+    match viewer.opened(plan) {
+        Ok(()) => Ok(player),
+        Err(stop) => Err(stop),
+    }
+}
+
 // The script, through an exchange of two ledgers.
 fn play<J: Naming, R: Wait, V: Viewer>(
     rt: &R,
     alloc: Global,
     plan: Plan,
+    player: &mut Player,
     script: &[u8],
     viewer: &mut V,
     octets: Blank,
@@ -139,7 +158,12 @@ fn play<J: Naming, R: Wait, V: Viewer>(
     requires first { (J.first_octets ≡ 2 ^ 48) × (J.first_steps ≡ 2 ^ 48) }
 {
     match Exchange::<NoGate, J>::open(alloc, plan, NoGate, octets, steps) {
-        Ok((exchange, passes)) => work_lines(rt, alloc, exchange, passes, script, viewer),
+        Ok(opened) => {
+            let mut open = Some(opened);
+            let played = work_script(rt, alloc, player, &mut open, script, viewer);
+            close(open);
+            played
+        }
         Err(_) => Err(ReplayError::Memory),
     }
 }
@@ -149,6 +173,7 @@ fn play_named<O: Ledger + Send + Sync, S: Ledger + Send + Sync, R: Wait, V: View
     rt: &R,
     alloc: Global,
     plan: Plan,
+    player: &mut Player,
     script: &[u8],
     viewer: &mut V,
     octets: Blank,
@@ -157,7 +182,7 @@ fn play_named<O: Ledger + Send + Sync, S: Ledger + Send + Sync, R: Wait, V: View
     requires octets { (octets.name ≡ O.name) × (octets.parts ≡ O.parts) × (octets.parts ≡ length plan.peers + plan.passes) }
     requires steps { (steps.name ≡ S.name) × (steps.parts ≡ S.parts) × (steps.parts ≡ length plan.peers + plan.passes) }
 {
-    play::<Service<O, S>, R, V>(rt, alloc, plan, script, viewer, octets, steps)
+    play::<Service<O, S>, R, V>(rt, alloc, plan, player, script, viewer, octets, steps)
 }
 
 /// Replays a script on an exchange of its plan, and tells the viewer what each line makes, up to the end of the script or to
@@ -174,20 +199,27 @@ pub fn replay_with<R: Wait, V: Viewer>(
     script: &[u8],
     viewer: &mut V,
 ) -> Result<(), ReplayError> {
-    let plan = match Plan::read(alloc, plan) {
-        Ok(plan) => plan,
-        Err(fault) => return Err(ReplayError::Plan(fault)),
+    match Plan::read(alloc, plan) {
+        Ok(plan) => play_plan(rt, alloc, plan, script, viewer),
+        Err(fault) => Err(ReplayError::Plan(fault)),
+    }
+}
+
+// The same, of a plan that is right.
+fn play_plan<R: Wait, V: Viewer>(
+    rt: &R,
+    alloc: Global,
+    plan: Plan,
+    script: &[u8],
+    viewer: &mut V,
+) -> Result<(), ReplayError> {
+    let mut player = match player_of(alloc, &plan, viewer) {
+        Ok(player) => player,
+        Err(stop) => return Err(stopped_at(0, stop)),
     };
     let parts = u64::from(plan.peer_count()) + u64::from(plan.passes());
-    play_named::<Brand, Brand, R, V>(
-        rt,
-        alloc,
-        plan,
-        script,
-        viewer,
-        Blank::new(parts),
-        Blank::new(parts),
-    )
+    let (octets, steps) = (Blank::new(parts), Blank::new(parts));
+    play_named::<Brand, Brand, R, V>(rt, alloc, plan, &mut player, script, viewer, octets, steps)
 }
 
 /// Replays a script on an exchange of its plan, prints what each line makes, and answers the status: 0 at the end of the script,
@@ -201,18 +233,6 @@ pub fn replay<R: Wait, W: Write>(
     script: &[u8],
     writer: &mut W,
 ) -> u8 {
-    let outcome = print_replay(rt, alloc, plan, script, writer);
+    let outcome = replay_with(rt, alloc, plan, script, &mut Printer { writer });
     tell_outcome(outcome, writer)
-}
-
-// The replay, as it is printed.
-fn print_replay<R: Wait, W: Write>(
-    rt: &R,
-    alloc: Global,
-    plan: &[u8],
-    script: &[u8],
-    writer: &mut W,
-) -> Result<(), ReplayError> {
-    let mut printer = Printer { writer };
-    replay_with(rt, alloc, plan, script, &mut printer)
 }

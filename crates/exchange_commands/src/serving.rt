@@ -2,7 +2,7 @@
 ghost use Rattle.std.specs.Prelude.{◌≡◌, ◌+◌, ◌≤◌, ◌^◌, length, vec_len};
 
 use exchange_core::{Exchange, NoGate, Pass};
-use exchange_report::settle;
+use exchange_report::{closed_accounts, settle};
 use media_ledger::Blank;
 use peer_lock::{Naming, Service};
 use peer_plan::Plan;
@@ -38,13 +38,21 @@ fn turns_of<
 {
     let sockets = PlainSockets;
     let plan = exchange.plan();
-    let mut seats = seats_of::<J, P, R, PlainSockets>(rt, alloc, plan, passes, opened, &sockets)?;
-    run_all(rt, exchange, &mut seats, turns)?;
-    reports_of(alloc, seats, passes)
+    let seats = seats_of::<J, P, R, PlainSockets>(rt, alloc, plan, passes, opened, &sockets);
+    let mut seats = match seats {
+        Ok(seats) => seats,
+        Err(error) => return Err(error),
+    };
+    let ran = run_all(rt, exchange, &mut seats, turns);
+    let reports = reports_of(alloc, seats, passes);
+    match ran {
+        Ok(()) => reports,
+        Err(error) => Err(ServiceError::from(error)),
+    }
 }
 
-// All workers make their turns on an exchange; then their reports and its accounts are written.
-fn serve_on<
+// The same; then their reports are written.
+fn report_turns<
     J: Naming,
     P: Post + Send + Sync,
     R: Clock + Net + RandomSource + Threads + Wait + Sync,
@@ -52,22 +60,23 @@ fn serve_on<
 >(
     rt: &R,
     alloc: Global,
-    exchange: Exchange<NoGate, J>,
-    passes: Vec<Pass<J>>,
+    exchange: &Exchange<NoGate, J>,
+    passes: &mut Vec<Pass<J>>,
     turns: u32,
     opened: Instant,
     writer: &mut W,
 ) -> Result<(), ServiceError>
-    requires plan { exchange ≡ P.plan }
-    requires enough { length exchange.workers ≤ vec_len passes }
+    requires plan { exchange.now ≡ P.plan }
+    requires enough { length exchange.now.workers ≤ vec_len passes.old }
 {
-    let mut passes = passes;
-    let reports = turns_of::<J, P, R>(rt, alloc, &exchange, &mut passes, turns, opened)?;
-    write_reports(&reports, writer)?;
-    settle(exchange, passes, writer)
+    let reports = turns_of::<J, P, R>(rt, alloc, exchange, passes, turns, opened)?;
+    match write_reports(&reports, writer) {
+        Ok(()) => Ok(()),
+        Err(_) => Err(ServiceError::Writer),
+    }
 }
 
-// The same, on an exchange that is opened for it.
+// The same, on an exchange that is opened for it; then its accounts are written.
 fn work<
     J: Naming,
     P: Post + Send + Sync,
@@ -78,6 +87,7 @@ fn work<
     alloc: Global,
     plan: Plan,
     turns: u32,
+    opened: Instant,
     writer: &mut W,
     octets: Blank,
     steps: Blank,
@@ -89,12 +99,19 @@ fn work<
         (steps.parts ≡ length plan.peers + plan.passes) }
     requires first { (J.first_octets ≡ 2 ^ 48) × (J.first_steps ≡ 2 ^ 48) }
 {
-    let Ok(opened) = Instant::now(rt) else {
-        return Err(ServiceError::Clock);
-    };
     let _passes = plan.passes();
-    let (exchange, passes) = Exchange::<NoGate, J>::open(alloc, plan, NoGate, octets, steps)?;
-    serve_on::<J, P, R, W>(rt, alloc, exchange, passes, turns, opened, writer)
+    let exchange = Exchange::<NoGate, J>::open(alloc, plan, NoGate, octets, steps);
+    let Ok((exchange, mut passes)) = exchange else {
+        return Err(ServiceError::Memory);
+    };
+    match report_turns::<J, P, R, W>(rt, alloc, &exchange, &mut passes, turns, opened, writer) {
+        Ok(()) => settle(exchange, passes, writer),
+        // (Closed and not dropped, since that would have to be proved here anew, field by field.)
+        Err(error) => {
+            let _accounts = closed_accounts(exchange, passes);
+            Err(error)
+        }
+    }
 }
 
 // The same, by the ledgers and the plan that the caller names.
@@ -109,6 +126,7 @@ fn work_named<
     alloc: Global,
     plan: Plan,
     turns: u32,
+    opened: Instant,
     writer: &mut W,
     octets: Blank,
     steps: Blank,
@@ -117,7 +135,34 @@ fn work_named<
     requires octets { (octets.name ≡ O.name) × (octets.parts ≡ O.parts) × (octets.parts ≡ length plan.peers + plan.passes) }
     requires steps { (steps.name ≡ S.name) × (steps.parts ≡ S.parts) × (steps.parts ≡ length plan.peers + plan.passes) }
 {
-    work::<Service<O, S>, P, R, W>(rt, alloc, plan, turns, writer, octets, steps)
+    work::<Service<O, S>, P, R, W>(rt, alloc, plan, turns, opened, writer, octets, steps)
+}
+
+// The turns of a plan that is right.
+fn serve_plan<R: Clock + Net + RandomSource + Threads + Wait + Sync, W: Write>(
+    rt: &R,
+    alloc: Global,
+    plan: Plan,
+    turns: u32,
+    writer: &mut W,
+) -> Result<(), ServiceError> {
+    let Ok(opened) = Instant::now(rt) else {
+        return Err(ServiceError::Clock);
+    };
+    let parts = u64::from(plan.peer_count()) + u64::from(plan.passes());
+    let (octets, steps) = (Blank::new(parts), Blank::new(parts));
+    work_named::<Brand, Brand, Brand, R, W>(rt, alloc, plan, turns, opened, writer, octets, steps)
+}
+
+// The status, and what is printed of a refusal.
+fn status_of<W: Write>(served: Result<(), ServiceError>, writer: &mut W) -> u8 {
+    let Err(error) = served else {
+        return 0;
+    };
+    if let Some(name) = service_error_name(error) {
+        let _ = writeln!(writer, "refused {name}");
+    }
+    1
 }
 
 /// Makes so many turns of each worker of a plan, each on a thread of its own over its own UDP socket. Then it writes
@@ -133,29 +178,10 @@ pub fn serve<R: Clock + Net + RandomSource + Threads + Wait + Sync, W: Write>(
     turns: u32,
     writer: &mut W,
 ) -> u8 {
-    let plan = match Plan::read(alloc, plan) {
-        Ok(plan) => plan,
+    match Plan::read(alloc, plan) {
+        Ok(plan) => status_of(serve_plan(rt, alloc, plan, turns, writer), writer),
         Err(fault) => {
             let _ = writeln!(writer, "refused {fault}");
-            return 1;
-        }
-    };
-    let parts = u64::from(plan.peer_count()) + u64::from(plan.passes());
-    let served = work_named::<Brand, Brand, Brand, R, W>(
-        rt,
-        alloc,
-        plan,
-        turns,
-        writer,
-        Blank::new(parts),
-        Blank::new(parts),
-    );
-    match served {
-        Ok(()) => 0,
-        Err(error) => {
-            if let Some(name) = service_error_name(error) {
-                let _ = writeln!(writer, "refused {name}");
-            }
             1
         }
     }

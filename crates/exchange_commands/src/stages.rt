@@ -27,9 +27,8 @@ pub(crate) struct Stages {
     told: Vec<Option<Stage>>,
     // The peer of each number.
     peers: Vec<u16>,
-    // The places of the numbers that have a leg, ascending, where nothing says otherwise.
+    // The places of the numbers that had a leg when they were told, ascending.
     live: Vec<usize>,
-    // Where others may have one, or some of these none, that is any.
     changed: Changed,
 }
 
@@ -90,6 +89,22 @@ impl Stages {
         exchange.status(rt, pass, peer, number)
     }
 
+    // Whether a number may be another way than was told: one of those in `live`, where all are put that may.
+    fn are_doubted(&mut self) -> Result<bool, Stop> {
+        let changed = self.changed;
+        self.changed = Changed::None;
+        if changed != Changed::Any {
+            return Ok(changed == Changed::Live);
+        }
+        self.live.clear();
+        for place in 0..self.told.len() {
+            if self.live.push(place).is_err() {
+                return Err(Stop::Memory);
+            }
+        }
+        Ok(true)
+    }
+
     /// The viewer is told each stage that is another than before, by ascending number.
     pub(crate) fn tell<J: Naming, R: Wait, V: Viewer>(
         &mut self,
@@ -99,55 +114,35 @@ impl Stages {
         now: u64,
         viewer: &mut V,
     ) -> Result<(), Stop> {
-        match self.changed {
-            Changed::None => Ok(()),
-            Changed::Live => self.tell_live(rt, exchange, pass, now, viewer),
-            Changed::Any => self.tell_all(rt, exchange, pass, now, viewer),
+        match self.are_doubted() {
+            Ok(true) => {}
+            Ok(false) => return Ok(()),
+            Err(stop) => return Err(stop),
         }
-    }
-
-    // The same, of the numbers that had a leg.
-    fn tell_live<J: Naming, R: Wait, V: Viewer>(
-        &mut self,
-        rt: &R,
-        exchange: &Exchange<NoGate, J>,
-        pass: &mut Pass<J>,
-        now: u64,
-        viewer: &mut V,
-    ) -> Result<(), Stop> {
-        self.changed = Changed::None;
+        let mut count: usize = 0;
         for turn in 0..self.live.len() {
-            if let Some(&place) = self.live.get(turn) {
-                let stage = self.tell_one(rt, exchange, pass, place, now, viewer)?;
-                if stage.is_none() {
-                    self.changed = Changed::Any;
+            let place = self.live.get(turn).copied().unwrap_or(0);
+            match self.tell_one(rt, exchange, pass, place, now, viewer) {
+                Ok(true) => {
+                    self.keep(count, place);
+                    count = count.saturating_add(1);
                 }
+                Ok(false) => {}
+                Err(stop) => return Err(stop),
             }
         }
+        self.live.truncate(count);
         Ok(())
     }
 
-    // The same, of all numbers.
-    fn tell_all<J: Naming, R: Wait, V: Viewer>(
-        &mut self,
-        rt: &R,
-        exchange: &Exchange<NoGate, J>,
-        pass: &mut Pass<J>,
-        now: u64,
-        viewer: &mut V,
-    ) -> Result<(), Stop> {
-        self.live.clear();
-        for place in 0..self.told.len() {
-            let stage = self.tell_one(rt, exchange, pass, place, now, viewer)?;
-            if stage.is_some() && self.live.push(place).is_err() {
-                return Err(Stop::Memory);
-            }
+    // The number at a place is one of those that have a leg, behind so many others.
+    fn keep(&mut self, count: usize, place: usize) {
+        if let Some(at) = self.live.get_mut(count) {
+            *at = place;
         }
-        self.changed = Changed::None;
-        Ok(())
     }
 
-    // The stage of the number at a place, which is told where it is another than before.
+    // The stage of the number at a place is told, where it is another than before. Whether it has a leg.
     fn tell_one<J: Naming, R: Wait, V: Viewer>(
         &mut self,
         rt: &R,
@@ -156,20 +151,31 @@ impl Stages {
         place: usize,
         now: u64,
         viewer: &mut V,
-    ) -> Result<Option<Stage>, Stop> {
-        let Ok(number) = u16::try_from(place.saturating_add(1)) else {
-            return Ok(None);
+    ) -> Result<bool, Stop> {
+        let number = u16::try_from(place.saturating_add(1)).unwrap_or(0);
+        let stage = match self.status(rt, exchange, pass, number) {
+            Some(status) => Some(status.stage),
+            None => None,
         };
-        let stage = self
-            .status(rt, exchange, pass, number)
-            .map(|status| status.stage);
-        let Some(told) = self.told.get_mut(place) else {
-            return Ok(None);
+        let told = if self.changes(place, stage) {
+            viewer.staged(now, number, stage)
+        } else {
+            Ok(())
         };
-        if *told != stage {
-            *told = stage;
-            viewer.staged(now, number, stage)?;
+        match told {
+            Ok(()) => Ok(stage.is_some()),
+            Err(stop) => Err(stop),
         }
-        Ok(stage)
+    }
+
+    // A stage is told now. Whether it is another than before.
+    fn changes(&mut self, place: usize, stage: Option<Stage>) -> bool {
+        match self.told.get_mut(place) {
+            Some(told) if *told != stage => {
+                *told = stage;
+                true
+            }
+            _ => false,
+        }
     }
 }

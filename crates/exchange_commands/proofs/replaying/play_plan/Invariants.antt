@@ -1,4 +1,4 @@
-use Rattle.exchange_commands.proofs.replaying.replay_with.Given as goal
+use Rattle.exchange_commands.proofs.replaying.play_plan.Given as goal
 
 abbrev pub ghosts-play_named-O-Ledger : goal.ghosts-play_named-O-Ledger
 ghosts-play_named-O-Ledger g a = record { name = a.octets.name; parts = a.octets.parts }

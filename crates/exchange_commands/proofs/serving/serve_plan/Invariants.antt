@@ -1,4 +1,4 @@
-use Rattle.exchange_commands.proofs.serving.serve.Given as goal
+use Rattle.exchange_commands.proofs.serving.serve_plan.Given as goal
 
 abbrev pub ghosts-work_named-O-Ledger : goal.ghosts-work_named-O-Ledger
 ghosts-work_named-O-Ledger g a = record { name = a.octets.name; parts = a.octets.parts }
