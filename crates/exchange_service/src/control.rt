@@ -1,7 +1,7 @@
 //! What the service's own thread does beside the workers: clients of the control socket and of the metrics' address ask and are
 //! answered, one after another; the log is written; a stop drains the exchange.
 use crate::client::{Client, Stage};
-use crate::doors::{Door, Doors, Stream};
+use crate::doors::{Door, Doors, Stream, bind_error_name};
 use crate::journal::Journal;
 use crate::running::Settings;
 use control_requests::{Answer, Reading, Request, Status};
@@ -48,28 +48,41 @@ pub(crate) struct Control<'s> {
 }
 
 impl<'s> Control<'s> {
-    /// Bound listeners, with no client yet.
+    /// No way in, and no client yet.
     pub(crate) fn new<R: Files<File = File> + Net>(
         rt: &R,
         alloc: Global,
         settings: &'s Settings<'s>,
-        doors: Doors,
     ) -> io::Result<Control<'s>> {
-        let mut doors = doors;
-        let poll = Poll::new(rt)?;
         let events = Events::with_capacity(alloc, 64)?;
         let clients = Vec::with_capacity(alloc, 2 * CLIENTS)?;
-        doors.register(poll.registry())?;
+        let poll = Poll::new(rt)?;
         Ok(Control {
             settings,
             alloc,
             poll,
             events,
-            doors,
+            doors: Doors::none(),
             clients,
             awaits_end: false,
             table: SocketTable::open(rt),
         })
+    }
+
+    /// Binds the ways in that are wanted. `Err` is the name of what refuses them.
+    pub(crate) fn open<R: Files + Net>(&mut self, rt: &R) -> Result<(), &'static str> {
+        let (alloc, settings) = (self.alloc, self.settings);
+        self.doors.bind_control(rt, alloc, settings.control)?;
+        self.doors.bind_metrics(rt, settings.metrics)?;
+        match self.doors.register(self.poll.registry()) {
+            Ok(()) => Ok(()),
+            Err(error) => Err(bind_error_name(&error, "Control")),
+        }
+    }
+
+    /// Whether the control socket is bound.
+    pub(crate) fn is_bound(&self) -> bool {
+        self.doors.control.is_some()
     }
 
     /// Has the end of standard input stop the service. An error where the system doesn't tell of it: it is a file, or closed.
@@ -82,13 +95,19 @@ impl<'s> Control<'s> {
         Ok(())
     }
 
+    // Whether standard input has ended.
+    fn has_input_ended(&self) -> bool {
+        for event in self.events.iter() {
+            if event.token() == INPUT && event.is_read_closed() {
+                return true;
+            }
+        }
+        false
+    }
+
     // Where standard input has ended, the service stops, as after one `POST /stop`.
     fn heed_end_of_input<J: Naming>(&mut self, desk: &Desk<'_, J>) {
-        let has_ended = self
-            .events
-            .iter()
-            .any(|event| event.token() == INPUT && event.is_read_closed());
-        if self.awaits_end && has_ended {
+        if self.awaits_end && self.has_input_ended() {
             self.awaits_end = false;
             desk.stop();
         }
@@ -107,25 +126,33 @@ impl<'s> Control<'s> {
 
     // How many clients came by this way.
     fn count(&self, door: Door) -> usize {
-        self.clients
-            .iter()
-            .filter(|client| client.door == door)
-            .count()
+        let mut count: usize = 0;
+        for client in self.clients.iter() {
+            if client.door == door {
+                count = count.wrapping_add(1);
+            }
+        }
+        count
+    }
+
+    // Has the system tell of a connection, where there is a free place for it. Since when it is there.
+    fn register<R: Clock>(&self, rt: &R, door: Door, stream: &mut Stream) -> Option<Instant> {
+        if self.count(door) >= CLIENTS {
+            return None;
+        }
+        let since = Instant::now(rt).ok()?;
+        match stream.register(self.poll.registry()) {
+            Ok(()) => Some(since),
+            Err(_) => None,
+        }
     }
 
     // Gives a connection a place. Without a free one it is closed at once.
     fn seat<R: Clock>(&mut self, rt: &R, alloc: Global, door: Door, stream: Stream) {
-        if self.count(door) >= CLIENTS {
-            return;
-        }
         let mut stream = stream;
-        let Ok(since) = Instant::now(rt) else {
-            return;
-        };
-        if stream.register(self.poll.registry()).is_err() {
-            return;
+        if let Some(since) = self.register(rt, door, &mut stream) {
+            let _ = self.clients.push(Client::new(alloc, stream, door, since));
         }
-        let _ = self.clients.push(Client::new(alloc, stream, door, since));
     }
 
     // Each client goes on as far as the system lets it; those that are done, or were there for five seconds, are closed.
@@ -137,13 +164,8 @@ impl<'s> Control<'s> {
         now: u64,
     ) {
         for client in self.clients.iter_mut() {
-            if go_on(rt, alloc, client, desk, &mut self.table, now).is_err() {
+            if go_on(rt, alloc, client, desk, &mut self.table, now).is_err() || is_old(rt, client) {
                 client.stage = Stage::Ended;
-            }
-            if let Ok(age) = client.since.elapsed(rt) {
-                if age >= Duration::from_secs(CLIENT_SECONDS) {
-                    client.stage = Stage::Ended;
-                }
             }
         }
         self.clients.retain(|client| client.stage != Stage::Ended);
@@ -151,9 +173,12 @@ impl<'s> Control<'s> {
 
     // Whether an answer is still to be sent.
     fn is_answering(&self) -> bool {
-        self.clients
-            .iter()
-            .any(|client| client.stage == Stage::Answered)
+        for client in self.clients.iter() {
+            if client.stage == Stage::Answered {
+                return true;
+            }
+        }
+        false
     }
 
     // Waits for a client, and takes in those that are there.
@@ -174,6 +199,13 @@ impl<'s> Control<'s> {
         }
     }
 
+    // The end of standard input is awaited, where it stops the service.
+    fn begin<L: Log>(&mut self, log: &L) {
+        if self.settings.stops_with_input && self.await_end_of_input().is_err() {
+            warn!(log; "standard input is a file, or closed: its end isn't awaited");
+        }
+    }
+
     /// Serves, and logs, until the workers are told to end, and each answer is sent.
     pub(crate) fn run<R: Clock + Eprint + Wait, J: Naming>(
         &mut self,
@@ -181,51 +213,65 @@ impl<'s> Control<'s> {
         desk: &mut Desk<'_, J>,
         opened: Instant,
     ) {
-        let (settings, alloc) = (self.settings, self.alloc);
-        let log = Journal {
-            rt,
-            level: settings.level,
-        };
-        if settings.stops_with_input && self.await_end_of_input().is_err() {
-            warn!(&log; "standard input is a file, or closed: its end isn't awaited");
-        }
-        let mut drain = Drain::new(settings.drain_ms);
-        match Told::new(alloc, desk.exchange.plan(), moment(rt, opened, 0)) {
-            Ok(mut told) => self.go_on(rt, &log, alloc, desk, &mut drain, Some(&mut told), opened),
-            Err(_) => self.go_on(rt, &log, alloc, desk, &mut drain, None, opened),
+        let level = self.settings.level;
+        let log = Journal { rt, level };
+        self.begin(&log);
+        // Without memory for what was logged, nothing is.
+        let mut told = Told::new(self.alloc, desk.exchange.plan(), moment(rt, opened, 0)).ok();
+        let now = self.go_on(rt, &log, desk, &mut told, opened);
+        if let Some(told) = &mut told {
+            told.end(rt, &log, self.alloc, desk, &mut self.table, now);
         }
     }
 
-    // The same, with what was logged. Without memory for that nothing is.
+    // The same, in rounds. The moment of the last.
     fn go_on<R: Clock + Wait, J: Naming, L: Log>(
         &mut self,
         rt: &R,
         log: &L,
-        alloc: Global,
         desk: &mut Desk<'_, J>,
-        drain: &mut Drain,
-        told: Option<&mut Told>,
+        told: &mut Option<Told>,
         opened: Instant,
-    ) {
-        let mut told = told;
+    ) -> u64 {
+        let mut drain = Drain::new(self.settings.drain_ms);
         let mut now = 0;
         for _ in rt.forever() {
-            self.wait(rt, alloc);
+            self.wait(rt, self.alloc);
             self.heed_end_of_input(desk);
             now = moment(rt, opened, now);
-            self.serve_all(rt, alloc, desk, now);
-            if let Some(told) = &mut told {
-                told.look(rt, log, alloc, desk, &mut self.table, now);
-            }
-            drain.go_on(rt, desk, now);
-            desk.look_for_rest(rt, alloc, now);
-            if desk.has_ended() && !self.is_answering() {
+            if self.go_round(rt, log, desk, &mut drain, told, now) {
                 break;
             }
         }
+        now
+    }
+
+    // One round, at a moment. Whether it was the last.
+    fn go_round<R: Clock + Wait, J: Naming, L: Log>(
+        &mut self,
+        rt: &R,
+        log: &L,
+        desk: &mut Desk<'_, J>,
+        drain: &mut Drain,
+        told: &mut Option<Told>,
+        now: u64,
+    ) -> bool {
+        let alloc = self.alloc;
+        self.serve_all(rt, alloc, desk, now);
         if let Some(told) = told {
-            told.end(rt, log, alloc, desk, &mut self.table, now);
+            told.look(rt, log, alloc, desk, &mut self.table, now);
         }
+        drain.go_on(rt, desk, now);
+        desk.look_for_rest(rt, alloc, now);
+        desk.has_ended() && !self.is_answering()
+    }
+}
+
+// Whether a client was there for five seconds.
+fn is_old<R: Clock>(rt: &R, client: &Client) -> bool {
+    match client.since.elapsed(rt) {
+        Ok(age) => age >= Duration::from_secs(CLIENT_SECONDS),
+        Err(_) => false,
     }
 }
 
@@ -254,8 +300,18 @@ fn answer_of<R: Wait, J: Naming>(
 }
 
 // An answer that names what is wrong.
-fn refusal(alloc: Global, status: Status, why: &str) -> Result<Option<Vec<u8>>, AllocError> {
-    Ok(Some(Answer::error(alloc, status, why)?.octets(alloc)?))
+fn refusal(alloc: Global, status: Status, why: &str) -> Result<Vec<u8>, AllocError> {
+    Answer::error(alloc, status, why)?.octets(alloc)
+}
+
+// What is wrong with what a client has sent.
+fn fault_of(reading: &Reading<'_>) -> Option<(Status, &'static str)> {
+    match reading {
+        Reading::HeadTooLarge => Some((Status::HeadTooLarge, "HeadTooLarge")),
+        Reading::BodyTooLarge => Some((Status::TooLarge, "BodyTooLarge")),
+        Reading::Malformed => Some((Status::BadRequest, "Malformed")),
+        _ => None,
+    }
 }
 
 // The answer to what a client has sent; none while more has to come.
@@ -267,14 +323,17 @@ fn answer_to<R: Wait, J: Naming>(
     table: &mut SocketTable,
     now: u64,
 ) -> Result<Option<Vec<u8>>, AllocError> {
-    match client.reading() {
-        Reading::Part => Ok(None),
-        Reading::Whole(request) => {
-            Ok(Some(answer_of(rt, alloc, client.door, &request, desk, table, now)?))
+    let reading = client.reading();
+    let answer = match (reading, fault_of(&reading)) {
+        (Reading::Whole(request), _) => {
+            answer_of(rt, alloc, client.door, &request, desk, table, now)
         }
-        Reading::HeadTooLarge => refusal(alloc, Status::HeadTooLarge, "HeadTooLarge"),
-        Reading::BodyTooLarge => refusal(alloc, Status::TooLarge, "BodyTooLarge"),
-        Reading::Malformed => refusal(alloc, Status::BadRequest, "Malformed"),
+        (_, Some((status, why))) => refusal(alloc, status, why),
+        _ => return Ok(None),
+    };
+    match answer {
+        Ok(octets) => Ok(Some(octets)),
+        Err(error) => Err(error),
     }
 }
 

@@ -1,11 +1,14 @@
 //! The ways in: the control socket, and the address of the metrics.
 ghost use Rattle.std.specs.Io.{ReadsAtMost};
 
+use crate::socket_file;
 use mio::net::{TcpListener, TcpStream, UnixListener, UnixStream};
 use mio::{Interest, Registry, Token};
+use std::alloc::Global;
+use std::fs::Files;
 use std::io;
 use std::io::{ErrorKind, Read, Write};
-use std::net::Shutdown;
+use std::net::{Net, Shutdown, SocketAddr};
 
 /// By which way a client came.
 #[derive(Clone, Copy, Debug, PartialEq, Eq)]
@@ -60,6 +63,14 @@ impl Stream {
     }
 }
 
+/// Why there is no listener: for want of memory, or by this name.
+pub(crate) fn bind_error_name(error: &io::Error, name: &'static str) -> &'static str {
+    match error.kind() {
+        ErrorKind::OutOfMemory => "Memory",
+        _ => name,
+    }
+}
+
 /// The listeners that there are.
 #[derive(Drop)]
 pub(crate) struct Doors {
@@ -68,28 +79,70 @@ pub(crate) struct Doors {
 }
 
 impl Doors {
+    /// No listener.
+    pub(crate) fn none() -> Doors {
+        Doors {
+            control: None,
+            metrics: None,
+        }
+    }
+
+    /// Binds the control socket at its path, where there is to be one. `Err` is the name of what refuses it.
+    pub(crate) fn bind_control<R: Files + Net>(
+        &mut self,
+        rt: &R,
+        alloc: Global,
+        path: Option<&str>,
+    ) -> Result<(), &'static str> {
+        let Some(path) = path else {
+            return Ok(());
+        };
+        match socket_file::bind(rt, alloc, path) {
+            Ok(listener) => self.control = Some(listener),
+            Err(error) => return Err(bind_error_name(&error, "Control")),
+        }
+        Ok(())
+    }
+
+    /// Binds the listener of the metrics, where there is to be one. `Err` is the name of what refuses it.
+    pub(crate) fn bind_metrics<R: Net>(
+        &mut self,
+        rt: &R,
+        address: Option<SocketAddr>,
+    ) -> Result<(), &'static str> {
+        let Some(address) = address else {
+            return Ok(());
+        };
+        match TcpListener::bind(rt, address) {
+            Ok(listener) => self.metrics = Some(listener),
+            Err(error) => return Err(bind_error_name(&error, "Metrics")),
+        }
+        Ok(())
+    }
+
     /// Has the system tell when a client waits.
     pub(crate) fn register(&mut self, registry: &Registry) -> io::Result<()> {
         if let Some(listener) = &mut self.control {
             registry.register(listener, Token(0), Interest::READABLE)?;
         }
-        if let Some(listener) = &mut self.metrics {
-            registry.register(listener, Token(0), Interest::READABLE)?;
+        match &mut self.metrics {
+            Some(listener) => registry.register(listener, Token(0), Interest::READABLE),
+            None => Ok(()),
         }
-        Ok(())
     }
 
     /// The next connection by this way. `WouldBlock`: none waits.
     pub(crate) fn accept(&self, door: Door) -> io::Result<Stream> {
-        match door {
-            Door::Control => match &self.control {
-                Some(listener) => Ok(Stream::Unix(listener.accept()?.0)),
-                None => Err(io::Error::from(ErrorKind::WouldBlock)),
+        match (door, &self.control, &self.metrics) {
+            (Door::Control, Some(listener), _) => match listener.accept() {
+                Ok((stream, _)) => Ok(Stream::Unix(stream)),
+                Err(error) => Err(error),
             },
-            Door::Metrics => match &self.metrics {
-                Some(listener) => Ok(Stream::Tcp(listener.accept()?.0)),
-                None => Err(io::Error::from(ErrorKind::WouldBlock)),
+            (Door::Metrics, _, Some(listener)) => match listener.accept() {
+                Ok((stream, _)) => Ok(Stream::Tcp(stream)),
+                Err(error) => Err(error),
             },
+            _ => Err(io::Error::from(ErrorKind::WouldBlock)),
         }
     }
 }

@@ -102,41 +102,43 @@ fn first_file<D: Folder>(
     }
 }
 
-// Where it is noted what the exchange is given, and who writes that.
+// What the head of each file of a trace says of the service.
+fn about(alloc: Global, settings: &Settings<'_>, calendar: Calendar) -> Result<String, AllocError> {
+    let date = date_of(alloc, calendar)?;
+    let (version, plan_path) = (settings.version, settings.plan_path);
+    format!(in alloc; "exchange_main {version}, plan {plan_path}, moment 0 is {date}")
+}
+
+// Who writes what so many threads note.
 fn tracing_of<'s, D: Folder>(
     disk: &D,
     alloc: Global,
-    plan: &Plan,
+    threads: usize,
     settings: &Settings<'s>,
     options: TraceOptions<'s>,
     calendar: Calendar,
-) -> Result<(Trace, Tracing<'s>), ServiceError> {
+) -> Result<Tracing<'s>, ServiceError> {
     let TraceOptions {
         path,
         limit,
         shows_digits,
     } = options;
-    let limit = limit.saturating_mul(plan.workers().len() as u64);
+    let limit = limit.saturating_mul(threads.saturating_sub(1) as u64);
     let folder = TraceFolder { path, limit };
-    let file = first_file(disk, alloc, &folder)?;
-    let threads = plan.workers().len() + 1;
-    let trace = Trace::new(alloc, threads, plan.number_count())?;
-    let date = date_of(alloc, calendar)?;
-    let (version, plan_path) = (settings.version, settings.plan_path);
-    let about = format!(in alloc; "exchange_main {version}, plan {plan_path}, moment 0 is {date}")?;
+    let about = about(alloc, settings, calendar)?;
     let notes = TraceNotes::new(alloc, threads)?;
-    let tracing = Tracing {
+    let file = first_file(disk, alloc, &folder)?;
+    Ok(Tracing {
         folder,
         shows_digits,
         about,
         notes,
         file,
-    };
-    Ok((trace, tracing))
+    })
 }
 
-// The same, where a trace is wanted.
-fn wanted_tracing_of<'s, D: Folder>(
+// Where it is noted what the exchange is given, and who writes that, where a trace is wanted.
+fn trace_of<'s, D: Folder>(
     disk: &D,
     alloc: Global,
     plan: &Plan,
@@ -146,8 +148,26 @@ fn wanted_tracing_of<'s, D: Folder>(
     let Some(options) = settings.trace else {
         return Ok((None, None));
     };
-    let (trace, tracing) = tracing_of(disk, alloc, plan, settings, options, calendar)?;
-    Ok((Some(trace), Some(tracing)))
+    let threads = plan.workers().len() + 1;
+    let tracing = tracing_of(disk, alloc, threads, settings, options, calendar)?;
+    match Trace::new(alloc, threads, plan.number_count()) {
+        Ok(trace) => Ok((Some(trace), Some(tracing))),
+        Err(_) => Err(ServiceError::Memory),
+    }
+}
+
+// The watch of a service of this plan, with what is written beside it.
+fn watch_with<'s>(
+    alloc: Global,
+    plan: &Plan,
+    outlets: Option<CallOutlets>,
+    trace: Option<Trace>,
+    written: Written<'s>,
+) -> Result<(ServiceWatch, Written<'s>), ServiceError> {
+    match ServiceWatch::new(alloc, plan, outlets, trace) {
+        Ok(watch) => Ok((watch, written)),
+        Err(_) => Err(ServiceError::Memory),
+    }
 }
 
 /// The watch of a service of this plan, and what has to be written beside it, where that is wanted.
@@ -159,14 +179,17 @@ pub(crate) fn watch_of<'s, R: Clock, D: Folder>(
     settings: &Settings<'s>,
 ) -> Result<(ServiceWatch, Written<'s>), ServiceError> {
     let calendar = calendar(rt);
-    let (outlets, records) = records_of(alloc, plan, settings.calls, calendar)?;
-    let (trace, tracing) = wanted_tracing_of(disk, alloc, plan, settings, calendar)?;
-    let watch = ServiceWatch::new(alloc, plan, outlets, trace)?;
-    Ok((watch, Written { records, tracing }))
+    let (trace, tracing) = trace_of(disk, alloc, plan, settings, calendar)?;
+    match records_of(alloc, plan, settings.calls, calendar) {
+        Ok((outlets, records)) => {
+            watch_with(alloc, plan, outlets, trace, Written { records, tracing })
+        }
+        Err(error) => Err(error),
+    }
 }
 
-// The workers serve, beside a thread that writes the trace. False if a thread was refused.
-fn serve_beside_tracer<
+// The workers serve, beside a thread that writes the trace, where one is wanted. False if a thread was refused.
+fn serve_traced<
     J: Naming,
     P: Post + Send + Sync,
     R: Clock + Eprint + Net + RandomSource + Threads + Wait + Sync,
@@ -179,9 +202,16 @@ fn serve_beside_tracer<
     desk: &mut Desk<'_, J>,
     control: &mut Control<'_>,
     opened: Instant,
-    tracing: Tracing<'_>,
+    tracing: &mut Option<Tracing<'_>>,
 ) -> bool {
-    let Some(trace) = service.watch.trace() else {
+    let trace = match tracing {
+        Some(_) => service.watch.trace(),
+        None => None,
+    };
+    let Some(trace) = trace else {
+        return serve_seats(rt, service, seats, desk, control, opened);
+    };
+    let Some(tracing) = tracing.take() else {
         return false;
     };
     let Tracing {
@@ -202,64 +232,8 @@ fn serve_beside_tracer<
     })
 }
 
-// The workers serve, beside such a thread where a trace is wanted. False if a thread was refused.
-fn serve_traced<
-    J: Naming,
-    P: Post + Send + Sync,
-    R: Clock + Eprint + Net + RandomSource + Threads + Wait + Sync,
-    D: Folder + Sync,
->(
-    rt: &R,
-    disk: &D,
-    service: &WatchedExchange<'_, ServiceWatch, NoGate, J, P>,
-    seats: &[TracedSeat<'_, R, J, P>],
-    desk: &mut Desk<'_, J>,
-    control: &mut Control<'_>,
-    opened: Instant,
-    tracing: &mut Option<Tracing<'_>>,
-) -> bool {
-    match tracing.take() {
-        Some(tracing) => serve_beside_tracer(
-            rt, disk, service, seats, desk, control, opened, tracing,
-        ),
-        None => serve_seats(rt, service, seats, desk, control, opened),
-    }
-}
-
-// The workers serve, beside a thread that appends the rows of ended legs to their file. False if a thread was refused. The log
-// tells what couldn't be written.
-fn serve_beside_writer<
-    J: Naming,
-    P: Post + Send + Sync,
-    R: Clock + Eprint + Net + RandomSource + Threads + Wait + Sync,
-    D: Disk + Folder + Sync,
->(
-    rt: &R,
-    disk: &D,
-    service: &WatchedExchange<'_, ServiceWatch, NoGate, J, P>,
-    seats: &[TracedSeat<'_, R, J, P>],
-    desk: &mut Desk<'_, J>,
-    control: &mut Control<'_>,
-    opened: Instant,
-    outlets: &CallOutlets,
-    records: Records<'_>,
-    tracing: &mut Option<Tracing<'_>>,
-) -> bool {
-    let level = control.settings.level;
-    let Records {
-        path,
-        calendar,
-        rows,
-    } = records;
-    let plan = service.exchange.plan();
-    let is_served = write_calls_beside(rt, disk, path, plan, calendar, opened, outlets, rows, || {
-        serve_traced(rt, disk, service, seats, desk, control, opened, tracing)
-    });
-    tell_end(&Journal { rt, level }, path, outlets.state());
-    is_served
-}
-
-/// The workers serve, beside the threads that write what is wanted. False if a thread was refused.
+/// The workers serve, beside the threads that write what is wanted: the rows of ended legs, the trace. False if a thread was
+/// refused. The log tells which rows couldn't be written.
 pub(crate) fn serve_written<
     J: Naming,
     P: Post + Send + Sync,
@@ -276,10 +250,26 @@ pub(crate) fn serve_written<
     written: &mut Written<'_>,
 ) -> bool {
     let Written { records, tracing } = written;
-    match (service.watch.calls(), records.take()) {
-        (Some(outlets), Some(records)) => serve_beside_writer(
-            rt, disk, service, seats, desk, control, opened, outlets, records, tracing,
-        ),
-        _ => serve_traced(rt, disk, service, seats, desk, control, opened, tracing),
-    }
+    let outlets = match records {
+        Some(_) => service.watch.calls(),
+        None => None,
+    };
+    let Some(outlets) = outlets else {
+        return serve_traced(rt, disk, service, seats, desk, control, opened, tracing);
+    };
+    let Some(records) = records.take() else {
+        return false;
+    };
+    let level = control.settings.level;
+    let Records {
+        path,
+        calendar,
+        rows,
+    } = records;
+    let plan = service.exchange.plan();
+    let is_served = write_calls_beside(rt, disk, path, plan, calendar, opened, outlets, rows, || {
+        serve_traced(rt, disk, service, seats, desk, control, opened, tracing)
+    });
+    tell_end(&Journal { rt, level }, path, outlets.state());
+    is_served
 }

@@ -2,21 +2,20 @@
 ghost use Rattle.std.specs.Prelude.{◌≡◌, ◌+◌, ◌≤◌, ◌^◌, length, vec_len};
 
 use crate::control::Control;
-use crate::doors::Doors;
+use crate::doors::bind_error_name;
 use crate::recording::watch_of;
 use crate::seating::serve_watched;
-use crate::socket_file;
 use call_writer::Disk;
 use exchange_core::{Exchange, NoGate, Pass};
-use exchange_report::settle;
+use exchange_report::{closed_accounts, settle};
 use log::LevelFilter;
 use media_ledger::Blank;
-use mio::net::{TcpListener, UnixListener};
 use peer_lock::{Naming, Service};
 use peer_plan::Plan;
 use std::alloc::Global;
+use std::fs;
 use std::fs::{File, Files};
-use std::io::{ErrorKind, Write};
+use std::io::Write;
 use std::marker::Brand;
 use std::net::{Net, SocketAddr};
 use std::random::RandomSource;
@@ -24,7 +23,6 @@ use std::sync::Wait;
 use std::sync::ledger::Ledger;
 use std::thread::Threads;
 use std::time::{Clock, Instant};
-use std::{fs, io};
 use trace_writer::Folder;
 use udp_workers::{Post, TurnReport};
 use worker_seats::{ServiceError, service_error_name, write_reports};
@@ -50,6 +48,16 @@ pub struct Settings<'a> {
     pub calls: Option<&'a str>,
     /// The trace that is written of what the exchange is given.
     pub trace: Option<TraceOptions<'a>>,
+}
+
+impl<'a> Settings<'a> {
+    /// The name of the folder of the trace, if one is written.
+    pub(crate) fn trace_path(&self) -> Option<&'a str> {
+        match self.trace {
+            Some(options) => Some(options.path),
+            None => None,
+        }
+    }
 }
 
 /// What trace is written.
@@ -81,18 +89,24 @@ fn serve_beside<
     requires plan { exchange.now ≡ P.plan }
     requires enough { length exchange.now.workers + 1 ≤ vec_len passes.old }
 {
-    let (watch, mut written) = watch_of(rt, disk, alloc, exchange.plan(), control.settings)?;
-    serve_watched::<J, P, R, D>(
-        rt,
-        disk,
-        alloc,
-        exchange,
-        &watch,
-        &mut written,
-        passes,
-        control,
-        opened,
-    )
+    match watch_of(rt, disk, alloc, exchange.plan(), control.settings) {
+        Ok(both) => {
+            let mut both = both;
+            let lent = &mut both;
+            serve_watched::<J, P, R, D>(
+                rt,
+                disk,
+                alloc,
+                exchange,
+                &lent.0,
+                &mut lent.1,
+                passes,
+                control,
+                opened,
+            )
+        }
+        Err(error) => Err(error),
+    }
 }
 
 // The same; then their reports are written.
@@ -116,7 +130,10 @@ fn serve_and_report<
     requires enough { length exchange.now.workers + 1 ≤ vec_len passes.old }
 {
     let reports = serve_beside::<J, P, R, D>(rt, disk, alloc, exchange, passes, control, opened)?;
-    Ok(write_reports(&reports, writer)?)
+    match write_reports(&reports, writer) {
+        Ok(()) => Ok(()),
+        Err(_) => Err(ServiceError::Writer),
+    }
 }
 
 // The same, on an exchange that is opened for it; then its accounts are written.
@@ -132,6 +149,7 @@ fn work<
     alloc: Global,
     plan: Plan,
     control: &mut Control<'_>,
+    opened: Instant,
     writer: &mut W,
     octets: Blank,
     steps: Blank,
@@ -144,13 +162,12 @@ fn work<
         (steps.parts ≡ length plan.peers + plan.passes) }
     requires first { (J.first_octets ≡ 2 ^ 48) × (J.first_steps ≡ 2 ^ 48) }
 {
-    let Ok(opened) = Instant::now(rt) else {
-        return Err(ServiceError::Clock);
-    };
     let _passes = plan.passes();
-    let (exchange, passes) = Exchange::<NoGate, J>::open(alloc, plan, NoGate, octets, steps)?;
-    let mut passes = passes;
-    let served = serve_and_report::<J, P, R, D, W>(
+    let exchange = Exchange::<NoGate, J>::open(alloc, plan, NoGate, octets, steps);
+    let Ok((exchange, mut passes)) = exchange else {
+        return Err(ServiceError::Memory);
+    };
+    match serve_and_report::<J, P, R, D, W>(
         rt,
         disk,
         alloc,
@@ -159,10 +176,13 @@ fn work<
         control,
         opened,
         writer,
-    );
-    match served {
+    ) {
         Ok(()) => settle(exchange, passes, writer),
-        Err(error) => Err(error),
+        // (Closed and not dropped, since that would have to be proved here anew, field by field.)
+        Err(error) => {
+            let _accounts = closed_accounts(exchange, passes);
+            Err(error)
+        }
     }
 }
 
@@ -180,6 +200,7 @@ fn work_named<
     alloc: Global,
     plan: Plan,
     control: &mut Control<'_>,
+    opened: Instant,
     writer: &mut W,
     octets: Blank,
     steps: Blank,
@@ -189,7 +210,9 @@ fn work_named<
     requires octets { (octets.name ≡ O.name) × (octets.parts ≡ O.parts) × (octets.parts ≡ length plan.peers + plan.passes) }
     requires steps { (steps.name ≡ S.name) × (steps.parts ≡ S.parts) × (steps.parts ≡ length plan.peers + plan.passes) }
 {
-    work::<Service<O, S>, P, R, D, W>(rt, disk, alloc, plan, control, writer, octets, steps)
+    work::<Service<O, S>, P, R, D, W>(
+        rt, disk, alloc, plan, control, opened, writer, octets, steps,
+    )
 }
 
 // The plan with a pass beside those of its workers.
@@ -202,43 +225,6 @@ fn with_spare_pass(plan: Plan) -> Plan
         return plan;
     }
     plan.with_passes(least)
-}
-
-// Why there is no listener: for want of memory, or by this name.
-fn listener_error_name(error: &io::Error, name: &'static str) -> &'static str {
-    match error.kind() {
-        ErrorKind::OutOfMemory => "Memory",
-        _ => name,
-    }
-}
-
-// The control socket, bound at its path, where there is one. `Err` is the name of what refuses it.
-fn bind_control<R: Files + Net>(
-    rt: &R,
-    alloc: Global,
-    path: Option<&str>,
-) -> Result<Option<UnixListener>, &'static str> {
-    let Some(path) = path else {
-        return Ok(None);
-    };
-    match socket_file::bind(rt, alloc, path) {
-        Ok(listener) => Ok(Some(listener)),
-        Err(error) => Err(listener_error_name(&error, "Control")),
-    }
-}
-
-// The listener of the metrics, bound, where there is one. `Err` is the name of what refuses it.
-fn bind_metrics<R: Net>(
-    rt: &R,
-    address: Option<SocketAddr>,
-) -> Result<Option<TcpListener>, &'static str> {
-    let Some(address) = address else {
-        return Ok(None);
-    };
-    match TcpListener::bind(rt, address) {
-        Ok(listener) => Ok(Some(listener)),
-        Err(error) => Err(listener_error_name(&error, "Metrics")),
-    }
 }
 
 // The service of a plan that is right.
@@ -254,17 +240,14 @@ fn serve_plan<
     control: &mut Control<'_>,
     writer: &mut W,
 ) -> Result<(), ServiceError> {
+    let Ok(opened) = Instant::now(rt) else {
+        return Err(ServiceError::Clock);
+    };
     let plan = with_spare_pass(plan);
     let parts = u64::from(plan.peer_count()) + u64::from(plan.passes());
+    let (octets, steps) = (Blank::new(parts), Blank::new(parts));
     work_named::<Brand, Brand, Brand, R, D, W>(
-        rt,
-        disk,
-        alloc,
-        plan,
-        control,
-        writer,
-        Blank::new(parts),
-        Blank::new(parts),
+        rt, disk, alloc, plan, control, opened, writer, octets, steps,
     )
 }
 
@@ -273,8 +256,20 @@ fn refuse<W: Write>(writer: &mut W, name: &str) -> u8 {
     1
 }
 
-// The service with a control socket that is bound, or with none.
-fn serve_behind<
+// The service, once the ways in that are wanted are bound.
+fn serve_open<
+    R: Clock + Eprint + Files<File = File> + Net + RandomSource + Threads + Wait + Sync,
+    D: Disk + Folder + Sync,
+    W: Write,
+>(rt: &R, disk: &D, alloc: Global, plan: Plan, control: &mut Control<'_>, writer: &mut W) -> u8 {
+    match control.open(rt) {
+        Ok(()) => status_of(serve_plan(rt, disk, alloc, plan, control, writer), writer),
+        Err(name) => refuse(writer, name),
+    }
+}
+
+// The same, with what the ways in need of the system. The status, and whether the control socket was bound.
+fn serve_through<
     R: Clock + Eprint + Files<File = File> + Net + RandomSource + Threads + Wait + Sync,
     D: Disk + Folder + Sync,
     W: Write,
@@ -283,22 +278,15 @@ fn serve_behind<
     disk: &D,
     alloc: Global,
     plan: Plan,
-    control: Option<UnixListener>,
     settings: &Settings<'_>,
     writer: &mut W,
-) -> u8 {
-    let metrics = match bind_metrics(rt, settings.metrics) {
-        Ok(metrics) => metrics,
-        Err(name) => return refuse(writer, name),
-    };
-    match Control::new(rt, alloc, settings, Doors { control, metrics }) {
+) -> (u8, bool) {
+    match Control::new(rt, alloc, settings) {
         Ok(mut control) => {
-            status_of(
-                serve_plan(rt, disk, alloc, plan, &mut control, writer),
-                writer,
-            )
+            let status = serve_open(rt, disk, alloc, plan, &mut control, writer);
+            (status, control.is_bound())
         }
-        Err(error) => refuse(writer, listener_error_name(&error, "Control")),
+        Err(error) => (refuse(writer, bind_error_name(&error, "Control")), false),
     }
 }
 
@@ -332,19 +320,14 @@ pub fn run<
     D: Disk + Folder + Sync,
     W: Write,
 >(rt: &R, disk: &D, alloc: Global, plan: &[u8], settings: &Settings<'_>, writer: &mut W) -> u8 {
-    let plan = match Plan::read(alloc, plan) {
-        Ok(plan) => plan,
+    let (status, is_bound) = match Plan::read(alloc, plan) {
+        Ok(plan) => serve_through(rt, disk, alloc, plan, settings, writer),
         Err(fault) => {
             let _ = writeln!(writer, "refused {fault}");
-            return 1;
+            (1, false)
         }
     };
-    let control = match bind_control(rt, alloc, settings.control) {
-        Ok(control) => control,
-        Err(name) => return refuse(writer, name),
-    };
-    let status = serve_behind(rt, disk, alloc, plan, control, settings, writer);
-    if let Some(path) = settings.control {
+    if let (true, Some(path)) = (is_bound, settings.control) {
         let _ = fs::remove_file(rt, path);
     }
     status

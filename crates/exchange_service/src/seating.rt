@@ -1,5 +1,5 @@
 //! The workers of a plan in their seats, beside the control socket.
-ghost use Rattle.std.specs.Prelude.{◌≡◌, ◌+◌, ◌≤◌, IfOk, length, vec_len};
+ghost use Rattle.std.specs.Prelude.{◌≡◌, ◌+◌, ◌≤◌, IfOk, OnOk, length, vec_len};
 
 use crate::control::Control;
 use crate::journal::Journal;
@@ -20,7 +20,7 @@ use std::sync::Wait;
 use std::thread;
 use std::thread::Threads;
 use std::time::{Clock, Instant};
-use trace_writer::{Folder, Trace, TraceLane};
+use trace_writer::{Folder, Trace};
 use traced_seats::{TracedSeat, lane_of, traced_seats_of};
 use udp_workers::{Post, TurnReport, WatchedExchange, start_until};
 use worker_seats::{ServiceError, reports_of};
@@ -56,8 +56,9 @@ fn told_seats<'r, J: Naming, P: Post, R: Clock + Eprint + Net + RandomSource + W
     trace: Option<&'r Trace>,
 ) -> Result<Vec<TracedSeat<'r, R, J, P>>, ServiceError>
     requires plan { plan.now ≡ P.plan }
-    requires enough { length plan.now.workers ≤ vec_len passes.old }
-    ensures { IfOk result (λ seats. vec_len seats ≤ 8) }
+    requires enough { length plan.now.workers + 1 ≤ vec_len passes.old }
+    ensures few { IfOk result (λ seats. vec_len seats ≤ 8) }
+    ensures left { OnOk result (1 ≤ vec_len passes.new) }
 {
     let log = Journal {
         rt,
@@ -70,7 +71,34 @@ fn told_seats<'r, J: Naming, P: Post, R: Clock + Eprint + Net + RandomSource + W
     )
 }
 
-// Has the seats serve, beside a control socket with a pass of its own, which is given back. None if a thread was refused.
+// Has the seats serve, beside a control socket. False if a thread was refused.
+fn serve_desk<
+    J: Naming,
+    P: Post + Send + Sync,
+    R: Clock + Eprint + Net + RandomSource + Threads + Wait + Sync,
+    D: Disk + Folder + Sync,
+>(
+    rt: &R,
+    disk: &D,
+    exchange: &Exchange<NoGate, J>,
+    watch: &ServiceWatch,
+    written: &mut Written<'_>,
+    seats: &[TracedSeat<'_, R, J, P>],
+    desk: &mut Desk<'_, J>,
+    control: &mut Control<'_>,
+    opened: Instant,
+) -> bool
+    requires plan { exchange.now ≡ P.plan }
+{
+    let service = WatchedExchange {
+        exchange,
+        watch,
+        post: PhantomData,
+    };
+    serve_written(rt, disk, &service, seats, desk, control, opened, written)
+}
+
+// Has the seats serve, beside a control socket with a pass of its own, which goes back to the others.
 fn serve_seated<
     J: Naming,
     P: Post + Send + Sync,
@@ -79,76 +107,51 @@ fn serve_seated<
 >(
     rt: &R,
     disk: &D,
+    alloc: Global,
     exchange: &Exchange<NoGate, J>,
     watch: &ServiceWatch,
     written: &mut Written<'_>,
     seats: &[TracedSeat<'_, R, J, P>],
-    pass: Pass<J>,
-    lane: Option<TraceLane<'_>>,
+    passes: &mut Vec<Pass<J>>,
     control: &mut Control<'_>,
     opened: Instant,
-) -> Option<Pass<J>>
+) -> Result<(), ServiceError>
     requires plan { exchange.now ≡ P.plan }
+    requires left { 1 ≤ vec_len passes.old }
 {
-    let settings = control.settings;
+    let lane = match lane_of(alloc, watch.trace(), exchange.plan().workers().len()) {
+        Ok(lane) => lane,
+        Err(error) => return Err(error),
+    };
     let mut desk = Desk {
         exchange,
-        pass,
+        pass: passes.remove(0),
         watch,
         lane,
-        calls: settings.calls,
-        trace: settings.trace.map(|options| options.path),
+        calls: control.settings.calls,
+        trace: control.settings.trace_path(),
     };
-    let service = WatchedExchange {
-        exchange,
-        watch,
-        post: PhantomData,
-    };
-    let is_served = serve_written(
-        rt, disk, &service, seats, &mut desk, control, opened, written,
+    let is_served = serve_desk::<J, P, R, D>(
+        rt, disk, exchange, watch, written, seats, &mut desk, control, opened,
     );
     let Desk { pass, .. } = desk;
-    is_served.then_some(pass)
+    give_back(pass, passes, is_served)
 }
 
-// The same, with what the control socket tells the trace.
-fn serve_told<
-    J: Naming,
-    P: Post + Send + Sync,
-    R: Clock + Eprint + Net + RandomSource + Threads + Wait + Sync,
-    D: Disk + Folder + Sync,
->(
-    rt: &R,
-    disk: &D,
-    alloc: Global,
-    exchange: &Exchange<NoGate, J>,
-    watch: &ServiceWatch,
-    written: &mut Written<'_>,
-    seats: &[TracedSeat<'_, R, J, P>],
+// A pass goes back to the others. What came of the service that had it.
+fn give_back<J: Naming>(
     pass: Pass<J>,
-    control: &mut Control<'_>,
-    opened: Instant,
-) -> Result<Pass<J>, ServiceError>
-    requires plan { exchange.now ≡ P.plan }
-{
-    let lane = lane_of(alloc, watch.trace(), exchange.plan().workers().len())?;
-    let served = serve_seated::<J, P, R, D>(
-        rt, disk, exchange, watch, written, seats, pass, lane, control, opened,
-    );
-    served.ok_or(ServiceError::NoThread)
-}
-
-// The seats' passes go back to the others, and so does that of the socket, which there is where they served.
-fn give_back<J: Naming, P: Post, R: Clock + Wait>(
-    alloc: Global,
-    seats: Vec<TracedSeat<'_, R, J, P>>,
-    pass: Result<Pass<J>, ServiceError>,
     passes: &mut Vec<Pass<J>>,
-) -> Result<Vec<TurnReport>, ServiceError> {
-    if passes.push(pass?).is_err() {
-        return Err(ServiceError::Memory);
+    is_served: bool,
+) -> Result<(), ServiceError> {
+    let is_back = passes.push(pass).is_ok();
+    if !is_served {
+        Err(ServiceError::NoThread)
+    } else if !is_back {
+        Err(ServiceError::Memory)
+    } else {
+        Ok(())
     }
-    reports_of(alloc, seats, passes)
 }
 
 /// Has the workers of the plan serve; their passes and that of the socket go back to the others.
@@ -172,10 +175,17 @@ pub(crate) fn serve_watched<
     requires enough { length exchange.now.workers + 1 ≤ vec_len passes.old }
 {
     let (plan, settings) = (exchange.plan(), control.settings);
-    let pass = passes.remove(0);
-    let seats = told_seats::<J, P, R>(rt, alloc, plan, passes, settings, opened, watch.trace())?;
-    let pass = serve_told::<J, P, R, D>(
-        rt, disk, alloc, exchange, watch, written, &seats, pass, control, opened,
+    let seats = told_seats::<J, P, R>(rt, alloc, plan, passes, settings, opened, watch.trace());
+    let seats = match seats {
+        Ok(seats) => seats,
+        Err(error) => return Err(error),
+    };
+    let served = serve_seated::<J, P, R, D>(
+        rt, disk, alloc, exchange, watch, written, &seats, passes, control, opened,
     );
-    give_back(alloc, seats, pass, passes)
+    let reports = reports_of(alloc, seats, passes);
+    match served {
+        Ok(()) => reports,
+        Err(error) => Err(error),
+    }
 }

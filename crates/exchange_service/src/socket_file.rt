@@ -29,6 +29,26 @@ fn is_free<R: Files + Net>(rt: &R, path: &str) -> io::Result<bool> {
     }
 }
 
+// A socket's file is its owner's alone, and stands at the path.
+fn move_over<R: Files>(rt: &R, beside: &str, path: &str) -> io::Result<()> {
+    match fs::set_permissions(rt, beside, Permissions::from_mode(0o600)) {
+        Ok(()) => fs::rename(rt, beside, path),
+        Err(error) => Err(error),
+    }
+}
+
+// Binds a listener beside the path and then moves it over it, so that at no moment the file is there with other permissions.
+fn bind_beside<R: Files + Net>(rt: &R, beside: &str, path: &str) -> io::Result<UnixListener> {
+    let listener = match UnixListener::bind(rt, beside) {
+        Ok(listener) => listener,
+        Err(error) => return Err(error),
+    };
+    match move_over(rt, beside, path) {
+        Ok(()) => Ok(listener),
+        Err(error) => Err(error),
+    }
+}
+
 /// Binds a listener at the path, to which its owner alone may connect. The socket of a process that has ended is replaced. A file
 /// of the same name with `.new` behind it is removed.
 ///
@@ -38,11 +58,7 @@ pub fn bind<R: Files + Net>(rt: &R, alloc: Global, path: &str) -> io::Result<Uni
     if !is_free(rt, path)? {
         return Err(io::Error::from(ErrorKind::AddrInUse));
     }
-    // Bound beside the path and then moved over it, so that at no moment the file is there with other permissions.
     let beside = format!(in alloc; "{path}.new")?;
     let _ = fs::remove_file(rt, beside.as_str());
-    let listener = UnixListener::bind(rt, beside.as_str())?;
-    fs::set_permissions(rt, beside.as_str(), Permissions::from_mode(0o600))?;
-    fs::rename(rt, beside.as_str(), path)?;
-    Ok(listener)
+    bind_beside(rt, beside.as_str(), path)
 }

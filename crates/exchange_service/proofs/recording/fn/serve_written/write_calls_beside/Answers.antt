@@ -1,5 +1,5 @@
 use denote.Param.Send.{param_send}
-use Rattle.exchange_service.proofs.recording.fn.serve_beside_writer.write_calls_beside.Goals as goal
+use Rattle.exchange_service.proofs.recording.fn.serve_written.write_calls_beside.Goals as goal
 
 -- that the parameters may go to other threads, by their own bounds alone: among all that the closure holds a search gives up
 pub serve_traced-requires-send-J : goal.serve_traced-requires-send-J
