@@ -1,10 +1,10 @@
 //! Information elements, read and written.
-use crate::same::{holds, same, same_octets};
+use crate::same::{Place, holds, same, same_at, same_octets};
 use call_signals::{Caller, NewElements};
 use iax_frames::{CallNumber, FullHead, Payload, write_full};
 use info_elements::{
-    CAUSE, CAUSECODE, CHALLENGE, Cut, Elements, FORMAT, VERSION, append, append_to, elements,
-    next_element, u16_in, u32_in,
+    CAUSE, CAUSECODE, CHALLENGE, Cut, FORMAT, VERSION, append, append_to, elements, next_element,
+    u16_in, u32_in,
 };
 use std::process::Abort;
 
@@ -16,40 +16,34 @@ fn cut_of(octets: &[u8]) -> Option<Cut> {
     }
 }
 
+/// Octets, and where they end within an element.
+const CUTS: [(&[u8], Option<Cut>); 3] = [
+    (&[0x0b, 2, 0], Some(Cut(0))),
+    (&[0x0b, 2, 0, 2, 1], Some(Cut(4))),
+    (&[], None),
+];
+
 #[test]
-fn cut_element(rt: HostRuntime) {
-    same(&rt, &cut_of(&[0x0b, 2, 0]), &Some(Cut(0)));
-    same(&rt, &cut_of(&[0x0b, 2, 0, 2, 1]), &Some(Cut(4)));
-    same(&rt, &cut_of(&[]), &None);
+fn cut_elements(rt: HostRuntime) {
+    for (step, (octets, cut)) in CUTS.iter().enumerate() {
+        let at = Place { case: "cuts", step };
+        same_at(&rt, at, &cut_of(octets), cut);
+    }
 }
 
 /// A CALLTOKEN, a FORMAT, a VERSION, and a FORMAT of two octets.
 const EQUAL: [u8; 16] = [0x36, 0, 9, 4, 0, 0, 0, 4, 0x0b, 2, 0, 2, 9, 2, 0, 8];
 
-// The elements of whole octets.
-fn whole<'a>(rt: &impl Abort, octets: &'a [u8]) -> Elements<'a> {
-    elements(octets).expect(rt, "not cut")
-}
-
 #[test]
-fn last_of_equal_elements(rt: HostRuntime) {
-    let found = whole(&rt, &EQUAL);
+fn elements_by_their_numbers(rt: HostRuntime) {
+    let found = elements(&EQUAL).expect(&rt, "not cut");
     same(&rt, &found.u16_of(VERSION), &Some(2));
     // The last FORMAT has two octets.
     same(&rt, &found.u32_of(FORMAT), &None);
     same(&rt, &found.u16_of(FORMAT), &Some(8));
-}
-
-#[test]
-fn empty_and_missing_elements(rt: HostRuntime) {
-    let found = whole(&rt, &EQUAL);
     let token = found.last(0x36).expect(&rt, "a CALLTOKEN");
     same_octets(&rt, token, &[]);
     holds(&rt, "no CHALLENGE", found.last(CHALLENGE).is_none());
-}
-
-#[test]
-fn elements_among_octets(rt: HostRuntime) {
     same(&rt, &u32_in(EQUAL.split_at(8).0, FORMAT), &Some(4));
     // What is cut ends the text.
     same(&rt, &u16_in(EQUAL.split_at(13).0, VERSION), &Some(2));
@@ -74,27 +68,69 @@ const NEW: [u8; 43] = [
     b'2', b'0', 0x0b, 2, 0, 2, 9, 4, 0, 0, 0, 8, 9, 4, 0, 0, 0,
 ];
 
-#[test]
-fn elements_of_a_new(rt: HostRuntime) {
-    let read = NewElements::read(&NEW);
-    same_octets(&rt, read.called.expect(&rt, "a called number"), b"4");
-    same_octets(&rt, read.calling.expect(&rt, "a calling number"), b"20");
-    same(&rt, &read.format, &Some(8));
-    same(&rt, &read.capability, &Some(0x0e));
-    same(&rt, &read.version, &Some(2));
+/// So many octets of a NEW, and what is read of them.
+#[derive(Clone, Copy)]
+struct Front {
+    octets: &'static [u8],
+    len: usize,
+    called: Option<&'static [u8]>,
+    calling: Option<&'static [u8]>,
+    format: Option<u32>,
+    capability: Option<u32>,
+    version: Option<u16>,
 }
 
-// What is cut off doesn't count, and of equal elements the last does, whatever its size is.
+/// What is cut off doesn't count, and of equal elements the last does, whatever its size is.
+const FRONTS: [Front; 3] = [
+    Front {
+        octets: &NEW,
+        len: 43,
+        called: Some(b"4"),
+        calling: Some(b"20"),
+        format: Some(8),
+        capability: Some(0x0e),
+        version: Some(2),
+    },
+    Front {
+        octets: &NEW,
+        len: 11,
+        called: Some(b"300"),
+        calling: None,
+        format: None,
+        capability: None,
+        version: Some(1),
+    },
+    Front {
+        octets: &EQUAL,
+        len: 16,
+        called: None,
+        calling: None,
+        format: None,
+        capability: None,
+        version: Some(2),
+    },
+];
+
+// This is read of a front of a NEW.
+fn is_read(rt: &impl Abort, step: usize, front: &Front) {
+    let at = Place {
+        case: "fronts of a NEW",
+        step,
+    };
+    let octets = front.octets.get(..front.len).expect(rt, "so many octets");
+    let read = NewElements::read(octets);
+    same_at(rt, at, &read.called, &front.called);
+    same_at(rt, at, &read.calling, &front.calling);
+    same_at(rt, at, &read.format, &front.format);
+    same_at(rt, at, &read.capability, &front.capability);
+    same_at(rt, at, &read.version, &front.version);
+}
+
 #[test]
-fn absent_elements_of_a_new(rt: HostRuntime) {
-    let read = NewElements::read(NEW.split_at(11).0);
-    same_octets(&rt, read.called.expect(&rt, "a called number"), b"300");
-    holds(&rt, "no calling number", read.calling.is_none());
-    same(&rt, &read.version, &Some(1));
-    let read = NewElements::read(&EQUAL);
-    holds(&rt, "no called number", read.called.is_none());
-    same(&rt, &read.format, &None);
-    same(&rt, &read.capability, &None);
+fn elements_of_a_new(rt: HostRuntime) {
+    for (step, front) in FRONTS.iter().enumerate() {
+        is_read(&rt, step, front);
+    }
 }
 
 /// Of a NEW: CALLING NAME Al, CALLINGPRES 0x23, CALLINGTON 0x10, CALLINGTNS 0x0102, CALLINGTON of no octet.

@@ -1,43 +1,126 @@
 //! Frames, read and written.
-use crate::same::{holds, same, same_octets};
+use crate::same::{Place, holds, same, same_at, same_octets};
 use iax_frames::{
     CallNumber, Datagram, Frame, FrameError, Full, FullHead, Out, Payload, Trunk, append_entry,
     read, write_full, write_mini, write_trunk,
 };
 use std::process::Abort;
 
-// Why octets aren't read.
-fn fault_of(octets: &[u8]) -> Option<FrameError> {
-    match read(octets) {
-        Ok(_) => None,
-        Err(error) => Some(error),
+/// What octets are read as.
+#[derive(Clone, Copy, Debug, PartialEq, Eq)]
+enum Seen {
+    /// A full frame, and what its subclass means.
+    Full(Option<u64>),
+    /// A mini frame: its source, its timestamp and how many octets of media it has.
+    Mini(u16, u16, usize),
+    /// A trunk frame of so many entries.
+    Trunk(usize),
+    /// A mini frame of video.
+    Video,
+}
+
+/// A trunk frame with timestamps, of entries with three octets and one.
+const TRUNK: [u8; 24] = [
+    0, 0, 1, 1, 0, 0, 0, 0x14, 0, 3, 0, 1, 0, 0x14, 0xaa, 0xbb, 0xcc, 0, 1, 0, 2, 0, 0x14, 0xdd,
+];
+
+/// Octets, and what they are read as.
+const READ: [(&[u8], Result<Seen, FrameError>); 9] = [
+    (
+        &[0x80, 7, 0, 0, 0, 0, 0, 0, 0, 0, 6],
+        Err(FrameError::Short),
+    ),
+    (&[], Err(FrameError::Short)),
+    (&[0, 0, 2, 0], Err(FrameError::MetaCommand(2))),
+    (
+        &[0, 0, 1, 0, 0, 0, 0, 0x14, 0, 1, 0, 3, 0xaa, 0xbb],
+        Err(FrameError::EntryCut(8)),
+    ),
+    (&[0, 0x0a, 0, 1], Ok(Seen::Mini(10, 1, 0))),
+    (
+        &[0x80, 1, 0, 0, 0, 0, 0, 0, 0, 0, 6, 0x82],
+        Ok(Seen::Full(Some(4))),
+    ),
+    (
+        &[0x80, 1, 0, 0, 0, 0, 0, 0, 0, 0, 6, 0xc0],
+        Ok(Seen::Full(None)),
+    ),
+    (
+        &[0x80, 1, 0, 0, 0, 0, 0, 0, 0, 0, 6, 0x04],
+        Ok(Seen::Full(Some(4))),
+    ),
+    (
+        &[0x80, 1, 0, 0, 0, 0, 0, 0, 0, 0, 6, 0xbf],
+        Ok(Seen::Full(Some(1 << 63))),
+    ),
+];
+
+/// From how many octets of `TRUNK` up to how many what is read.
+const STARTS: [(usize, usize, Result<Seen, FrameError>); 6] = [
+    (0, 7, Err(FrameError::Short)),
+    (8, 8, Ok(Seen::Trunk(0))),
+    (9, 16, Err(FrameError::EntryCut(8))),
+    (17, 17, Ok(Seen::Trunk(1))),
+    (18, 23, Err(FrameError::EntryCut(17))),
+    (24, 24, Ok(Seen::Trunk(2))),
+];
+
+// How many entries a trunk frame has.
+fn entries_of(trunk: &Trunk<'_>) -> usize {
+    let mut count: usize = 0;
+    for _ in trunk.entries() {
+        count = count.saturating_add(1);
+    }
+    count
+}
+
+// What octets are read as.
+fn seen_in(octets: &[u8]) -> Result<Seen, FrameError> {
+    match read(octets)? {
+        Datagram::Full(full) => Ok(Seen::Full(full.meaning())),
+        Datagram::Mini(mini) => Ok(Seen::Mini(
+            mini.source().get(),
+            mini.timestamp(),
+            mini.media().len(),
+        )),
+        Datagram::Trunk(trunk) => Ok(Seen::Trunk(entries_of(&trunk))),
+        Datagram::Video(_) => Ok(Seen::Video),
     }
 }
 
-// Octets aren't read, for this reason.
-fn is_refused(rt: &impl Abort, octets: &[u8], error: FrameError) {
-    same(rt, &fault_of(octets), &Some(error));
+// Octets are read as that.
+fn is_read(rt: &impl Abort, at: Place<'_>, octets: &[u8], expected: Result<Seen, FrameError>) {
+    same_at(rt, at, &seen_in(octets), &expected);
 }
 
-// The source, the timestamp and the count of the media's octets of a mini frame.
-fn mini_of(octets: &[u8]) -> Option<(u16, u16, usize)> {
-    match read(octets) {
-        Ok(Datagram::Mini(mini)) => {
-            Some((mini.source().get(), mini.timestamp(), mini.media().len()))
-        }
-        _ => None,
+// The trunk frame, cut after so many octets, is read as that.
+fn is_start(rt: &impl Abort, count: usize, expected: Result<Seen, FrameError>) {
+    let at = Place {
+        case: "cut after so many octets",
+        step: count,
+    };
+    let start = TRUNK.as_slice().get(..count).expect(rt, "a start");
+    is_read(rt, at, start, expected);
+}
+
+#[test]
+fn octets_read(rt: HostRuntime) {
+    for (step, (octets, expected)) in READ.iter().enumerate() {
+        let at = Place {
+            case: "octets",
+            step,
+        };
+        is_read(&rt, at, octets, *expected);
     }
 }
 
 #[test]
-fn malformed_datagrams(rt: HostRuntime) {
-    let eleven = [0x80, 7, 0, 0, 0, 0, 0, 0, 0, 0, 6];
-    is_refused(&rt, &eleven, FrameError::Short);
-    is_refused(&rt, &[], FrameError::Short);
-    is_refused(&rt, &[0, 0, 2, 0], FrameError::MetaCommand(2));
-    let cut = [0, 0, 1, 0, 0, 0, 0, 0x14, 0, 1, 0, 3, 0xaa, 0xbb];
-    is_refused(&rt, &cut, FrameError::EntryCut(8));
-    same(&rt, &mini_of(&[0, 0x0a, 0, 1]), &Some((10, 1, 0)));
+fn truncated_trunk(rt: HostRuntime) {
+    for (first, last, expected) in &STARTS {
+        for count in *first..=*last {
+            is_start(&rt, count, *expected);
+        }
+    }
 }
 
 // Each entry of a trunk frame is of call number 3 and of 20 ms, with this media.
@@ -162,67 +245,4 @@ fn full_written_and_read(rt: HostRuntime) {
     same_octets(&rt, frame.copied().payload.as_slice(), &[9, 8]);
     let refused = write_full(&head(), &[0u8; 1389]).is_err();
     holds(&rt, "too long", refused);
-}
-
-// A full frame whose subclass is this octet means that.
-fn means(rt: &impl Abort, octet: u8, meaning: Option<u64>) {
-    let octets = [0x80, 1, 0, 0, 0, 0, 0, 0, 0, 0, 6, octet];
-    let full = full_of(&octets).expect(rt, "a full frame");
-    same(rt, &(octet, full.meaning()), &(octet, meaning));
-}
-
-#[test]
-fn meanings(rt: HostRuntime) {
-    means(&rt, 0x82, Some(4));
-    means(&rt, 0xc0, None);
-    means(&rt, 0x04, Some(4));
-    means(&rt, 0xbf, Some(1 << 63));
-}
-
-/// A trunk frame with timestamps, of entries with three octets and one.
-const TRUNK: [u8; 24] = [
-    0, 0, 1, 1, 0, 0, 0, 0x14, 0, 3, 0, 1, 0, 0x14, 0xaa, 0xbb, 0xcc, 0, 1, 0, 2, 0, 0x14, 0xdd,
-];
-
-// How many entries a trunk frame has.
-fn entries_of(trunk: &Trunk<'_>) -> usize {
-    let mut count: usize = 0;
-    for _ in trunk.entries() {
-        count = count.saturating_add(1);
-    }
-    count
-}
-
-// The start of a datagram, read: how many entries it has as a trunk frame.
-fn entries_in(octets: &[u8]) -> Result<usize, FrameError> {
-    match read(octets)? {
-        Datagram::Trunk(trunk) => Ok(entries_of(&trunk)),
-        _ => Ok(usize::MAX),
-    }
-}
-
-// So many octets of the trunk frame are read as that.
-fn expected_entries(count: usize) -> Result<usize, FrameError> {
-    match count {
-        0..=7 => Err(FrameError::Short),
-        8 => Ok(0),
-        9..=16 => Err(FrameError::EntryCut(8)),
-        17 => Ok(1),
-        18..=23 => Err(FrameError::EntryCut(17)),
-        _ => Ok(2),
-    }
-}
-
-// The trunk frame, cut after so many octets, is read as it should be.
-fn reads_start(rt: &impl Abort, count: usize) {
-    let start = TRUNK.as_slice().get(..count).expect(rt, "a start");
-    let found = entries_in(start);
-    same(rt, &(count, found), &(count, expected_entries(count)));
-}
-
-#[test]
-fn truncated_trunk(rt: HostRuntime) {
-    for count in 0..25 {
-        reads_start(&rt, count);
-    }
 }

@@ -1,9 +1,55 @@
 //! Frames that wait for their acknowledgement.
-use crate::same::{holds, same};
+use crate::same::{Place, holds_at};
 use iax_frames::{Frame, Payload};
 use resend_queue::{Held, NoPlace, Resend};
 use std::alloc::Global;
 use std::process::Abort;
+
+/// What happens to a queue for two frames, or is seen of it. A frame is due 1,000 ms after it went out.
+#[derive(Clone, Copy)]
+enum Step {
+    /// A frame of this number is to be held. The number of the frame that the queue hands back, if it has no place.
+    Holds(u8, Option<u8>),
+    /// At this moment the frame at this place is the first that is due.
+    Due(u64, Option<usize>),
+    /// The frame at a place is sent again at this moment.
+    Marks(usize, u64),
+    /// The frame at a place went out at this moment.
+    Touches(usize, u64),
+    /// The oldest frame goes.
+    DropsFirst,
+    IsEmpty,
+    Len(usize),
+    /// The frame at a place has this number, and was sent again so many times.
+    Has(usize, u8, u32),
+}
+
+const NO_PLACE_FOR_A_THIRD: [Step; 5] = [
+    Step::IsEmpty,
+    Step::Holds(7, None),
+    Step::Holds(8, None),
+    Step::Holds(9, Some(9)),
+    Step::Len(2),
+];
+
+const IN_ORDER: [Step; 16] = [
+    Step::Holds(7, None),
+    Step::Holds(8, None),
+    Step::Due(999, None),
+    Step::Due(1000, Some(0)),
+    Step::Len(2),
+    Step::Marks(0, 1000),
+    Step::Due(1000, Some(1)),
+    Step::Len(2),
+    Step::Touches(1, 1000),
+    Step::Due(1999, None),
+    Step::Has(0, 7, 1),
+    Step::Has(1, 8, 0),
+    Step::Len(2),
+    Step::DropsFirst,
+    Step::Len(1),
+    Step::Has(0, 8, 0),
+];
 
 fn held(number: u8) -> Held {
     Held {
@@ -19,17 +65,6 @@ fn held(number: u8) -> Held {
     }
 }
 
-// The first frame that is due at a moment, where a frame is due 1,000 ms after it went out.
-fn is_due(rt: &impl Abort, queue: &Resend, now: u64, place: Option<usize>) {
-    same(rt, &(now, queue.due(now, 1000)), &(now, place));
-}
-
-// The frame at a place has this number, and was sent again so many times.
-fn has(rt: &impl Abort, queue: &Resend, place: usize, number: u8, tries: u32) {
-    let held = queue.get(place).expect(rt, "a frame");
-    same(rt, &(held.number, held.tries), &(number, tries));
-}
-
 // Adds a frame under this number. Gives the number of the frame that the queue hands back, if it has no place.
 fn handed_back(queue: &mut Resend, number: u8) -> Option<u8> {
     match queue.push(held(number)) {
@@ -38,55 +73,63 @@ fn handed_back(queue: &mut Resend, number: u8) -> Option<u8> {
     }
 }
 
-// A queue for two frames, which has them.
-fn full_queue(rt: &impl Abort, alloc: Global) -> Resend {
-    let mut queue = Resend::new(alloc, 2).expect(rt, "a queue");
-    holds(rt, "empty", queue.is_empty());
-    same(rt, &handed_back(&mut queue, 7), &None);
-    same(rt, &handed_back(&mut queue, 8), &None);
-    queue
+// Whether there is a frame at a place, which is sent again at this moment, or went out then.
+fn sends(queue: &mut Resend, place: usize, now: u64, is_again: bool) -> bool {
+    if place >= queue.len() {
+        return false;
+    }
+    if is_again {
+        queue.mark(place, now);
+    } else {
+        queue.touch(place, now);
+    }
+    true
 }
 
-#[test]
-fn no_place_for_a_third(rt: HostRuntime) {
-    let mut queue = full_queue(&rt, rt.alloc());
-    same(&rt, &handed_back(&mut queue, 9), &Some(9));
-    same(&rt, &queue.len(), &2);
-}
-
-// The frame at a place is sent again at this moment.
-fn marks(rt: &impl Abort, queue: &mut Resend, place: usize, now: u64) {
-    assert!(rt; place < queue.len());
-    queue.mark(place, now);
-}
-
-// The frame at a place went out at this moment.
-fn touches(rt: &impl Abort, queue: &mut Resend, place: usize, now: u64) {
-    assert!(rt; place < queue.len());
-    queue.touch(place, now);
-}
-
-// The oldest frame goes.
-fn drops_first(rt: &impl Abort, queue: &mut Resend) {
-    assert!(rt; !queue.is_empty());
+// Whether there is an oldest frame, which goes.
+fn drops_first(queue: &mut Resend) -> bool {
+    if queue.is_empty() {
+        return false;
+    }
     queue.drop_front(1);
+    true
+}
+
+// The number of the frame at a place, and how often it was sent again.
+fn frame_at(queue: &Resend, place: usize) -> Option<(u8, u32)> {
+    let held = queue.get(place)?;
+    Some((held.number, held.tries))
+}
+
+// Whether this happens to a queue, or is seen of it.
+fn makes(queue: &mut Resend, step: Step) -> bool {
+    match step {
+        Step::Holds(number, back) => handed_back(queue, number) == back,
+        Step::Due(now, place) => queue.due(now, 1000) == place,
+        Step::Marks(place, now) => sends(queue, place, now, true),
+        Step::Touches(place, now) => sends(queue, place, now, false),
+        Step::DropsFirst => drops_first(queue),
+        Step::IsEmpty => queue.is_empty(),
+        Step::Len(len) => queue.len() == len,
+        Step::Has(place, number, tries) => frame_at(queue, place) == Some((number, tries)),
+    }
+}
+
+fn plays(rt: &impl Abort, alloc: Global, case: &str, steps: &[Step]) {
+    let mut queue = Resend::new(alloc, 2).expect(rt, "a queue");
+    for (step, made) in steps.iter().enumerate() {
+        let is_so = makes(&mut queue, *made);
+        holds_at(rt, Place { case, step }, is_so);
+    }
 }
 
 #[test]
-fn holds_in_order(rt: HostRuntime) {
-    let mut queue = full_queue(&rt, rt.alloc());
-    is_due(&rt, &queue, 999, None);
-    is_due(&rt, &queue, 1000, Some(0));
-    same(&rt, &queue.len(), &2);
-    marks(&rt, &mut queue, 0, 1000);
-    is_due(&rt, &queue, 1000, Some(1));
-    same(&rt, &queue.len(), &2);
-    touches(&rt, &mut queue, 1, 1000);
-    is_due(&rt, &queue, 1999, None);
-    has(&rt, &queue, 0, 7, 1);
-    has(&rt, &queue, 1, 8, 0);
-    same(&rt, &queue.len(), &2);
-    drops_first(&rt, &mut queue);
-    same(&rt, &queue.len(), &1);
-    has(&rt, &queue, 0, 8, 0);
+fn held_frames(rt: HostRuntime) {
+    plays(
+        &rt,
+        rt.alloc(),
+        "no place for a third",
+        &NO_PLACE_FOR_A_THIRD,
+    );
+    plays(&rt, rt.alloc(), "in order", &IN_ORDER);
 }

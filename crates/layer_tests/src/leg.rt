@@ -2,39 +2,34 @@
 ghost use Rattle.std.specs.Prelude.{◌≡◌, ◌≤◌, [], length, IfSome};
 ghost use Rattle.leg_machine.specs.OrderTable.{IsShortMedia};
 
-mod challenges;
-mod media;
+mod examples;
+pub mod lines;
 mod refused_memory;
-mod windows;
 
-use crate::same::{same, same_octets};
+use crate::same::{Place, holds, same_at};
 use call_auth::Challenge;
 use iax_frames::{CallNumber, Datagram, Full, read};
 use leg_machine::{
-    Caller, Cause, Digit, Format, Heard, Judged, Leg, Order, OrderError, Replies, Signal, Stage,
-    StepError,
+    Caller, Cause, Digit, Format, Heard, Leg, Order, OrderError, Replies, Stage, StepError,
 };
-use peer_plan::Plan;
+use peer_plan::{Plan, PlanError};
 use std::alloc::Global;
 use std::process::Abort;
-use test_plans::frames::NEW_300;
-use test_plans::plans::NO_TRUNK;
 
-// The plan of a text, where there must be memory.
-fn planned(rt: &impl Abort, alloc: Global, text: &str) -> Plan {
-    Plan::read(alloc, text.as_bytes()).expect(rt, "a plan")
-}
-
-// The octets of a text, if there is memory for them.
-fn decoded(alloc: Global, text: &str) -> Option<Vec<u8>> {
-    hex::decode(alloc, text).ok()
+/// The plan of a text, read once more where memory is refused.
+pub fn planned(rt: &impl Abort, alloc: Global, text: &str) -> Plan {
+    let read = match Plan::read(alloc, text.as_bytes()) {
+        Err(PlanError::Memory) => Plan::read(alloc, text.as_bytes()),
+        answer => answer,
+    };
+    read.expect(rt, "a plan")
 }
 
 /// The octets of a text, asked for once more where memory is refused.
-pub fn octets_of(alloc: Global, text: &str) -> Option<Vec<u8>> {
-    match decoded(alloc, text) {
-        Some(octets) => Some(octets),
-        None => decoded(alloc, text),
+pub fn octets_of(rt: &impl Abort, alloc: Global, text: &str) -> Vec<u8> {
+    match hex::decode(alloc, text) {
+        Ok(octets) => octets,
+        Err(_) => hex::decode(alloc, text).expect(rt, "octets"),
     }
 }
 
@@ -51,22 +46,34 @@ pub fn full_of(octets: &[u8]) -> Option<Full<'_>>
     Some(frame)
 }
 
+/// How a leg is opened at moment 0.
+#[derive(Clone, Copy)]
+pub enum Opening<'a> {
+    /// Under local number 1, by a NEW of the peer in the west, which is challenged by `a` where it has a secret.
+    In(&'a str),
+    /// Under local number 5, for a call to 300 to the peer in the east.
+    Out,
+}
+
 /// A leg, and the list to which it writes.
 #[derive(Drop)]
 pub struct Tested {
-    pub alloc: Global,
     pub leg: Leg,
     pub replies: Box<Replies>,
+    /// What a NEW that opened it came to.
+    pub heard: Option<Heard>,
+    pub alloc: Global,
+    /// Whether memory may be refused: what was refused left all as it was, and is asked for once more.
+    pub is_patient: bool,
 }
 
-// The leg of the peer in the west that a full frame opens at moment 0, under local number 1, if there is memory for it.
-fn opened_in(
+// The leg that a full frame opens, if there is memory for it.
+fn opened_by(
     alloc: Global,
     plan: &Plan,
     frame: &Full<'_>,
-    challenge: &Challenge,
     replies: &mut Replies,
-) -> Option<(Leg, Heard)>
+) -> Option<(Leg, Option<Heard>)>
     requires short { length frame.now.payload ≤ 1388 }
     requires empty { replies.old ≡ [] }
 {
@@ -74,246 +81,256 @@ fn opened_in(
         return None;
     }
     let number = CallNumber::new(1);
-    Leg::open_in_into(alloc, plan.rules(0), number, frame, 0, challenge, replies).ok()
+    let challenge = Challenge::new(b"a")?;
+    let opened = Leg::open_in_into(alloc, plan.rules(0), number, frame, 0, &challenge, replies);
+    match opened {
+        Ok((leg, heard)) => Some((leg, Some(heard))),
+        Err(_) => None,
+    }
 }
 
-// The same, with the list to which the leg writes.
-fn opened_by(
-    alloc: Global,
-    plan: &Plan,
-    frame: &Full<'_>,
-    challenge: &Challenge,
-) -> Option<(Tested, Heard)>
-    requires { length frame.now.payload ≤ 1388 }
-{
-    let mut replies = Box::new(alloc, Replies::new()).ok()?;
-    let (leg, heard) = opened_in(alloc, plan, frame, challenge, &mut replies)?;
-    let tested = Tested {
-        alloc,
-        leg,
-        replies,
-    };
-    Some((tested, heard))
-}
-
-/// The leg of the peer in the west that a NEW opens at moment 0, under local number 1, if there is memory for it.
-pub fn opened(alloc: Global, plan: &Plan, new: &str, challenge: &[u8]) -> Option<(Tested, Heard)> {
-    let octets = decoded(alloc, new)?;
-    let frame = full_of(&octets)?;
-    let challenge = Challenge::new(challenge)?;
-    opened_by(alloc, plan, &frame, &challenge)
-}
-
-/// The same, where there must be memory, under the plan of a text.
-pub fn called(
-    rt: &impl Abort,
-    alloc: Global,
-    plan: &str,
-    new: &str,
-    challenge: &[u8],
-) -> (Tested, Heard) {
-    let plan = planned(rt, alloc, plan);
-    opened(alloc, &plan, new, challenge).expect(rt, "a leg")
-}
-
-/// The leg of a NEW for 300, under such a plan.
-pub fn called_for_300(rt: &impl Abort, alloc: Global, plan: &str) -> Tested {
-    let (tested, _) = called(rt, alloc, plan, NEW_300, b"0");
-    tested
-}
-
-// The leg of the peer in the east that a call for 300 opens at moment 0, under local number 5, if there is memory for it.
-fn opened_out(alloc: Global, plan: &Plan, replies: &mut Replies) -> Option<Leg>
+// The leg of a call out, if there is memory for it.
+fn opened_out(alloc: Global, plan: &Plan, replies: &mut Replies) -> Option<(Leg, Option<Heard>)>
     requires { replies.old ≡ [] }
 {
     if plan.peer_count() < 2 {
         return None;
     }
-    Leg::open_out_into(
+    let number = CallNumber::new(5);
+    let caller = Caller::numbered(None);
+    let rules = plan.rules(1);
+    match Leg::open_out_into(
         alloc,
-        plan.rules(1),
-        CallNumber::new(5),
+        rules,
+        number,
         b"300",
-        &Caller::numbered(None),
+        &caller,
         Format::Ulaw,
         0,
         replies,
-    )
-    .ok()
+    ) {
+        Ok(leg) => Some((leg, None)),
+        Err(_) => None,
+    }
 }
 
-/// The leg of the peer in the east that a call for 300 opens at moment 0, under local number 5, where there must be memory, under
-/// the plan of a text.
-pub fn calling(rt: &impl Abort, alloc: Global, plan: &str) -> Tested {
-    let plan = planned(rt, alloc, plan);
-    let mut replies = Box::new(alloc, Replies::new()).expect(rt, "memory");
-    let leg = opened_out(alloc, &plan, &mut replies).expect(rt, "a leg");
-    Tested {
-        alloc,
+// The leg that is opened so, if there is memory for it.
+fn opened_so(
+    rt: &impl Abort,
+    alloc: Global,
+    plan: &Plan,
+    opening: Opening<'_>,
+    replies: &mut Replies,
+) -> Option<(Leg, Option<Heard>)>
+    requires { replies.old ≡ [] }
+{
+    let Opening::In(new) = opening else {
+        return opened_out(alloc, plan, replies);
+    };
+    let octets = octets_of(rt, alloc, new);
+    let frame = full_of(&octets).expect(rt, "a full frame");
+    opened_by(alloc, plan, &frame, replies)
+}
+
+// The same, with the list to which the leg writes.
+fn opened(
+    rt: &impl Abort,
+    alloc: Global,
+    plan: &Plan,
+    opening: Opening<'_>,
+    is_patient: bool,
+) -> Option<Tested> {
+    let mut replies = Box::new(alloc, Replies::new()).ok()?;
+    let (leg, heard) = opened_so(rt, alloc, plan, opening, &mut replies)?;
+    Some(Tested {
         leg,
         replies,
+        heard,
+        alloc,
+        is_patient,
+    })
+}
+
+/// The leg that is opened so, under the plan of a text.
+pub fn leg_of(
+    rt: &impl Abort,
+    alloc: Global,
+    plan: &str,
+    opening: Opening<'_>,
+    is_patient: bool,
+) -> Tested {
+    let plan = planned(rt, alloc, plan);
+    match opened(rt, alloc, &plan, opening, is_patient) {
+        Some(tested) => tested,
+        None => {
+            holds(rt, "memory", is_patient);
+            opened(rt, alloc, &plan, opening, is_patient).expect(rt, "a leg")
+        }
     }
 }
 
 /// What the layer above asks of a leg.
 #[derive(Clone, Copy)]
-pub enum Wish<'a> {
+pub enum Wish {
     Accept,
     Reject(Cause),
     Answer,
     /// The digit 5.
     Digit,
-    Media(&'a [u8]),
+    Media,
     Hangup,
     Doom,
 }
 
-/// What happens to a leg, and what comes of it beside the datagrams.
-#[derive(Clone, Copy)]
-pub enum Event<'a> {
-    /// A full frame comes: how it is judged, and what is handed up.
-    Frame(&'a str, Judged, Option<Signal>),
-    /// An order is given, and refused or not.
-    Order(Wish<'a>, Result<(), OrderError>),
+// The order by which a leg of a call in a format gets it, with this media. None: there is too much media, or none.
+fn order_of(wish: Wish, format: Format, media: &[u8]) -> Option<Order<'_>>
+    ensures { IfSome result IsShortMedia }
+{
+    match wish {
+        Wish::Accept => Some(Order::Accept(format)),
+        Wish::Reject(cause) => Some(Order::Reject(cause)),
+        Wish::Answer => Some(Order::Answer),
+        Wish::Digit => Some(Order::Dtmf(Digit::new(0x35))),
+        Wish::Media => {
+            if media.is_empty() || media.len() > 1380 {
+                None
+            } else {
+                Some(Order::Media(media))
+            }
+        }
+        Wish::Hangup => Some(Order::Hangup(Cause::NormalClearing)),
+        Wish::Doom => Some(Order::Doom(Cause::NormalClearing)),
+    }
 }
 
-/// A line of a worked example: the moment, what happens, the datagrams that go out, and the stage after.
+/// What is seen of a leg.
 #[derive(Clone, Copy)]
-pub struct Line<'a> {
-    pub at: u64,
-    pub event: Event<'a>,
-    pub said: &'a [&'a str],
-    pub stage: Stage,
+pub struct Look {
+    stage: Stage,
+    remote: Option<CallNumber>,
+    owes: bool,
+    doomed: bool,
+    next: u8,
+    expected: u8,
+    held: usize,
+    entries: usize,
 }
 
 impl Tested {
-    /// A full frame is given to the leg.
-    pub fn takes(&mut self, frame: &Full, at: u64) -> Result<Heard, StepError>
+    /// What is seen of the leg.
+    pub fn look(&self) -> Look {
+        let window = self.leg.window();
+        Look {
+            stage: self.leg.stage(),
+            remote: self.leg.remote(),
+            owes: self.leg.owes(),
+            doomed: self.leg.doomed(),
+            next: window.next(),
+            expected: window.expected(),
+            held: window.held_len(),
+            entries: window.record().len(),
+        }
+    }
+
+    /// The leg is as it was, and nothing goes out.
+    pub fn is_as(&self, rt: &impl Abort, at: Place<'_>, before: &Look) {
+        let now = self.look();
+        same_at(rt, at, &now.stage, &before.stage);
+        same_at(rt, at, &now.remote, &before.remote);
+        same_at(
+            rt,
+            at,
+            &(now.owes, now.doomed),
+            &(before.owes, before.doomed),
+        );
+        same_at(
+            rt,
+            at,
+            &(now.next, now.expected),
+            &(before.next, before.expected),
+        );
+        same_at(
+            rt,
+            at,
+            &(now.held, now.entries),
+            &(before.held, before.entries),
+        );
+        same_at(rt, at, &self.replies.len(), &0);
+    }
+
+    // A full frame is given to the leg.
+    fn takes(&mut self, frame: &Full<'_>, time: u64) -> Result<Heard, StepError>
         requires { length frame.now.payload ≤ 1388 }
     {
         self.replies.clear();
-        self.leg.full_into(frame, at, &mut self.replies)
+        self.leg.full_into(frame, time, &mut self.replies)
+    }
+
+    // The same, once more where memory is refused.
+    fn takes_at_last(
+        &mut self,
+        rt: &impl Abort,
+        at: Place<'_>,
+        frame: &Full<'_>,
+        time: u64,
+    ) -> Result<Heard, StepError>
+        requires { length frame.now.payload ≤ 1388 }
+    {
+        let before = self.look();
+        let heard = self.takes(frame, time);
+        if heard != Err(StepError::Memory) {
+            return heard;
+        }
+        holds(rt, "memory", self.is_patient);
+        self.is_as(rt, at, &before);
+        self.takes(frame, time)
     }
 
     /// A full frame comes.
-    pub fn hears(&mut self, rt: &impl Abort, at: u64, text: &str) -> Result<Heard, StepError> {
-        let octets = decoded(self.alloc, text).expect(rt, "octets");
-        let frame = full_of(&octets).expect(rt, "a full frame");
-        self.takes(&frame, at)
+    pub fn hears(
+        &mut self,
+        rt: &impl Abort,
+        at: Place<'_>,
+        time: u64,
+        octets: &[u8],
+    ) -> Result<Heard, StepError> {
+        let frame = full_of(octets).expect(rt, "a full frame");
+        self.takes_at_last(rt, at, &frame, time)
     }
 
-    /// An order is given.
-    pub fn obeys(&mut self, at: u64, order: &Order) -> Result<(), OrderError>
+    // An order is given.
+    fn obeys(&mut self, order: &Order<'_>, time: u64) -> Result<(), OrderError>
         requires { IsShortMedia order.now }
     {
         self.replies.clear();
-        self.leg.order_into(order, at, &mut self.replies)
+        self.leg.order_into(order, time, &mut self.replies)
     }
 
-    /// Something is asked of the leg.
-    pub fn grants(&mut self, at: u64, wish: &Wish) -> Result<(), OrderError> {
-        match wish {
-            Wish::Accept => {
-                let format = self.leg.format();
-                self.obeys(at, &Order::Accept(format))
-            }
-            Wish::Reject(cause) => self.obeys(at, &Order::Reject(*cause)),
-            Wish::Answer => self.obeys(at, &Order::Answer),
-            Wish::Digit => self.obeys(at, &Order::Dtmf(Digit::new(0x35))),
-            Wish::Media(media) => self.sends(at, media),
-            Wish::Hangup => self.obeys(at, &Order::Hangup(Cause::NormalClearing)),
-            Wish::Doom => self.obeys(at, &Order::Doom(Cause::NormalClearing)),
-        }
-    }
-
-    /// Media is to go out.
-    pub fn sends(&mut self, at: u64, media: &[u8]) -> Result<(), OrderError> {
-        if media.is_empty() || media.len() > 1380 {
+    /// Something is asked of the leg, once more where memory is refused.
+    pub fn grants(
+        &mut self,
+        rt: &impl Abort,
+        at: Place<'_>,
+        time: u64,
+        wish: Wish,
+        media: &[u8],
+    ) -> Result<(), OrderError> {
+        let Some(order) = order_of(wish, self.leg.format(), media) else {
             return Err(OrderError::WrongStage);
+        };
+        let before = self.look();
+        let answer = self.obeys(&order, time);
+        if answer != Err(OrderError::Memory) {
+            return answer;
         }
-        self.obeys(at, &Order::Media(media))
+        holds(rt, "memory", self.is_patient);
+        self.is_as(rt, at, &before);
+        self.obeys(&order, time)
     }
 
     /// Time goes on. Answers how many frames had no memory.
-    pub fn waits(&mut self, at: u64) -> u32 {
+    pub fn waits(&mut self, time: u64) -> u32 {
         self.replies.clear();
-        self.leg.tick_into(at, &mut self.replies)
+        self.leg.tick_into(time, &mut self.replies)
     }
-
-    // This datagram went out at this place of the last step.
-    fn said_at(&self, rt: &impl Abort, place: usize, text: &str) {
-        let octets = octets_of(self.alloc, text).expect(rt, "octets");
-        let out = self.replies.get(place).expect(rt, "a datagram");
-        same_octets(rt, out.octets(), &octets);
-    }
-
-    /// These datagrams went out in the last step, and no other.
-    pub fn said(&self, rt: &impl Abort, expected: &[&str]) {
-        same(rt, &self.replies.len(), &expected.len());
-        for (place, text) in expected.iter().enumerate() {
-            self.said_at(rt, place, text);
-        }
-    }
-
-    /// The leg is in this stage.
-    pub fn is_in(&self, rt: &impl Abort, stage: Stage) {
-        same(rt, &self.leg.stage(), &stage);
-    }
-
-    /// What happens in a line, happens so.
-    pub fn happens(&mut self, rt: &impl Abort, at: u64, event: &Event) {
-        match event {
-            Event::Frame(text, judged, signal) => {
-                let heard = Heard {
-                    judged: *judged,
-                    signal: *signal,
-                };
-                same(rt, &self.hears(rt, at, text), &Ok(heard));
-            }
-            Event::Order(wish, answer) => same(rt, &self.grants(at, wish), answer),
-        }
-    }
-
-    /// What comes of a line.
-    pub fn shows(&self, rt: &impl Abort, line: &Line) {
-        self.said(rt, line.said);
-        self.is_in(rt, line.stage);
-    }
-
-    /// All that happens, line by line.
-    pub fn plays(&mut self, rt: &impl Abort, lines: &[Line]) {
-        for line in lines {
-            self.happens(rt, line.at, &line.event);
-            self.shows(rt, line);
-        }
-    }
-}
-
-/// A leg of a NEW for 300 accepts the call at moment 0, gets the acknowledgement, and answers at 20.
-pub const ANSWERING: [Line<'static>; 3] = [
-    Line {
-        at: 0,
-        event: Event::Order(Wish::Accept, Ok(())),
-        said: &["800100070000000000010607090400000004"],
-        stage: Stage::Linked,
-    },
-    Line {
-        at: 10,
-        event: Event::Frame("800700010000000001010604", Judged::Unnumbered, None),
-        said: &[],
-        stage: Stage::Linked,
-    },
-    Line {
-        at: 20,
-        event: Event::Order(Wish::Answer, Ok(())),
-        said: &["800100070000001401010404"],
-        stage: Stage::Up,
-    },
-];
-
-/// The leg of a NEW for 300 that answered the call.
-pub fn answered(rt: &impl Abort, alloc: Global) -> Tested {
-    let mut tested = called_for_300(rt, alloc, NO_TRUNK);
-    tested.plays(rt, &ANSWERING);
-    tested
 }

@@ -1,6 +1,7 @@
 //! Tests of one peer: datagrams come, legs are opened, time goes on, and the outbox is emptied.
 
-mod credit;
+mod credits;
 mod desk;
-mod numbers;
+mod examples;
 mod refused_memory;
+mod steps;

@@ -1,7 +1,7 @@
 //! A plan is read, and asked.
 ghost use Rattle.std.specs.Prelude.{◌<◌, length};
 
-use crate::same::same;
+use crate::same::{Place, same, same_at};
 use call_signals::PeerRules;
 use peer_plan::{Endpoint, Key, NumberRange, Plan, PlanError};
 use std::alloc::Global;
@@ -28,28 +28,6 @@ fn local(port: u16) -> Endpoint {
     }
 }
 
-// The plan, which has two peers.
-fn plan_of(rt: &impl Abort, alloc: Global) -> Plan
-    ensures { 1 < length result.peers }
-{
-    let plan = Plan::read(alloc, PLAN.as_bytes()).expect(rt, "a plan");
-    assert!(rt; plan.peer_count() == 2);
-    plan
-}
-
-// A call of a peer to a number leads there.
-fn leads(rt: &impl Abort, plan: &Plan, caller: u16, number: &[u8], peer: Option<u16>) {
-    same(rt, &plan.route(caller, number), &peer);
-}
-
-#[test]
-fn routes(rt: HostRuntime) {
-    let plan = plan_of(&rt, rt.alloc());
-    leads(&rt, &plan, 1, b"300", Some(0));
-    leads(&rt, &plan, 0, b"310", Some(1));
-    leads(&rt, &plan, 0, b"200", None);
-}
-
 /// Three peers: what begins with `3` leads to the second one, of the third's calls to the first one, and with `30` so of all
 /// calls; what begins with `4` leads there of the second's calls alone.
 const SOURCES: &str = plan!(
@@ -64,38 +42,51 @@ const SOURCES: &str = plan!(
     route "4" "west" "source = \"east\"";
 );
 
-#[test]
-fn routes_of_some_callers(rt: HostRuntime) {
-    let plan = Plan::read(rt.alloc(), SOURCES.as_bytes()).expect(&rt, "a plan");
-    leads(&rt, &plan, 2, b"31", Some(0));
-    leads(&rt, &plan, 0, b"31", Some(1));
-    leads(&rt, &plan, 2, b"30", Some(0));
-    leads(&rt, &plan, 1, b"4", Some(0));
-    leads(&rt, &plan, 0, b"4", None);
+/// A call of a peer to a number, and to which peer it leads.
+type Route = (u16, &'static [u8], Option<u16>);
+
+const ROUTES: [Route; 3] = [
+    (1, b"300", Some(0)),
+    (0, b"310", Some(1)),
+    (0, b"200", None),
+];
+
+const ROUTES_OF_SOURCES: [Route; 5] = [
+    (2, b"31", Some(0)),
+    (0, b"31", Some(1)),
+    (2, b"30", Some(0)),
+    (1, b"4", Some(0)),
+    (0, b"4", None),
+];
+
+// The calls lead there, under the plan of a text.
+fn lead(rt: &impl Abort, alloc: Global, case: &str, text: &str, routes: &[Route]) {
+    let plan = Plan::read(alloc, text.as_bytes()).expect(rt, "a plan");
+    for (step, (caller, number, peer)) in routes.iter().enumerate() {
+        let at = Place { case, step };
+        same_at(rt, at, &plan.route(*caller, number), peer);
+    }
 }
 
 #[test]
-fn workers_and_counts(rt: HostRuntime) {
-    let plan = plan_of(&rt, rt.alloc());
-    same(&rt, &plan.workers(), &[local(4569)].as_slice());
-    same(&rt, &plan.passes(), &1);
-    same(&rt, &plan.counts(), &[4, 4].as_slice());
+fn routes(rt: HostRuntime) {
+    lead(&rt, rt.alloc(), "prefixes", PLAN, &ROUTES);
+    lead(&rt, rt.alloc(), "sources", SOURCES, &ROUTES_OF_SOURCES);
 }
 
-#[test]
-fn endpoints(rt: HostRuntime) {
-    let plan = plan_of(&rt, rt.alloc());
-    same(&rt, &plan.peer_of(local(5002)), &Some(1));
-    same(&rt, &plan.peer_of(local(5003)), &None);
-    same(&rt, &plan.endpoint(0), &local(5001));
-}
-
-#[test]
-fn peers(rt: HostRuntime) {
-    let plan = plan_of(&rt, rt.alloc());
-    same(&rt, &plan.range(1), &NumberRange { first: 5, count: 4 });
-    same(&rt, &plan.name(0), &"west");
-    same(&rt, &plan.worker(1), &0);
+// The workers, the peers' endpoints, their numbers and their names.
+fn has_peers(rt: &impl Abort, plan: &Plan)
+    requires { 1 < length plan.now.peers }
+{
+    same(rt, &plan.workers(), &[local(4569)].as_slice());
+    same(rt, &plan.passes(), &1);
+    same(rt, &plan.counts(), &[4, 4].as_slice());
+    same(rt, &plan.peer_of(local(5002)), &Some(1));
+    same(rt, &plan.peer_of(local(5003)), &None);
+    same(rt, &plan.endpoint(0), &local(5001));
+    same(rt, &plan.range(1), &NumberRange { first: 5, count: 4 });
+    same(rt, &plan.name(0), &"west");
+    same(rt, &plan.worker(1), &0);
 }
 
 // What is given of the rules of the peer in the west.
@@ -118,8 +109,10 @@ fn has_the_defaults(rt: &impl Abort, rules: &PeerRules) {
 }
 
 #[test]
-fn rules(rt: HostRuntime) {
-    let plan = plan_of(&rt, rt.alloc());
+fn peers_and_their_rules(rt: HostRuntime) {
+    let plan = Plan::read(rt.alloc(), PLAN.as_bytes()).expect(&rt, "a plan");
+    assert!(rt; plan.peer_count() == 2);
+    has_peers(&rt, &plan);
     has_what_is_given(&rt, plan.rules(0));
     has_the_defaults(&rt, plan.rules(0));
     same(&rt, &plan.rules(1).window, &64);

@@ -2,8 +2,7 @@
 //! wait; the text of rows.
 
 mod backlogs;
-mod driven;
-mod ended_early;
+mod calls;
+mod cases;
 mod numberings;
 mod row_texts;
-mod whole_call;

@@ -16,3 +16,15 @@ pub fn same_text(rt: &impl Abort, found: &str, expected: &str) {
 pub fn same_octets(rt: &impl Abort, found: &[u8], expected: &[u8]) {
     assert_eq!(rt; found, expected);
 }
+
+/// A row of a table of cases.
+#[derive(Clone, Copy)]
+pub struct Row<'a> {
+    pub table: &'a str,
+    pub row: usize,
+}
+
+/// At a row of a table, what is found is what is expected.
+pub fn same_at<T: PartialEq + Debug>(rt: &impl Abort, at: Row<'_>, found: &T, expected: &T) {
+    assert_eq!(rt; *found, *expected, "{}, row {}", at.table, at.row);
+}

@@ -3,14 +3,14 @@ ghost use Rattle.std.specs.Prelude.{◌≡◌, IfSome, IsTrue};
 ghost use Rattle.peer_lock.specs.Openings.{IsOpening};
 ghost use Rattle.peer_lock.specs.Unworked.{IsCutFrame};
 
-use crate::same::same_octets;
+use crate::same::{Place, holds, same_at};
 use call_auth::Challenge;
-use call_book::{CallBook, Lease, LegName};
+use call_book::{CallBook, Lease};
 use iax_frames::{Datagram, Full, read};
 use info_elements::elements;
-use leg_machine::{Judged, Message, Stage};
+use leg_machine::{Message, Stage};
 use media_ledger::{Blank, Share, supply};
-use peer_lock::{Naming, Onwards, OpenError, Pass, PeerError, PeerState, Step};
+use peer_lock::{Naming, Onwards, OpenError, Pass, PeerError, PeerState, Status, Step};
 use peer_plan::Plan;
 use std::alloc::Global;
 use std::marker::PhantomData;
@@ -45,6 +45,8 @@ pub struct Desk<J: Naming> {
     pub state: PeerState<J>,
     pub pass: Pass<J>,
     pub onwards: Onwards,
+    /// Whether memory may be refused: what was refused left all as it was, and is asked for once more.
+    pub is_patient: bool,
 }
 
 // The two shares of a supply, of which the first has all.
@@ -104,9 +106,11 @@ pub fn opened<
     const OCTETS: u64,
     const STEPS: u64,
 >(
+    rt: &impl Abort,
     alloc: Global,
     plan: &Plan,
     peer: u16,
+    is_patient: bool,
     octets: Blank,
     steps: Blank,
 ) -> Option<Desk<Lent<O, S, OCTETS, STEPS>>>
@@ -116,34 +120,16 @@ pub fn opened<
     let (octets, no_octets) = shares_of::<O>(alloc, octets, OCTETS)?;
     let (steps, no_steps) = shares_of::<S>(alloc, steps, STEPS)?;
     let pass = Pass::new(no_octets, no_steps);
-    let state = state_of(alloc, plan, peer, octets, steps)?;
+    let book = book_of(alloc).expect(rt, "a book");
+    let state = state_of(alloc, plan, peer, octets, steps).expect(rt, "a peer");
     Some(Desk {
         alloc,
-        book: book_of(alloc)?,
+        book,
         state,
         pass,
         onwards: Onwards::new(alloc),
+        is_patient,
     })
-}
-
-/// The same, where there must be memory.
-pub fn desk_of<
-    O: Ledger + Send + Sync,
-    S: Ledger + Send + Sync,
-    const OCTETS: u64,
-    const STEPS: u64,
->(
-    rt: &impl Abort,
-    alloc: Global,
-    plan: &Plan,
-    peer: u16,
-    octets: Blank,
-    steps: Blank,
-) -> Desk<Lent<O, S, OCTETS, STEPS>>
-    requires octets { (octets.name ≡ O.name) × (octets.parts ≡ O.parts) × (octets.parts ≡ 2) }
-    requires steps { (steps.name ≡ S.name) × (steps.parts ≡ S.parts) × (steps.parts ≡ 2) }
-{
-    opened(alloc, plan, peer, octets, steps).expect(rt, "a peer")
 }
 
 // Whether no element passes the end.
@@ -184,35 +170,12 @@ pub fn opening_of(octets: &[u8]) -> Option<Full<'_>>
     }
 }
 
-/// The octets of a text, asked for once more where memory is refused.
-pub fn octets_of(alloc: Global, text: &str) -> Option<Vec<u8>> {
-    match hex::decode(alloc, text) {
-        Ok(octets) => Some(octets),
-        Err(_) => hex::decode(alloc, text).ok(),
-    }
-}
-
 impl<J: Naming> Desk<J> {
     /// A datagram is given to the peer.
-    pub fn takes(&mut self, octets: &[u8], at: u64) -> Result<Step, PeerError> {
+    pub fn takes(&mut self, octets: &[u8], time: u64) -> Result<Step, PeerError> {
         self.onwards.clear();
         self.state
-            .datagram(&mut self.pass, octets, at, &mut self.onwards)
-    }
-
-    /// A datagram comes.
-    pub fn comes(&mut self, at: u64, text: &str) -> Option<Result<Step, PeerError>> {
-        let octets = octets_of(self.alloc, text)?;
-        Some(self.takes(&octets, at))
-    }
-
-    /// How a datagram that comes is judged, where it is taken.
-    pub fn judged(&mut self, at: u64, text: &str) -> Option<Judged> {
-        match self.comes(at, text) {
-            Some(Ok(step)) => Some(step.judged),
-            Some(Err(_)) => None,
-            None => None,
-        }
+            .datagram(&mut self.pass, octets, time, &mut self.onwards)
     }
 
     /// The NEW opens a leg under the lease.
@@ -220,48 +183,26 @@ impl<J: Naming> Desk<J> {
         &mut self,
         frame: &Full,
         lease: Lease,
-        challenge: &[u8],
-    ) -> Option<Result<Step, (Lease, OpenError)>>
+        challenge: &Challenge,
+    ) -> Result<Step, (Lease, OpenError)>
         requires { IsOpening frame.now }
     {
-        let challenge = Challenge::new(challenge)?;
         self.onwards.clear();
         let (pass, onwards) = (&mut self.pass, &mut self.onwards);
-        Some(
-            self.state
-                .open_in(pass, lease, frame, 0, &challenge, onwards),
-        )
+        self.state
+            .open_in(pass, lease, frame, 0, challenge, onwards)
     }
 
-    /// A NEW that came opens a leg under the lease. Answers the leg's name, or that of the lease that comes back and why.
-    pub fn opens(
-        &mut self,
-        text: &str,
-        lease: Lease,
-        challenge: &[u8],
-    ) -> Option<Result<Option<LegName>, (LegName, OpenError)>> {
-        let octets = octets_of(self.alloc, text)?;
-        let frame = opening_of(&octets)?;
-        match self.opens_for(&frame, lease, challenge)? {
-            Ok(step) => Some(Ok(step.touched)),
-            Err((lease, error)) => Some(Err((lease.name(), error))),
-        }
+    /// What is seen of the peer's first leg, and the octets and steps of the pass.
+    pub fn look(&self) -> (Option<Status>, u64, u64) {
+        (self.state.look(1), self.pass.octets(), self.pass.steps())
     }
 
-    /// A NEW that came opens a leg under the next lease of the book's first peer. Answers the leg's number.
-    pub fn opens_next(&mut self, text: &str, challenge: &[u8]) -> Option<u16> {
-        let lease = self.book.reserve(0).ok()?;
-        match self.opens(text, lease, challenge) {
-            Some(Ok(Some(name))) => Some(name.number),
-            _ => None,
-        }
-    }
-
-    /// This datagram is the oldest of the outbox.
-    pub fn says(&mut self, rt: &impl Abort, text: &str) {
-        let octets = octets_of(self.alloc, text).expect(rt, "octets");
-        let out = self.state.take_out().expect(rt, "a datagram");
-        same_octets(rt, out.octets(), &octets);
+    /// Memory may be refused; then all is as it was.
+    pub fn is_as(&self, rt: &impl Abort, at: Place<'_>, before: &(Option<Status>, u64, u64)) {
+        holds(rt, "memory", self.is_patient);
+        same_at(rt, at, &self.look(), before);
+        same_at(rt, at, &self.onwards.is_empty(), &true);
     }
 
     /// The outbox is empty.

@@ -1,48 +1,75 @@
 //! Rows that wait.
-use crate::same::same;
+use crate::same::{Place, holds_at};
 use call_records::Backlog;
+use std::alloc::Global;
+use std::process::Abort;
 
-// Rows come out in their order, and one for which there is no room is lost and counted.
-#[test]
-fn full_backlog_loses_rows(rt: HostRuntime) {
-    let mut rows = Backlog::new(rt.alloc(), 2).expect(&rt, "memory");
-    same(
-        &rt,
-        &(rows.is_empty(), rows.front().copied(), rows.take()),
-        &(true, None, None),
-    );
-    same(
-        &rt,
-        &(rows.push(10u64), rows.push(11), rows.push(12)),
-        &(true, true, false),
-    );
-    same(
-        &rt,
-        &(rows.len(), rows.lost(), rows.is_empty()),
-        &(2, 1, false),
-    );
-    same(
-        &rt,
-        &(rows.front().copied(), rows.take()),
-        &(Some(10), Some(10)),
-    );
-    same(&rt, &rows.push(13), &true);
-    same(
-        &rt,
-        &(rows.take(), rows.take(), rows.take()),
-        &(Some(11), Some(13), None),
-    );
-    same(&rt, &(rows.len(), rows.lost()), &(0, 1));
+/// What happens to a backlog, or is seen of it.
+#[derive(Clone, Copy)]
+enum Step {
+    /// A row is to wait; whether there is room for it.
+    Push(u64, bool),
+    /// The oldest row goes.
+    Take(Option<u64>),
+    /// The oldest row.
+    Front(Option<u64>),
+    IsEmpty(bool),
+    Len(usize),
+    /// So many rows were lost.
+    Lost(u64),
 }
 
+// Rows come out in their order, and one for which there is no room is lost and counted.
+const ROOM_FOR_TWO: [Step; 17] = [
+    Step::IsEmpty(true),
+    Step::Front(None),
+    Step::Take(None),
+    Step::Push(10, true),
+    Step::Push(11, true),
+    Step::Push(12, false),
+    Step::Len(2),
+    Step::Lost(1),
+    Step::IsEmpty(false),
+    Step::Front(Some(10)),
+    Step::Take(Some(10)),
+    Step::Push(13, true),
+    Step::Take(Some(11)),
+    Step::Take(Some(13)),
+    Step::Take(None),
+    Step::Len(0),
+    Step::Lost(1),
+];
+
 // A backlog without room loses all.
+const NO_ROOM: [Step; 4] = [
+    Step::Push(1, false),
+    Step::Push(2, false),
+    Step::Take(None),
+    Step::Lost(2),
+];
+
+// Whether this happens to a backlog, or is seen of it.
+fn makes(rows: &mut Backlog<u64>, step: Step) -> bool {
+    match step {
+        Step::Push(row, has_room) => rows.push(row) == has_room,
+        Step::Take(row) => rows.take() == row,
+        Step::Front(row) => rows.front().copied() == row,
+        Step::IsEmpty(is_empty) => rows.is_empty() == is_empty,
+        Step::Len(len) => rows.len() == len,
+        Step::Lost(count) => rows.lost() == count,
+    }
+}
+
+fn plays(rt: &impl Abort, alloc: Global, case: &str, room: usize, steps: &[Step]) {
+    let mut rows = Backlog::new(alloc, room).expect(rt, "memory");
+    for (step, made) in steps.iter().enumerate() {
+        let is_so = makes(&mut rows, *made);
+        holds_at(rt, Place { case, step }, is_so);
+    }
+}
+
 #[test]
-fn no_room(rt: HostRuntime) {
-    let mut rows = Backlog::new(rt.alloc(), 0).expect(&rt, "memory");
-    same(
-        &rt,
-        &(rows.push(1u64), rows.push(2), rows.take()),
-        &(false, false, None),
-    );
-    same(&rt, &rows.lost(), &2);
+fn rows_that_wait(rt: HostRuntime) {
+    plays(&rt, rt.alloc(), "room for two", 2, &ROOM_FOR_TWO);
+    plays(&rt, rt.alloc(), "no room", 0, &NO_ROOM);
 }

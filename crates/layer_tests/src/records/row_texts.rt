@@ -1,6 +1,7 @@
 //! The text of rows.
-use crate::records::whole_call::{first_leg, second_leg};
-use crate::same::{holds, same, same_octets};
+use crate::records::calls::told;
+use crate::records::cases::{CALLED_PEER, CALLING_PEER};
+use crate::same::{Place, holds, same, same_at, same_octets, same_octets_at};
 use call_book::LegName;
 use call_records::{
     CallEnd, CallRecord, CallRow, Ending, LegMoment, RowTexts, Side, push_header, push_row,
@@ -39,6 +40,11 @@ fn first_row(leg: CallRecord) -> CallRow {
     }
 }
 
+// The text of a row of the peer `west` is this.
+fn is_written(rt: &impl Abort, alloc: Global, row: &CallRow, expected: &[u8]) {
+    same_octets(rt, &text_of(rt, alloc, row), expected);
+}
+
 // The text of a row of the peer `west`.
 fn text_of(rt: &impl Abort, alloc: Global, row: &CallRow) -> Vec<u8> {
     let texts = RowTexts {
@@ -61,11 +67,11 @@ fn header(rt: HostRuntime) {
 // The leg of the peer that called, which hung up.
 #[test]
 fn row_of_calling_peer(rt: HostRuntime) {
-    let row = first_row(first_leg(&rt, rt.alloc()));
-    let out = text_of(&rt, rt.alloc(), &row);
-    same_octets(
+    let row = first_row(told(&rt, rt.alloc(), &CALLING_PEER));
+    is_written(
         &rt,
-        &out,
+        rt.alloc(),
+        &row,
         b"1,west,1,7,5,8,peer,,300,ulaw,0,0,100,100,0,exchange,20,exchange,100,peer,,hung_up_by_peer,,,2,2,2,0,0,0\n",
     );
 }
@@ -80,12 +86,12 @@ fn row_of_called_peer(rt: HostRuntime) {
             serial: 8,
         },
         partner: None,
-        ..first_row(second_leg(&rt, rt.alloc()))
+        ..first_row(told(&rt, rt.alloc(), &CALLED_PEER))
     };
-    let out = text_of(&rt, rt.alloc(), &row);
-    same_octets(
+    is_written(
         &rt,
-        &out,
+        rt.alloc(),
+        &row,
         b"1,west,5,8,,,exchange,,300,ulaw,0,0,100,100,3,peer,13,peer,100,exchange,,hung_up_here,16,,2,2,2,0,0,0\n",
     );
 }
@@ -114,44 +120,64 @@ fn empty_record(called: &[u8], calling: &[u8]) -> Option<CallRecord> {
 #[test]
 fn numbers_of_any_octets(rt: HostRuntime) {
     let leg = empty_record(b"3\n0", b"a,\"b\xff").expect(&rt, "short numbers");
-    let out = text_of(&rt, rt.alloc(), &first_row(leg));
-    same_octets(
+    is_written(
         &rt,
-        &out,
+        rt.alloc(),
+        &first_row(leg),
         b"1,west,1,7,5,8,,\"a,\"\"b\xef\xbf\xbd\",\"3\n0\",ulaw,0,0,100,100,,,,,,,,unknown,,,0,0,0,0,0,0\n",
     );
 }
 
-// The column `ending` of a row without a frame that ended its call.
-fn ending_of(rt: &impl Abort, alloc: Global, failure: Option<Failure>) -> Option<ByteRecord> {
-    let row = CallRow {
-        failure,
-        ..first_row(empty_record(b"", b"")?)
-    };
-    let text = text_of(rt, alloc, &row);
+// The only record of a text.
+fn record_in(rt: &impl Abort, alloc: Global, text: &[u8]) -> ByteRecord {
     let mut reader = ReaderBuilder::new()
         .has_headers(false)
-        .from_reader(alloc, text.as_slice());
+        .from_reader(alloc, text);
     let mut record = ByteRecord::new(alloc);
-    match reader.read_byte_record(&mut record) {
-        Ok(true) => Some(record),
-        _ => None,
-    }
+    let is_read = match reader.read_byte_record(&mut record) {
+        Ok(is_read) => is_read,
+        Err(_) => false,
+    };
+    holds(rt, "a record", is_read);
+    record
 }
 
-// This stands in the columns `ending` and `failure` for a failure.
-fn names(rt: &impl Abort, alloc: Global, failure: Failure, name: &[u8]) {
-    let record = ending_of(rt, alloc, Some(failure)).expect(rt, "a record");
-    same(rt, &record.len(), &30);
-    same_octets(rt, record.get(21).expect(rt, "a column"), name);
-    same_octets(rt, record.get(23).expect(rt, "a column"), name);
+// The record of a row without a frame that ended its call.
+fn ending_of(rt: &impl Abort, alloc: Global, failure: Failure) -> ByteRecord {
+    let leg = empty_record(b"", b"").expect(rt, "short numbers");
+    let row = CallRow {
+        failure: Some(failure),
+        ..first_row(leg)
+    };
+    record_in(rt, alloc, &text_of(rt, alloc, &row))
+}
+
+/// What stands in the columns `ending` and `failure` for a failure.
+const FAILURES: [(Failure, &[u8]); 3] = [
+    (Failure::RetriesSpent, b"retries_spent"),
+    (Failure::RecordFull, b"record_full"),
+    (Failure::Inval, b"inval"),
+];
+
+// These two columns name the failure so.
+fn names(rt: &impl Abort, at: Place<'_>, record: &ByteRecord, name: &[u8]) {
+    same_at(rt, at, &record.len(), &30);
+    for column in [21, 23] {
+        let found = record.get(column).expect(rt, "a column");
+        same_octets_at(rt, at, found, name);
+    }
 }
 
 #[test]
 fn failures(rt: HostRuntime) {
-    names(&rt, rt.alloc(), Failure::RetriesSpent, b"retries_spent");
-    names(&rt, rt.alloc(), Failure::RecordFull, b"record_full");
-    names(&rt, rt.alloc(), Failure::Inval, b"inval");
+    for (step, (failure, name)) in FAILURES.iter().enumerate() {
+        let at = Place {
+            case: "failures",
+            step,
+        };
+        let record = ending_of(&rt, rt.alloc(), *failure);
+        names(&rt, at, &record, name);
+    }
 }
 
 // A frame that ended the call says why, though its retries were spent.
@@ -174,30 +200,32 @@ fn hangup_that_nobody_acknowledged(rt: HostRuntime) {
         resent: 4,
         ..first_row(leg)
     };
-    let out = text_of(&rt, rt.alloc(), &row);
-    same_octets(
+    is_written(
         &rt,
-        &out,
+        rt.alloc(),
+        &row,
         b"1,west,1,7,5,8,,,300,ulaw,0,0,100,100,,,,,5,exchange,,hung_up_here,16,retries_spent,0,0,0,4,0,0\n",
     );
 }
 
-// A row goes behind what is there.
-#[test]
-fn rows_follow_one_another(rt: HostRuntime) {
+// Writes the header and a row behind it.
+fn write_both(rt: &impl Abort, alloc: Global, out: &mut Vec<u8>, row: &CallRow) {
     let texts = RowTexts {
         peer: "west",
         opened: "0",
         ended: "100",
     };
+    push_header(alloc, out).expect(rt, "memory");
+    push_row(alloc, out, row, &texts).expect(rt, "memory");
+}
+
+// A row goes behind what is there.
+#[test]
+fn rows_follow_one_another(rt: HostRuntime) {
     let row = first_row(empty_record(b"", b"").expect(&rt, "short numbers"));
+    let text = text_of(&rt, rt.alloc(), &row);
     let mut out = Vec::new(rt.alloc());
-    push_header(rt.alloc(), &mut out).expect(&rt, "memory");
-    push_row(rt.alloc(), &mut out, &row, &texts).expect(&rt, "memory");
+    write_both(&rt, rt.alloc(), &mut out, &row);
     holds(&rt, "the header first", out.starts_with(HEADER));
-    same(
-        &rt,
-        &out.len(),
-        &(HEADER.len() + text_of(&rt, rt.alloc(), &row).len()),
-    );
+    same(&rt, &out.len(), &(HEADER.len() + text.len()));
 }

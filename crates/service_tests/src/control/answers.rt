@@ -1,72 +1,79 @@
 //! The octets of answers.
-use crate::same::{same, same_octets, same_text};
+use crate::same::{Row, same_at, same_octets, same_text};
 use control_requests::{Answer, Methods, Status};
 use std::alloc::Global;
 use std::process::Abort;
 
-fn has_octets(rt: &impl Abort, alloc: Global, status: Status, why: &str, expected: &[u8]) {
-    let answer = Answer::error(alloc, status, why).expect(rt, "an answer");
-    let octets = answer.octets(alloc).expect(rt, "octets");
-    same_octets(rt, &octets, expected);
-}
+const GET_AND_POST: Methods = Methods {
+    get: true,
+    post: true,
+    delete: false,
+};
 
-#[test]
-fn not_found(rt: HostRuntime) {
-    has_octets(
-        &rt,
-        rt.alloc(),
+/// Errors, each with its reason and the octets of the answer.
+const ERRORS: [(Status, &str, &[u8]); 2] = [
+    (
         Status::NotFound,
         "no such path",
         b"HTTP/1.1 404 Not Found\r\nContent-Type: application/json\r\nContent-Length: 24\r\n\
 Connection: close\r\n\r\n{\"error\":\"no such path\"}",
-    );
-}
-
-#[test]
-fn not_allowed(rt: HostRuntime) {
-    let methods = Methods {
-        get: true,
-        post: true,
-        delete: false,
-    };
-    has_octets(
-        &rt,
-        rt.alloc(),
-        Status::NotAllowed(methods),
+    ),
+    (
+        Status::NotAllowed(GET_AND_POST),
         "",
         b"HTTP/1.1 405 Method Not Allowed\r\nContent-Type: application/json\r\nContent-Length: 12\r\n\
 Connection: close\r\nAllow: GET, POST\r\n\r\n{\"error\":\"\"}",
-    );
+    ),
+];
+
+const STATUSES: [(Status, u16, &str); 9] = [
+    (Status::Ok, 200, "OK"),
+    (Status::Created, 201, "Created"),
+    (Status::Accepted, 202, "Accepted"),
+    (Status::BadRequest, 400, "Bad Request"),
+    (Status::Conflict, 409, "Conflict"),
+    (Status::TooLarge, 413, "Content Too Large"),
+    (Status::Unprocessable, 422, "Unprocessable Content"),
+    (Status::HeadTooLarge, 431, "Request Header Fields Too Large"),
+    (Status::Unavailable, 503, "Service Unavailable"),
+];
+
+fn error_of(rt: &impl Abort, alloc: Global, status: Status, why: &str) -> Answer {
+    Answer::error(alloc, status, why).expect(rt, "an answer")
+}
+
+fn has_octets(rt: &impl Abort, alloc: Global, status: Status, why: &str, expected: &[u8]) {
+    let octets = error_of(rt, alloc, status, why)
+        .octets(alloc)
+        .expect(rt, "octets");
+    same_octets(rt, &octets, expected);
+}
+
+#[test]
+fn errors(rt: HostRuntime) {
+    for (status, why, expected) in &ERRORS {
+        has_octets(&rt, rt.alloc(), *status, why, expected);
+    }
 }
 
 #[test]
 fn reasons_are_escaped(rt: HostRuntime) {
-    let answer = Answer::error(rt.alloc(), Status::BadRequest, "a \"quote\"\n").expect(
-        &rt,
-        "an answer",
-    );
+    let answer = error_of(&rt, rt.alloc(), Status::BadRequest, "a \"quote\"\n");
     same_text(&rt, &answer.body, "{\"error\":\"a \\\"quote\\\"\\n\"}");
-}
-
-fn is_status(rt: &impl Abort, status: Status, code: u16, reason: &str) {
-    same(rt, &status.code(), &code);
-    same_text(rt, status.reason(), reason);
 }
 
 #[test]
 fn statuses(rt: HostRuntime) {
-    is_status(&rt, Status::Ok, 200, "OK");
-    is_status(&rt, Status::Created, 201, "Created");
-    is_status(&rt, Status::Accepted, 202, "Accepted");
-    is_status(&rt, Status::BadRequest, 400, "Bad Request");
-    is_status(&rt, Status::Conflict, 409, "Conflict");
-    is_status(&rt, Status::TooLarge, 413, "Content Too Large");
-    is_status(&rt, Status::Unprocessable, 422, "Unprocessable Content");
-    is_status(
-        &rt,
-        Status::HeadTooLarge,
-        431,
-        "Request Header Fields Too Large",
-    );
-    is_status(&rt, Status::Unavailable, 503, "Service Unavailable");
+    for (row, (status, code, reason)) in STATUSES.iter().enumerate() {
+        let at = Row {
+            table: "statuses",
+            row,
+        };
+        same_at(
+            &rt,
+            at,
+            &(status.code(), status.reason()),
+            &(*code, *reason),
+        );
+    }
 }

@@ -1,13 +1,64 @@
 //! The bodies of orders.
-use crate::same::{same, same_text};
+use crate::same::{Row, same, same_at};
 use control_requests::{PlaceFault, place_of};
 use std::alloc::Global;
 use std::process::Abort;
 
-fn is_order(rt: &impl Abort, alloc: Global, body: &[u8], peer: &str, number: &str) {
+/// Bodies, with the peer and the number of each.
+const ORDERS: [(&[u8], &str, &str); 3] = [
+    (b"{\"peer\": \"west\", \"number\": \"300\"}", "west", "300"),
+    (
+        b" {\"number\":\"3\\u0030\",\"x\":[1],\"peer\":\"\"}\n",
+        "",
+        "30",
+    ),
+    (
+        b"{\"peer\":\"a\",\"peer\":\"b\",\"number\":\"1\"}",
+        "b",
+        "1",
+    ),
+];
+
+const FAULTS: [(&[u8], PlaceFault); 14] = [
+    (b"", PlaceFault::NotJson),
+    (b"{", PlaceFault::NotJson),
+    (b"peer=west", PlaceFault::NotJson),
+    (
+        b"{\"peer\": \"west\", \"number\": \"300\"} x",
+        PlaceFault::NotJson,
+    ),
+    (
+        b"{\"peer\": \"we\xff\", \"number\": \"300\"}",
+        PlaceFault::NotJson,
+    ),
+    (b"\xef\xbb\xbf{}", PlaceFault::NotJson),
+    (b"{}", PlaceFault::NoPeer),
+    (b"[]", PlaceFault::NoPeer),
+    (b"{\"peer\": 7, \"number\": \"300\"}", PlaceFault::NoPeer),
+    (
+        b"{\"a\": {\"peer\": \"west\"}, \"number\": \"300\"}",
+        PlaceFault::NoPeer,
+    ),
+    (b"{\"peer\": \"west\"}", PlaceFault::NoNumber),
+    (
+        b"{\"peer\": \"west\", \"number\": 300}",
+        PlaceFault::NoNumber,
+    ),
+    (
+        b"{\"peer\": \"west\", \"number\": null}",
+        PlaceFault::NoNumber,
+    ),
+    (
+        b"{\"peer\": \"west\", \"number\": \"\"}",
+        PlaceFault::NumberTooLong,
+    ),
+];
+
+// The body is an order of this peer and number.
+fn is_order(rt: &impl Abort, at: Row<'_>, alloc: Global, body: &[u8], peer: &str, number: &str) {
     let order = place_of(alloc, body).ok().expect(rt, "an order");
-    same_text(rt, &order.peer, peer);
-    same_text(rt, &order.number, number);
+    same_at(rt, at, &order.peer.as_str(), &peer);
+    same_at(rt, at, &order.number.as_str(), &number);
 }
 
 fn fault_of(alloc: Global, body: &[u8]) -> Option<PlaceFault> {
@@ -17,106 +68,50 @@ fn fault_of(alloc: Global, body: &[u8]) -> Option<PlaceFault> {
     }
 }
 
-fn is_fault(rt: &impl Abort, body: &[u8], alloc: Global, fault: PlaceFault) {
-    same(rt, &fault_of(alloc, body), &Some(fault));
-}
-
 #[test]
 fn orders(rt: HostRuntime) {
-    let alloc = rt.alloc();
-    is_order(
-        &rt,
-        alloc,
-        b"{\"peer\": \"west\", \"number\": \"300\"}",
-        "west",
-        "300",
-    );
-    is_order(
-        &rt,
-        alloc,
-        b" {\"number\":\"3\\u0030\",\"x\":[1],\"peer\":\"\"}\n",
-        "",
-        "30",
-    );
-    is_order(
-        &rt,
-        alloc,
-        b"{\"peer\":\"a\",\"peer\":\"b\",\"number\":\"1\"}",
-        "b",
-        "1",
-    );
-}
-
-#[test]
-fn no_json(rt: HostRuntime) {
-    let alloc = rt.alloc();
-    for body in [
-        b"".as_slice(),
-        b"{",
-        b"peer=west",
-        b"{\"peer\": \"west\", \"number\": \"300\"} x",
-        b"{\"peer\": \"we\xff\", \"number\": \"300\"}",
-        b"\xef\xbb\xbf{}",
-    ] {
-        is_fault(&rt, body, alloc, PlaceFault::NotJson);
+    for (row, (body, peer, number)) in ORDERS.iter().enumerate() {
+        let at = Row {
+            table: "orders",
+            row,
+        };
+        is_order(&rt, at, rt.alloc(), body, peer, number);
     }
-    is_fault(&rt, &[b'['; 4096], alloc, PlaceFault::NotJson);
 }
 
 #[test]
-fn members(rt: HostRuntime) {
-    let alloc = rt.alloc();
-    is_fault(&rt, b"{}", alloc, PlaceFault::NoPeer);
-    is_fault(&rt, b"[]", alloc, PlaceFault::NoPeer);
-    is_fault(
-        &rt,
-        b"{\"peer\": 7, \"number\": \"300\"}",
-        alloc,
-        PlaceFault::NoPeer,
-    );
-    is_fault(
-        &rt,
-        b"{\"a\": {\"peer\": \"west\"}, \"number\": \"300\"}",
-        alloc,
-        PlaceFault::NoPeer,
-    );
-    is_fault(&rt, b"{\"peer\": \"west\"}", alloc, PlaceFault::NoNumber);
-    is_fault(
-        &rt,
-        b"{\"peer\": \"west\", \"number\": 300}",
-        alloc,
-        PlaceFault::NoNumber,
-    );
-    is_fault(
-        &rt,
-        b"{\"peer\": \"west\", \"number\": null}",
-        alloc,
-        PlaceFault::NoNumber,
-    );
-    is_fault(
-        &rt,
-        b"{\"peer\": \"west\", \"number\": \"\"}",
-        alloc,
-        PlaceFault::NumberTooLong,
-    );
+fn faults(rt: HostRuntime) {
+    for (row, (body, fault)) in FAULTS.iter().enumerate() {
+        let at = Row {
+            table: "faults",
+            row,
+        };
+        same_at(&rt, at, &fault_of(rt.alloc(), body), &Some(*fault));
+    }
+    let deep = fault_of(rt.alloc(), &[b'['; 4096]);
+    same(&rt, &deep, &Some(PlaceFault::NotJson));
 }
 
-// A body with a number of so many digits.
-fn with_digits(rt: &impl Abort, alloc: Global, count: usize) -> Vec<u8> {
-    let mut body = Vec::new(alloc);
+// Writes a body with a number of so many digits. None: no memory.
+fn write(body: &mut Vec<u8>, digits: usize) -> Option<()> {
     body.extend_from_slice(b"{\"peer\": \"west\", \"number\": \"")
-        .expect(rt, "memory");
-    for _ in 0..count {
-        body.extend_from_slice(b"7").expect(rt, "memory");
+        .ok()?;
+    for _ in 0..digits {
+        body.push(b'7').ok()?;
     }
-    body.extend_from_slice(b"\"}").expect(rt, "memory");
-    body
+    body.extend_from_slice(b"\"}").ok()
+}
+
+// The fault of a body with a number of so many digits.
+fn fault_of_digits(rt: &impl Abort, alloc: Global, digits: usize) -> Option<PlaceFault> {
+    let mut body = Vec::new(alloc);
+    write(&mut body, digits).expect(rt, "memory");
+    fault_of(alloc, &body)
 }
 
 #[test]
 fn long_numbers(rt: HostRuntime) {
-    let alloc = rt.alloc();
-    same(&rt, &fault_of(alloc, &with_digits(&rt, alloc, 255)), &None);
-    let longer = with_digits(&rt, alloc, 256);
-    is_fault(&rt, &longer, alloc, PlaceFault::NumberTooLong);
+    same(&rt, &fault_of_digits(&rt, rt.alloc(), 255), &None);
+    let longer = fault_of_digits(&rt, rt.alloc(), 256);
+    same(&rt, &longer, &Some(PlaceFault::NumberTooLong));
 }

@@ -36,39 +36,32 @@ const CALL: CallRow<'static> = CallRow {
     record_limit: 4096,
 };
 
-fn peers(rt: &impl Abort, alloc: Global) -> String {
-    let mut rows = Rows::new(alloc);
-    rows.push_peer(alloc, WEST).expect(rt, "a row");
+// Writes two rows of peers. None: no memory.
+fn push_peers(alloc: Global, rows: &mut Rows) -> Option<()> {
+    rows.push_peer(alloc, WEST).ok()?;
     let east = PeerRow {
         name: "ea\"st",
         silent_ms: None,
         sent: 0,
         ..WEST
     };
-    rows.push_peer(alloc, east).expect(rt, "a row");
-    rows.into_peers(alloc).expect(rt, "a body")
+    rows.push_peer(alloc, east).ok()
 }
 
-#[test]
-fn peers_as_json(rt: HostRuntime) {
+// The body of peers is this, and its table that.
+fn has_peers(rt: &impl Abort, alloc: Global, body: &str) {
     same_text(
-        &rt,
-        &peers(&rt, rt.alloc()),
+        rt,
+        body,
         "{\"peers\":[\
 {\"endpoint\":\"127.0.0.1:5001\",\"legs\":1,\"lost\":0,\"name\":\"west\",\"numbers\":4,\"received\":3,\"refused\":0,\
 \"sent\":18446744073709551615,\"silent_ms\":12,\"worker\":0},\
 {\"endpoint\":\"127.0.0.1:5001\",\"legs\":1,\"lost\":0,\"name\":\"ea\\\"st\",\"numbers\":4,\"received\":3,\"refused\":0,\
 \"sent\":0,\"silent_ms\":null,\"worker\":0}]}",
     );
-}
-
-#[test]
-fn peers_as_table(rt: HostRuntime) {
-    let table = peers_table(rt.alloc(), &peers(&rt, rt.alloc()))
-        .ok()
-        .expect(&rt, "a table");
+    let table = peers_table(alloc, body).ok().expect(rt, "a table");
     same_text(
-        &rt,
+        rt,
         &table,
         "name   endpoint        worker  legs  numbers  silent_ms  received  refused  sent                  lost\n\
 west   127.0.0.1:5001  0       1     4        12         3         0        18446744073709551615  0\n\
@@ -77,11 +70,29 @@ ea\"st  127.0.0.1:5001  0       1     4        -          3         0        0  
 }
 
 #[test]
+fn peers(rt: HostRuntime) {
+    let mut rows = Rows::new(rt.alloc());
+    push_peers(rt.alloc(), &mut rows).expect(&rt, "rows");
+    let body = rows.into_peers(rt.alloc()).expect(&rt, "a body");
+    has_peers(&rt, rt.alloc(), &body);
+}
+
+// The table of a body of calls.
+fn has_calls(rt: &impl Abort, alloc: Global, body: &str, expected: &str) {
+    let table = calls_table(alloc, body).ok().expect(rt, "a table");
+    same_text(rt, &table, expected);
+}
+
+/// The table of `CALL`.
+const TABLE: &str =
+    "number  serial  peer  stage  calling  called  format  age_ms  remote  partner  held  entries  record_limit\n\
+7       2       west  Up     -        301     ulaw    2500    21      -        0     9        4096\n";
+
+#[test]
 fn calls(rt: HostRuntime) {
-    let alloc = rt.alloc();
-    let mut rows = Rows::new(alloc);
-    rows.push_call(alloc, CALL).expect(&rt, "a row");
-    let body = rows.into_calls(alloc).expect(&rt, "a body");
+    let mut rows = Rows::new(rt.alloc());
+    rows.push_call(rt.alloc(), CALL).expect(&rt, "a row");
+    let body = rows.into_calls(rt.alloc()).expect(&rt, "a body");
     same_text(
         &rt,
         &body,
@@ -89,70 +100,62 @@ fn calls(rt: HostRuntime) {
 \"number\":7,\"partner\":null,\"peer\":\"west\",\"record_limit\":4096,\"remote\":21,\"serial\":2,\
 \"stage\":\"Up\"}]}",
     );
-    let expected =
-        "number  serial  peer  stage  calling  called  format  age_ms  remote  partner  held  entries  record_limit\n\
-7       2       west  Up     -        301     ulaw    2500    21      -        0     9        4096\n";
-    same_text(
-        &rt,
-        &calls_table(alloc, &body).ok().expect(&rt, "a table"),
-        expected,
-    );
-    let one = call_body(alloc, CALL).expect(&rt, "a body");
-    same_text(
-        &rt,
-        &calls_table(alloc, &one).ok().expect(&rt, "a table"),
-        expected,
-    );
+    has_calls(&rt, rt.alloc(), &body, TABLE);
+}
+
+#[test]
+fn one_call(rt: HostRuntime) {
+    let body = call_body(rt.alloc(), CALL).expect(&rt, "a body");
+    has_calls(&rt, rt.alloc(), &body, TABLE);
+}
+
+// What has no rows of a kind has no table of them.
+fn has_no_tables(rt: &impl Abort, alloc: Global, no_calls: &str) {
+    let found = peers_table(alloc, "[").err();
+    same(rt, &found, &Some(TableFault::NotJson));
+    let found = peers_table(alloc, no_calls).err();
+    same(rt, &found, &Some(TableFault::NoRows));
+    let found = accounts_table(alloc, "{}").err();
+    same(rt, &found, &Some(TableFault::NoRows));
 }
 
 #[test]
 fn no_rows(rt: HostRuntime) {
-    let alloc = rt.alloc();
-    let none = Rows::new(alloc).into_calls(alloc).expect(&rt, "a body");
+    let none = Rows::new(rt.alloc())
+        .into_calls(rt.alloc())
+        .expect(&rt, "a body");
     same_text(&rt, &none, "{\"calls\":[]}");
-    let head =
-        "number  serial  peer  stage  calling  called  format  age_ms  remote  partner  held  entries  record_limit\n";
-    same_text(
+    has_calls(
         &rt,
-        &calls_table(alloc, &none).ok().expect(&rt, "a table"),
-        head,
+        rt.alloc(),
+        &none,
+        "number  serial  peer  stage  calling  called  format  age_ms  remote  partner  held  entries  record_limit\n",
     );
-    same(
-        &rt,
-        &peers_table(alloc, "[").err(),
-        &Some(TableFault::NotJson),
-    );
-    same(
-        &rt,
-        &peers_table(alloc, &none).err(),
-        &Some(TableFault::NoRows),
-    );
-    same(
-        &rt,
-        &accounts_table(alloc, "{}").err(),
-        &Some(TableFault::NoRows),
-    );
+    has_no_tables(&rt, rt.alloc(), &none);
 }
+
+const ACCOUNTS: AccountsRow = AccountsRow {
+    accepted: 10,
+    packed: 7,
+    queued: 2,
+    dropped: 1,
+    quelched: 0,
+};
 
 #[test]
 fn accounts(rt: HostRuntime) {
-    let alloc = rt.alloc();
-    let row = AccountsRow {
-        accepted: 10,
-        packed: 7,
-        queued: 2,
-        dropped: 1,
-        quelched: 0,
-    };
-    let body = accounts_body(alloc, row).expect(&rt, "a body");
+    let body = accounts_body(rt.alloc(), ACCOUNTS).expect(&rt, "a body");
     same_text(
         &rt,
         &body,
         "{\"accepted\":10,\"dropped\":1,\"packed\":7,\"quelched\":0,\"queued\":2}",
     );
+    let table = accounts_table(rt.alloc(), &body)
+        .ok()
+        .expect(&rt, "a table");
     same_text(
         &rt,
-        &accounts_table(alloc, &body).ok().expect(&rt, "a table"),
+        &table,
         "accepted  packed  queued  dropped  quelched\n10        7       2       1        0\n",
     );
 }

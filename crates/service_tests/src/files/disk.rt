@@ -4,13 +4,28 @@ use std::alloc::{AllocError, Global};
 use std::sync::Mutex;
 
 /// How a disk fails.
-#[derive(Clone, Copy, Debug, PartialEq, Eq)]
+#[derive(Clone, Copy)]
 pub struct Fails {
     /// So many writes go well.
     pub after: u64,
     /// The next one takes so many octets and no more, and then so many fail.
     pub cut: usize,
     pub count: u64,
+}
+
+/// What happens to a disk.
+#[derive(Clone, Copy)]
+pub enum Event {
+    /// It fails so from now on.
+    Fails(Fails),
+    /// Files can be opened from now on, or not.
+    LetOpen(bool),
+    /// Files can be put on the disk from now on, or not.
+    LetSync(bool),
+    /// The name leads to no file any more.
+    TakeAway,
+    /// The file to which the name leads is empty from now on.
+    Empty,
 }
 
 /// A disk that never fails.
@@ -52,6 +67,20 @@ impl State {
     // The file at a place.
     fn file(&mut self, place: Option<usize>) -> Option<&mut Vec<u8>> {
         self.files.get_mut(place?)
+    }
+
+    fn meets(&mut self, event: Event) {
+        match event {
+            Event::Fails(fails) => self.fails = fails,
+            Event::LetOpen(can_open) => self.can_open = can_open,
+            Event::LetSync(can_sync) => self.can_sync = can_sync,
+            Event::TakeAway => self.named = None,
+            Event::Empty => {
+                if let Some(file) = self.file(self.named) {
+                    file.clear();
+                }
+            }
+        }
     }
 
     fn open(&mut self) -> Result<Beginning, Fault> {
@@ -154,41 +183,10 @@ impl Disk {
         Ok(Disk::new(alloc, Some(file)))
     }
 
-    /// Has it fail so from now on.
-    pub fn fail(&self, fails: Fails) {
+    /// What happens to it.
+    pub fn meets(&self, event: Event) {
         if let Some(mut state) = self.state.try_lock() {
-            state.fails = fails;
-        }
-    }
-
-    /// Whether files can be opened from now on.
-    pub fn let_open(&self, can_open: bool) {
-        if let Some(mut state) = self.state.try_lock() {
-            state.can_open = can_open;
-        }
-    }
-
-    /// Whether files can be put on the disk from now on.
-    pub fn let_sync(&self, can_sync: bool) {
-        if let Some(mut state) = self.state.try_lock() {
-            state.can_sync = can_sync;
-        }
-    }
-
-    /// The name leads to no file any more.
-    pub fn take_away(&self) {
-        if let Some(mut state) = self.state.try_lock() {
-            state.named = None;
-        }
-    }
-
-    /// The file to which the name leads is empty from now on.
-    pub fn empty(&self) {
-        if let Some(mut state) = self.state.try_lock() {
-            let named = state.named;
-            if let Some(file) = state.file(named) {
-                file.clear();
-            }
+            state.meets(event);
         }
     }
 

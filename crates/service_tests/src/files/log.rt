@@ -3,6 +3,7 @@ use crate::files::disk::{Disk, DiskFile};
 use call_files::{Appender, RowLog, Spelling};
 use call_records::Backlog;
 use std::alloc::{AllocError, Global};
+use std::process::Abort;
 
 /// A number, as a line.
 #[derive(Drop)]
@@ -10,25 +11,38 @@ pub struct Digits {
     pub alloc: Global,
 }
 
+/// Writes the line of a number.
+pub fn push_line(alloc: Global, octets: &mut Vec<u8>, row: u64) -> Result<(), AllocError> {
+    let line = format!(in alloc; "row {row}\n")?;
+    octets.extend_from_slice(line.as_bytes())
+}
+
 impl Spelling<u64> for Digits {
     fn spell(&self, row: &u64, octets: &mut Vec<u8>) -> Result<(), AllocError> {
-        let line = format!(in self.alloc; "row {row}\n")?;
-        octets.extend_from_slice(line.as_bytes())
+        push_line(self.alloc, octets, *row)
     }
+}
+
+// The octets of a text.
+fn octets_of(rt: &impl Abort, alloc: Global, text: &str) -> Vec<u8> {
+    text.as_bytes().to_vec(alloc).expect(rt, "memory")
 }
 
 /// A log that isn't open, with room for so many rows that wait.
 pub fn log_on<'d>(
+    rt: &impl Abort,
     alloc: Global,
     disk: &'d Disk,
     room: usize,
-) -> Result<RowLog<DiskFile<'d>, u64>, AllocError> {
-    let mut line_end = Vec::new(alloc);
-    line_end.push(b'\n')?;
-    let mut header = Vec::new(alloc);
-    header.extend_from_slice(b"head\n")?;
-    let appender = Appender::new(DiskFile { disk }, line_end, header);
-    Ok(RowLog::new(alloc, appender, Backlog::new(alloc, room)?))
+) -> RowLog<DiskFile<'d>, u64> {
+    let line_end = octets_of(rt, alloc, "\n");
+    let header = octets_of(rt, alloc, "head\n");
+    let rows = Backlog::new(alloc, room).expect(rt, "memory");
+    RowLog::new(
+        alloc,
+        Appender::new(DiskFile { disk }, line_end, header),
+        rows,
+    )
 }
 
 /// So many rows more wait, of which the first has this number. Gives how many are lost.
@@ -55,15 +69,4 @@ pub fn write_rounds(
         written = written.wrapping_add(log.write(digits, now));
     }
     written
-}
-
-/// The text of a header, where one is wanted, and of so many rows from this number on.
-pub fn text_of(alloc: Global, head: &str, first: u64, count: u64) -> Result<Vec<u8>, AllocError> {
-    let mut text = Vec::new(alloc);
-    text.extend_from_slice(head.as_bytes())?;
-    for place in 0..count {
-        let line = format!(in alloc; "row {}\n", first.wrapping_add(place))?;
-        text.extend_from_slice(line.as_bytes())?;
-    }
-    Ok(text)
 }

@@ -1,7 +1,7 @@
 //! A log on a disk in memory, played step by step.
-use crate::files::disk::{Disk, DiskFile, Fails};
-use crate::files::log::{Digits, log_on, push_all, text_of, write_rounds};
-use crate::same::{same, same_octets};
+use crate::files::disk::{Disk, DiskFile, Event};
+use crate::files::log::{Digits, log_on, push_all, push_line, write_rounds};
+use crate::same::{Row, same, same_at};
 use call_files::{RowLog, Trouble};
 use std::alloc::{AllocError, Global};
 use std::process::Abort;
@@ -40,118 +40,122 @@ pub enum Step {
     },
     /// The disk was told so often to have all on it.
     Synced(u64),
-    /// The disk fails so from now on.
-    Fail(Fails),
-    /// The name leads to no file any more.
-    TakeAway,
-    /// The file to which the name leads is empty.
-    Empty,
-    /// Files can be opened from now on, or not.
-    LetOpen(bool),
-    /// Files can be put on the disk from now on, or not.
-    LetSync(bool),
+    /// This happens to the disk.
+    Disk(Event),
 }
 
 /// What a file has: a head, so many rows from a number on, and what is left of a cut one.
 #[derive(Clone, Copy)]
-pub struct Text {
+pub struct Text<'a> {
     pub file: usize,
-    pub head: &'static str,
+    pub head: &'a str,
     pub first: u64,
     pub count: u64,
-    pub cut: &'static str,
+    pub cut: &'a str,
+}
+
+/// A log with room for so many rows that wait, on a disk with a file of this text under the name, or with none: the steps, and
+/// what the files have then.
+#[derive(Clone, Copy)]
+pub struct Case<'a> {
+    pub name: &'a str,
+    pub has_file: bool,
+    pub before: &'a str,
+    pub room: usize,
+    pub steps: &'a [Step],
+    pub texts: &'a [Text<'a>],
 }
 
 type Log<'d> = RowLog<DiskFile<'d>, u64>;
 
-// What happens at the disk.
-fn disturb(disk: &Disk, step: Step) {
+// A step, after which so many rows were written by rounds that wrote as many as they did.
+fn makes(
+    rt: &impl Abort,
+    at: Row<'_>,
+    disk: &Disk,
+    log: &mut Log<'_>,
+    digits: &Digits,
+    some: &mut u64,
+    step: Step,
+) {
     match step {
-        Step::Fail(fails) => disk.fail(fails),
-        Step::TakeAway => disk.take_away(),
-        Step::Empty => disk.empty(),
-        Step::LetOpen(can_open) => disk.let_open(can_open),
-        Step::LetSync(can_sync) => disk.let_sync(can_sync),
-        _ => {}
-    }
-}
-
-// What the log does, as a number that is found and the one that is wanted.
-fn work(log: &mut Log<'_>, digits: &Digits, step: Step) -> (u64, u64) {
-    match step {
-        Step::Push { first, count, lost } => (push_all(log, first, count), lost),
+        Step::Push { first, count, lost } => same_at(rt, at, &push_all(log, first, count), &lost),
         Step::Write {
             round,
             rounds,
             written,
-        } => (write_rounds(log, digits, round, rounds), written),
-        Step::End { now, written } => (log.end(digits, now), written),
-        _ => (0, 0),
+        } => same_at(rt, at, &write_rounds(log, digits, round, rounds), &written),
+        Step::WriteSome { round, rounds } => {
+            *some = some.wrapping_add(write_rounds(log, digits, round, rounds));
+        }
+        Step::Written(count) => same_at(rt, at, some, &count),
+        Step::End { now, written } => same_at(rt, at, &log.end(digits, now), &written),
+        Step::Is { trouble, lost } => {
+            same_at(rt, at, &(log.trouble(), log.lost()), &(trouble, lost));
+        }
+        Step::Synced(count) => same_at(rt, at, &disk.syncs(), &count),
+        Step::Disk(event) => disk.meets(event),
     }
 }
 
-// How many rows are written by rounds that write as many as they do.
-fn write_some(log: &mut Log<'_>, digits: &Digits, step: Step) -> u64 {
-    match step {
-        Step::WriteSome { round, rounds } => write_rounds(log, digits, round, rounds),
-        _ => 0,
+// Opens the log; then this happens to the disk, and the steps are made.
+fn makes_all(
+    rt: &impl Abort,
+    disk: &Disk,
+    log: &mut Log<'_>,
+    digits: &Digits,
+    case: &Case<'_>,
+    first: Event,
+) {
+    let mut some = 0u64;
+    same(rt, &log.open(0), &Ok(()));
+    disk.meets(first);
+    for (row, step) in case.steps.iter().enumerate() {
+        let at = Row {
+            table: case.name,
+            row,
+        };
+        makes(rt, at, disk, log, digits, &mut some, *step);
     }
 }
 
-// One step. So many rows were written by rounds that wrote as many as they did.
-fn make(rt: &impl Abort, disk: &Disk, log: &mut Log<'_>, digits: &Digits, some: u64, step: Step) {
-    disturb(disk, step);
-    let (found, wanted) = work(log, digits, step);
-    same(rt, &found, &wanted);
-    match step {
-        Step::Is { trouble, lost } => same(rt, &(log.trouble(), log.lost()), &(trouble, lost)),
-        Step::Synced(count) => same(rt, &disk.syncs(), &count),
-        Step::Written(count) => same(rt, &some, &count),
-        _ => {}
+// Writes the text of a file.
+fn push_text(alloc: Global, octets: &mut Vec<u8>, text: &Text<'_>) -> Result<(), AllocError> {
+    octets.extend_from_slice(text.head.as_bytes())?;
+    for place in 0..text.count {
+        push_line(alloc, octets, text.first.wrapping_add(place))?;
     }
+    octets.extend_from_slice(text.cut.as_bytes())
 }
 
 // A file has this text.
-fn compare(rt: &impl Abort, alloc: Global, disk: &Disk, text: &Text) -> Result<(), AllocError> {
-    let mut wanted = text_of(alloc, text.head, text.first, text.count)?;
-    wanted.extend_from_slice(text.cut.as_bytes())?;
-    same_octets(rt, &disk.octets(alloc, text.file), &wanted);
-    Ok(())
+fn compare(rt: &impl Abort, at: Row<'_>, alloc: Global, disk: &Disk, text: &Text<'_>) {
+    let mut wanted = Vec::new(alloc);
+    push_text(alloc, &mut wanted, text).expect(rt, "memory");
+    let found = disk.octets(alloc, text.file);
+    same_at(rt, at, &found.as_slice(), &wanted.as_slice());
 }
 
-// The steps, on a log that is open.
-fn make_all(
-    rt: &impl Abort,
-    alloc: Global,
-    disk: &Disk,
-    room: usize,
-    steps: &[Step],
-) -> Result<(), AllocError> {
-    let mut log = log_on(alloc, disk, room)?;
-    same(rt, &log.open(0), &Ok(()));
-    let digits = Digits { alloc };
-    let mut some = 0u64;
-    for step in steps {
-        some = some.wrapping_add(write_some(&mut log, &digits, *step));
-        make(rt, disk, &mut log, &digits, some, *step);
+// The files have their texts.
+fn compare_all(rt: &impl Abort, alloc: Global, disk: &Disk, case: &Case<'_>) {
+    for (row, text) in case.texts.iter().enumerate() {
+        let at = Row {
+            table: case.name,
+            row,
+        };
+        compare(rt, at, alloc, disk, text);
     }
-    Ok(())
 }
 
-/// Opens a log with room for so many rows that wait, on a disk with a file of these octets under the name, or with none; makes
-/// the steps; then the files have these texts.
-pub fn play(
-    rt: &impl Abort,
-    alloc: Global,
-    before: Option<&str>,
-    room: usize,
-    steps: &[Step],
-    texts: &[Text],
-) -> Result<(), AllocError> {
-    let disk = Disk::holding(alloc, before)?;
-    make_all(rt, alloc, &disk, room, steps)?;
-    for text in texts {
-        compare(rt, alloc, &disk, text)?;
-    }
-    Ok(())
+/// Plays a case; once the log is open, this happens to the disk first.
+pub fn play(rt: &impl Abort, alloc: Global, case: &Case<'_>, first: Event) {
+    let before = if case.has_file {
+        Some(case.before)
+    } else {
+        None
+    };
+    let disk = Disk::holding(alloc, before).expect(rt, "memory");
+    let mut log = log_on(rt, alloc, &disk, case.room);
+    makes_all(rt, &disk, &mut log, &Digits { alloc }, case, first);
+    compare_all(rt, alloc, &disk, case);
 }

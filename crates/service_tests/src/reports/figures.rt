@@ -1,5 +1,5 @@
 //! The figures of a peer.
-use crate::same::{same, same_text};
+use crate::same::{Row, same, same_at, same_text};
 use service_report::{Figure, Kind, PeerFigures};
 
 const WEST: PeerFigures<'static> = PeerFigures {
@@ -19,22 +19,28 @@ const WEST: PeerFigures<'static> = PeerFigures {
     quelched: 13,
 };
 
-#[test]
-fn values(rt: HostRuntime) {
-    same(&rt, &Figure::Legs.value(&WEST), &Some(1));
-    same(&rt, &Figure::Numbers.value(&WEST), &Some(2));
-    same(&rt, &Figure::LegsEnded.value(&WEST), &Some(3));
-    same(&rt, &Figure::Silence.value(&WEST), &Some(4));
-    same(&rt, &Figure::Received.value(&WEST), &Some(5));
-    same(&rt, &Figure::TurnedAway.value(&WEST), &Some(6));
-    same(&rt, &Figure::Sent.value(&WEST), &Some(7));
-    same(&rt, &Figure::Lost.value(&WEST), &Some(8));
-}
+const VALUES: [(Figure, u64); 10] = [
+    (Figure::Legs, 1),
+    (Figure::Numbers, 2),
+    (Figure::LegsEnded, 3),
+    (Figure::Silence, 4),
+    (Figure::Received, 5),
+    (Figure::TurnedAway, 6),
+    (Figure::Sent, 7),
+    (Figure::Lost, 8),
+    (Figure::Accepted, 9),
+    (Figure::Quelched, 13),
+];
 
 #[test]
-fn never_heard(rt: HostRuntime) {
-    same(&rt, &Figure::Accepted.value(&WEST), &Some(9));
-    same(&rt, &Figure::Quelched.value(&WEST), &Some(13));
+fn values(rt: HostRuntime) {
+    for (row, (figure, value)) in VALUES.iter().enumerate() {
+        let at = Row {
+            table: "figures",
+            row,
+        };
+        same_at(&rt, at, &figure.value(&WEST), &Some(*value));
+    }
     let silent = PeerFigures {
         silent_ms: None,
         ..WEST

@@ -1,6 +1,15 @@
 //! When a line of the log is due.
-use crate::same::same;
+use crate::same::{Row, same, same_at};
 use service_report::{Hearing, News, Rounds, counted_since, news_of};
+
+/// Moments, and how long the round is that is due at each.
+const DUE: [(u64, Option<u64>); 5] = [
+    (10_499, None),
+    (10_600, Some(10_100)),
+    (20_599, None),
+    (20_600, Some(10_000)),
+    (0, None),
+];
 
 #[test]
 fn rounds(rt: HostRuntime) {
@@ -8,11 +17,13 @@ fn rounds(rt: HostRuntime) {
         period: 10_000,
         since: 500,
     };
-    same(&rt, &rounds.due(10_499), &None);
-    same(&rt, &rounds.due(10_600), &Some(10_100));
-    same(&rt, &rounds.due(20_599), &None);
-    same(&rt, &rounds.due(20_600), &Some(10_000));
-    same(&rt, &rounds.due(0), &None);
+    for (row, (now, due)) in DUE.iter().enumerate() {
+        let at = Row {
+            table: "rounds",
+            row,
+        };
+        same_at(&rt, at, &rounds.due(*now), due);
+    }
 }
 
 #[test]
@@ -22,34 +33,43 @@ fn counts(rt: HostRuntime) {
     same(&rt, &counted_since(u64::MAX, 1), &2);
 }
 
+/// What is known of a peer, when it was last heard, the moment, what is known then, and what is told.
+const NEWS: [(Hearing, Option<u64>, u64, Hearing, Option<News>); 6] = [
+    (Hearing::Never, None, 90_000, Hearing::Never, None),
+    (
+        Hearing::Never,
+        Some(7),
+        8,
+        Hearing::Heard,
+        Some(News::FirstWord),
+    ),
+    (Hearing::Heard, Some(1000), 61_000, Hearing::Heard, None),
+    (
+        Hearing::Heard,
+        Some(1000),
+        61_001,
+        Hearing::Silent,
+        Some(News::Silent(60_001)),
+    ),
+    (Hearing::Silent, Some(1000), 99_000, Hearing::Silent, None),
+    (
+        Hearing::Silent,
+        Some(99_000),
+        99_050,
+        Hearing::Heard,
+        Some(News::HeardAgain),
+    ),
+];
+
 #[test]
 fn a_peer_talks_and_falls_silent(rt: HostRuntime) {
-    let never = (Hearing::Never, None);
-    same(&rt, &news_of(Hearing::Never, None, 90_000, 60_000), &never);
-    let first = (Hearing::Heard, Some(News::FirstWord));
-    same(&rt, &news_of(Hearing::Never, Some(7), 8, 60_000), &first);
-    let heard = (Hearing::Heard, None);
-    same(
-        &rt,
-        &news_of(Hearing::Heard, Some(1000), 61_000, 60_000),
-        &heard,
-    );
-    let silent = (Hearing::Silent, Some(News::Silent(60_001)));
-    same(
-        &rt,
-        &news_of(Hearing::Heard, Some(1000), 61_001, 60_000),
-        &silent,
-    );
-    let still = (Hearing::Silent, None);
-    same(
-        &rt,
-        &news_of(Hearing::Silent, Some(1000), 99_000, 60_000),
-        &still,
-    );
-    let again = (Hearing::Heard, Some(News::HeardAgain));
-    same(
-        &rt,
-        &news_of(Hearing::Silent, Some(99_000), 99_050, 60_000),
-        &again,
-    );
+    for (row, (before, heard, now, after, news)) in NEWS.iter().enumerate() {
+        let at = Row { table: "news", row };
+        same_at(
+            &rt,
+            at,
+            &news_of(*before, *heard, *now, 60_000),
+            &(*after, *news),
+        );
+    }
 }

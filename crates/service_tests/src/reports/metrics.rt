@@ -1,6 +1,6 @@
 //! The text form of metrics.
 use crate::reports::text_reader::{Line, read_line};
-use crate::same::{same, same_octets};
+use crate::same::{Row, same, same_at, same_octets};
 use service_report::{Family, Kind, Label, Labels, Metrics, Sample, Scrape, scrape_of};
 use std::alloc::Global;
 use std::process::Abort;
@@ -62,6 +62,13 @@ refused_total{peer=\"west\",refusal=\"NoCall\"} 18446744073709551615\n\
     );
 }
 
+// The last line of an answer, which is a sample's.
+fn last_line(rt: &impl Abort, alloc: Global, answer: &[u8]) -> Line {
+    let text = str::from_utf8(answer).expect(rt, "UTF-8");
+    let last = text.lines().last().expect(rt, "a line");
+    read_line(rt, alloc, last.as_bytes()).expect(rt, "a sample")
+}
+
 // The line of the only sample of a family.
 fn only_line(rt: &impl Abort, alloc: Global, sample: Sample<'_>) -> Line {
     let family = Family {
@@ -70,41 +77,52 @@ fn only_line(rt: &impl Abort, alloc: Global, sample: Sample<'_>) -> Line {
         kind: Kind::Gauge,
         samples: &[sample],
     };
-    let answer = answer_of(rt, alloc, &[family]);
-    let text = str::from_utf8(&answer).expect(rt, "UTF-8");
-    let last = text.lines().last().expect(rt, "a line");
-    read_line(alloc, last.as_bytes())
-        .expect(rt, "memory")
-        .expect(rt, "a sample")
+    last_line(rt, alloc, &answer_of(rt, alloc, &[family]))
 }
 
+// These texts are found, and no other.
+fn are(rt: &impl Abort, found: &[Vec<u8>], expected: &[&str]) {
+    same(rt, &found.len(), &expected.len());
+    for (octets, text) in found.iter().zip(expected) {
+        same_octets(rt, octets, text.as_bytes());
+    }
+}
+
+// A line is of this number, and has labels of these names and values.
+fn is_line(rt: &impl Abort, line: &Line, number: &[u8], names: &[&str], values: &[&str]) {
+    same_octets(rt, &line.name, b"only");
+    same_octets(rt, &line.number, number);
+    are(rt, &line.label_names, names);
+    are(rt, &line.label_values, values);
+}
+
+// A label of this value is read back, and the plain one after it.
 fn reads(rt: &impl Abort, alloc: Global, value: &str) {
     let sample = Sample {
         labels: Labels::Two(label("first", value), label("second", "plain")),
         value: 70,
     };
     let line = only_line(rt, alloc, sample);
-    same_octets(rt, &line.name, b"only");
-    same_octets(rt, &line.number, b"70");
-    same(rt, &line.label_names.len(), &2);
-    same_octets(
-        rt,
-        line.label_values.first().expect(rt, "a label"),
-        value.as_bytes(),
-    );
-    same_octets(rt, line.label_values.last().expect(rt, "a label"), b"plain");
+    is_line(rt, &line, b"70", &["first", "second"], &[value, "plain"]);
 }
+
+/// Values of labels, of any characters.
+const VALUES: [&str; 8] = [
+    "",
+    "west-1",
+    "\"",
+    "\\",
+    "\\n",
+    "a\nb",
+    "\"} 1\nonly{second=\"",
+    "\\\\\"\n\u{e9}",
+];
 
 #[test]
 fn labels_are_read_back(rt: HostRuntime) {
-    reads(&rt, rt.alloc(), "");
-    reads(&rt, rt.alloc(), "west-1");
-    reads(&rt, rt.alloc(), "\"");
-    reads(&rt, rt.alloc(), "\\");
-    reads(&rt, rt.alloc(), "\\n");
-    reads(&rt, rt.alloc(), "a\nb");
-    reads(&rt, rt.alloc(), "\"} 1\nonly{second=\"");
-    reads(&rt, rt.alloc(), "\\\\\"\n\u{e9}");
+    for value in &VALUES {
+        reads(&rt, rt.alloc(), value);
+    }
 }
 
 #[test]
@@ -114,25 +132,25 @@ fn one_label(rt: HostRuntime) {
         value: 1,
     };
     let line = only_line(&rt, rt.alloc(), sample);
-    same(&rt, &line.label_values.len(), &1);
-    same_octets(
-        &rt,
-        line.label_names.first().expect(&rt, "a label"),
-        b"peer",
-    );
-    same_octets(
-        &rt,
-        line.label_values.first().expect(&rt, "a label"),
-        b"east",
-    );
+    is_line(&rt, &line, b"1", &["peer"], &["east"]);
 }
+
+const REQUESTS: [(&str, &str, Scrape); 6] = [
+    ("GET", "/metrics", Scrape::Metrics),
+    ("POST", "/metrics", Scrape::NotAllowed),
+    ("get", "/metrics", Scrape::NotAllowed),
+    ("GET", "/metrics?x", Scrape::NotFound),
+    ("POST", "/stop", Scrape::NotFound),
+    ("GET", "/", Scrape::NotFound),
+];
 
 #[test]
 fn requests(rt: HostRuntime) {
-    same(&rt, &scrape_of("GET", "/metrics"), &Scrape::Metrics);
-    same(&rt, &scrape_of("POST", "/metrics"), &Scrape::NotAllowed);
-    same(&rt, &scrape_of("get", "/metrics"), &Scrape::NotAllowed);
-    same(&rt, &scrape_of("GET", "/metrics?x"), &Scrape::NotFound);
-    same(&rt, &scrape_of("POST", "/stop"), &Scrape::NotFound);
-    same(&rt, &scrape_of("GET", "/"), &Scrape::NotFound);
+    for (row, (method, path, scrape)) in REQUESTS.iter().enumerate() {
+        let at = Row {
+            table: "requests",
+            row,
+        };
+        same_at(&rt, at, &scrape_of(method, path), scrape);
+    }
 }

@@ -1,5 +1,5 @@
 //! The system's table of UDP sockets.
-use crate::same::same;
+use crate::same::{Row, same_at};
 use service_report::drops_of;
 
 // In the form that Linux gives it.
@@ -10,23 +10,26 @@ const TABLE: &str =
 119: 0200007F:11DA 00000000:0000 07 00000000:00000000 00:00000000 00000000  1000        0 31339 2 0000000000000000 5\n  \
 120: 0100007F:11DA 0200007F:11D9 01 00000000:00000000 00:00000000 00000000  1000        0 31340 2 0000000000000000 31\n";
 
-#[test]
-fn drops(rt: HostRuntime) {
-    same(&rt, &drops_of(TABLE, "0100007F:11D9"), &Some(0));
+/// A table, the address of a socket, and the drops of all sockets that have it.
+const DROPS: [(&str, &str, Option<u64>); 8] = [
+    (TABLE, "0100007F:11D9", Some(0)),
     // Two sockets, one of which is connected.
-    same(&rt, &drops_of(TABLE, "0100007F:11DA"), &Some(301));
-    same(&rt, &drops_of(TABLE, "0200007F:11DA"), &Some(5));
-}
+    (TABLE, "0100007F:11DA", Some(301)),
+    (TABLE, "0200007F:11DA", Some(5)),
+    (TABLE, "0100007F:11DB", None),
+    (TABLE, "local_address", None),
+    ("", "0100007F:11D9", None),
+    ("17: 0100007F:11D9", "0100007F:11D9", None),
+    ("17: 0100007F:11D9 many", "0100007F:11D9", None),
+];
 
 #[test]
-fn no_drops(rt: HostRuntime) {
-    same(&rt, &drops_of(TABLE, "0100007F:11DB"), &None);
-    same(&rt, &drops_of(TABLE, "local_address"), &None);
-    same(&rt, &drops_of("", "0100007F:11D9"), &None);
-    same(&rt, &drops_of("17: 0100007F:11D9", "0100007F:11D9"), &None);
-    same(
-        &rt,
-        &drops_of("17: 0100007F:11D9 many", "0100007F:11D9"),
-        &None,
-    );
+fn drops(rt: HostRuntime) {
+    for (row, (text, address, drops)) in DROPS.iter().enumerate() {
+        let at = Row {
+            table: "drops",
+            row,
+        };
+        same_at(&rt, at, &drops_of(text, address), drops);
+    }
 }

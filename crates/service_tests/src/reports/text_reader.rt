@@ -1,5 +1,6 @@
 //! A reader of the text form of metrics: one line, octet by octet.
 use std::alloc::{AllocError, Global};
+use std::process::Abort;
 
 // Where the next octet stands.
 #[derive(Clone, Copy, Debug, PartialEq, Eq)]
@@ -33,19 +34,27 @@ impl Line {
         std::mem::replace(&mut self.part, Vec::new(alloc))
     }
 
+    fn take_name(&mut self, alloc: Global) -> Result<(), AllocError> {
+        let name = self.take_part(alloc);
+        push_part(&mut self.label_names, name)
+    }
+
+    fn take_value(&mut self, alloc: Global) -> Result<(), AllocError> {
+        let value = self.take_part(alloc);
+        push_part(&mut self.label_values, value)
+    }
+
     // The octet behind a label's value, or behind a backslash in it.
     fn take_in_label(&mut self, alloc: Global, octet: u8) -> Result<Place, AllocError> {
         match (self.place, octet) {
             (Place::LabelName, b'=') => {
-                let name = self.take_part(alloc);
-                push_part(&mut self.label_names, name)?;
+                self.take_name(alloc)?;
                 Ok(Place::BeforeValue)
             }
             (Place::BeforeValue, b'"') => Ok(Place::LabelValue),
             (Place::LabelValue, b'\\') => Ok(Place::Escaped),
             (Place::LabelValue, b'"') => {
-                let value = self.take_part(alloc);
-                push_part(&mut self.label_values, value)?;
+                self.take_value(alloc)?;
                 Ok(Place::AfterLabel)
             }
             (Place::Escaped, _) => {
@@ -87,8 +96,16 @@ fn push_part(parts: &mut Vec<Vec<u8>>, part: Vec<u8>) -> Result<(), AllocError> 
     Ok(())
 }
 
+// Reads all octets of a line.
+fn take_all(line: &mut Line, alloc: Global, text: &[u8]) -> Result<(), AllocError> {
+    for octet in text {
+        line.place = line.take(alloc, *octet)?;
+    }
+    Ok(())
+}
+
 /// Reads a sample's line, without its end. None where it is none.
-pub fn read_line(alloc: Global, text: &[u8]) -> Result<Option<Line>, AllocError> {
+pub fn read_line(rt: &impl Abort, alloc: Global, text: &[u8]) -> Option<Line> {
     let mut line = Line {
         place: Place::Name,
         name: Vec::new(alloc),
@@ -97,12 +114,10 @@ pub fn read_line(alloc: Global, text: &[u8]) -> Result<Option<Line>, AllocError>
         part: Vec::new(alloc),
         number: Vec::new(alloc),
     };
-    for octet in text {
-        line.place = line.take(alloc, *octet)?;
-    }
+    take_all(&mut line, alloc, text).expect(rt, "memory");
     if line.place == Place::Number && !line.number.is_empty() {
-        Ok(Some(line))
+        Some(line)
     } else {
-        Ok(None)
+        None
     }
 }

@@ -1,11 +1,29 @@
 //! Captures.
+use crate::same::{same, same_octets};
 use packet_capture::{Capture, CaptureError, Packet, UdpEndpoint, checksum};
+use std::alloc::Global;
+use std::process::Abort;
 
 // The example of RFC 1071, section 3: the sum is 0xddf2.
 #[test]
 fn example_of_rfc_1071(rt: HostRuntime) {
     let octets = [0x00, 0x01, 0xf2, 0x03, 0xf4, 0xf5, 0xf6, 0xf7];
-    assert_eq!(rt; checksum(&octets), 0x220d);
+    same(&rt, &checksum(&octets), &0x220d);
+}
+
+// The octets of a capture have the header of 115 octets whose checksum is known, after the file's own 24 octets and 16 of its
+// own.
+fn has_header(rt: &impl Abort, octets: &[u8]) {
+    same(rt, &octets.len(), &(24 + 16 + 115));
+    let header = octets.get(24..60).expect(rt, "a header");
+    same_octets(
+        rt,
+        header,
+        &[
+            0, 0, 0, 61, 0, 0, 0x03, 0xe8, 0, 0, 0, 115, 0, 0, 0, 115, 0x45, 0, 0, 0x73, 0, 0,
+            0x40, 0, 0x40, 0x11, 0xb8, 0x61, 0xc0, 0xa8, 0, 0x01, 0xc0, 0xa8, 0, 0xc7,
+        ],
+    );
 }
 
 // A header whose checksum is known, 0xb861: 115 octets from 192.168.0.1 to 192.168.0.199.
@@ -26,19 +44,11 @@ fn header_with_a_known_checksum(rt: HostRuntime) {
         payload: &payload,
     };
     capture.push(rt.alloc(), &packet).expect(&rt, "memory");
-    let octets = capture.octets();
-    assert_eq!(rt; octets.len(), 24 + 16 + 115);
-    let wanted: [u8; 36] = [
-        0, 0, 0, 61, 0, 0, 0x03, 0xe8, 0, 0, 0, 115, 0, 0, 0, 115, 0x45, 0, 0, 0x73, 0, 0, 0x40, 0,
-        0x40, 0x11, 0xb8, 0x61, 0xc0, 0xa8, 0, 0x01, 0xc0, 0xa8, 0, 0xc7,
-    ];
-    assert_eq!(rt; &octets[24..60], wanted.as_slice());
+    has_header(&rt, capture.octets());
 }
 
-#[test]
-fn longest_datagram_and_one_more(rt: HostRuntime) {
-    let mut capture = Capture::new(rt.alloc()).expect(&rt, "memory");
-    let payload = vec![in rt.alloc(); 7; 65508].expect(&rt, "memory");
+// The longest datagram stands in a capture, and one that is an octet longer doesn't.
+fn takes_the_longest(rt: &impl Abort, alloc: Global, capture: &mut Capture, longer: &[u8]) {
     let end = UdpEndpoint {
         address: 1,
         port: 1,
@@ -47,13 +57,18 @@ fn longest_datagram_and_one_more(rt: HostRuntime) {
         moment: 0,
         from: end,
         to: end,
-        payload: &payload,
+        payload: longer,
     };
-    assert_eq!(rt;
-        capture.push(rt.alloc(), &packet),
-        Err(CaptureError::TooLong)
-    );
-    packet.payload = payload.as_slice().split_at(65507).0;
-    assert_eq!(rt; capture.push(rt.alloc(), &packet), Ok(()));
-    assert_eq!(rt; capture.octets().len(), 24 + 16 + 65535);
+    let refused = capture.push(alloc, &packet);
+    same(rt, &refused, &Err(CaptureError::TooLong));
+    packet.payload = longer.get(..65507).expect(rt, "a front");
+    same(rt, &capture.push(alloc, &packet), &Ok(()));
+}
+
+#[test]
+fn longest_datagram_and_one_more(rt: HostRuntime) {
+    let mut capture = Capture::new(rt.alloc()).expect(&rt, "memory");
+    let longer = vec![in rt.alloc(); 7; 65508].expect(&rt, "memory");
+    takes_the_longest(&rt, rt.alloc(), &mut capture, &longer);
+    same(&rt, &capture.octets().len(), &(24 + 16 + 65535));
 }
