@@ -3,6 +3,9 @@
 //! `exchange_main run PLAN`.
 #![tactic(auto)]
 
+mod views;
+
+use crate::views::{View, view_files};
 use call_writer::Disk;
 use clap::ArgMatches;
 use clap::error::ErrorKind;
@@ -12,7 +15,6 @@ use exchange_commands::{check, replay, serve, turn_count};
 use exchange_service::{Settings, TraceOptions, run as run_service};
 use log::LevelFilter;
 use plan_report::explain;
-use replay_views::{LadderForm, write_capture, write_ladder, write_records};
 use std::alloc::Global;
 use std::fs::File;
 use std::io::{BufWriter, Write};
@@ -81,26 +83,27 @@ fn explain_file<R: Files + Print + Alloc>(rt: &R, alloc: Global, plan: &str) -> 
     }
 }
 
+// The octets of a plan and of a script. Where one can't be read, says so.
+pub(crate) fn both_of<R: Files + Print + Alloc>(
+    rt: &R,
+    plan: &str,
+    script: &str,
+) -> Option<(Vec<u8, R::A>, Vec<u8, R::A>)> {
+    let plan = octets_of(rt, plan)?;
+    match octets_of(rt, script) {
+        Some(script) => Some((plan, script)),
+        None => None,
+    }
+}
+
 fn replay_files<R: Files + Print + Alloc + Wait>(
     rt: &R,
     alloc: Global,
     plan: &str,
     script: &str,
 ) -> u8 {
-    match octets_of(rt, plan) {
-        Some(plan) => replay_file(rt, alloc, &plan, script),
-        None => 1,
-    }
-}
-
-fn replay_file<R: Files + Print + Alloc + Wait>(
-    rt: &R,
-    alloc: Global,
-    plan: &[u8],
-    script: &str,
-) -> u8 {
-    match octets_of(rt, script) {
-        Some(script) => replay_buffered(rt, alloc, plan, &script),
+    match both_of(rt, plan, script) {
+        Some((plan, script)) => replay_buffered(rt, alloc, &plan, &script),
         None => 1,
     }
 }
@@ -122,65 +125,12 @@ fn replay_buffered<R: Print + Alloc + Wait>(
     }
 }
 
-// The octets of the plan and of the script of a command. Where one can't be read, says so.
-fn replayed<R: Files + Print + Alloc>(
-    rt: &R,
-    options: &ArgMatches<'_>,
-) -> Option<(Vec<u8, R::A>, Vec<u8, R::A>)> {
-    let plan = octets_of(rt, options.get_str("plan")?)?;
-    let script = octets_of(rt, options.get_str("script")?)?;
-    Some((plan, script))
-}
-
-fn ladder_files<R: Files + Print + Alloc + Wait>(
-    rt: &R,
-    alloc: Global,
-    options: &ArgMatches<'_>,
-) -> u8 {
-    let Some((plan, script)) = replayed(rt, options) else {
-        return 1;
+fn serve_file<
+    R: Files + Print + Eprint + Alloc + Clock + Net + RandomSource + Threads + Wait + Sync,
+>(rt: &R, alloc: Global, plan: &str, turns: &str) -> u8 {
+    let Some(turns) = turn_count(turns) else {
+        return refuse_usage(rt);
     };
-    let form = if options.get_flag("text") {
-        LadderForm::Text
-    } else {
-        LadderForm::Svg
-    };
-    let leg = match options.get_one::<u32>("leg") {
-        Some(number) => u16::try_from(number).ok(),
-        None => None,
-    };
-    let writer = &mut io::writer(rt);
-    write_ladder(rt, alloc, &plan, &script, leg, form, writer)
-}
-
-fn pcap_files<R: Files + Print + Eprint + Alloc + Wait>(
-    rt: &R,
-    alloc: Global,
-    options: &ArgMatches<'_>,
-) -> u8 {
-    match replayed(rt, options) {
-        Some((plan, script)) => write_capture(rt, alloc, &plan, &script, &mut io::writer(rt)),
-        None => 1,
-    }
-}
-
-fn record_files<R: Files + Print + Alloc + Wait>(
-    rt: &R,
-    alloc: Global,
-    options: &ArgMatches<'_>,
-) -> u8 {
-    match replayed(rt, options) {
-        Some((plan, script)) => write_records(rt, alloc, &plan, &script, &mut io::writer(rt)),
-        None => 1,
-    }
-}
-
-fn serve_file<R: Files + Print + Alloc + Clock + Net + RandomSource + Threads + Wait + Sync>(
-    rt: &R,
-    alloc: Global,
-    plan: &str,
-    turns: u32,
-) -> u8 {
     match octets_of(rt, plan) {
         Some(plan) => serve(rt, alloc, &plan, turns, &mut io::writer(rt)),
         None => 1,
@@ -190,6 +140,31 @@ fn serve_file<R: Files + Print + Alloc + Clock + Net + RandomSource + Threads + 
 fn refuse_usage<R: Eprint>(rt: &R) -> u8 {
     let _ = eprintln!(rt; "{USAGE}");
     2
+}
+
+// A command, by the words after the program's name.
+enum Command<'a> {
+    Check(&'a str),
+    Explain(&'a str),
+    Replay(&'a str, &'a str),
+    Serve(&'a str, &'a str),
+    Ctl(&'a str, &'a [String]),
+    // What is read by its options.
+    ByOptions,
+}
+
+fn command_of(words: &[String]) -> Command<'_> {
+    let [_, command, words @ ..] = words else {
+        return Command::ByOptions;
+    };
+    match (command.as_str(), words) {
+        ("check", [plan]) => Command::Check(plan.as_str()),
+        ("explain", [plan]) => Command::Explain(plan.as_str()),
+        ("replay", [plan, script]) => Command::Replay(plan.as_str(), script.as_str()),
+        ("serve", [plan, turns]) => Command::Serve(plan.as_str(), turns.as_str()),
+        ("ctl", [socket, order @ ..]) => Command::Ctl(socket.as_str(), order),
+        _ => Command::ByOptions,
+    }
 }
 
 // One command, by the program's arguments.
@@ -206,24 +181,13 @@ fn run<
         + Sync,
     D: Disk + Folder + Sync,
 >(rt: &R, disk: &D, alloc: Global, words: &[String]) -> u8 {
-    match words {
-        [_, command, plan] if command.as_str() == "check" => check_file(rt, alloc, plan.as_str()),
-        [_, command, plan] if command.as_str() == "explain" => {
-            explain_file(rt, alloc, plan.as_str())
-        }
-        [_, command, plan, script] if command.as_str() == "replay" => {
-            replay_files(rt, alloc, plan.as_str(), script.as_str())
-        }
-        [_, command, plan, turns] if command.as_str() == "serve" => {
-            match turn_count(turns.as_str()) {
-                Some(turns) => serve_file(rt, alloc, plan.as_str(), turns),
-                None => refuse_usage(rt),
-            }
-        }
-        [_, command, socket, order @ ..] if command.as_str() == "ctl" => {
-            order_service(rt, alloc, socket.as_str(), order)
-        }
-        _ => run_by_options(rt, disk, alloc, words),
+    match command_of(words) {
+        Command::Check(plan) => check_file(rt, alloc, plan),
+        Command::Explain(plan) => explain_file(rt, alloc, plan),
+        Command::Replay(plan, script) => replay_files(rt, alloc, plan, script),
+        Command::Serve(plan, turns) => serve_file(rt, alloc, plan, turns),
+        Command::Ctl(socket, order) => order_service(rt, alloc, socket, order),
+        Command::ByOptions => run_by_options(rt, disk, alloc, words),
     }
 }
 
@@ -269,6 +233,24 @@ fn trace_options<'a>(options: &'a ArgMatches<'_>) -> Option<TraceOptions<'a>> {
     })
 }
 
+// How a service is run, by the options that were given. `None`: they name no plan, or what should be an address is none.
+fn settings_of<'a>(options: &'a ArgMatches<'_>) -> Option<Settings<'a>> {
+    let plan_path = options.get_str("plan")?;
+    let metrics = metrics_address(options).ok()?;
+    let seconds = options.get_one::<u32>("drain").unwrap_or(10);
+    Some(Settings {
+        version: VERSION,
+        plan_path,
+        control: options.get_str("control"),
+        metrics,
+        stops_with_input: options.get_flag("stop-at-end-of-input"),
+        level: log_level(options),
+        drain_ms: u64::from(seconds) * 1000,
+        calls: options.get_str("calls"),
+        trace: trace_options(options),
+    })
+}
+
 // The service of a plan, with the options that were given.
 fn run_file<
     R: Files<File = File>
@@ -283,22 +265,10 @@ fn run_file<
         + Sync,
     D: Disk + Folder + Sync,
 >(rt: &R, disk: &D, alloc: Global, options: &ArgMatches<'_>) -> u8 {
-    let (Some(path), Ok(metrics)) = (options.get_str("plan"), metrics_address(options)) else {
+    let Some(settings) = settings_of(options) else {
         return refuse_usage(rt);
     };
-    let seconds = options.get_one::<u32>("drain").unwrap_or(10);
-    let settings = Settings {
-        version: VERSION,
-        plan_path: path,
-        control: options.get_str("control"),
-        metrics,
-        stops_with_input: options.get_flag("stop-at-end-of-input"),
-        level: log_level(options),
-        drain_ms: u64::from(seconds) * 1000,
-        calls: options.get_str("calls"),
-        trace: trace_options(options),
-    };
-    match octets_of(rt, path) {
+    match octets_of(rt, settings.plan_path) {
         Some(plan) => run_service(rt, disk, alloc, &plan, &settings, &mut io::writer(rt)),
         None => 1,
     }
@@ -337,9 +307,9 @@ fn run_matched<
 >(rt: &R, disk: &D, alloc: Global, matches: &ArgMatches<'_>) -> u8 {
     match matches.subcommand() {
         Some(("run", options)) => run_file(rt, disk, alloc, options),
-        Some(("ladder", options)) => ladder_files(rt, alloc, options),
-        Some(("pcap", options)) => pcap_files(rt, alloc, options),
-        Some(("records", options)) => record_files(rt, alloc, options),
+        Some(("ladder", options)) => view_files(rt, alloc, View::Ladder, options),
+        Some(("pcap", options)) => view_files(rt, alloc, View::Capture, options),
+        Some(("records", options)) => view_files(rt, alloc, View::Records, options),
         _ => refuse_usage(rt),
     }
 }

@@ -1,0 +1,65 @@
+//! The views of a replay, as commands ask for them.
+use crate::both_of;
+use clap::ArgMatches;
+use replay_views::{LadderForm, write_capture, write_ladder, write_records};
+use std::alloc::Global;
+use std::io;
+use std::rt::Files;
+use std::sync::Wait;
+
+/// What is made of a replay.
+#[derive(Clone, Copy)]
+pub(crate) enum View {
+    Ladder,
+    Capture,
+    Records,
+}
+
+// How a ladder is drawn.
+fn ladder_form(options: &ArgMatches<'_>) -> LadderForm {
+    if options.get_flag("text") {
+        LadderForm::Text
+    } else {
+        LadderForm::Svg
+    }
+}
+
+// The leg whose ladder is drawn, if it is one's alone.
+fn ladder_leg(options: &ArgMatches<'_>) -> Option<u16> {
+    u16::try_from(options.get_one::<u32>("leg")?).ok()
+}
+
+/// Writes a view of the replay of the plan and of the script of a command.
+pub(crate) fn view_files<R: Files + Print + Eprint + Alloc + Wait>(
+    rt: &R,
+    alloc: Global,
+    view: View,
+    options: &ArgMatches<'_>,
+) -> u8 {
+    let (Some(plan), Some(script)) = (options.get_str("plan"), options.get_str("script")) else {
+        return 1;
+    };
+    match both_of(rt, plan, script) {
+        Some((plan, script)) => write_view(rt, alloc, view, options, &plan, &script),
+        None => 1,
+    }
+}
+
+fn write_view<R: Print + Eprint + Wait>(
+    rt: &R,
+    alloc: Global,
+    view: View,
+    options: &ArgMatches<'_>,
+    plan: &[u8],
+    script: &[u8],
+) -> u8 {
+    let writer = &mut io::writer(rt);
+    match view {
+        View::Ladder => {
+            let (leg, form) = (ladder_leg(options), ladder_form(options));
+            write_ladder(rt, alloc, plan, script, leg, form, writer)
+        }
+        View::Capture => write_capture(rt, alloc, plan, script, writer),
+        View::Records => write_records(rt, alloc, plan, script, writer),
+    }
+}
