@@ -1,4 +1,4 @@
-//! The program serves: nobody sends, a call between two sockets of this test carries media both ways, callers are challenged,
+//! The program serves: a call between two sockets of this test carries media both ways, callers are challenged, nobody sends,
 //! nothing can be bound.
 use crate::same::{holds, same, same_octets};
 use exchange_commands::serve;
@@ -14,6 +14,15 @@ use test_plans::plan;
 const PLAN: &str = plan!(
     format 1;
     worker "127.0.0.1" 4591;
+    peer "west" 5591 worker 0 "numbers = 4";
+    peer "east" 5592 worker 0 "numbers = 4";
+    route "3" "east";
+);
+
+// The same peers; one worker at port 4595.
+const QUIET: &str = plan!(
+    format 1;
+    worker "127.0.0.1" 4595;
     peer "west" 5591 worker 0 "numbers = 4";
     peer "east" 5592 worker 0 "numbers = 4";
     route "3" "east";
@@ -157,34 +166,6 @@ fn call<R: Net + Abort>(rt: &R, west: &UdpSocket, east: &UdpSocket) {
     wait_for(rt, west, Kind::Mini, Some(b"\xdd\xee\x00\x11"));
 }
 
-#[test]
-fn nobody_sends_then_a_call_between_two_sockets(rt: HostRuntime) {
-    let mut out = Vec::new(rt.alloc());
-    same(
-        &rt,
-        &serve(&rt, rt.alloc(), PLAN.as_bytes(), 3, &mut out),
-        &0,
-    );
-    same_octets(&rt, &out, b"worker 0 0 0 0 0\noctets 0 0 0 0\n");
-
-    // Bound before the exchange is, so nothing that is sent to them is lost.
-    let west = socket_at(&rt, 5591);
-    let east = socket_at(&rt, 5592);
-    let mut out = Vec::new(rt.alloc());
-    let (status, ()) = thread::join(
-        &rt,
-        || serve(&rt, rt.alloc(), PLAN.as_bytes(), 300, &mut out),
-        || {
-            let _ = thread::sleep(&rt, Duration::from_millis(500));
-            call(&rt, &west, &east)
-        },
-    );
-    same(&rt, &status, &0);
-    // Ten datagrams came; more than that went out, none was lost, and nothing failed.
-    let is_told = out.starts_with(b"worker 0 10 1") && out.ends_with(b" 0 0\noctets 10 10 0 0\n");
-    holds(&rt, "the report and the accounts", is_told);
-}
-
 // The octets of the next frame of a kind, if it comes in time, and how many they are.
 fn next_len(socket: &UdpSocket, wanted: Kind, octets: &mut [u8; 2049]) -> Option<usize> {
     let (len, _) = socket.recv_from(octets).ok()?;
@@ -222,28 +203,84 @@ fn two_challenges<R: Clock + Net + Abort>(rt: &R, west: &UdpSocket) {
     holds(rt, "about a second", 300 <= passed && passed < 10_000);
 }
 
-#[test]
-fn challenges_differ_and_are_sent_again_after_a_second(rt: HostRuntime) {
-    let west = socket_at(&rt, 5593);
-    let mut out = Vec::new(rt.alloc());
-    let (status, ()) = thread::join(
-        &rt,
-        || serve(&rt, rt.alloc(), WITH_SECRET.as_bytes(), 150, &mut out),
-        || {
-            let _ = thread::sleep(&rt, Duration::from_millis(500));
-            two_challenges(&rt, &west)
-        },
-    );
-    same(&rt, &status, &0);
+/// What peers do while the program serves.
+#[derive(Clone, Copy)]
+enum Scene {
+    Call,
+    Challenges,
+}
+
+/// A plan for so many turns; what the peers do, of which that in the west has a socket at this port; and how the report begins
+/// and ends.
+#[derive(Clone, Copy)]
+struct Case {
+    plan: &'static str,
+    turns: u32,
+    scene: Scene,
+    west: u16,
+    front: &'static [u8],
+    end: &'static [u8],
+}
+
+const CASES: [Case; 2] = [
+    // Ten datagrams come; more than that go out, none is lost, and nothing fails.
+    Case {
+        plan: PLAN,
+        turns: 300,
+        scene: Scene::Call,
+        west: 5591,
+        front: b"worker 0 10 1",
+        end: b" 0 0\noctets 10 10 0 0\n",
+    },
+    Case {
+        plan: WITH_SECRET,
+        turns: 150,
+        scene: Scene::Challenges,
+        west: 5593,
+        front: b"worker 0 2 ",
+        end: b" 0 0\noctets 0 0 0 0\n",
+    },
+];
+
+// The peers do what they do, after half a second.
+fn plays<R: Clock + Net + Abort>(rt: &R, scene: Scene, west: &UdpSocket, east: &UdpSocket) {
+    let _ = thread::sleep(rt, Duration::from_millis(500));
+    match scene {
+        Scene::Call => call(rt, west, east),
+        Scene::Challenges => two_challenges(rt, west),
+    }
 }
 
 #[test]
-fn nothing_is_bound(rt: HostRuntime) {
-    let mut out = Vec::new(rt.alloc());
-    same(
-        &rt,
-        &serve(&rt, rt.alloc(), ELSEWHERE.as_bytes(), 3, &mut out),
-        &1,
-    );
-    same_octets(&rt, &out, b"refused Bind\n");
+fn calls_and_challenges(rt: HostRuntime) {
+    for case in &CASES {
+        // Bound before the exchange is, so nothing that is sent to them is lost.
+        let west = socket_at(&rt, case.west);
+        let east = socket_at(&rt, 5592);
+        let mut out = Vec::new(rt.alloc());
+        let (status, ()) = thread::join(
+            &rt,
+            || serve(&rt, rt.alloc(), case.plan.as_bytes(), case.turns, &mut out),
+            || plays(&rt, case.scene, &west, &east),
+        );
+        same(&rt, &status, &0);
+        let is_told = out.starts_with(case.front) && out.ends_with(case.end);
+        holds(&rt, "the report and the accounts", is_told);
+    }
+}
+
+/// Plans that are served while nobody sends, the status, and what is written.
+const ALONE: [(&str, u8, &[u8]); 2] = [
+    (QUIET, 0, b"worker 0 0 0 0 0\noctets 0 0 0 0\n"),
+    (ELSEWHERE, 1, b"refused Bind\n"),
+];
+
+#[test]
+fn nobody_sends(rt: HostRuntime) {
+    for (plan, status, written) in &ALONE {
+        let mut out = Vec::new(rt.alloc());
+        let found = serve(&rt, rt.alloc(), plan.as_bytes(), 3, &mut out);
+        same(&rt, &found, status);
+        same_octets(&rt, &out, written);
+    }
 }

@@ -1,5 +1,5 @@
 //! The octets of answers.
-use crate::same::{Row, same_at, same_octets, same_text};
+use crate::same::{Row, same_at, same_text};
 use control_requests::{Answer, Methods, Status};
 use std::alloc::Global;
 use std::process::Abort;
@@ -42,17 +42,26 @@ fn error_of(rt: &impl Abort, alloc: Global, status: Status, why: &str) -> Answer
     Answer::error(alloc, status, why).expect(rt, "an answer")
 }
 
-fn has_octets(rt: &impl Abort, alloc: Global, status: Status, why: &str, expected: &[u8]) {
+fn has_octets(
+    rt: &impl Abort,
+    at: Row<'_>,
+    alloc: Global,
+    (status, why, expected): (Status, &str, &[u8]),
+) {
     let octets = error_of(rt, alloc, status, why)
         .octets(alloc)
         .expect(rt, "octets");
-    same_octets(rt, &octets, expected);
+    same_at(rt, at, &octets.as_slice(), &expected);
 }
 
 #[test]
 fn errors(rt: HostRuntime) {
-    for (status, why, expected) in &ERRORS {
-        has_octets(&rt, rt.alloc(), *status, why, expected);
+    for (row, error) in ERRORS.iter().enumerate() {
+        let at = Row {
+            table: "errors",
+            row,
+        };
+        has_octets(&rt, at, rt.alloc(), *error);
     }
 }
 

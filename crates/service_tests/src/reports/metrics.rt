@@ -81,29 +81,43 @@ fn only_line(rt: &impl Abort, alloc: Global, sample: Sample<'_>) -> Line {
 }
 
 // These texts are found, and no other.
-fn are(rt: &impl Abort, found: &[Vec<u8>], expected: &[&str]) {
-    same(rt, &found.len(), &expected.len());
+fn are(rt: &impl Abort, at: Row<'_>, found: &[Vec<u8>], expected: &[&str]) {
+    same_at(rt, at, &found.len(), &expected.len());
     for (octets, text) in found.iter().zip(expected) {
-        same_octets(rt, octets, text.as_bytes());
+        same_at(rt, at, &octets.as_slice(), &text.as_bytes());
     }
 }
 
 // A line is of this number, and has labels of these names and values.
-fn is_line(rt: &impl Abort, line: &Line, number: &[u8], names: &[&str], values: &[&str]) {
+fn is_line(
+    rt: &impl Abort,
+    at: Row<'_>,
+    line: &Line,
+    number: &[u8],
+    names: &[&str],
+    values: &[&str],
+) {
     same_octets(rt, &line.name, b"only");
     same_octets(rt, &line.number, number);
-    are(rt, &line.label_names, names);
-    are(rt, &line.label_values, values);
+    are(rt, at, &line.label_names, names);
+    are(rt, at, &line.label_values, values);
 }
 
 // A label of this value is read back, and the plain one after it.
-fn reads(rt: &impl Abort, alloc: Global, value: &str) {
+fn reads(rt: &impl Abort, at: Row<'_>, alloc: Global, value: &str) {
     let sample = Sample {
         labels: Labels::Two(label("first", value), label("second", "plain")),
         value: 70,
     };
     let line = only_line(rt, alloc, sample);
-    is_line(rt, &line, b"70", &["first", "second"], &[value, "plain"]);
+    is_line(
+        rt,
+        at,
+        &line,
+        b"70",
+        &["first", "second"],
+        &[value, "plain"],
+    );
 }
 
 /// Values of labels, of any characters.
@@ -120,8 +134,12 @@ const VALUES: [&str; 8] = [
 
 #[test]
 fn labels_are_read_back(rt: HostRuntime) {
-    for value in &VALUES {
-        reads(&rt, rt.alloc(), value);
+    for (row, value) in VALUES.iter().enumerate() {
+        let at = Row {
+            table: "values of labels",
+            row,
+        };
+        reads(&rt, at, rt.alloc(), value);
     }
 }
 
@@ -132,7 +150,11 @@ fn one_label(rt: HostRuntime) {
         value: 1,
     };
     let line = only_line(&rt, rt.alloc(), sample);
-    is_line(&rt, &line, b"1", &["peer"], &["east"]);
+    let at = Row {
+        table: "one label",
+        row: 0,
+    };
+    is_line(&rt, at, &line, b"1", &["peer"], &["east"]);
 }
 
 const REQUESTS: [(&str, &str, Scrape); 6] = [
