@@ -5,6 +5,7 @@ use crate::same::{holds, same};
 use crate::scenes::{EAST_PLACE, WEST_PLACE, hear, status_of};
 use crate::settling::accepted_call;
 use exchange_core::{Exchange, NoGate, Pass, Retired};
+use iax_frames::CallNumber;
 use leg_machine::{Failure, Format};
 use peer_lock::Naming;
 use std::process::Abort;
@@ -19,13 +20,9 @@ const HANGUP: &[u8] = b"\x80\x07\x00\x01\x00\x00\x00\x64\x01\x02\x06\x05";
 const INVAL: &[u8] = b"\x80\x09\x00\x05\x00\x00\x00\x64\x02\x02\x06\x0a";
 
 // The leg of the call to 300 with this number, which the peer's number 7 or 9 named.
-fn is_leg(rt: &impl Abort, leg: &Retired, number: u16, remote: u16) {
+fn is_leg(rt: &impl Abort, leg: &Retired, number: u16, remote: CallNumber) {
     same(rt, &leg.name.number, &number);
-    same(
-        rt,
-        &leg.facts.remote.map(|other| other.get()),
-        &Some(remote),
-    );
+    same(rt, &leg.facts.remote, &Some(remote));
     same(rt, &leg.facts.format, &Format::Ulaw);
     same(rt, &(leg.facts.opened, leg.facts.resent), &(0, 0));
 }
@@ -49,7 +46,7 @@ pub fn left<R: Abort + Wait, J: Naming>(
     let first = first.expect(rt, "an answer").retired;
     same(rt, &first.len(), &1);
     let leg = first.first().expect(rt, "the leg in the west");
-    is_leg(rt, leg, 1, 7);
+    is_leg(rt, leg, 1, CallNumber::new(7));
     same(
         rt,
         &(leg.ended, leg.partner),
@@ -72,7 +69,7 @@ pub fn left<R: Abort + Wait, J: Naming>(
     let second = second.expect(rt, "an answer").retired;
     same(rt, &second.len(), &1);
     let leg = second.first().expect(rt, "the leg in the east");
-    is_leg(rt, leg, 5, 9);
+    is_leg(rt, leg, 5, CallNumber::new(9));
     same(
         rt,
         &(leg.ended, leg.partner),

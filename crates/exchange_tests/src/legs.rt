@@ -88,10 +88,12 @@ impl Legs {
 
     /// Whether no leg has changed.
     pub fn are(&self, before: &Legs) -> bool {
-        self.places
-            .iter()
-            .zip(before.places.iter())
-            .all(|(place, old)| place.status == old.status)
+        for (place, old) in self.places.iter().zip(before.places.iter()) {
+            if place.status != old.status {
+                return false;
+            }
+        }
+        true
     }
 
     // The number of a leg that is new, other than this one; 0 where there is none.
@@ -116,9 +118,12 @@ impl Legs {
 
     // Whether a number has a leg.
     fn has(&self, number: u16) -> bool {
-        self.places
-            .iter()
-            .any(|place| place.number == number && place.status.is_some())
+        for place in self.places.iter() {
+            if place.number == number {
+                return place.status.is_some();
+            }
+        }
+        false
     }
 
     /// A leg that is gone, or whose partner is, has no partner.
@@ -133,11 +138,13 @@ impl Legs {
 
     // Whether this leg is the only one that has changed, besides the one that it is bridged with.
     fn is_alone(&self, before: &Legs, changed: &Place) -> bool {
-        self.places.iter().zip(before.places.iter()).all(|(place, old)| {
-            place.status == old.status
-                || place.number == changed.number
-                || place.number == changed.partner
-        })
+        for (place, old) in self.places.iter().zip(before.places.iter()) {
+            let is_of_call = place.number == changed.number || place.number == changed.partner;
+            if place.status != old.status && !is_of_call {
+                return false;
+            }
+        }
+        true
     }
 
     /// Whether no leg has changed but those that the datagram concerns: of a full frame one and the one that it is bridged with.

@@ -5,7 +5,7 @@ use crate::same::{holds, same};
 use crate::scenes::{EAST_PLACE, WEST_PLACE, status_of, take_out};
 use crate::settling::accepted_call;
 use exchange_core::{Exchange, NoGate, Pass};
-use iax_frames::Out;
+use iax_frames::{CallNumber, Out};
 use leg_machine::Format;
 use peer_lock::{Description, Naming};
 use std::process::Abort;
@@ -14,10 +14,10 @@ use std::test::*;
 use test_plans::plans::ONE_WORKER;
 
 // The leg of a number is that of a call to 300, from nobody, in mu-law, opened at the start.
-fn is_of_the_call(rt: &impl Abort, leg: &Description, number: u16, remote: u16) {
+fn is_of_the_call(rt: &impl Abort, leg: &Description, number: u16, remote: CallNumber) {
     same(rt, &leg.status.name.number, &number);
     same(rt, &leg.format, &Format::Ulaw);
-    same(rt, &leg.remote.map(|other| other.get()), &Some(remote));
+    same(rt, &leg.remote, &Some(remote));
     same(rt, &leg.opened, &0);
     let called = leg.called.as_ref().expect(rt, "a called number");
     holds(rt, "it is called", called.as_slice() == b"300".as_slice());
@@ -35,9 +35,9 @@ fn legs_are_described<R: Abort + Wait, J: Naming>(
         return;
     }
     let west = exchange.describe(rt, pass, WEST_PLACE, 1);
-    is_of_the_call(rt, &west.expect(rt, "a leg"), 1, 7);
+    is_of_the_call(rt, &west.expect(rt, "a leg"), 1, CallNumber::new(7));
     let east = exchange.describe(rt, pass, EAST_PLACE, 5);
-    is_of_the_call(rt, &east.expect(rt, "a leg"), 5, 9);
+    is_of_the_call(rt, &east.expect(rt, "a leg"), 5, CallNumber::new(9));
     holds(
         rt,
         "no other leg",

@@ -5,7 +5,6 @@ mod lines;
 mod recovery;
 
 pub use crate::scenes::lines::{
-    EAST_PLACE, LONGEST, Told, WEST_PLACE, call, give_all, hang_up, hear, heard, heard_from,
-    octets_of, place_of, status, take_out, tick, ticked,
+    EAST_PLACE, LONGEST, Told, WEST_PLACE, give_all, hear, heard, heard_from, take_out, ticked,
 };
-pub use crate::scenes::recovery::{NUMBERS, Sums, ended, recovers, settled, status_of};
+pub use crate::scenes::recovery::{Sums, ended, recovers, status_of};

@@ -12,3 +12,8 @@ mod shared_port;
 mod until_ended;
 mod watched_threads;
 mod whole_call;
+
+pub use crate::wires::loopback::call_first;
+pub use crate::wires::until_ended::{Ran, Run, run_first};
+pub use crate::wires::watched_threads::{TwoRuns, run_twice};
+pub use crate::wires::whole_call::{Played, play_call};

@@ -6,7 +6,7 @@ use call_auth::Challenge;
 use call_book::LegName;
 use exchange_core::{Answer, CallError, Exchange, Gate, Pass, Refusal};
 use iax_frames::Out;
-use peer_lock::{Naming, OrderError, Status};
+use peer_lock::{Naming, OrderError};
 use peer_plan::Endpoint;
 use script_lines::{Line, line_of};
 use std::sync::Wait;
@@ -20,8 +20,8 @@ pub const EAST_PLACE: u16 = 1;
 /// The longest datagram of a script, in octets.
 pub const LONGEST: usize = 64;
 
-/// The place of a peer by its name, as the plans have them.
-pub fn place_of(name: &[u8]) -> u16 {
+// The place of a peer by its name, as the plans have them.
+fn place_of(name: &[u8]) -> u16 {
     if name == b"west".as_slice() {
         WEST_PLACE
     } else {
@@ -29,8 +29,8 @@ pub fn place_of(name: &[u8]) -> u16 {
     }
 }
 
-/// The octets that hexadecimal digits spell, at most `LONGEST`.
-pub fn octets_of<'a>(digits: &[u8], room: &'a mut [u8; LONGEST]) -> Option<&'a [u8]> {
+// The octets that hexadecimal digits spell, at most `LONGEST`.
+fn octets_of<'a>(digits: &[u8], room: &'a mut [u8; LONGEST]) -> Option<&'a [u8]> {
     let (octets, _) = room.split_at_mut_checked(digits.len() / 2)?;
     hex::decode_to_slice(digits, octets).ok()?;
     Some(octets)
@@ -48,20 +48,8 @@ pub fn hear<R: Wait, G: Gate, J: Naming>(
     if peer >= exchange.plan().peer_count() {
         return None;
     }
-    let from = exchange.plan().endpoint(peer);
-    hear_from(rt, exchange, pass, from, octets, now)
-}
-
-// A datagram comes from an endpoint, when callers are challenged by `0`.
-fn hear_from<R: Wait, G: Gate, J: Naming>(
-    rt: &R,
-    exchange: &Exchange<G, J>,
-    pass: &mut Pass<J>,
-    from: Endpoint,
-    octets: &[u8],
-    now: u64,
-) -> Option<Answer> {
     let challenge = Challenge::new(b"0")?;
+    let from = exchange.plan().endpoint(peer);
     Some(exchange.datagram(rt, pass, from, octets, now, &challenge))
 }
 
@@ -75,13 +63,12 @@ pub struct Told {
 }
 
 // What an answer tells.
-fn told_by(answer: Option<Answer>) -> Option<Told> {
-    let answer = answer?;
-    Some(Told {
+fn told_by(answer: Answer) -> Told {
+    Told {
         refused: answer.refused,
         steps: answer.steps,
         retired: answer.retired.len(),
-    })
+    }
 }
 
 /// A datagram comes from a peer, when callers are challenged by `0`.
@@ -93,7 +80,10 @@ pub fn heard<R: Wait, G: Gate, J: Naming>(
     octets: &[u8],
     now: u64,
 ) -> Option<Told> {
-    told_by(hear(rt, exchange, pass, peer, octets, now))
+    match hear(rt, exchange, pass, peer, octets, now) {
+        Some(answer) => Some(told_by(answer)),
+        None => None,
+    }
 }
 
 /// A datagram comes from an endpoint, when callers are challenged by `0`.
@@ -105,7 +95,8 @@ pub fn heard_from<R: Wait, G: Gate, J: Naming>(
     octets: &[u8],
     now: u64,
 ) -> Option<Told> {
-    told_by(hear_from(rt, exchange, pass, from, octets, now))
+    let challenge = Challenge::new(b"0")?;
+    Some(told_by(exchange.datagram(rt, pass, from, octets, now, &challenge)))
 }
 
 /// Time goes on at a peer.
@@ -116,21 +107,10 @@ pub fn ticked<R: Wait, G: Gate, J: Naming>(
     peer: u16,
     now: u64,
 ) -> Option<Told> {
-    told_by(tick(rt, exchange, pass, peer, now))
-}
-
-/// Time goes on at a peer.
-pub fn tick<R: Wait, G: Gate, J: Naming>(
-    rt: &R,
-    exchange: &Exchange<G, J>,
-    pass: &mut Pass<J>,
-    peer: u16,
-    now: u64,
-) -> Option<Answer> {
     if peer >= exchange.plan().peer_count() {
         return None;
     }
-    Some(exchange.tick(rt, pass, peer, now))
+    Some(told_by(exchange.tick(rt, pass, peer, now)))
 }
 
 /// A call goes out to a peer.
@@ -146,20 +126,6 @@ pub fn call<R: Wait, G: Gate, J: Naming>(
         return None;
     }
     Some(exchange.call(rt, pass, peer, called, now))
-}
-
-/// How the leg of a number stands. `None` where there is none.
-pub fn status<R: Wait, G: Gate, J: Naming>(
-    rt: &R,
-    exchange: &Exchange<G, J>,
-    pass: &mut Pass<J>,
-    peer: u16,
-    number: u16,
-) -> Option<Status> {
-    if peer >= exchange.plan().peer_count() {
-        return None;
-    }
-    exchange.status(rt, pass, peer, number)
 }
 
 /// The oldest datagram for a peer. `None` where none waits.
@@ -201,14 +167,14 @@ fn give<R: Wait, G: Gate, J: Naming>(
         Line::Rx(name, digits) => {
             let mut room = [0; LONGEST];
             let octets = octets_of(digits, &mut room)?;
-            hear(rt, exchange, pass, place_of(name), octets, now)?;
+            let _told = heard(rt, exchange, pass, place_of(name), octets, now)?;
         }
         Line::Call(name, number) => {
             let _name = call(rt, exchange, pass, place_of(name), number, now)?;
         }
         Line::Tick => {
-            tick(rt, exchange, pass, WEST_PLACE, now)?;
-            tick(rt, exchange, pass, EAST_PLACE, now)?;
+            let _west = ticked(rt, exchange, pass, WEST_PLACE, now)?;
+            let _east = ticked(rt, exchange, pass, EAST_PLACE, now)?;
         }
         _ => {}
     }

@@ -1,12 +1,12 @@
 //! What holds of an exchange whatever befell it: every leg can be got rid of, callers get all numbers, and the accounts balance.
 
-use crate::scenes::lines::{EAST_PLACE, WEST_PLACE, hang_up, hear, status, tick};
+use crate::scenes::lines::{EAST_PLACE, WEST_PLACE, hang_up, heard, ticked};
 use exchange_core::{Exchange, Gate, NoGate, Pass, SettleError, Settlement};
 use peer_lock::{Naming, OrderError, Status};
 use std::sync::Wait;
 
-/// The greatest number of the plans.
-pub const NUMBERS: u16 = 8;
+// The greatest number of the plans.
+const NUMBERS: u16 = 8;
 
 /// A NEW for 200 from call number 0.
 const LATE_NEW: [u8; 33] = [
@@ -22,7 +22,10 @@ pub fn status_of<R: Wait, J: Naming>(
     number: u16,
 ) -> Option<Status> {
     let peer = if number <= 4 { WEST_PLACE } else { EAST_PLACE };
-    status(rt, exchange, pass, peer, number)
+    if peer >= exchange.plan().peer_count() {
+        return None;
+    }
+    exchange.status(rt, pass, peer, number)
 }
 
 // The leg hangs up, or is past that. A growth that is refused is asked for again.
@@ -71,8 +74,8 @@ fn wait_out<R: Wait, J: Naming>(
     let mut moment = now;
     for _ in 0..20 {
         moment = moment.saturating_add(1000);
-        let _west = tick(rt, exchange, pass, WEST_PLACE, moment);
-        let _east = tick(rt, exchange, pass, EAST_PLACE, moment);
+        let _west = ticked(rt, exchange, pass, WEST_PLACE, moment);
+        let _east = ticked(rt, exchange, pass, EAST_PLACE, moment);
     }
     moment
 }
@@ -106,12 +109,9 @@ fn is_let_in<R: Wait, J: Naming>(
     let mut octets = LATE_NEW;
     octets[1] = source;
     for _ in 0..2 {
-        match hear(rt, exchange, pass, peer, &octets, now) {
-            Some(answer) => {
-                if answer.refused.is_none() {
-                    return true;
-                }
-            }
+        match heard(rt, exchange, pass, peer, &octets, now) {
+            Some(told) if told.refused.is_none() => return true,
+            Some(_) => {}
             None => return false,
         }
     }
@@ -154,14 +154,11 @@ pub fn recovers<R: Wait, J: Naming>(
         && legs_of(rt, exchange, pass, 1, NUMBERS) == NUMBERS
 }
 
-// Whether each octet was packed, is queued or was dropped.
-fn balances<J: Naming>(settlement: &Settlement<J>) -> bool {
-    let left = settlement
-        .accepted
-        .checked_sub(settlement.packed)
-        .and_then(|left| left.checked_sub(settlement.queued))
-        .and_then(|left| left.checked_sub(settlement.dropped));
-    left == Some(0)
+// How many octets were neither packed nor dropped, and aren't queued.
+fn left_of<J: Naming>(settlement: &Settlement<J>) -> Option<u64> {
+    let unpacked = settlement.accepted.checked_sub(settlement.packed)?;
+    let unqueued = unpacked.checked_sub(settlement.queued)?;
+    unqueued.checked_sub(settlement.dropped)
 }
 
 // The accounts are closed. A growth that is refused is asked for again.
@@ -216,13 +213,13 @@ fn with_pass<G: Gate, J: Naming>(
     }
 }
 
-/// The accounts are closed. `None` where a pass is missing, or they don't balance.
-pub fn settled<G: Gate, J: Naming>(
+// The accounts are closed. `None` where a pass is missing, or they don't balance.
+fn settled<G: Gate, J: Naming>(
     exchange: Exchange<G, J>,
     passes: Vec<Pass<J>>,
 ) -> Option<Settlement<J>> {
     let settlement = settled_at_last(exchange, passes).ok()?;
-    if balances(&settlement) {
+    if left_of(&settlement) == Some(0) {
         Some(settlement)
     } else {
         None

@@ -115,11 +115,10 @@ fn seat_of<J: Naming, P: Post>(
 pub fn seats_of<J: Naming, P: Post>(
     alloc: Global,
     plan: &Plan,
-    passes: Vec<Pass<J>>,
+    passes: &mut Vec<Pass<J>>,
 ) -> Option<Vec<TestSeat<J, P>>>
     requires { plan.now ≡ P.plan }
 {
-    let mut passes = passes;
     let mut seats = Vec::new(alloc);
     for place in 0..plan.workers().len() {
         let seat = seat_of(alloc, plan, place as u16, passes.pop()?)?;
@@ -142,7 +141,7 @@ fn turn_on<'a, J: Naming, P: Post + Send + Sync, R: Clock + Threads + Wait + Syn
     rt: &R,
     alloc: Global,
     exchange: &Exchange<Meeting<'a, R>, J>,
-    passes: Vec<Pass<J>>,
+    passes: &mut Vec<Pass<J>>,
 ) -> Option<u64>
     requires { exchange.now ≡ P.plan }
 {
@@ -174,8 +173,8 @@ fn turn_both<J: Naming, P: Post + Send + Sync, R: Clock + Threads + Wait + Sync>
 {
     let gate = Meeting { rt, entered };
     let opened = Exchange::<_, J>::open(alloc, plan, gate, octets, steps);
-    let (exchange, passes) = opened.ok()?;
-    turn_on::<J, P, R>(rt, alloc, &exchange, passes)
+    let (exchange, mut passes) = opened.ok()?;
+    turn_on::<J, P, R>(rt, alloc, &exchange, &mut passes)
 }
 
 // The same, by the ledgers that the caller names.

@@ -2,18 +2,24 @@
 use crate::same::{holds, same};
 use crate::wires::whole_call::play_over;
 use std::alloc::Global;
+use std::net::Net;
 use std::process::Abort;
 use std::sync::Wait;
+use std::thread::Threads;
+use std::time::Clock;
 use udp_workers::TurnReport;
 
 // What the turns report of a call over a wire that fails at its call of this place.
-fn report_of<R: Wait + Abort>(rt: &R, alloc: Global, place: u64) -> TurnReport {
-    let played = play_over(rt, alloc, place).expect(rt, "a call");
+fn report_of<R: Abort + Clock + Net + Sync + Threads + Wait>(
+    rt: &R,
+    alloc: Global,
+    place: u64,
+) -> TurnReport {
+    let played = play_over(rt, alloc, place);
     holds(rt, "counted", played.counted);
     let given = played.to_west.wrapping_add(played.to_east);
     let gone = played.report.sent.wrapping_add(played.report.lost);
     same(rt, &(place, given), &(place, gone));
-    holds(rt, "balances", played.balances);
     played.report
 }
 

@@ -1,21 +1,19 @@
 //! A socket on loopback calls a number that leads nowhere.
-ghost use Rattle.std.specs.Prelude.{◌≡◌, ◌+◌, ◌^◌, length};
+ghost use Rattle.std.specs.Prelude.{◌≡◌};
 ghost use Rattle.udp_workers.specs.MioWire.{peers_of as wire_peers};
 ghost use Rattle.udp_workers.specs.Served.{AreEndpoints, peers_of};
 
-use crate::same::same;
+use crate::opened::{Play, play_with};
+use crate::same::{holds, same};
 use crate::wires::endpoints::{EAST, WEST};
 use call_auth::Challenge;
 use exchange_core::{Exchange, NoGate, Pass};
-use media_ledger::Blank;
 use mio::net::UdpSocket;
-use peer_lock::{Naming, Service};
-use peer_plan::{Endpoint, Plan};
+use peer_lock::Naming;
+use peer_plan::Endpoint;
 use std::alloc::Global;
-use std::marker::Brand;
 use std::net::{IpAddr, Ipv4Addr, Net, SocketAddr};
 use std::sync::Wait;
-use std::sync::ledger::Ledger;
 use std::test::*;
 use test_plans::plans::ONE_WORKER;
 use udp_workers::{MioWire, Sharing, Wire, Worker};
@@ -99,8 +97,8 @@ fn call_worker<J: Naming, R: Net + Wait>(
     Some((rejected, wire.given_to(WEST), wire.given_to(EAST)))
 }
 
-// The same, under the first pass.
-fn call_first<J: Naming, R: Net + Wait>(
+/// The same, under the first pass.
+pub fn call_first<J: Naming, R: Net + Wait>(
     rt: &R,
     alloc: Global,
     exchange: &Exchange<NoGate, J>,
@@ -109,45 +107,10 @@ fn call_first<J: Naming, R: Net + Wait>(
     call_worker(rt, alloc, exchange, passes.first_mut()?)
 }
 
-// The same, on an exchange of two ledgers.
-fn call_200<J: Naming, R: Net + Wait>(
-    rt: &R,
-    alloc: Global,
-    plan: Plan,
-    octets: Blank,
-    steps: Blank,
-) -> Option<(bool, u64, u64)>
-    requires octets { (octets.name ≡ J.Octets.name) × (octets.parts ≡ J.Octets.parts) ×
-        (octets.parts ≡ length plan.peers + plan.passes) }
-    requires steps { (steps.name ≡ J.Steps.name) × (steps.parts ≡ J.Steps.parts) ×
-        (steps.parts ≡ length plan.peers + plan.passes) }
-    requires first { (J.first_octets ≡ 2 ^ 48) × (J.first_steps ≡ 2 ^ 48) }
-{
-    match Exchange::<NoGate, J>::open(alloc, plan, NoGate, octets, steps) {
-        Ok((exchange, mut passes)) => call_first(rt, alloc, &exchange, passes.as_mut_slice()),
-        Err(_) => None,
-    }
-}
-
-// The same, by the ledgers that the caller names.
-fn call_named<O: Ledger + Send + Sync, S: Ledger + Send + Sync, R: Net + Wait>(
-    rt: &R,
-    alloc: Global,
-    plan: Plan,
-    octets: Blank,
-    steps: Blank,
-) -> Option<(bool, u64, u64)>
-    requires octets { (octets.name ≡ O.name) × (octets.parts ≡ O.parts) × (octets.parts ≡ length plan.peers + plan.passes) }
-    requires steps { (steps.name ≡ S.name) × (steps.parts ≡ S.parts) × (steps.parts ≡ length plan.peers + plan.passes) }
-{
-    call_200::<Service<O, S>, R>(rt, alloc, plan, octets, steps)
-}
-
 #[test]
 fn reject_on_loopback(rt: HostRuntime) {
-    let plan = Plan::read(rt.alloc(), ONE_WORKER.as_bytes()).expect(&rt, "a plan");
-    let parts = u64::from(plan.peer_count()) + u64::from(plan.passes());
-    let (octets, steps) = (Blank::new(parts), Blank::new(parts));
-    let called = call_named::<Brand, Brand, HostRuntime>(&rt, rt.alloc(), plan, octets, steps);
+    let mut called = None;
+    let played = play_with(&rt, rt.alloc(), ONE_WORKER, Play::CallFor200(&mut called));
+    holds(&rt, "played", played.is_ok());
     same(&rt, &called, &Some((true, 1, 0)));
 }

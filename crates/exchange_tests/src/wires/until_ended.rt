@@ -1,24 +1,23 @@
 //! A worker runs until its watch says that the service has ended, over a wire in memory.
-ghost use Rattle.std.specs.Prelude.{◌≡◌, ◌+◌, ◌^◌, length};
-
+use crate::opened::{Play, is_ended, play_with};
 use crate::same::{holds, same};
 use crate::wires::both_at_once::Zero;
 use crate::wires::call::{ARRIVALS, Arrival, SECOND_NEW, TO_EAST, TO_WEST};
 use crate::wires::counting_watch::{CountingWatch, read};
 use crate::wires::endpoints::{EAST, WEST};
 use crate::wires::memory_wire::{MemoryWire, Sent};
-use crate::wires::whole_call::{balances, went};
+use crate::wires::whole_call::went;
 use call_auth::Challenge;
 use exchange_core::{Exchange, NoGate, Pass};
-use media_ledger::Blank;
-use peer_lock::{Naming, Service};
-use peer_plan::{Endpoint, Plan};
+use peer_lock::Naming;
+use peer_plan::Endpoint;
 use std::alloc::Global;
-use std::marker::Brand;
+use std::net::Net;
 use std::process::Abort;
 use std::sync::Wait;
-use std::sync::ledger::Ledger;
 use std::test::*;
+use std::thread::Threads;
+use std::time::Clock;
 use test_plans::plans::ONE_WORKER;
 use udp_workers::{Moments, TurnReport, Worker};
 
@@ -57,13 +56,12 @@ impl Moments for ArrivalMoments {
     }
 }
 
-// What a run came to.
+/// What a run came to.
 #[derive(Drop)]
-struct Ran {
+pub struct Ran {
     report: TurnReport,
     turns: u64,
     sent: Vec<Sent>,
-    balances: bool,
 }
 
 // These arrivals, the last first.
@@ -107,64 +105,53 @@ fn run_worker<J: Naming, R: Wait>(
     Some((report, worker.turns(), wire))
 }
 
-// The run of a worker over a wire that fails at one of its calls, on an exchange of two ledgers.
-fn run_on<J: Naming, R: Wait>(
-    rt: &R,
-    alloc: Global,
-    watch: &CountingWatch,
-    arrivals: &[Arrival],
+/// A run of the only worker of a plan, over a wire that fails at its call of this place; at 0 never.
+#[derive(Drop)]
+pub struct Run<'a> {
+    watch: &'a CountingWatch,
+    arrivals: &'a [Arrival],
     fails_at: u64,
-    plan: Plan,
-    octets: Blank,
-    steps: Blank,
-) -> Option<Ran>
-    requires octets { (octets.name ≡ J.Octets.name) × (octets.parts ≡ J.Octets.parts) ×
-        (octets.parts ≡ length plan.peers + plan.passes) }
-    requires steps { (steps.name ≡ J.Steps.name) × (steps.parts ≡ J.Steps.parts) ×
-        (steps.parts ≡ length plan.peers + plan.passes) }
-    requires first { (J.first_octets ≡ 2 ^ 48) × (J.first_steps ≡ 2 ^ 48) }
-{
-    let opened = Exchange::<NoGate, J>::open(alloc, plan, NoGate, octets, steps);
-    let (exchange, mut passes) = opened.ok()?;
-    let pass = passes.first_mut()?;
-    let (report, turns, wire) = run_worker(rt, alloc, &exchange, pass, watch, arrivals, fails_at)?;
-    Some(Ran {
-        report,
-        turns,
-        sent: wire.into_sent(),
-        balances: balances(exchange, passes),
-    })
 }
 
-// The same, by the ledgers that the caller names.
-fn run_named<O: Ledger + Send + Sync, S: Ledger + Send + Sync, R: Wait>(
+/// Such a run, with the exchange's first pass.
+pub fn run_first<J: Naming, R: Wait>(
     rt: &R,
     alloc: Global,
-    watch: &CountingWatch,
-    arrivals: &[Arrival],
-    fails_at: u64,
-    plan: Plan,
-    octets: Blank,
-    steps: Blank,
-) -> Option<Ran>
-    requires octets { (octets.name ≡ O.name) × (octets.parts ≡ O.parts) × (octets.parts ≡ length plan.peers + plan.passes) }
-    requires steps { (steps.name ≡ S.name) × (steps.parts ≡ S.parts) × (steps.parts ≡ length plan.peers + plan.passes) }
-{
-    run_on::<Service<O, S>, R>(rt, alloc, watch, arrivals, fails_at, plan, octets, steps)
-}
-
-// The run of the only worker of a plan, over a wire that fails at its call of this place; at 0 never.
-fn run_over<R: Wait>(
-    rt: &R,
-    alloc: Global,
-    watch: &CountingWatch,
-    arrivals: &[Arrival],
-    fails_at: u64,
+    run: &Run<'_>,
+    exchange: &Exchange<NoGate, J>,
+    passes: &mut [Pass<J>],
 ) -> Option<Ran> {
-    let plan = Plan::read(alloc, ONE_WORKER.as_bytes()).ok()?;
-    let parts = u64::from(plan.peer_count()) + u64::from(plan.passes());
-    let (octets, steps) = (Blank::new(parts), Blank::new(parts));
-    run_named::<Brand, Brand, R>(rt, alloc, watch, arrivals, fails_at, plan, octets, steps)
+    let Some(pass) = passes.first_mut() else {
+        return None;
+    };
+    let (watch, arrivals, fails_at) = (run.watch, run.arrivals, run.fails_at);
+    match run_worker(rt, alloc, exchange, pass, watch, arrivals, fails_at) {
+        Some((report, turns, wire)) => Some(Ran {
+            report,
+            turns,
+            sent: wire.into_sent(),
+        }),
+        None => None,
+    }
+}
+
+// The run of the only worker of a plan, over a wire that fails at its call of this place; at 0 never. The accounts balance.
+fn run_over<R: Abort + Clock + Net + Sync + Threads + Wait>(
+    rt: &R,
+    alloc: Global,
+    watch: &CountingWatch,
+    arrivals: &[Arrival],
+    fails_at: u64,
+) -> Ran {
+    let run = Run {
+        watch,
+        arrivals,
+        fails_at,
+    };
+    let mut ran = None;
+    let played = play_with(rt, alloc, ONE_WORKER, Play::Run(&run, &mut ran));
+    holds(rt, "balances", is_ended(played));
+    ran.expect(rt, "a run")
 }
 
 // The whole call, with a second NEW after its fifth datagram.
@@ -179,20 +166,19 @@ fn with_second_new(alloc: Global) -> Option<Vec<Arrival>> {
     Some(arrivals)
 }
 
-// The run ended at the question after its last turn, the accounts balance, and the watch was told what the report counts.
+// The run ended at the question after its last turn, and the watch was told what the report counts.
 fn ended_well<R: Abort>(rt: &R, watch: &CountingWatch, ran: &Ran, turns: u64) {
     same(rt, &ran.turns, &turns);
     same(rt, &read(&watch.asked), &turns.wrapping_add(1));
     same(rt, &watch.report(), &ran.report);
     same(rt, &watch.given(), &ran.report.retired);
-    holds(rt, "balances", ran.balances);
 }
 
 #[test]
 fn a_call_ends_while_the_service_drains(rt: HostRuntime) {
     let arrivals = with_second_new(rt.alloc()).expect(&rt, "arrivals");
     let watch = CountingWatch::new(5, 3);
-    let ran = run_over(&rt, rt.alloc(), &watch, &arrivals, 0).expect(&rt, "a run");
+    let ran = run_over(&rt, rt.alloc(), &watch, &arrivals, 0);
     let expected = TurnReport {
         received: 8,
         refused: 1,
@@ -224,7 +210,7 @@ fn a_call_ends_while_the_service_drains(rt: HostRuntime) {
 fn a_second_call_while_the_service_serves(rt: HostRuntime) {
     let arrivals = with_second_new(rt.alloc()).expect(&rt, "arrivals");
     let watch = CountingWatch::new(8, 0);
-    let ran = run_over(&rt, rt.alloc(), &watch, &arrivals, 0).expect(&rt, "a run");
+    let ran = run_over(&rt, rt.alloc(), &watch, &arrivals, 0);
     same(&rt, &(ran.report.received, ran.report.refused), &(8, 0));
     same(&rt, &read(&watch.west.turned_away), &0);
     // Its ACCEPT, and the NEW of its other leg.
@@ -241,7 +227,7 @@ fn each_peer_is_counted(rt: HostRuntime) {
     let _ = arrivals.push(STRANGER);
     let _ = arrivals.push(SHORT);
     same(&rt, &arrivals.len(), &7);
-    let ran = run_over(&rt, rt.alloc(), &watch, &arrivals, 0).expect(&rt, "a run");
+    let ran = run_over(&rt, rt.alloc(), &watch, &arrivals, 0);
     let (west, east) = (&watch.west, &watch.east);
     same(&rt, &(read(&west.received), read(&west.refused)), &(3, 0));
     same(&rt, &(read(&east.received), read(&east.refused)), &(3, 1));
@@ -255,7 +241,7 @@ fn each_fault_is_told(rt: HostRuntime) {
     let arrivals = with_second_new(rt.alloc()).expect(&rt, "arrivals");
     for place in 1..25u64 {
         let watch = CountingWatch::new(5, 5);
-        let ran = run_over(&rt, rt.alloc(), &watch, &arrivals, place).expect(&rt, "a run");
+        let ran = run_over(&rt, rt.alloc(), &watch, &arrivals, place);
         same(&rt, &(place, ran.report.faults), &(place, 1));
         ended_well(&rt, &watch, &ran, 10);
     }
@@ -265,7 +251,7 @@ fn each_fault_is_told(rt: HostRuntime) {
 fn an_ended_service_makes_no_turn(rt: HostRuntime) {
     let arrivals = with_second_new(rt.alloc()).expect(&rt, "arrivals");
     let watch = CountingWatch::new(0, 0);
-    let ran = run_over(&rt, rt.alloc(), &watch, &arrivals, 0).expect(&rt, "a run");
+    let ran = run_over(&rt, rt.alloc(), &watch, &arrivals, 0);
     same(&rt, &ran.report, &TurnReport::default());
     same(&rt, &ran.sent.len(), &0);
     ended_well(&rt, &watch, &ran, 0);

@@ -1,18 +1,16 @@
 //! Workers run on threads of their own until their watch says that the service has ended.
-ghost use Rattle.std.specs.Prelude.{◌≡◌, ◌+◌, ◌^◌, length};
+ghost use Rattle.std.specs.Prelude.{◌≡◌};
 
+use crate::opened::{Play, play_with};
 use crate::same::{holds, same};
 use crate::wires::both_at_once::{TestSeat, seats_of, turns_of};
 use crate::wires::counting_watch::{CountingWatch, read};
 use exchange_core::{Exchange, NoGate, Pass, Retired};
-use media_ledger::Blank;
-use peer_lock::{Naming, Service};
-use peer_plan::Plan;
+use peer_lock::Naming;
 use std::alloc::Global;
-use std::marker::{Brand, PhantomData};
+use std::marker::PhantomData;
 use std::sync::Wait;
 use std::sync::atomic::{AtomicBool, AtomicU64, Ordering};
-use std::sync::ledger::Ledger;
 use std::test::*;
 use std::thread;
 use std::thread::Threads;
@@ -20,9 +18,9 @@ use std::time::{Clock, Duration};
 use test_plans::plans::TWO_WORKERS;
 use udp_workers::{Event, Post, ServiceStage, Watch, WatchedExchange, start_until};
 
-// Serves until it is stopped.
+/// Serves until it is stopped.
 #[derive(Drop)]
-struct StoppedWatch {
+pub struct StoppedWatch {
     asked: AtomicU64,
     stopped: AtomicBool,
 }
@@ -111,85 +109,48 @@ fn run_both<J: Naming, P: Post + Send + Sync, R: Clock + Threads + Wait + Sync>(
     }
 }
 
-// The same, with a seat for each worker of the exchange. Gives how many turns they made, too.
-fn run_seats<J: Naming, P: Post + Send + Sync, R: Clock + Threads + Wait + Sync>(
+/// The two runs of both workers, each in its seat.
+#[derive(Drop)]
+pub struct TwoRuns<'a> {
+    counting: &'a CountingWatch,
+    stopped: &'a StoppedWatch,
+}
+
+/// Both workers make these runs. Gives how many turns they made, and what ran beside the second run.
+pub fn run_twice<J: Naming, P: Post + Send + Sync, R: Clock + Threads + Wait + Sync>(
     rt: &R,
     alloc: Global,
+    runs: &TwoRuns<'_>,
     exchange: &Exchange<NoGate, J>,
-    passes: Vec<Pass<J>>,
-    counting: &CountingWatch,
-    stopped: &StoppedWatch,
+    passes: &mut Vec<Pass<J>>,
 ) -> Option<(u64, u64)>
     requires { exchange.now ≡ P.plan }
 {
-    let seats = seats_of::<J, P>(alloc, exchange.plan(), passes)?;
-    let asked = run_both(rt, exchange, &seats, counting, stopped)?;
-    Some((turns_of(seats), asked))
-}
-
-// The same, on an exchange of two ledgers.
-fn run_on<J: Naming, P: Post + Send + Sync, R: Clock + Threads + Wait + Sync>(
-    rt: &R,
-    alloc: Global,
-    plan: Plan,
-    octets: Blank,
-    steps: Blank,
-    counting: &CountingWatch,
-    stopped: &StoppedWatch,
-) -> Option<(u64, u64)>
-    requires plan { plan ≡ P.plan }
-    requires octets { (octets.name ≡ J.Octets.name) × (octets.parts ≡ J.Octets.parts) ×
-        (octets.parts ≡ length plan.peers + plan.passes) }
-    requires steps { (steps.name ≡ J.Steps.name) × (steps.parts ≡ J.Steps.parts) ×
-        (steps.parts ≡ length plan.peers + plan.passes) }
-    requires first { (J.first_octets ≡ 2 ^ 48) × (J.first_steps ≡ 2 ^ 48) }
-{
-    let opened = Exchange::<NoGate, J>::open(alloc, plan, NoGate, octets, steps);
-    let (exchange, passes) = opened.ok()?;
-    run_seats::<J, P, R>(rt, alloc, &exchange, passes, counting, stopped)
-}
-
-// The same, by the ledgers that the caller names.
-fn run_named<
-    O: Ledger + Send + Sync,
-    S: Ledger + Send + Sync,
-    P: Post + Send + Sync,
-    R: Clock + Threads + Wait + Sync,
->(
-    rt: &R,
-    alloc: Global,
-    plan: Plan,
-    octets: Blank,
-    steps: Blank,
-    counting: &CountingWatch,
-    stopped: &StoppedWatch,
-) -> Option<(u64, u64)>
-    requires plan { plan ≡ P.plan }
-    requires octets { (octets.name ≡ O.name) × (octets.parts ≡ O.parts) × (octets.parts ≡ length plan.peers + plan.passes) }
-    requires steps { (steps.name ≡ S.name) × (steps.parts ≡ S.parts) × (steps.parts ≡ length plan.peers + plan.passes) }
-{
-    run_on::<Service<O, S>, P, R>(rt, alloc, plan, octets, steps, counting, stopped)
+    let Some(seats) = seats_of::<J, P>(alloc, exchange.plan(), passes) else {
+        return None;
+    };
+    let asked = run_both(rt, exchange, &seats, runs.counting, runs.stopped);
+    let turns = turns_of(seats);
+    match asked {
+        Some(asked) => Some((turns, asked)),
+        None => None,
+    }
 }
 
 #[test]
 fn threads_until_ended(rt: HostRuntime) {
-    let plan = Plan::read(rt.alloc(), TWO_WORKERS.as_bytes()).expect(&rt, "a plan");
-    let parts = u64::from(plan.peer_count()) + u64::from(plan.passes());
-    let (octets, steps) = (Blank::new(parts), Blank::new(parts));
     let counting = CountingWatch::new(5, 0);
     let stopped = StoppedWatch {
         asked: AtomicU64::new(0),
         stopped: AtomicBool::new(false),
     };
-    let ran = run_named::<Brand, Brand, Brand, HostRuntime>(
-        &rt,
-        rt.alloc(),
-        plan,
-        octets,
-        steps,
-        &counting,
-        &stopped,
-    );
+    let runs = TwoRuns {
+        counting: &counting,
+        stopped: &stopped,
+    };
+    let mut ran = None;
+    let played = play_with(&rt, rt.alloc(), TWO_WORKERS, Play::TwoRuns(&runs, &mut ran));
+    holds(&rt, "played", played.is_ok());
     let (turns, asked) = ran.expect(&rt, "two runs");
     // Each of both workers is told once that the service has ended.
     same(&rt, &read(&counting.asked), &7);

@@ -1,21 +1,23 @@
 //! A whole call over a wire in memory, one datagram a turn.
-ghost use Rattle.std.specs.Prelude.{◌≡◌, ◌+◌, ◌^◌, length};
+ghost use Rattle.std.specs.Prelude.{◌≡◌};
 ghost use Rattle.udp_workers.specs.Served.{AreEndpoints, peers_of};
 
+use crate::opened::{Play, is_ended, play_with};
 use crate::same::{holds, same};
 use crate::wires::call::{ARRIVALS, TO_EAST, TO_WEST};
 use crate::wires::endpoints::{EAST, WEST};
 use crate::wires::memory_wire::{MemoryWire, Sent};
 use call_auth::Challenge;
 use exchange_core::{Exchange, NoGate, Pass};
-use media_ledger::Blank;
-use peer_lock::{Naming, Service};
-use peer_plan::{Endpoint, Plan};
+use peer_lock::Naming;
+use peer_plan::Endpoint;
 use std::alloc::Global;
-use std::marker::Brand;
+use std::net::Net;
+use std::process::Abort;
 use std::sync::Wait;
-use std::sync::ledger::Ledger;
 use std::test::*;
+use std::thread::Threads;
+use std::time::Clock;
 use test_plans::plans::ONE_WORKER;
 use udp_workers::{TurnReport, Wire, Worker};
 
@@ -30,8 +32,6 @@ pub struct Played {
     pub to_east: u64,
     /// Whether each report has as many faults as `failures()` rose, and `given()` rose by what was sent and lost.
     pub counted: bool,
-    /// Whether the accounts were settled, and accepted octets are those packed, queued and dropped.
-    pub balances: bool,
 }
 
 // What both reports count.
@@ -77,14 +77,6 @@ fn play_arrivals<J: Naming, R: Wait>(
     (sum, counted)
 }
 
-/// Whether the accounts of an exchange are settled, and accepted octets are those packed, queued and dropped.
-pub fn balances<J: Naming>(exchange: Exchange<NoGate, J>, passes: Vec<Pass<J>>) -> bool {
-    match exchange.settle(passes) {
-        Ok(s) => s.accepted == s.packed.wrapping_add(s.queued).wrapping_add(s.dropped),
-        Err(_) => false,
-    }
-}
-
 // The only worker of a plan plays the call with the exchange's first pass.
 fn play_worker<J: Naming, R: Wait>(
     rt: &R,
@@ -102,62 +94,39 @@ fn play_worker<J: Naming, R: Wait>(
     Some((report, counted, wire))
 }
 
-// The call over a wire that fails at one of its calls, on an exchange of two ledgers.
-fn play<J: Naming, R: Wait>(
+/// The call over a wire in memory that fails at its call of this place, with the exchange's first pass; at 0 never.
+pub fn play_call<J: Naming, R: Wait>(
     rt: &R,
     alloc: Global,
-    plan: Plan,
     fails_at: u64,
-    octets: Blank,
-    steps: Blank,
-) -> Option<Played>
-    requires octets { (octets.name ≡ J.Octets.name) × (octets.parts ≡ J.Octets.parts) ×
-        (octets.parts ≡ length plan.peers + plan.passes) }
-    requires steps { (steps.name ≡ J.Steps.name) × (steps.parts ≡ J.Steps.parts) ×
-        (steps.parts ≡ length plan.peers + plan.passes) }
-    requires first { (J.first_octets ≡ 2 ^ 48) × (J.first_steps ≡ 2 ^ 48) }
-{
-    let opened = Exchange::<NoGate, J>::open(alloc, plan, NoGate, octets, steps);
-    let (exchange, mut passes) = opened.ok()?;
-    let pass = passes.first_mut()?;
-    let (report, counted, wire) = play_worker(rt, alloc, &exchange, pass, fails_at)?;
-    Some(Played {
-        report,
-        to_west: wire.given_to(WEST),
-        to_east: wire.given_to(EAST),
-        sent: wire.into_sent(),
-        counted,
-        balances: balances(exchange, passes),
-    })
+    exchange: &Exchange<NoGate, J>,
+    passes: &mut [Pass<J>],
+) -> Option<Played> {
+    let Some(pass) = passes.first_mut() else {
+        return None;
+    };
+    match play_worker(rt, alloc, exchange, pass, fails_at) {
+        Some((report, counted, wire)) => Some(Played {
+            report,
+            to_west: wire.given_to(WEST),
+            to_east: wire.given_to(EAST),
+            sent: wire.into_sent(),
+            counted,
+        }),
+        None => None,
+    }
 }
 
-// The same, by the ledgers that the caller names.
-fn play_named<O: Ledger + Send + Sync, S: Ledger + Send + Sync, R: Wait>(
+/// The call over a wire in memory that fails at its call of this place; at 0 never. The accounts balance.
+pub fn play_over<R: Abort + Clock + Net + Sync + Threads + Wait>(
     rt: &R,
     alloc: Global,
-    plan: Plan,
     fails_at: u64,
-    octets: Blank,
-    steps: Blank,
-) -> Option<Played>
-    requires octets { (octets.name ≡ O.name) × (octets.parts ≡ O.parts) × (octets.parts ≡ length plan.peers + plan.passes) }
-    requires steps { (steps.name ≡ S.name) × (steps.parts ≡ S.parts) × (steps.parts ≡ length plan.peers + plan.passes) }
-{
-    play::<Service<O, S>, R>(rt, alloc, plan, fails_at, octets, steps)
-}
-
-/// The call over a wire in memory that fails at its call of this place; at 0 never.
-pub fn play_over<R: Wait>(rt: &R, alloc: Global, fails_at: u64) -> Option<Played> {
-    let plan = Plan::read(alloc, ONE_WORKER.as_bytes()).ok()?;
-    let parts = u64::from(plan.peer_count()) + u64::from(plan.passes());
-    play_named::<Brand, Brand, R>(
-        rt,
-        alloc,
-        plan,
-        fails_at,
-        Blank::new(parts),
-        Blank::new(parts),
-    )
+) -> Played {
+    let mut call = None;
+    let played = play_with(rt, alloc, ONE_WORKER, Play::WholeCall(fails_at, &mut call));
+    holds(rt, "balances", is_ended(played));
+    call.expect(rt, "a call")
 }
 
 /// Whether what went to an endpoint is this, in order.
@@ -184,7 +153,7 @@ fn is_at(wanted: &[&[u8]], place: usize, octets: &[u8]) -> bool {
 
 #[test]
 fn whole_call_over_a_wire(rt: HostRuntime) {
-    let played = play_over(&rt, rt.alloc(), 0).expect(&rt, "a call");
+    let played = play_over(&rt, rt.alloc(), 0);
     let expected = TurnReport {
         received: 7,
         refused: 0,
@@ -198,5 +167,4 @@ fn whole_call_over_a_wire(rt: HostRuntime) {
     holds(&rt, "to the east", went(&played.sent, EAST, &TO_EAST));
     same(&rt, &(played.to_west, played.to_east), &(3, 4));
     holds(&rt, "counted", played.counted);
-    holds(&rt, "balances", played.balances);
 }

@@ -1,7 +1,0 @@
-use Rattle.exchange_tests.proofs.wires.whole_call.play_over.Given as goal
-
-abbrev pub ghosts-play_named-O-Ledger : goal.ghosts-play_named-O-Ledger
-ghosts-play_named-O-Ledger g a = record { name = a.octets.name; parts = a.octets.parts }
-
-abbrev pub ghosts-play_named-S-Ledger : goal.ghosts-play_named-S-Ledger
-ghosts-play_named-S-Ledger g a = record { name = a.steps.name; parts = a.steps.parts }
