@@ -22,13 +22,14 @@ use worker_seats::{
 
 // All workers make their turns; their passes go back to the others.
 fn turns_of<
+    't,
     J: Naming,
     P: Post + Send + Sync,
     R: Clock + Net + RandomSource + Threads + Wait + Sync,
 >(
-    rt: &R,
+    rt: &'t R,
     alloc: Global,
-    exchange: &Exchange<NoGate, J>,
+    exchange: &'t Exchange<NoGate, J>,
     passes: &mut Vec<Pass<J>>,
     turns: u32,
     opened: Instant,
@@ -38,7 +39,7 @@ fn turns_of<
 {
     let sockets = PlainSockets;
     let plan = exchange.plan();
-    let seats = seats_of::<J, P, R, PlainSockets>(rt, alloc, plan, passes, opened, &sockets);
+    let seats = seats_of::<J, P, R, PlainSockets>(rt, alloc, plan, passes, opened, &sockets, None);
     let mut seats = match seats {
         Ok(seats) => seats,
         Err(error) => return Err(error),

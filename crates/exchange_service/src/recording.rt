@@ -21,9 +21,8 @@ use std::time::{Clock, Instant, SystemTime};
 use trace_writer::{
     Folder, Trace, TraceFile, TraceFolder, TraceNotes, TraceSettings, write_trace_beside,
 };
-use traced_seats::TracedSeat;
 use udp_workers::{Post, WatchedExchange};
-use worker_seats::ServiceError;
+use worker_seats::{ServiceError, ServiceSeat};
 
 /// What a thread needs that writes the rows of ended legs to a file.
 #[derive(Drop)]
@@ -198,7 +197,7 @@ fn serve_traced<
     rt: &R,
     disk: &D,
     service: &WatchedExchange<'_, ServiceWatch, NoGate, J, P>,
-    seats: &[TracedSeat<'_, R, J, P>],
+    seats: &[ServiceSeat<'_, R, J, P>],
     desk: &mut Desk<'_, J>,
     control: &mut Control<'_>,
     opened: Instant,
@@ -243,7 +242,7 @@ pub(crate) fn serve_written<
     rt: &R,
     disk: &D,
     service: &WatchedExchange<'_, ServiceWatch, NoGate, J, P>,
-    seats: &[TracedSeat<'_, R, J, P>],
+    seats: &[ServiceSeat<'_, R, J, P>],
     desk: &mut Desk<'_, J>,
     control: &mut Control<'_>,
     opened: Instant,

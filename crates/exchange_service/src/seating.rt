@@ -21,9 +21,8 @@ use std::thread;
 use std::thread::Threads;
 use std::time::{Clock, Instant};
 use trace_writer::{Folder, Trace};
-use traced_seats::{TracedSeat, lane_of, traced_seats_of};
 use udp_workers::{Post, TurnReport, WatchedExchange, start_until};
-use worker_seats::{ServiceError, reports_of};
+use worker_seats::{ServiceError, ServiceSeat, lane_of, reports_of, seats_of};
 
 /// The workers serve beside the control socket until they are told to end. False if a thread was refused: then they end at once.
 pub(crate) fn serve_seats<
@@ -33,7 +32,7 @@ pub(crate) fn serve_seats<
 >(
     rt: &R,
     service: &WatchedExchange<'_, ServiceWatch, NoGate, J, P>,
-    seats: &[TracedSeat<'_, R, J, P>],
+    seats: &[ServiceSeat<'_, R, J, P>],
     desk: &mut Desk<'_, J>,
     control: &mut Control<'_>,
     opened: Instant,
@@ -54,7 +53,7 @@ fn told_seats<'r, J: Naming, P: Post, R: Clock + Eprint + Net + RandomSource + W
     settings: &Settings<'_>,
     opened: Instant,
     trace: Option<&'r Trace>,
-) -> Result<Vec<TracedSeat<'r, R, J, P>>, ServiceError>
+) -> Result<Vec<ServiceSeat<'r, R, J, P>>, ServiceError>
     requires plan { plan.now ≡ P.plan }
     requires enough { length plan.now.workers + 1 ≤ vec_len passes.old }
     ensures few { IfOk result (λ seats. vec_len seats ≤ 8) }
@@ -66,7 +65,7 @@ fn told_seats<'r, J: Naming, P: Post, R: Clock + Eprint + Net + RandomSource + W
     };
     tell_start(&log, plan, settings.version, settings.plan_path);
     let sockets = ServiceSockets { log: &log };
-    traced_seats_of::<J, P, R, ServiceSockets<'_, Journal<'_, R>>>(
+    seats_of::<J, P, R, ServiceSockets<'_, Journal<'_, R>>>(
         rt, alloc, plan, passes, opened, &sockets, trace,
     )
 }
@@ -83,7 +82,7 @@ fn serve_desk<
     exchange: &Exchange<NoGate, J>,
     watch: &ServiceWatch,
     written: &mut Written<'_>,
-    seats: &[TracedSeat<'_, R, J, P>],
+    seats: &[ServiceSeat<'_, R, J, P>],
     desk: &mut Desk<'_, J>,
     control: &mut Control<'_>,
     opened: Instant,
@@ -111,7 +110,7 @@ fn serve_seated<
     exchange: &Exchange<NoGate, J>,
     watch: &ServiceWatch,
     written: &mut Written<'_>,
-    seats: &[TracedSeat<'_, R, J, P>],
+    seats: &[ServiceSeat<'_, R, J, P>],
     passes: &mut Vec<Pass<J>>,
     control: &mut Control<'_>,
     opened: Instant,

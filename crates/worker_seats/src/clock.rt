@@ -1,23 +1,30 @@
 //! Moments by the clock of the system.
 use std::time::{Clock, Instant};
+use trace_writer::Trace;
 use udp_workers::Moments;
 
-/// Tells the milliseconds since an exchange was opened. Where the clock can't be read, it tells the last ones again.
+/// Tells the milliseconds since an exchange was opened, also to the trace, where there is one. Where the clock can't be read, it
+/// tells the last ones again.
 #[derive(Drop)]
-pub struct SinceOpening<'r, R: Clock> {
-    pub rt: &'r R,
-    pub opened: Instant,
-    /// The moment that was told last.
-    pub last: u64,
+pub struct SinceOpening<'t, R: Clock> {
+    pub(crate) rt: &'t R,
+    pub(crate) opened: Instant,
+    // The moment that was told last.
+    pub(crate) last: u64,
+    pub(crate) trace: Option<&'t Trace>,
+    pub(crate) thread: usize,
 }
 
-impl<'r, R: Clock> Moments for SinceOpening<'r, R> {
+impl<'t, R: Clock> Moments for SinceOpening<'t, R> {
     // Where the clock can't be read, time stands still.
     fn now(&mut self) -> u64 {
         if let Ok(elapsed) = self.opened.elapsed(self.rt) {
             if let Ok(now) = u64::try_from(elapsed.as_millis()) {
                 self.last = now;
             }
+        }
+        if let Some(trace) = self.trace {
+            trace.tell_moment(self.thread, self.last);
         }
         self.last
     }

@@ -5,21 +5,30 @@ use call_auth::Challenge;
 use rand::RngExt;
 use rand::rngs::StdRng;
 use rand_core::Rng;
+use std::sync::Wait;
+use trace_writer::Trace;
 use udp_workers::Challenges;
 
-/// Draws challenges of ten decimal digits from a generator ("Authentication").
+/// Draws challenges of ten decimal digits from a generator ("Authentication"), and tells them to the trace, where there is one.
 #[derive(Drop)]
-pub struct Digits {
-    pub generator: StdRng,
+pub struct Digits<'t, R: Wait> {
+    pub(crate) rt: &'t R,
+    pub(crate) generator: StdRng,
+    pub(crate) trace: Option<&'t Trace>,
+    pub(crate) thread: usize,
 }
 
-impl Challenges for Digits {
+impl<'t, R: Wait> Challenges for Digits<'t, R> {
     fn draw(&mut self) -> Challenge {
         let digits = ten_digits(&mut self.generator);
-        match Challenge::new(&digits) {
+        let challenge = match Challenge::new(&digits) {
             Some(challenge) => challenge,
             None => unreachable!(),
+        };
+        if let Some(trace) = self.trace {
+            trace.tell_challenge(self.rt, self.thread, &challenge);
         }
+        challenge
     }
 }
 

@@ -1,5 +1,5 @@
-//! The workers of a plan in their seats, each over a UDP socket of the system, by its clock, with challenges of random digits; and
-//! what they did.
+//! The workers of a plan in their seats, each over a UDP socket of the system, by its clock, with challenges of random digits, and
+//! telling a trace, where there is one, what the exchange is given; and what they did.
 #![tactic(auto)]
 
 mod clock;
@@ -8,10 +8,12 @@ mod reports;
 mod seats;
 mod service_error;
 mod sockets;
+mod traced_wire;
 
 pub use clock::SinceOpening;
 pub use digits::Digits;
 pub use reports::{reports_of, write_reports};
 pub use seats::{ServiceSeat, seats_of};
 pub use service_error::{ServiceError, service_error_name};
-pub use sockets::{PlainSockets, Sockets, wire_and_digits_of};
+pub use sockets::{PlainSockets, Sockets};
+pub use traced_wire::{TracedWire, lane_of};

@@ -17,18 +17,19 @@ fn report_of<W: Wire + Drop, M: Moments + Drop, C: Challenges + Drop, J: Naming,
 
 /// The reports of the seats, in order. Their passes go back to the others, behind them.
 ///
-/// `Memory`: a request for memory was refused. Then the pass of that seat and the seats behind it are dropped.
+/// `Memory`: a request for memory was refused. Then the seats are dropped, with their passes.
 pub fn reports_of<W: Wire + Drop, M: Moments + Drop, C: Challenges + Drop, J: Naming, P: Post>(
     alloc: Global,
-    seats: Vec<Seat<W, M, C, J, P>>,
+    mut seats: Vec<Seat<W, M, C, J, P>>,
     passes: &mut Vec<Pass<J>>,
 ) -> Result<Vec<TurnReport>, ServiceError> {
-    let mut reports = Vec::new(alloc);
-    for seat in seats {
-        let (report, pass) = report_of(seat);
-        if reports.push(report).is_err() || passes.push(pass).is_err() {
-            return Err(ServiceError::Memory);
-        }
+    let count = seats.len();
+    let mut reports = Vec::with_capacity(alloc, count)?;
+    passes.reserve(count)?;
+    for _ in 0..count {
+        let (report, pass) = report_of(seats.remove(0));
+        reports.push_reserved(report);
+        passes.push_reserved(pass);
     }
     Ok(reports)
 }

@@ -1,69 +1,161 @@
 //! The seats of the workers of a plan.
-ghost use Rattle.std.specs.Prelude.{◌≡◌, ◌+◌, ◌<◌, ◌≤◌, IfOk, OnOk, length, vec_len};
+ghost use Rattle.std.specs.Prelude.{◌≡◌, ◌+◌, ◌<◌, ◌≤◌, IfOk, OnOk, length, vec_capacity, vec_len};
+ghost use Rattle.udp_workers.specs.MioWire as wires;
+ghost use Rattle.udp_workers.specs.Served.{AreEndpoints, peers_of};
 
 use crate::clock::SinceOpening;
 use crate::digits::Digits;
 use crate::service_error::ServiceError;
-use crate::sockets::{Sockets, wire_and_digits_of};
+use crate::sockets::{Sockets, wire_of};
+use crate::traced_wire::{TracedWire, lane_of};
 use exchange_core::Pass;
 use peer_lock::Naming;
 use peer_plan::Plan;
+use rand::make_rng;
 use std::alloc::Global;
 use std::net::Net;
 use std::random::RandomSource;
+use std::sync::Wait;
 use std::time::{Clock, Instant};
-use udp_workers::{MioWire, Post, Seat, Worker};
+use trace_writer::Trace;
+use udp_workers::{Post, Seat, Worker};
 
-/// A worker over a UDP socket of the system, by its clock.
-pub type ServiceSeat<'r, R, J, P> = Seat<MioWire, SinceOpening<'r, R>, Digits, J, P>;
+/// A worker over a UDP socket of the system, by its clock, with challenges of random digits.
+pub type ServiceSeat<'t, R, J, P> = Seat<
+    TracedWire<'t, R>,
+    SinceOpening<'t, R>,
+    Digits<'t, R>,
+    J,
+    P,
+>;
 
-// The seat of the worker at a place of the plan, over its own socket.
-fn seat_of<'r, J: Naming, P: Post, R: Clock + Net + RandomSource, S: Sockets>(
-    rt: &'r R,
+// The wire of a worker at a place of the plan: its own socket, and its lane of the trace.
+fn traced_wire_of<'t, R: Net + Wait, S: Sockets>(
+    rt: &'t R,
     alloc: Global,
-    plan: &Plan,
+    plan: &'t Plan,
+    worker: &Worker,
     place: u16,
-    pass: Pass<J>,
+    sockets: &S,
+    trace: Option<&'t Trace>,
+) -> Result<TracedWire<'t, R>, ServiceError>
+    requires place { place < length plan.now.workers }
+    requires peers { worker.now.peers ≡ peers_of plan.now worker.now.place }
+    ensures { IfOk result (λ made. AreEndpoints plan.now worker.now.peers (wires.peers_of made.wire)) }
+{
+    let lane = lane_of(alloc, trace, usize::from(place))?;
+    let wire = wire_of(rt, alloc, plan, worker, place, sockets)?;
+    Ok(TracedWire {
+        rt,
+        wire,
+        plan,
+        lane,
+    })
+}
+
+// What a worker at a place of the plan needs of the system: its wire, and digits for its challenges.
+fn tools_of<'t, R: Net + RandomSource + Wait, S: Sockets>(
+    rt: &'t R,
+    alloc: Global,
+    plan: &'t Plan,
+    worker: &Worker,
+    place: u16,
+    sockets: &S,
+    trace: Option<&'t Trace>,
+) -> Result<(TracedWire<'t, R>, Digits<'t, R>), ServiceError>
+    requires place { place < length plan.now.workers }
+    requires peers { worker.now.peers ≡ peers_of plan.now worker.now.place }
+    ensures { IfOk result (λ tools. AreEndpoints plan.now worker.now.peers (wires.peers_of tools.0.wire)) }
+{
+    let wire = traced_wire_of(rt, alloc, plan, worker, place, sockets, trace)?;
+    match make_rng(rt) {
+        Ok(generator) => {
+            let thread = usize::from(place);
+            Ok((
+                wire,
+                Digits {
+                    rt,
+                    generator,
+                    trace,
+                    thread,
+                },
+            ))
+        }
+        Err(_) => Err(ServiceError::Entropy),
+    }
+}
+
+// Puts the worker at a place of the plan into its seat, over its own socket, behind the others. It takes the next pass, once it has
+// what it needs of the system.
+fn push_seat<'t, J: Naming, P: Post, R: Clock + Net + RandomSource + Wait, S: Sockets>(
+    rt: &'t R,
+    alloc: Global,
+    plan: &'t Plan,
+    place: u16,
+    passes: &mut Vec<Pass<J>>,
     opened: Instant,
     sockets: &S,
-) -> Result<ServiceSeat<'r, R, J, P>, ServiceError>
+    trace: Option<&'t Trace>,
+    seats: &mut Vec<ServiceSeat<'t, R, J, P>>,
+) -> Result<(), ServiceError>
     requires plan { plan.now ≡ P.plan }
     requires place { place < length plan.now.workers }
+    requires pass { 1 ≤ vec_len passes.old }
+    requires room { vec_len seats.old < vec_capacity seats.old }
+    ensures room { vec_capacity seats.new ≡ vec_capacity seats.old }
+    ensures one { OnOk result (vec_len seats.new ≡ vec_len seats.old + 1) }
+    ensures taken { OnOk result (vec_len passes.new + 1 ≡ vec_len passes.old) }
 {
     let worker = Worker::new(plan, place);
-    let (wire, digits) = wire_and_digits_of(rt, alloc, plan, &worker, place, sockets)?;
+    let (wire, digits) = tools_of(rt, alloc, plan, &worker, place, sockets, trace)?;
     let moments = SinceOpening {
         rt,
         opened,
         last: 0,
+        trace,
+        thread: usize::from(place),
     };
-    Ok(Seat::new(worker, wire, pass, moments, digits))
+    let pass = passes.remove(0);
+    seats.push_reserved(Seat::new(worker, wire, pass, moments, digits));
+    Ok(())
 }
 
-/// The seats of all workers of the plan, in its order, at most 8. Each takes the next pass, so the first worker has the first.
+/// The seats of all workers of the plan, in its order, at most 8, with what each tells the trace, where there is one. Each takes
+/// the next pass, so the first worker has the first.
 ///
-/// `Bind`, `Entropy`, `Memory`: a socket isn't bound, the system gives no random octets, a request for memory was refused. Then
-/// the passes that were taken are gone.
-pub fn seats_of<'r, J: Naming, P: Post, R: Clock + Net + RandomSource, S: Sockets>(
-    rt: &'r R,
+/// `Memory`: a request for memory was refused. `Bind`: a socket isn't bound. `Entropy`: the system gives no random octets. They
+/// are looked for worker by worker; then the passes of the workers before are gone.
+pub fn seats_of<'t, J: Naming, P: Post, R: Clock + Net + RandomSource + Wait, S: Sockets>(
+    rt: &'t R,
     alloc: Global,
-    plan: &Plan,
+    plan: &'t Plan,
     passes: &mut Vec<Pass<J>>,
     opened: Instant,
     sockets: &S,
-) -> Result<Vec<ServiceSeat<'r, R, J, P>>, ServiceError>
+    trace: Option<&'t Trace>,
+) -> Result<Vec<ServiceSeat<'t, R, J, P>>, ServiceError>
     requires plan { plan.now ≡ P.plan }
     requires enough { length plan.now.workers ≤ vec_len passes.old }
     ensures each { IfOk result (λ seats. vec_len seats ≡ length plan.now.workers) }
     ensures few { IfOk result (λ seats. vec_len seats ≤ 8) }
     ensures taken { OnOk result (vec_len passes.new + length plan.now.workers ≡ vec_len passes.old) }
 {
-    let mut seats = Vec::new(alloc);
-    for place in 0..plan.workers().len() {
-        let pass = passes.remove(0);
-        let seat = seat_of::<J, P, R, S>(rt, alloc, plan, place as u16, pass, opened, sockets)?;
-        if seats.push(seat).is_err() {
-            return Err(ServiceError::Memory);
+    let count = plan.workers().len();
+    let mut seats = Vec::with_capacity(alloc, count)?;
+    for place in 0..count {
+        let pushed = push_seat::<J, P, R, S>(
+            rt,
+            alloc,
+            plan,
+            place as u16,
+            passes,
+            opened,
+            sockets,
+            trace,
+            &mut seats,
+        );
+        if let Err(error) = pushed {
+            return Err(error);
         }
     }
     Ok(seats)

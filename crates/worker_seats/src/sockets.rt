@@ -3,14 +3,11 @@ ghost use Rattle.std.specs.Prelude.{◌≡◌, ◌<◌, IfOk, length};
 ghost use Rattle.udp_workers.specs.MioWire as wires;
 ghost use Rattle.udp_workers.specs.Served.{AreEndpoints, peers_of};
 
-use crate::digits::Digits;
 use crate::service_error::ServiceError;
 use peer_plan::Plan;
-use rand::make_rng;
 use std::alloc::Global;
 use std::net::Net;
 use std::os::fd::RawFd;
-use std::random::RandomSource;
 use udp_workers::{MioWire, Sharing, Wire, Worker};
 
 /// What is done with the sockets of workers.
@@ -52,8 +49,11 @@ fn set_up_all<S: Sockets>(sockets: &S, place: u16, wire: &MioWire) {
     }
 }
 
-// The socket of a worker of the plan.
-fn wire_of<N: Net, S: Sockets>(
+// The socket of a worker of the plan, bound to the endpoint of the worker at this place by `MioWire::bind`: shared with others where
+// these sockets are, else alone.
+//
+// `Memory`: a request for memory was refused. `Bind`: the socket isn't bound.
+pub(crate) fn wire_of<N: Net, S: Sockets>(
     rt: &N,
     alloc: Global,
     plan: &Plan,
@@ -75,28 +75,4 @@ fn wire_of<N: Net, S: Sockets>(
     let wire = MioWire::bind(rt, alloc, workers[usize::from(place)], endpoints, sharing)?;
     set_up_all(sockets, place, &wire);
     Ok(wire)
-}
-
-/// The socket of a worker of the plan, and the digits for its challenges. The socket is bound to the endpoint of the worker at
-/// this place, by `MioWire::bind`: shared with others where these sockets are, else alone.
-///
-/// `Memory`: a request for memory was refused. `Bind`: the socket isn't bound. `Entropy`, which is looked for last: the system
-/// gives no random octets.
-pub fn wire_and_digits_of<R: Net + RandomSource, S: Sockets>(
-    rt: &R,
-    alloc: Global,
-    plan: &Plan,
-    worker: &Worker,
-    place: u16,
-    sockets: &S,
-) -> Result<(MioWire, Digits), ServiceError>
-    requires place { place < length plan.now.workers }
-    requires peers { worker.now.peers ≡ peers_of plan.now worker.now.place }
-    ensures { IfOk result (λ both. AreEndpoints plan.now worker.now.peers (wires.peers_of both.0)) }
-{
-    let wire = wire_of(rt, alloc, plan, worker, place, sockets)?;
-    match make_rng(rt) {
-        Ok(generator) => Ok((wire, Digits { generator })),
-        Err(_) => Err(ServiceError::Entropy),
-    }
 }

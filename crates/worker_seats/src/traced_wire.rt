@@ -1,0 +1,101 @@
+//! A worker's wire, as it tells the trace what the worker hands to the exchange.
+ghost use Rattle.udp_workers.specs.MioWire as wires;
+
+use crate::service_error::ServiceError;
+use peer_plan::{Endpoint, Plan};
+use std::alloc::Global;
+use std::sync::Wait;
+use trace_writer::{Trace, TraceLane};
+use udp_workers::{MioWire, Wire, WireFault};
+
+/// A wire whose datagrams are noted, where there is a trace.
+#[derive(Drop)]
+pub struct TracedWire<'t, R: Wait> {
+    pub(crate) rt: &'t R,
+    pub(crate) wire: MioWire,
+    pub(crate) plan: &'t Plan,
+    pub(crate) lane: Option<TraceLane<'t>>,
+}
+
+/// The lane of the thread at this place, where there is a trace.
+///
+/// `Memory`: a request for memory was refused.
+pub fn lane_of<'t>(
+    alloc: Global,
+    trace: Option<&'t Trace>,
+    thread: usize,
+) -> Result<Option<TraceLane<'t>>, ServiceError> {
+    match trace {
+        Some(trace) => Ok(Some(TraceLane::new(alloc, trace, thread)?)),
+        None => Ok(None),
+    }
+}
+
+// A datagram that was received is handed to the exchange next; where none was, the ticks come next.
+fn note_received<R: Wait>(
+    rt: &R,
+    plan: &Plan,
+    lane: &mut TraceLane<'_>,
+    octets: &[u8],
+    found: Result<Option<(usize, Endpoint)>, WireFault>,
+) {
+    match found {
+        Ok(Some((len, from))) => {
+            let octets = octets.get(..len).unwrap_or(b"");
+            lane.datagram(rt, plan.peer_of(from), from, octets);
+        }
+        _ => lane.tick(rt),
+    }
+}
+
+impl<'t, R: Wait> Wire for TracedWire<'t, R> {
+    ghost given = { λ wire. wires.given_of wire.wire };
+
+    ghost given_to = { λ wire. wires.given_to_of wire.wire };
+
+    ghost failures = { λ wire. wires.failures_of wire.wire };
+
+    ghost peers = { λ wire. wires.peers_of wire.wire };
+
+    fn receive(&mut self, octets: &mut [u8]) -> Result<Option<(usize, Endpoint)>, WireFault> {
+        let found = self.wire.receive(octets);
+        if let Some(lane) = &mut self.lane {
+            lane.be_in_turn(self.rt);
+            note_received(self.rt, self.plan, lane, octets, found);
+        }
+        found
+    }
+
+    fn send(&mut self, to: Endpoint, octets: &[u8]) -> Result<bool, WireFault> {
+        let sent = self.wire.send(to, octets);
+        if let Some(lane) = &mut self.lane {
+            if let Some(peer) = self.plan.peer_of(to) {
+                lane.send(self.rt, peer, matches!(sent, Ok(true)));
+            }
+        }
+        sent
+    }
+
+    fn wait(&mut self, ms: u64) {
+        if let Some(lane) = &mut self.lane {
+            lane.end_turn(self.rt);
+        }
+        self.wire.wait(ms);
+    }
+
+    fn peers(&self) -> &[Endpoint] {
+        self.wire.peers()
+    }
+
+    fn given(&self) -> u64 {
+        self.wire.given()
+    }
+
+    fn given_to(&self, to: Endpoint) -> u64 {
+        self.wire.given_to(to)
+    }
+
+    fn failures(&self) -> u64 {
+        self.wire.failures()
+    }
+}
