@@ -1,2 +1,1 @@
-mod PushLemmas
 mod ReadLemmas

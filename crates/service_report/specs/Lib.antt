@@ -3,3 +3,4 @@ pub mod Metrics
 pub mod LogRounds
 pub mod PeerSilence
 pub mod Scrape
+pub mod Spelling

@@ -22,6 +22,11 @@ help_octet octet =
     if octet == 92 then codes "\\\\" else (
     if octet == 10 then codes "\\n" else octet ∷ [])
 
+-- an octet of a label's value, or else of a help text
+abbrev pub text_octet : Bool → ℕ → List ℕ
+text_octet true = value_octet
+text_octet false = help_octet
+
 abbrev pub kind_text : Kind → List ℕ
 kind_text Counter = codes "counter"
 kind_text Gauge = codes "gauge"

@@ -1,49 +1,59 @@
 //! The octets of metrics.
 ghost use Rattle.std.specs.Prelude.{◌≡◌, ◌++◌, IfOk, OnOk};
 ghost use Rattle.std.specs.List.{flat_map};
-ghost use Rattle.service_report.specs.Metrics.{value_octet, help_octet, label_text, labels_text, sample_text};
+ghost use Rattle.service_report.specs.Metrics.{text_octet, label_text, labels_text, sample_text};
 ghost use Rattle.service_report.specs.Metrics.{help_line, type_line, family_text, scrape_head};
+ghost use Rattle.service_report.specs.Spelling.{piece_text};
 
 use crate::metrics::{Family, Kind, Label, Labels, Sample};
 use std::alloc::{AllocError, Global};
 
-// Adds an octet of a label's value.
-fn push_value_octet(octets: &mut Vec<u8>, octet: u8) -> Result<(), AllocError>
-    ensures { OnOk result (octets.new.items ≡ octets.old.items ++ value_octet octet) }
+// A piece of a line.
+#[derive(Clone, Copy)]
+enum Piece<'a> {
+    Plain(&'a str),
+    // The value of a label.
+    Value(&'a str),
+    // A help text.
+    Help(&'a str),
+}
+
+// Adds an octet of a label's value, or of a help text, in which a quote is nothing special.
+fn push_octet(octets: &mut Vec<u8>, octet: u8, is_value: bool) -> Result<(), AllocError>
+    ensures { OnOk result (octets.new.items ≡ octets.old.items ++ text_octet is_value octet) }
 {
-    match octet {
-        b'\\' => octets.extend_from_slice(b"\\\\"),
-        b'"' => octets.extend_from_slice(b"\\\""),
-        b'\n' => octets.extend_from_slice(b"\\n"),
+    match (octet, is_value) {
+        (b'\\', _) => octets.extend_from_slice(b"\\\\"),
+        (b'\n', _) => octets.extend_from_slice(b"\\n"),
+        (b'"', true) => octets.extend_from_slice(b"\\\""),
         _ => octets.extend_from_slice(&[octet]),
     }
 }
 
-// Adds an octet of a help text.
-fn push_help_octet(octets: &mut Vec<u8>, octet: u8) -> Result<(), AllocError>
-    ensures { OnOk result (octets.new.items ≡ octets.old.items ++ help_octet octet) }
+fn push_text(octets: &mut Vec<u8>, text: &str, is_value: bool) -> Result<(), AllocError>
+    ensures { OnOk result (octets.new.items ≡ octets.old.items ++ flat_map (text_octet is_value) text.now) }
 {
-    match octet {
-        b'\\' => octets.extend_from_slice(b"\\\\"),
-        b'\n' => octets.extend_from_slice(b"\\n"),
-        _ => octets.extend_from_slice(&[octet]),
-    }
-}
-
-fn push_value(octets: &mut Vec<u8>, value: &str) -> Result<(), AllocError>
-    ensures { OnOk result (octets.new.items ≡ octets.old.items ++ flat_map value_octet value.now) }
-{
-    for octet in value.as_bytes() {
-        push_value_octet(octets, *octet)?;
+    for octet in text.as_bytes() {
+        push_octet(octets, *octet, is_value)?;
     }
     Ok(())
 }
 
-fn push_help(octets: &mut Vec<u8>, help: &str) -> Result<(), AllocError>
-    ensures { OnOk result (octets.new.items ≡ octets.old.items ++ flat_map help_octet help.now) }
+fn push_piece(octets: &mut Vec<u8>, piece: Piece<'_>) -> Result<(), AllocError>
+    ensures { OnOk result (octets.new.items ≡ octets.old.items ++ piece_text piece.entry) }
 {
-    for octet in help.as_bytes() {
-        push_help_octet(octets, *octet)?;
+    match piece {
+        Piece::Plain(text) => octets.extend_from_slice(text.as_bytes()),
+        Piece::Value(value) => push_text(octets, value, true),
+        Piece::Help(help) => push_text(octets, help, false),
+    }
+}
+
+fn push_pieces(octets: &mut Vec<u8>, pieces: &[Piece<'_>]) -> Result<(), AllocError>
+    ensures { OnOk result (octets.new.items ≡ octets.old.items ++ flat_map piece_text pieces.now) }
+{
+    for piece in pieces {
+        push_piece(octets, *piece)?;
     }
     Ok(())
 }
@@ -51,10 +61,11 @@ fn push_help(octets: &mut Vec<u8>, help: &str) -> Result<(), AllocError>
 fn push_label(octets: &mut Vec<u8>, label: Label<'_>) -> Result<(), AllocError>
     ensures { OnOk result (octets.new.items ≡ octets.old.items ++ label_text label.entry) }
 {
-    octets.extend_from_slice(label.name.as_bytes())?;
-    octets.extend_from_slice(b"=\"")?;
-    push_value(octets, label.value)?;
-    octets.extend_from_slice(b"\"")
+    let (name, value) = (Piece::Plain(label.name), Piece::Value(label.value));
+    push_pieces(
+        octets,
+        &[name, Piece::Plain("=\""), value, Piece::Plain("\"")],
+    )
 }
 
 fn push_labels(octets: &mut Vec<u8>, labels: Labels<'_>) -> Result<(), AllocError>
@@ -77,6 +88,20 @@ fn push_labels(octets: &mut Vec<u8>, labels: Labels<'_>) -> Result<(), AllocErro
     }
 }
 
+// A sample's line, of which this is all behind the labels.
+fn push_line(
+    octets: &mut Vec<u8>,
+    name: &str,
+    labels: Labels<'_>,
+    end: &str,
+) -> Result<(), AllocError>
+    ensures { OnOk result (octets.new.items ≡ octets.old.items ++ (name.now ++ (labels_text labels.entry ++ end.now))) }
+{
+    octets.extend_from_slice(name.as_bytes())?;
+    push_labels(octets, labels)?;
+    octets.extend_from_slice(end.as_bytes())
+}
+
 fn push_sample(
     alloc: Global,
     octets: &mut Vec<u8>,
@@ -85,10 +110,8 @@ fn push_sample(
 ) -> Result<(), AllocError>
     ensures { OnOk result (octets.new.items ≡ octets.old.items ++ sample_text name.now sample.now) }
 {
-    let value = format!(in alloc; " {}\n", sample.value)?;
-    octets.extend_from_slice(name.as_bytes())?;
-    push_labels(octets, sample.labels)?;
-    octets.extend_from_slice(value.as_bytes())
+    let end = format!(in alloc; " {}\n", sample.value)?;
+    push_line(octets, name, sample.labels, &end)
 }
 
 fn push_samples(
@@ -105,24 +128,36 @@ fn push_samples(
     Ok(())
 }
 
-fn push_help_line(octets: &mut Vec<u8>, name: &str, help: &str) -> Result<(), AllocError>
+fn push_help_line<'x>(octets: &mut Vec<u8>, name: &'x str, help: &'x str) -> Result<(), AllocError>
     ensures { OnOk result (octets.new.items ≡ octets.old.items ++ help_line name.now help.now) }
 {
-    octets.extend_from_slice(b"# HELP ")?;
-    octets.extend_from_slice(name.as_bytes())?;
-    octets.extend_from_slice(b" ")?;
-    push_help(octets, help)?;
-    octets.extend_from_slice(b"\n")
+    let (name, help) = (Piece::Plain(name), Piece::Help(help));
+    push_pieces(
+        octets,
+        &[
+            Piece::Plain("# HELP "),
+            name,
+            Piece::Plain(" "),
+            help,
+            Piece::Plain("\n"),
+        ],
+    )
 }
 
 fn push_type_line(octets: &mut Vec<u8>, name: &str, kind: Kind) -> Result<(), AllocError>
     ensures { OnOk result (octets.new.items ≡ octets.old.items ++ type_line name.now kind) }
 {
-    octets.extend_from_slice(b"# TYPE ")?;
-    octets.extend_from_slice(name.as_bytes())?;
-    octets.extend_from_slice(b" ")?;
-    octets.extend_from_slice(kind.as_str().as_bytes())?;
-    octets.extend_from_slice(b"\n")
+    let (name, kind) = (Piece::Plain(name), Piece::Plain(kind.as_str()));
+    push_pieces(
+        octets,
+        &[
+            Piece::Plain("# TYPE "),
+            name,
+            Piece::Plain(" "),
+            kind,
+            Piece::Plain("\n"),
+        ],
+    )
 }
 
 /// A family in the text form.
