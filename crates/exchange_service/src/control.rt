@@ -9,10 +9,8 @@ use log::{Log, warn};
 use mio::unix::SourceFd;
 use mio::{Events, Interest, Poll, Token};
 use peer_lock::Naming;
-use service_desk::{Desk, Drain};
+use service_desk::{Desk, Drain, SocketTable, answer_scrape};
 use service_log::Told;
-use service_metrics::answer_scrape;
-use socket_drops::SocketTable;
 use std::alloc::{AllocError, Global};
 use std::fs::{File, Files};
 use std::io;
@@ -109,7 +107,7 @@ impl<'s> Control<'s> {
     fn heed_end_of_input<J: Naming>(&mut self, desk: &Desk<'_, J>) {
         if self.awaits_end && self.has_input_ended() {
             self.awaits_end = false;
-            desk.stop();
+            desk.watch.stop();
         }
     }
 
@@ -263,7 +261,7 @@ impl<'s> Control<'s> {
         }
         drain.go_on(rt, desk, now);
         desk.look_for_rest(rt, alloc, now);
-        desk.has_ended() && !self.is_answering()
+        desk.watch.has_ended() && !self.is_answering()
     }
 }
 

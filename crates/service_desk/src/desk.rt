@@ -1,13 +1,13 @@
 //! What clients ask of the exchange, and its answers.
 ghost use Rattle.std.specs.Prelude.{◌≡◌, ◌<◌, IfOk, length, string_bytes};
 
-use crate::legs::{count_legs, find_leg, hang_up, hang_up_all, is_at_rest};
+use crate::legs::{count_legs, find_leg, hang_up, hang_up_peer, is_at_rest};
 use crate::service_watch::ServiceWatch;
-use crate::showing::{push_calls, shown_accounts, shown_call};
+use crate::showing::{ShownLeg, push_calls};
 use call_book::LegName;
 use control_requests::{
-    Answer, Command, NoCommand, PeerRow, PlaceFault, PlaceOrder, Request, Rows, Status,
-    accounts_body, command_of, place_of,
+    AccountsRow, Answer, Command, NoCommand, PeerRow, PlaceFault, PlaceOrder, Request, Rows,
+    Status, accounts_body, call_body, command_of, place_of,
 };
 use exchange_core::{CallError, Exchange, NoGate, Pass};
 use exchange_report::{call_error_name, peer_named};
@@ -41,7 +41,12 @@ impl<'x, J: Naming> Desk<'x, J> {
     /// how many legs there are, those that end already among them.
     pub fn hang_up_all<R: Wait>(&mut self, rt: &R, now: u64) -> u32 {
         let (exchange, watch) = (self.exchange, self.watch);
-        hang_up_all(rt, exchange, &mut self.pass, watch, &mut self.lane, now)
+        let (pass, lane) = (&mut self.pass, &mut self.lane);
+        let mut legs: u32 = 0;
+        for peer in 0..exchange.plan().peer_count() {
+            legs = legs.saturating_add(hang_up_peer(rt, exchange, pass, watch, lane, peer, now));
+        }
+        legs
     }
 
     /// Where the trace would begin a new file: looks whether any leg is up, at a moment in milliseconds since the exchange was
@@ -53,26 +58,6 @@ impl<'x, J: Naming> Desk<'x, J> {
                 lane.end_look(rt, alloc, now, self.exchange.plan(), is_at_rest);
             }
         }
-    }
-
-    /// Whether the service was told to stop, and its workers still run.
-    pub fn is_draining(&self) -> bool {
-        self.watch.is_draining()
-    }
-
-    /// Whether the workers are told to end.
-    pub fn has_ended(&self) -> bool {
-        self.watch.has_ended()
-    }
-
-    /// Has the service drain; where it drains already, has its workers end.
-    pub fn stop(&self) {
-        self.watch.stop();
-    }
-
-    /// Has the workers end: none of them begins a further turn.
-    pub fn end(&self) {
-        self.watch.end();
     }
 
     /// Does what a request asks, at a moment in milliseconds since the exchange was opened, and answers it. What is refused is
@@ -87,7 +72,17 @@ impl<'x, J: Naming> Desk<'x, J> {
         now: u64,
     ) -> Result<Answer, AllocError> {
         match command_of(request.method, request.path) {
-            Ok(command) => self.obey(rt, alloc, command, request.body, now),
+            Ok(Command::Table) => answered(alloc, Status::Ok, TABLE),
+            Ok(Command::Peers) => self.peers(rt, alloc, now),
+            Ok(Command::Calls) => self.calls(rt, alloc, now),
+            Ok(Command::Call(number)) => self.call(rt, alloc, number, now),
+            Ok(Command::Accounts) => self.accounts(rt, alloc),
+            Ok(Command::Place) => self.place(rt, alloc, request.body, now),
+            Ok(Command::HangUp(number)) => self.drop_call(rt, alloc, number, now),
+            Ok(Command::Stop) => {
+                self.watch.stop();
+                answered(alloc, Status::Accepted, "{}")
+            }
             Err(NoCommand::NotFound) => Answer::error(alloc, Status::NotFound, "NotFound"),
             Err(NoCommand::NotAllowed(methods)) => {
                 Answer::error(alloc, Status::NotAllowed(methods), "NotAllowed")
@@ -95,63 +90,34 @@ impl<'x, J: Naming> Desk<'x, J> {
         }
     }
 
-    // Does what a command asks.
-    fn obey<R: Wait>(
+    // `GET /peers`
+    fn peers<R: Wait>(&mut self, rt: &R, alloc: Global, now: u64) -> Result<Answer, AllocError> {
+        let mut rows = Rows::new(alloc);
+        self.push_peers(rt, alloc, &mut rows, now)?;
+        shown(rows.into_peers(alloc))
+    }
+
+    // The peers as they are shown.
+    fn push_peers<R: Wait>(
         &mut self,
         rt: &R,
         alloc: Global,
-        command: Command,
-        body: &[u8],
+        rows: &mut Rows,
         now: u64,
-    ) -> Result<Answer, AllocError> {
-        match command {
-            Command::Table => answered(alloc, Status::Ok, TABLE),
-            Command::Peers => self.peers(rt, alloc, now),
-            Command::Calls => self.calls(rt, alloc, now),
-            Command::Call(number) => self.call(rt, alloc, number, now),
-            Command::Accounts => self.accounts(rt, alloc),
-            Command::Place => self.place(rt, alloc, body, now),
-            Command::HangUp(number) => self.drop_call(rt, alloc, number, now),
-            Command::Stop => {
-                self.watch.stop();
-                answered(alloc, Status::Accepted, "{}")
-            }
-        }
-    }
-
-    // `GET /peers`
-    fn peers<R: Wait>(&mut self, rt: &R, alloc: Global, now: u64) -> Result<Answer, AllocError> {
-        let exchange = self.exchange;
-        let mut rows = Rows::new(alloc);
+    ) -> Result<(), AllocError> {
+        let (exchange, watch) = (self.exchange, self.watch);
         for peer in 0..exchange.plan().peer_count() {
             let legs = count_legs(rt, exchange, &mut self.pass, peer);
-            push_peer(
-                alloc,
-                &mut rows,
-                exchange.plan(),
-                self.watch,
-                peer,
-                legs,
-                now,
-            )?;
+            push_peer(alloc, rows, exchange.plan(), watch, peer, legs, now)?;
         }
-        Ok(Answer {
-            status: Status::Ok,
-            body: rows.into_peers(alloc)?,
-        })
+        Ok(())
     }
 
     // `GET /calls`
     fn calls<R: Wait>(&mut self, rt: &R, alloc: Global, now: u64) -> Result<Answer, AllocError> {
-        let exchange = self.exchange;
         let mut rows = Rows::new(alloc);
-        for peer in 0..exchange.plan().peer_count() {
-            push_calls(rt, alloc, exchange, &mut self.pass, &mut rows, peer, now)?;
-        }
-        Ok(Answer {
-            status: Status::Ok,
-            body: rows.into_calls(alloc)?,
-        })
+        push_calls(rt, alloc, self.exchange, &mut self.pass, &mut rows, now)?;
+        shown(rows.into_calls(alloc))
     }
 
     // `GET /calls/<number>`
@@ -166,22 +132,31 @@ impl<'x, J: Naming> Desk<'x, J> {
         let Some((peer, _)) = find_leg(rt, exchange, &mut self.pass, number) else {
             return Answer::error(alloc, Status::NotFound, "NoLeg");
         };
-        match shown_call(rt, alloc, exchange, &mut self.pass, peer, number, now)? {
-            Some(body) => Ok(Answer {
-                status: Status::Ok,
-                body,
-            }),
+        match ShownLeg::of(rt, alloc, exchange, &mut self.pass, peer, number)? {
+            Some(leg) => shown(call_body(alloc, leg.row(exchange.plan(), peer, now))),
             None => Answer::error(alloc, Status::NotFound, "NoLeg"),
         }
     }
 
-    // `GET /accounts`
+    // `GET /accounts`: the sums over all peers, modulo 2^64. They are read one peer after another, while calls go on.
     fn accounts<R: Wait>(&mut self, rt: &R, alloc: Global) -> Result<Answer, AllocError> {
-        let row = shown_accounts(rt, self.exchange, &mut self.pass);
-        Ok(Answer {
-            status: Status::Ok,
-            body: accounts_body(alloc, row)?,
-        })
+        let mut row = AccountsRow {
+            accepted: 0,
+            packed: 0,
+            queued: 0,
+            dropped: 0,
+            quelched: 0,
+        };
+        let exchange = self.exchange;
+        for peer in 0..exchange.plan().peer_count() {
+            let sums = exchange.sums(rt, &mut self.pass, peer);
+            row.accepted = row.accepted.wrapping_add(sums.accepted);
+            row.packed = row.packed.wrapping_add(sums.packed);
+            row.queued = row.queued.wrapping_add(sums.queued);
+            row.dropped = row.dropped.wrapping_add(sums.dropped);
+            row.quelched = row.quelched.wrapping_add(sums.quelched);
+        }
+        shown(accounts_body(alloc, row))
     }
 
     // `DELETE /calls/<number>`
@@ -234,7 +209,7 @@ impl<'x, J: Naming> Desk<'x, J> {
         order: &PlaceOrder,
         now: u64,
     ) -> Result<Answer, AllocError> {
-        if self.is_draining() || self.has_ended() {
+        if self.watch.is_draining() || self.watch.has_ended() {
             return Answer::error(alloc, Status::Unavailable, "Draining");
         }
         let Some(peer) = peer_named(self.exchange.plan(), order.peer.as_bytes()) else {
@@ -255,6 +230,17 @@ impl<'x, J: Naming> Desk<'x, J> {
             }
             Err(error) => Answer::error(alloc, Status::Conflict, call_error_name(error)),
         }
+    }
+}
+
+// The answer that shows what was asked for, where there was memory for its body.
+fn shown(body: Result<String, AllocError>) -> Result<Answer, AllocError> {
+    match body {
+        Ok(body) => Ok(Answer {
+            status: Status::Ok,
+            body,
+        }),
+        Err(error) => Err(error),
     }
 }
 

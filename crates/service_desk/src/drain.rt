@@ -4,7 +4,7 @@ use peer_lock::Naming;
 use std::sync::Wait;
 
 /// How far a drain is.
-#[derive(Clone, Copy, Debug, PartialEq, Eq)]
+#[derive(Clone, Copy)]
 pub struct Drain {
     /// How long it lasts at most, in milliseconds.
     limit: u64,
@@ -28,13 +28,13 @@ impl Drain {
     /// Where the service drains, at a moment in milliseconds: hangs up what is still up, and ends the workers once no leg is
     /// left or the time is over. The first such call begins the time.
     pub fn go_on<R: Wait, J: Naming>(&mut self, rt: &R, desk: &mut Desk<'_, J>, now: u64) {
-        if !desk.is_draining() {
+        if !desk.watch.is_draining() {
             return;
         }
         let age = self.age(now);
         let left = desk.hang_up_all(rt, now);
         if left == 0 || age >= self.limit {
-            desk.end();
+            desk.watch.end();
         }
     }
 }

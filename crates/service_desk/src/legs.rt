@@ -59,8 +59,8 @@ pub(crate) fn hang_up<J: Naming, R: Wait>(
     }
 }
 
-// Hangs up the legs of a peer that are still up. Gives how many legs it has.
-fn hang_up_peer<J: Naming, R: Wait>(
+/// Hangs up the legs of a peer that are still up. Gives how many legs it has.
+pub(crate) fn hang_up_peer<J: Naming, R: Wait>(
     rt: &R,
     exchange: &Exchange<NoGate, J>,
     pass: &mut Pass<J>,
@@ -80,22 +80,6 @@ fn hang_up_peer<J: Naming, R: Wait>(
                 let _ = hang_up(rt, exchange, pass, watch, lane, leg.name, now);
             }
         }
-    }
-    legs
-}
-
-/// Hangs up all legs that are still up. Gives how many legs there are.
-pub(crate) fn hang_up_all<J: Naming, R: Wait>(
-    rt: &R,
-    exchange: &Exchange<NoGate, J>,
-    pass: &mut Pass<J>,
-    watch: &ServiceWatch,
-    lane: &mut Option<TraceLane<'_>>,
-    now: u64,
-) -> u32 {
-    let mut legs: u32 = 0;
-    for peer in 0..exchange.plan().peer_count() {
-        legs = legs.saturating_add(hang_up_peer(rt, exchange, pass, watch, lane, peer, now));
     }
     legs
 }

@@ -63,7 +63,7 @@ struct PeerMarks {
 }
 
 /// What is counted of a peer since the service began, modulo 2^64: its datagrams, and its legs that have ended.
-#[derive(Clone, Copy, Debug, Default, PartialEq, Eq)]
+#[derive(Clone, Copy, Default)]
 pub struct PeerMarksRead {
     /// The moment at which it was last heard, in milliseconds since the exchange was opened.
     pub heard: Option<u64>,
@@ -94,8 +94,8 @@ pub struct ServiceWatch {
 // No datagram was refused for any reason.
 fn refusal_counts(alloc: Global) -> Result<Vec<RefusalCount>, AllocError> {
     let mut counts = Vec::with_capacity(alloc, REFUSALS.len())?;
-    for refusal in REFUSALS {
-        let count = AtomicU64::new(0);
+    for refusal in &REFUSALS {
+        let (refusal, count) = (*refusal, AtomicU64::new(0));
         if counts.push(RefusalCount { refusal, count }).is_err() {
             return Err(AllocError);
         }
@@ -142,6 +142,19 @@ impl PeerMarks {
     }
 }
 
+// The peers of a plan, of which nothing was heard, and room for strangers.
+fn room_of(alloc: Global, plan: &Plan) -> Result<(Vec<PeerMarks>, Vec<Endpoint>), AllocError> {
+    let mut peers = Vec::new(alloc);
+    for peer in 0..plan.peer_count() {
+        let marks = PeerMarks::new(alloc, plan.worker(peer))?;
+        if peers.push(marks).is_err() {
+            return Err(AllocError);
+        }
+    }
+    let seen = Vec::with_capacity(alloc, STRANGERS)?;
+    Ok((peers, seen))
+}
+
 fn count_one(count: &AtomicU64) {
     count.fetch_add(1, Ordering::Relaxed);
 }
@@ -157,21 +170,13 @@ impl ServiceWatch {
         calls: Option<CallOutlets>,
         trace: Option<Trace>,
     ) -> Result<ServiceWatch, AllocError> {
-        let mut marks = Vec::new(alloc);
-        for peer in 0..plan.peer_count() {
-            if marks
-                .push(PeerMarks::new(alloc, plan.worker(peer))?)
-                .is_err()
-            {
-                return Err(AllocError);
-            }
-        }
+        let (peers, seen) = room_of(alloc, plan)?;
         Ok(ServiceWatch {
             stage: AtomicU64::new(SERVING),
-            peers: marks,
+            peers,
             strangers: AtomicU64::new(0),
             faults: AtomicU64::new(0),
-            seen: Mutex::new(Vec::with_capacity(alloc, STRANGERS)?),
+            seen: Mutex::new(seen),
             calls,
             trace,
         })

@@ -1,7 +1,7 @@
-//! The legs and the accounts of an exchange, as they are shown.
+//! The legs of an exchange, as they are shown.
 ghost use Rattle.std.specs.Prelude.{◌<◌, length};
 
-use control_requests::{AccountsRow, CallRow, Rows, call_body};
+use control_requests::{CallRow, Rows};
 use exchange_core::{Exchange, NoGate, Pass};
 use exchange_report::stage_name;
 use leg_machine::ElementText;
@@ -18,18 +18,33 @@ fn number_text(alloc: Global, number: Option<&ElementText>) -> Result<Option<Str
     }
 }
 
-// A leg as it is shown: the numbers that it speaks of are texts, and it has a partner or none.
+// The numbers of a call: the called one, and the one that calls.
 #[derive(Drop)]
-struct ShownLeg {
-    leg: Description,
+struct Numbers {
     called: Option<String>,
     calling: Option<String>,
+}
+
+impl Numbers {
+    // Those that a leg speaks of.
+    fn of(alloc: Global, leg: &Description) -> Result<Numbers, AllocError> {
+        let called = number_text(alloc, leg.called.as_ref())?;
+        let calling = number_text(alloc, leg.calling.as_ref())?;
+        Ok(Numbers { called, calling })
+    }
+}
+
+/// A leg as it is shown: the numbers that it speaks of are texts, and it has a partner or none.
+#[derive(Drop)]
+pub(crate) struct ShownLeg {
+    leg: Description,
+    numbers: Numbers,
     partner: Option<u64>,
 }
 
 impl ShownLeg {
-    // The leg of a local number of a peer, where there is one.
-    fn of<J: Naming, R: Wait>(
+    /// The leg of a local number of a peer, where there is one.
+    pub(crate) fn of<J: Naming, R: Wait>(
         rt: &R,
         alloc: Global,
         exchange: &Exchange<NoGate, J>,
@@ -43,18 +58,16 @@ impl ShownLeg {
             return Ok(None);
         };
         let partner = exchange.partner_of(rt, pass, leg.status.name);
-        let called = number_text(alloc, leg.called.as_ref())?;
-        let calling = number_text(alloc, leg.calling.as_ref())?;
+        let numbers = Numbers::of(alloc, &leg)?;
         Ok(Some(ShownLeg {
             leg,
-            called,
-            calling,
+            numbers,
             partner: partner.map(|name| u64::from(name.number)),
         }))
     }
 
-    // Its row.
-    fn row<'a>(&'a self, plan: &'a Plan, peer: u16, now: u64) -> CallRow<'a>
+    /// Its row.
+    pub(crate) fn row<'a>(&'a self, plan: &'a Plan, peer: u16, now: u64) -> CallRow<'a>
         requires { peer < length plan.now.peers }
     {
         let Description {
@@ -69,8 +82,8 @@ impl ShownLeg {
             serial: status.name.serial,
             peer: plan.name(peer),
             stage: stage_name(Some(status.stage)),
-            called: self.called.as_deref(),
-            calling: self.calling.as_deref(),
+            called: self.numbers.called.as_deref(),
+            calling: self.numbers.calling.as_deref(),
             format: format_name(*format),
             age_ms: now.saturating_sub(*opened),
             remote: remote.map(|number| u64::from(number.get())),
@@ -82,26 +95,27 @@ impl ShownLeg {
     }
 }
 
-/// The JSON of the leg of a local number of a peer, where there is one.
-pub(crate) fn shown_call<J: Naming, R: Wait>(
+// A leg as it is shown, behind the others, where there is one of this local number of a peer.
+fn push_call<J: Naming, R: Wait>(
     rt: &R,
     alloc: Global,
     exchange: &Exchange<NoGate, J>,
     pass: &mut Pass<J>,
+    rows: &mut Rows,
     peer: u16,
     number: u16,
     now: u64,
-) -> Result<Option<String>, AllocError>
+) -> Result<(), AllocError>
     requires { peer < length exchange.now.peers }
 {
     match ShownLeg::of(rt, alloc, exchange, pass, peer, number)? {
-        Some(leg) => Ok(Some(call_body(alloc, leg.row(exchange.plan(), peer, now))?)),
-        None => Ok(None),
+        Some(leg) => rows.push_call(alloc, leg.row(exchange.plan(), peer, now)),
+        None => Ok(()),
     }
 }
 
-/// The legs of a peer as they are shown, behind the others.
-pub(crate) fn push_calls<J: Naming, R: Wait>(
+// The legs of a peer as they are shown, behind the others.
+fn push_calls_of<J: Naming, R: Wait>(
     rt: &R,
     alloc: Global,
     exchange: &Exchange<NoGate, J>,
@@ -115,33 +129,22 @@ pub(crate) fn push_calls<J: Naming, R: Wait>(
     let range = exchange.plan().range(peer);
     for place in 0..range.count {
         let number = range.first + place;
-        if let Some(leg) = ShownLeg::of(rt, alloc, exchange, pass, peer, number)? {
-            rows.push_call(alloc, leg.row(exchange.plan(), peer, now))?;
-        }
+        push_call(rt, alloc, exchange, pass, rows, peer, number, now)?;
     }
     Ok(())
 }
 
-/// The sums of the accounts over all peers, modulo 2^64. They are read one peer after another, while calls go on.
-pub(crate) fn shown_accounts<J: Naming, R: Wait>(
+/// The legs of all peers as they are shown.
+pub(crate) fn push_calls<J: Naming, R: Wait>(
     rt: &R,
+    alloc: Global,
     exchange: &Exchange<NoGate, J>,
     pass: &mut Pass<J>,
-) -> AccountsRow {
-    let mut row = AccountsRow {
-        accepted: 0,
-        packed: 0,
-        queued: 0,
-        dropped: 0,
-        quelched: 0,
-    };
+    rows: &mut Rows,
+    now: u64,
+) -> Result<(), AllocError> {
     for peer in 0..exchange.plan().peer_count() {
-        let sums = exchange.sums(rt, pass, peer);
-        row.accepted = row.accepted.wrapping_add(sums.accepted);
-        row.packed = row.packed.wrapping_add(sums.packed);
-        row.queued = row.queued.wrapping_add(sums.queued);
-        row.dropped = row.dropped.wrapping_add(sums.dropped);
-        row.quelched = row.quelched.wrapping_add(sums.quelched);
+        push_calls_of(rt, alloc, exchange, pass, rows, peer, now)?;
     }
-    row
+    Ok(())
 }

@@ -9,9 +9,10 @@ use exchange_report::refusal_name;
 use log::{Level, Log, debug, info, log_enabled, warn};
 use peer_lock::Naming;
 use peer_plan::{Endpoint, Plan};
-use service_desk::{Desk, REFUSALS, STRANGERS, ServiceWatch, count_legs};
+use service_desk::{
+    Desk, REFUSALS, STRANGERS, ServiceWatch, SocketTable, count_legs, drop_counts,
+};
 use service_report::{Hearing, News, Rounds, counted_since, news_of};
-use socket_drops::{SocketTable, drop_counts};
 use std::alloc::{AllocError, Global};
 use std::sync::Wait;
 use std::{iter, mem};

@@ -1,14 +1,13 @@
 //! How many datagrams the system dropped at the sockets of a plan's workers, as its table of UDP sockets has it: at all that
 //! have a worker's endpoint, its own and those that are connected to its peers. Workers of one endpoint have one count, that of
 //! all of them.
-#![tactic(auto)]
-
 ghost use Rattle.std.specs.Prelude.{◌≡◌, ◌⊎◌, IfOk, length, vec_len};
 
 use peer_plan::{Endpoint, Plan};
 use service_report::drops_of;
 use std::alloc::{AllocError, Global};
 use std::fs::{File, Files};
+use std::io;
 use std::io::{Read, Seek, SeekFrom};
 
 /// What was dropped at the sockets of a worker.
@@ -38,11 +37,18 @@ impl SocketTable {
     // Its text now. None where it can't be read, or there is no memory.
     fn text(&mut self, alloc: Global) -> Option<String> {
         let file = self.file.as_mut()?;
-        file.seek(SeekFrom::Start(0)).ok()?;
         let mut text = String::new(alloc);
-        file.read_to_string(&mut text).ok()?;
-        Some(text)
+        match read_anew(file, &mut text) {
+            Ok(_) => Some(text),
+            Err(_) => None,
+        }
     }
+}
+
+// Reads a file from its start.
+fn read_anew(file: &mut File, text: &mut String) -> io::Result<usize> {
+    file.seek(SeekFrom::Start(0))?;
+    file.read_to_string(text)
 }
 
 // An endpoint as the table has it: the address as a number in the order of the machine, which has the last octet first.
