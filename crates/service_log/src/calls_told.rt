@@ -1,13 +1,13 @@
 //! What the log tells of the file of call records.
+use crate::lines::{more_than, tell, tell_count};
 use call_files::{Fault, Trouble};
 use call_writer::FileState;
-use log::{Log, info, warn};
-use service_report::counted_since;
+use log::{Level, Log};
 use std::io;
 use std::io::ErrorKind;
 
 /// What was told of the file.
-#[derive(Clone, Copy, Debug, PartialEq, Eq)]
+#[derive(Clone, Copy)]
 pub(crate) struct CallsTold {
     pub(crate) trouble: Option<Trouble>,
     pub(crate) lost: u64,
@@ -21,23 +21,28 @@ pub(crate) fn error_of(fault: Fault) -> io::Error {
     }
 }
 
+// What is wrong with the file of this name.
+fn tell_fault<L: Log>(log: &L, path: &str, what: &str, fault: Fault) {
+    let error = error_of(fault);
+    tell(log, Level::Warn, &format_args!("{path} {what}: {error}"));
+}
+
 // That something is wrong with the file of this name, or nothing any more.
 fn tell_trouble<L: Log>(log: &L, path: &str, trouble: Option<Trouble>) {
-    match trouble {
-        None => info!(log; "{path} is written to again"),
-        Some(Trouble::Open(fault)) => {
-            let error = error_of(fault);
-            warn!(log; "{path} can't be opened, call records wait: {error}");
+    let (what, fault) = match trouble {
+        None => {
+            tell(
+                log,
+                Level::Info,
+                &format_args!("{path} is written to again"),
+            );
+            return;
         }
-        Some(Trouble::Write(fault)) => {
-            let error = error_of(fault);
-            warn!(log; "{path} can't be written to, call records wait: {error}");
-        }
-        Some(Trouble::Sync(fault)) => {
-            let error = error_of(fault);
-            warn!(log; "{path} isn't known to be on the disk: {error}");
-        }
-    }
+        Some(Trouble::Open(fault)) => ("can't be opened, call records wait", fault),
+        Some(Trouble::Write(fault)) => ("can't be written to, call records wait", fault),
+        Some(Trouble::Sync(fault)) => ("isn't known to be on the disk", fault),
+    };
+    tell_fault(log, path, what, fault);
 }
 
 impl CallsTold {
@@ -59,11 +64,8 @@ impl CallsTold {
 
     /// Tells how many rows were lost, in a round of so many seconds.
     pub(crate) fn tell_lost<L: Log>(&mut self, log: &L, state: FileState, seconds: u64) {
-        let more = counted_since(self.lost, state.lost);
-        self.lost = state.lost;
-        if more > 0 {
-            warn!(log; "call records lost: {more} in {seconds} s");
-        }
+        let more = more_than(&mut self.lost, state.lost);
+        tell_count(log, Level::Warn, &"call records lost", more, seconds);
     }
 }
 
@@ -71,6 +73,10 @@ impl CallsTold {
 pub fn tell_end<L: Log>(log: &L, path: &str, state: FileState) {
     if state.waiting > 0 {
         let waiting = state.waiting;
-        warn!(log; "call records that couldn't be written to {path}: {waiting}");
+        tell(
+            log,
+            Level::Warn,
+            &format_args!("call records that couldn't be written to {path}: {waiting}"),
+        );
     }
 }

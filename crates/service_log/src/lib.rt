@@ -2,6 +2,7 @@
 #![tactic(auto)]
 
 mod calls_told;
+mod lines;
 mod start_told;
 mod strangers;
 mod telling;

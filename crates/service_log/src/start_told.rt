@@ -1,19 +1,25 @@
 //! What the log says of the start.
-use log::{Log, info};
-use peer_plan::{Endpoint, Plan};
+use crate::lines::{address_of, tell};
+use log::{Level, Log};
+use peer_plan::Plan;
 
 /// Tells what is served: the program's version, the plan's file, the endpoints.
 pub fn tell_start<L: Log>(log: &L, plan: &Plan, version: &str, path: &str) {
-    info!(log; "exchange_main {version} serves {path}");
+    let line = format_args!("exchange_main {version} serves {path}");
+    tell(log, Level::Info, &line);
     for (place, endpoint) in plan.workers().iter().enumerate() {
-        let Endpoint { address, port } = *endpoint;
-        let [a, b, c, d] = address;
-        info!(log; "worker {place} at {a}.{b}.{c}.{d}:{port}");
+        let at = address_of(*endpoint);
+        tell(log, Level::Info, &format_args!("worker {place} at {at}"));
     }
+    tell_peers(log, plan);
+}
+
+// The peers, each with its worker.
+fn tell_peers<L: Log>(log: &L, plan: &Plan) {
     for peer in 0..plan.peer_count() {
-        let Endpoint { address, port } = plan.endpoint(peer);
-        let [a, b, c, d] = address;
         let (name, worker) = (plan.name(peer), plan.worker(peer));
-        info!(log; "peer {name} at {a}.{b}.{c}.{d}:{port}, of worker {worker}");
+        let at = address_of(plan.endpoint(peer));
+        let line = format_args!("peer {name} at {at}, of worker {worker}");
+        tell(log, Level::Info, &line);
     }
 }

@@ -1,9 +1,10 @@
 //! The strangers of a round of the log: the latest by their addresses, the rest as one number.
-use log::{Log, warn};
+use crate::lines::{address_of, tell_count};
+use log::{Level, Log};
 use lru::LruCache;
 use peer_plan::Endpoint;
 use std::alloc::{AllocError, Global};
-use std::net::{Ipv4Addr, SocketAddrV4};
+use std::net::SocketAddrV4;
 use std::num::NonZeroUsize;
 
 // How many addresses are told.
@@ -31,9 +32,7 @@ impl Strangers {
 
     /// One came from there. Without memory it is one of the rest.
     pub(crate) fn see(&mut self, from: Endpoint) {
-        let Endpoint { address, port } = from;
-        let [a, b, c, d] = address;
-        let from = SocketAddrV4::new(Ipv4Addr::new(a, b, c, d), port);
+        let from = address_of(from);
         let count = match self.latest.peek(&from) {
             Some(count) => count.saturating_add(1),
             None => 1,
@@ -45,7 +44,8 @@ impl Strangers {
     fn tell_latest<L: Log>(&self, log: &L, seconds: u64) -> u64 {
         let mut sum: u64 = 0;
         for (from, count) in self.latest.iter() {
-            warn!(log; "datagrams from stranger {from}: {count} in {seconds} s");
+            let what = format_args!("datagrams from stranger {from}");
+            tell_count(log, Level::Warn, &what, *count, seconds);
             sum = sum.saturating_add(*count);
         }
         sum
@@ -57,9 +57,13 @@ impl Strangers {
         self.latest.clear();
         self.told = self.told.saturating_add(named);
         let rest = count.saturating_sub(self.told);
-        if rest > 0 {
-            warn!(log; "datagrams from other strangers: {rest} in {seconds} s");
-        }
+        tell_count(
+            log,
+            Level::Warn,
+            &"datagrams from other strangers",
+            rest,
+            seconds,
+        );
         self.told = self.told.saturating_add(rest);
     }
 }

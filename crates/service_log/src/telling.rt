@@ -2,17 +2,17 @@
 ghost use Rattle.std.specs.Prelude.{◌<◌, length};
 
 use crate::calls_told::CallsTold;
+use crate::lines::{more_than, tell, tell_count};
 use crate::strangers::Strangers;
 use crate::trace_told::TraceTold;
-use exchange_core::{Exchange, NoGate, Pass};
 use exchange_report::refusal_name;
-use log::{Level, Log, debug, info, log_enabled, warn};
+use log::{Level, Log, log_enabled};
 use peer_lock::Naming;
 use peer_plan::{Endpoint, Plan};
 use service_desk::{
-    Desk, REFUSALS, STRANGERS, ServiceWatch, SocketTable, count_legs, drop_counts,
+    Desk, DropCount, REFUSALS, STRANGERS, ServiceWatch, SocketTable, count_legs, drop_counts,
 };
-use service_report::{Hearing, News, Rounds, counted_since, news_of};
+use service_report::{Hearing, News, Rounds, news_of};
 use std::alloc::{AllocError, Global};
 use std::sync::Wait;
 use std::{iter, mem};
@@ -28,14 +28,14 @@ const REFUSALS_MS: u64 = 10_000;
 const PINGS: u64 = 3;
 
 // What was told of a peer.
-#[derive(Drop)]
+#[derive(Clone, Copy)]
 struct PeerTold {
     hearing: Hearing,
     legs: u64,
     legs_ended: u64,
     turned_away: u64,
     // In the order of `REFUSALS`.
-    refused: Vec<u64>,
+    refused: [u64; REFUSALS.len()],
 }
 
 /// What was told of a service.
@@ -57,35 +57,38 @@ pub struct Told {
 
 impl PeerTold {
     // Nothing was told.
-    fn new(alloc: Global) -> Result<PeerTold, AllocError> {
-        let mut refused = Vec::new(alloc);
-        for _ in REFUSALS {
-            refused.push(0)?;
-        }
-        Ok(PeerTold {
+    fn new() -> PeerTold {
+        PeerTold {
             hearing: Hearing::Never,
             legs: 0,
             legs_ended: 0,
             turned_away: 0,
-            refused,
-        })
+            refused: [0; REFUSALS.len()],
+        }
     }
 
     // How many legs began and how many ended, in a round. A leg that began and ended in it is one of both.
     fn tell_legs<L: Log>(&mut self, log: &L, name: &str, legs: u64, legs_ended: u64) {
-        let ended = counted_since(self.legs_ended, legs_ended);
+        let ended = more_than(&mut self.legs_ended, legs_ended);
         let begun = legs.saturating_add(ended).saturating_sub(self.legs);
         self.legs = legs;
-        self.legs_ended = legs_ended;
         if begun > 0 {
-            info!(log; "legs of {name} that began: {begun}");
+            tell(
+                log,
+                Level::Info,
+                &format_args!("legs of {name} that began: {begun}"),
+            );
         }
         if ended > 0 {
-            info!(log; "legs of {name} that ended: {ended}");
+            tell(
+                log,
+                Level::Info,
+                &format_args!("legs of {name} that ended: {ended}"),
+            );
         }
     }
 
-    // How many datagrams were refused for each reason, in a round of so many seconds.
+    // How many datagrams were refused for each reason, and how many were turned away, in a round of so many seconds.
     fn tell_refusals<L: Log>(
         &mut self,
         log: &L,
@@ -94,24 +97,15 @@ impl PeerTold {
         name: &str,
         seconds: u64,
     ) {
-        for (told, refusal) in iter::zip(self.refused.iter_mut(), REFUSALS) {
-            let count = watch.refused_for(peer, refusal);
-            let refused = counted_since(*told, count);
-            *told = count;
-            if refused > 0 {
-                let refusal = refusal_name(refusal);
-                warn!(log; "refused {refusal} from {name}: {refused} in {seconds} s");
-            }
+        for (told, refusal) in iter::zip(self.refused.iter_mut(), &REFUSALS) {
+            let refused = more_than(told, watch.refused_for(peer, *refusal));
+            let refusal = refusal_name(*refusal);
+            let what = format_args!("refused {refusal} from {name}");
+            tell_count(log, Level::Warn, &what, refused, seconds);
         }
-    }
-
-    // How many datagrams were turned away, in a round of so many seconds.
-    fn tell_turned_away<L: Log>(&mut self, log: &L, name: &str, turned_away: u64, seconds: u64) {
-        let more = counted_since(self.turned_away, turned_away);
-        self.turned_away = turned_away;
-        if more > 0 {
-            info!(log; "turned away from {name}: {more} in {seconds} s");
-        }
+        let turned_away = more_than(&mut self.turned_away, watch.marks(peer).turned_away);
+        let what = format_args!("turned away from {name}");
+        tell_count(log, Level::Info, &what, turned_away, seconds);
     }
 }
 
@@ -126,49 +120,44 @@ fn silence_limit(plan: &Plan, peer: u16) -> u64
 }
 
 // A peer that says nothing is warned of where it has legs.
-fn tell_silence<L: Log, J: Naming, R: Wait>(
-    rt: &R,
-    log: &L,
-    exchange: &Exchange<NoGate, J>,
-    pass: &mut Pass<J>,
-    peer: u16,
-    silent_ms: u64,
-)
-    requires { peer < length exchange.now.peers }
-{
-    let legs = count_legs(rt, exchange, pass, peer);
-    let name = exchange.plan().name(peer);
+fn tell_silence<L: Log>(log: &L, name: &str, silent_ms: u64, legs: u16) {
     let seconds = silent_ms / 1000;
+    let silence = format_args!("{name} is silent for {seconds} s");
     if legs > 0 {
-        warn!(log; "{name} is silent for {seconds} s, and has {legs} legs");
+        tell(
+            log,
+            Level::Warn,
+            &format_args!("{silence}, and has {legs} legs"),
+        );
     } else {
-        info!(log; "{name} is silent for {seconds} s");
+        tell(log, Level::Info, &silence);
     }
 }
 
-// The news of a peer.
-fn tell_news<L: Log, J: Naming, R: Wait>(
-    rt: &R,
-    log: &L,
-    exchange: &Exchange<NoGate, J>,
-    pass: &mut Pass<J>,
-    peer: u16,
-    news: News,
-)
-    requires { peer < length exchange.now.peers }
-{
-    let name = exchange.plan().name(peer);
+// The news of a peer that has so many legs.
+fn tell_news<L: Log>(log: &L, name: &str, news: News, legs: u16) {
     match news {
-        News::FirstWord => info!(log; "{name} is heard for the first time"),
-        News::HeardAgain => info!(log; "{name} is heard again"),
-        News::Silent(silent_ms) => tell_silence(rt, log, exchange, pass, peer, silent_ms),
+        News::FirstWord => {
+            tell(
+                log,
+                Level::Info,
+                &format_args!("{name} is heard for the first time"),
+            );
+        }
+        News::HeardAgain => tell(log, Level::Info, &format_args!("{name} is heard again")),
+        News::Silent(silent_ms) => tell_silence(log, name, silent_ms, legs),
     }
 }
 
-// What was dropped at a worker's socket in a round of so many seconds.
-fn tell_drops_of<L: Log>(log: &L, worker: &str, drops: u64, seconds: u64) {
-    if drops > 0 {
-        warn!(log; "the system dropped at the socket of worker {worker}: {drops} in {seconds} s");
+// What was dropped at each worker's socket in a round of so many seconds.
+fn tell_drops<L: Log>(log: &L, told: &mut [u64], counts: &[DropCount], seconds: u64) {
+    for (told, count) in iter::zip(told.iter_mut(), counts) {
+        if let Some(drops) = count.drops {
+            let more = more_than(told, drops);
+            let worker = &count.worker;
+            let what = format_args!("the system dropped at the socket of worker {worker}");
+            tell_count(log, Level::Warn, &what, more, seconds);
+        }
     }
 }
 
@@ -177,25 +166,16 @@ impl Told {
     ///
     /// `AllocError`: a request for memory was refused.
     pub fn new(alloc: Global, plan: &Plan, now: u64) -> Result<Told, AllocError> {
-        let mut peers = Vec::new(alloc);
-        for _ in 0..plan.peer_count() {
-            if peers.push(PeerTold::new(alloc)?).is_err() {
-                return Err(AllocError);
-            }
-        }
-        let mut drops = Vec::new(alloc);
-        for _ in plan.workers() {
-            drops.push(0)?;
-        }
-        Ok(Told {
+        let strangers = Strangers::new(alloc)?;
+        let mut told = Told {
             stage: ServiceStage::Serving,
-            peers,
-            drops,
+            peers: Vec::new(alloc),
+            drops: Vec::new(alloc),
             faults: 0,
             calls: CallsTold::new(),
             trace: TraceTold::new(),
-            strangers: Strangers::new(alloc)?,
-            spare: Vec::with_capacity(alloc, STRANGERS)?,
+            strangers,
+            spare: Vec::new(alloc),
             legs: Rounds {
                 period: LEGS_MS,
                 since: now,
@@ -204,7 +184,22 @@ impl Told {
                 period: REFUSALS_MS,
                 since: now,
             },
-        })
+        };
+        match told.make_room(plan) {
+            Ok(()) => Ok(told),
+            Err(error) => Err(error),
+        }
+    }
+
+    // Room for the plan's peers and workers, and for strangers.
+    fn make_room(&mut self, plan: &Plan) -> Result<(), AllocError> {
+        for _ in 0..plan.peer_count() {
+            self.peers.push(PeerTold::new())?;
+        }
+        for _ in plan.workers() {
+            self.drops.push(0)?;
+        }
+        self.spare.reserve_exact(STRANGERS)
     }
 
     // That the service stops.
@@ -213,11 +208,12 @@ impl Told {
             return;
         }
         self.stage = stage;
-        match stage {
-            ServiceStage::Serving => {}
-            ServiceStage::Draining => info!(log; "stops: no call is opened, each leg is hung up"),
-            ServiceStage::Ended => info!(log; "the workers end"),
-        }
+        let line = match stage {
+            ServiceStage::Serving => return,
+            ServiceStage::Draining => "stops: no call is opened, each leg is hung up",
+            ServiceStage::Ended => "the workers end",
+        };
+        tell(log, Level::Info, &line);
     }
 
     // Who was heard for the first time, who is silent, and who is heard again.
@@ -233,7 +229,11 @@ impl Told {
             let limit = silence_limit(exchange.plan(), peer);
             let heard = desk.watch.marks(peer).heard;
             if let Some(news) = self.news_of(peer, heard, now, limit) {
-                tell_news(rt, log, exchange, &mut desk.pass, peer, news);
+                let legs = match news {
+                    News::Silent(_) => count_legs(rt, exchange, &mut desk.pass, peer),
+                    _ => 0,
+                };
+                tell_news(log, exchange.plan().name(peer), news, legs);
             }
         }
     }
@@ -262,13 +262,32 @@ impl Told {
         }
     }
 
+    // What is wrong with the file of call records and with the trace, where there are such.
+    fn tell_files<L: Log>(
+        &mut self,
+        log: &L,
+        watch: &ServiceWatch,
+        calls: Option<&str>,
+        trace: Option<&str>,
+    ) {
+        if let Some(path) = calls {
+            if let Some(calls) = watch.calls() {
+                self.calls.look(log, path, calls.state());
+            }
+        }
+        if let Some(path) = trace {
+            if let Some(trace) = watch.trace() {
+                self.trace.look(log, path, trace.state());
+            }
+        }
+    }
+
     // What was refused in a round of so many seconds.
     fn tell_refusals<L: Log>(&mut self, log: &L, plan: &Plan, watch: &ServiceWatch, seconds: u64) {
         for peer in 0..plan.peer_count() {
             let name = plan.name(peer);
             if let Some(told) = self.peers.get_mut(usize::from(peer)) {
                 told.tell_refusals(log, watch, peer, name, seconds);
-                told.tell_turned_away(log, name, watch.marks(peer).turned_away, seconds);
             }
         }
     }
@@ -284,35 +303,6 @@ impl Told {
         self.spare = seen;
     }
 
-    // The faults of the sockets, in a round of so many seconds.
-    fn tell_faults<L: Log>(&mut self, log: &L, faults: u64, seconds: u64) {
-        let more = counted_since(self.faults, faults);
-        self.faults = faults;
-        if more > 0 {
-            warn!(log; "faults of the sockets: {more} in {seconds} s");
-        }
-    }
-
-    // What the system dropped at the sockets, in a round of so many seconds.
-    fn tell_drops<L: Log>(
-        &mut self,
-        table: &mut SocketTable,
-        log: &L,
-        alloc: Global,
-        plan: &Plan,
-        seconds: u64,
-    ) -> Result<(), AllocError> {
-        let counts = drop_counts(table, alloc, plan)?;
-        for (told, count) in iter::zip(self.drops.iter_mut(), &counts) {
-            if let Some(drops) = count.drops {
-                let more = counted_since(*told, drops);
-                *told = drops;
-                tell_drops_of(log, &count.worker, more, seconds);
-            }
-        }
-        Ok(())
-    }
-
     // What was refused, and came from strangers, and failed, in a round of so many milliseconds.
     fn tell_round<L: Log>(
         &mut self,
@@ -326,15 +316,17 @@ impl Told {
         let seconds = lasted / 1000;
         self.tell_refusals(log, plan, watch, seconds);
         self.strangers.tell(log, watch.strangers(), seconds);
-        self.tell_faults(log, watch.faults(), seconds);
+        let faults = more_than(&mut self.faults, watch.faults());
+        tell_count(log, Level::Warn, &"faults of the sockets", faults, seconds);
         if let Some(calls) = watch.calls() {
             self.calls.tell_lost(log, calls.state(), seconds);
         }
         if let Some(trace) = watch.trace() {
             self.trace.tell_lost(log, trace.state(), seconds);
         }
-        if self.tell_drops(table, log, alloc, plan, seconds).is_err() {
-            debug!(log; "no memory for the table of sockets");
+        match drop_counts(table, alloc, plan) {
+            Ok(counts) => tell_drops(log, &mut self.drops, &counts, seconds),
+            Err(_) => tell(log, Level::Debug, &"no memory for the table of sockets"),
         }
     }
 
@@ -353,12 +345,7 @@ impl Told {
         self.tell_stage(log, desk.watch.stage());
         self.tell_peers(rt, log, desk, now);
         self.see_strangers(rt, alloc, desk.watch);
-        if let (Some(path), Some(calls)) = (desk.calls, desk.watch.calls()) {
-            self.calls.look(log, path, calls.state());
-        }
-        if let (Some(path), Some(trace)) = (desk.trace, desk.watch.trace()) {
-            self.trace.look(log, path, trace.state());
-        }
+        self.tell_files(log, desk.watch, desk.calls, desk.trace);
         if self.legs.due(now).is_some() {
             self.tell_legs(rt, log, desk);
         }
