@@ -1,6 +1,10 @@
 //! Datagrams as peers send them, and how they are spoilt by a fixed generator.
 
-use crate::scenes::{LONGEST, WEST_PLACE};
+use crate::desk::WEST_PLACE;
+use test_plans::frames::WEST_NEW;
+
+/// The longest datagram, in octets.
+const LONGEST: usize = 64;
 
 /// Numbers by xorshift: a fixed sequence for each seed that isn't 0.
 #[derive(Drop)]
@@ -36,26 +40,27 @@ pub struct Sent {
 }
 
 impl Sent {
-    /// No octet yet.
-    pub fn of(peer: u16) -> Sent {
-        Sent {
+    /// These octets, part after part; those past the 64th are left out.
+    pub fn of(peer: u16, parts: &[&[u8]]) -> Sent {
+        let mut sent = Sent {
             peer,
             octets: [0; LONGEST],
             len: 0,
-        }
-    }
-
-    /// The octets behind those that are there; those past the 64th are left out.
-    pub fn with(self, octets: &[u8]) -> Sent {
-        let mut sent = self;
-        for octet in octets {
-            let len = sent.len;
-            if let Some(at) = sent.octets.get_mut(len) {
-                *at = *octet;
-                sent.len = len.saturating_add(1);
-            }
+        };
+        for part in parts {
+            sent.put(part);
         }
         sent
+    }
+
+    // The octets behind those that are there.
+    fn put(&mut self, octets: &[u8]) {
+        for octet in octets {
+            if let Some(at) = self.octets.get_mut(self.len) {
+                *at = *octet;
+                self.len = self.len.saturating_add(1);
+            }
+        }
     }
 
     pub fn octets(&self) -> &[u8] {
@@ -177,38 +182,40 @@ impl Call {
             None => (6, 4, FRAMES[0].2),
         };
         let source = (self.source | 0x8000).to_be_bytes();
+        let number = self.number.to_be_bytes();
         let timestamp = u32::try_from(now).unwrap_or(0).to_be_bytes();
-        Sent::of(self.peer)
-            .with(&source)
-            .with(&self.number.to_be_bytes())
-            .with(&timestamp)
-            .with(&[self.next, self.expected, kind, subclass])
-            .with(octets)
+        let rest = [self.next, self.expected, kind, subclass];
+        let mut sent = Sent::of(self.peer, &[&source, &number, &timestamp, &rest]);
+        sent.put(octets);
+        sent
     }
 
     /// A mini frame of the call ("Mini Frames").
     pub fn mini(&self) -> Sent {
-        Sent::of(self.peer)
-            .with(&self.source.to_be_bytes())
-            .with(&[0, 0x14, 0xaa, 0xbb, 0xcc])
+        let source = self.source.to_be_bytes();
+        Sent::of(self.peer, &[&source, b"\x00\x14\xaa\xbb\xcc"])
     }
 
     /// A trunk frame of this call and another ("Meta Trunk Frames").
     pub fn trunk(&self, other: &Call) -> Sent {
-        Sent::of(self.peer)
-            .with(&[0, 0, 1, 1, 0, 0, 0, 0x14, 0, 2])
-            .with(&self.source.to_be_bytes())
-            .with(&[0, 0x14, 0xaa, 0xbb, 0, 1])
-            .with(&other.source.to_be_bytes())
-            .with(&[0, 0x14, 0xcc])
+        let head = b"\x00\x00\x01\x01\x00\x00\x00\x14\x00\x02";
+        let own = self.source.to_be_bytes();
+        let others = other.source.to_be_bytes();
+        Sent::of(
+            self.peer,
+            &[
+                head,
+                &own,
+                b"\x00\x14\xaa\xbb\x00\x01",
+                &others,
+                b"\x00\x14\xcc",
+            ],
+        )
     }
 }
 
 /// A NEW of the west for 300.
 pub fn new_call(source: u16) -> Sent {
-    Sent::of(WEST_PLACE)
-        .with(&(source | 0x8000).to_be_bytes())
-        .with(&[0, 0, 0, 0, 0, 0, 0, 0, 6, 1])
-        .with(&[0x0b, 2, 0, 2, 1, 3, 0x33, 0x30, 0x30])
-        .with(&[9, 4, 0, 0, 0, 4, 8, 4, 0, 0, 0, 4])
+    let source = (source | 0x8000).to_be_bytes();
+    Sent::of(WEST_PLACE, &[&source, WEST_NEW.split_at(2).1])
 }

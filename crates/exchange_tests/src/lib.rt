@@ -3,7 +3,11 @@
 #![tactic(auto)]
 
 #[cfg(test)]
+mod arrivals;
+#[cfg(test)]
 mod datagrams;
+#[cfg(test)]
+mod desk;
 #[cfg(test)]
 mod growths;
 #[cfg(test)]
@@ -17,9 +21,11 @@ mod looking;
 #[cfg(test)]
 mod opened;
 #[cfg(test)]
-mod same;
+mod pairs;
 #[cfg(test)]
-mod scenes;
+mod recovery;
+#[cfg(test)]
+mod same;
 #[cfg(test)]
 mod settling;
 #[cfg(test)]

@@ -1,17 +1,22 @@
 //! An exchange of a plan is opened over two ledgers, and something is played on it.
 ghost use Rattle.std.specs.Prelude.{◌≡◌, ◌+◌, ◌^◌, length};
 
-use crate::growths::{call, call_and_end};
+use crate::desk::Desk;
+use crate::growths::{call_and_end, call_up};
 use crate::hostile::{from_nobody, outbox_filled, poked};
 use crate::leaving::left;
 use crate::looking::looked;
+use crate::pairs::at_once;
+use crate::recovery::{Sums, ended};
 use crate::same::holds;
-use crate::scenes::{Sums, ended};
 use crate::settling::queue_filled;
 use crate::storm::storm_and_end;
-use crate::wires::{Played, Ran, Run, TwoRuns, call_first, play_call, run_first, run_twice};
-use crate::workers::two_tickers;
-use exchange_core::{Exchange, NoGate, Pass};
+use crate::two_peers::Progress;
+use crate::wires::{
+    Played, Ran, Rejection, Run, TwoRuns, call_first, play_call, run_first, run_twice, turn_on,
+};
+use call_auth::Challenge;
+use exchange_core::{Exchange, Gate, NoGate, Pass};
 use media_ledger::Blank;
 use peer_lock::{Naming, Service};
 use peer_plan::{Plan, PlanError};
@@ -25,7 +30,7 @@ use std::thread::Threads;
 use std::time::Clock;
 use udp_workers::Post;
 
-/// What is played on an exchange, and asserts what it comes to.
+/// What is played on an exchange under its last pass, and asserts what it comes to.
 #[derive(Clone, Copy)]
 pub enum Scene {
     /// The queue of a peer is filled, under the second of two passes.
@@ -46,94 +51,150 @@ pub enum Scene {
     Left,
     /// A storm of datagrams, then an end to all calls.
     Storm,
-    /// Two threads tick both peers.
-    TwoTickers,
 }
 
 /// What is played on an exchange by hand, or by workers; and what that comes to.
 #[derive(Drop)]
 pub enum Play<'a> {
     Scene(Scene),
+    /// Two threads tick both peers, each with a pass of its own.
+    Tickers,
+    /// Two threads tick a peer each, one of them once the other is held.
+    TwoTicks(&'a Progress),
     /// The only worker of a plan runs.
     Run(&'a Run<'a>, &'a mut Option<Ran>),
     /// The only worker of a plan plays a whole call, over a wire that fails at its call of this place; at 0 never.
     WholeCall(u64, &'a mut Option<Played>),
-    /// Both workers of a plan run twice.
-    TwoRuns(&'a TwoRuns<'a>, &'a mut Option<(u64, u64)>),
+    /// Both workers of a plan run twice: how many turns they made, and how often was asked before the second run was stopped.
+    TwoRuns(&'a TwoRuns<'a>, &'a mut (u64, u64)),
+    /// Each worker of a plan makes one turn: how many made theirs.
+    OneTurn(&'a mut u64),
     /// A socket calls a number that leads nowhere.
-    CallFor200(&'a mut Option<(bool, u64, u64)>),
+    CallFor200(&'a mut Option<Rejection>),
 }
 
-fn play_scene<R: Abort + Sync + Threads + Wait, J: Naming>(
+fn play_scene<R: Abort + Wait, G: Gate, J: Naming>(
     rt: &R,
     scene: Scene,
-    exchange: &Exchange<NoGate, J>,
-    passes: &mut [Pass<J>],
+    desk: &mut Desk<'_, R, G, J>,
 ) {
-    match (scene, passes) {
-        (Scene::TwoTickers, [one, other]) => two_tickers(rt, exchange, one, other),
-        (Scene::QueueFilled, [_, pass]) => queue_filled(rt, exchange, pass),
-        (Scene::Call, [pass]) => call(rt, exchange, pass),
-        (Scene::Looked, [pass]) => looked(rt, exchange, pass),
-        (Scene::Left, [pass]) => left(rt, exchange, pass),
-        (Scene::CallAndEnd, [pass]) => call_and_end(rt, exchange, pass),
-        (Scene::FromNobody, [pass]) => from_nobody(rt, exchange, pass),
-        (Scene::OutboxFilled, [pass]) => outbox_filled(rt, exchange, pass),
-        (Scene::Poked, [pass]) => poked(rt, exchange, pass),
-        (Scene::Storm, [pass]) => storm_and_end(rt, exchange, pass),
-        _ => holds(rt, "as many passes as the plan says", false),
+    match scene {
+        Scene::QueueFilled => queue_filled(rt, desk),
+        Scene::Call => call_up(rt, desk),
+        Scene::CallAndEnd => call_and_end(rt, desk),
+        Scene::FromNobody => from_nobody(rt, desk),
+        Scene::OutboxFilled => outbox_filled(rt, desk),
+        Scene::Poked => poked(rt, desk),
+        Scene::Looked => looked(rt, desk),
+        Scene::Left => left(rt, desk),
+        Scene::Storm => storm_and_end(rt, desk),
     }
 }
 
-fn play_any<R: Abort + Clock + Net + Sync + Threads + Wait, J: Naming, P: Post + Send + Sync>(
+// A scene is played under the last pass: the only one, or of `QueueFilled` the second of two.
+fn play_last<R: Abort + Wait, G: Gate, J: Naming>(
     rt: &R,
-    alloc: Global,
-    play: Play<'_>,
-    exchange: &Exchange<NoGate, J>,
-    passes: &mut Vec<Pass<J>>,
-)
+    scene: Scene,
+    exchange: &Exchange<G, J>,
+    passes: &mut [Pass<J>],
+) {
+    let count = match scene {
+        Scene::QueueFilled => 2,
+        _ => 1,
+    };
+    holds(rt, "as many passes as the plan says", passes.len() == count);
+    let mut desk = Desk {
+        rt,
+        exchange,
+        pass: passes.last_mut().expect(rt, "a pass"),
+        challenge: &Challenge::new(b"0").expect(rt, "a challenge"),
+    };
+    play_scene(rt, scene, &mut desk);
+}
+
+// What two threads do, under two passes.
+fn play_pair<R: Abort + Clock + Sync + Threads + Wait, G: Gate + Sync, J: Naming>(
+    rt: &R,
+    exchange: &Exchange<G, J>,
+    passes: &mut [Pass<J>],
+    progress: Option<&Progress>,
+) {
+    let [first, second] = passes else {
+        panic!(rt; "two passes");
+    };
+    let challenge = &Challenge::new(b"0").expect(rt, "a challenge");
+    let mut one = Desk {
+        rt,
+        exchange,
+        pass: first,
+        challenge,
+    };
+    let mut other = Desk {
+        rt,
+        exchange,
+        pass: second,
+        challenge,
+    };
+    at_once(rt, &mut one, &mut other, progress);
+}
+
+fn play_any<
+    R: Abort + Clock + Net + Sync + Threads + Wait,
+    G: Gate + Sync,
+    J: Naming,
+    P: Post + Send + Sync,
+>(rt: &R, alloc: Global, play: Play<'_>, exchange: &Exchange<G, J>, passes: &mut Vec<Pass<J>>)
     requires { exchange.now ≡ P.plan }
 {
     match play {
-        Play::Scene(scene) => play_scene(rt, scene, exchange, passes.as_mut_slice()),
-        Play::Run(run, ran) => *ran = run_first(rt, alloc, run, exchange, passes),
-        Play::WholeCall(place, played) => {
-            *played = play_call(rt, alloc, place, exchange, passes);
-        }
-        Play::TwoRuns(runs, ran) => *ran = run_twice::<J, P, R>(rt, alloc, runs, exchange, passes),
-        Play::CallFor200(called) => *called = call_first(rt, alloc, exchange, passes),
+        Play::Scene(scene) => play_last(rt, scene, exchange, passes),
+        Play::Tickers => play_pair(rt, exchange, passes, None),
+        Play::TwoTicks(progress) => play_pair(rt, exchange, passes, Some(progress)),
+        Play::Run(run, ran) => *ran = Some(run_first(rt, alloc, run, exchange, passes)),
+        Play::WholeCall(at, played) => *played = Some(play_call(rt, alloc, at, exchange, passes)),
+        Play::TwoRuns(runs, ran) => *ran = run_twice::<G, J, P, R>(
+            rt, alloc, runs, exchange, passes,
+        ),
+        Play::OneTurn(turns) => *turns = turn_on::<G, J, P, R>(rt, alloc, exchange, passes),
+        Play::CallFor200(called) => *called = Some(call_first(rt, alloc, exchange, passes)),
     }
 }
 
 // What is played, on an exchange of two ledgers; then the end of the exchange.
-fn play_opened<R: Abort + Clock + Net + Sync + Threads + Wait, J: Naming, P: Post + Send + Sync>(
+fn play_opened<
+    R: Abort + Clock + Net + Sync + Threads + Wait,
+    G: Gate + Sync,
+    J: Naming,
+    P: Post + Send + Sync,
+>(
     rt: &R,
     alloc: Global,
     plan: Plan,
+    gate: G,
     played: Play<'_>,
-    octets: Blank,
-    steps: Blank,
-) -> Result<Option<Sums>, PlanError>
+    blanks: (Blank, Blank),
+) -> Option<Sums>
     requires plan { plan ≡ P.plan }
-    requires octets { (octets.name ≡ J.Octets.name) × (octets.parts ≡ J.Octets.parts) ×
-        (octets.parts ≡ length plan.peers + plan.passes) }
-    requires steps { (steps.name ≡ J.Steps.name) × (steps.parts ≡ J.Steps.parts) ×
-        (steps.parts ≡ length plan.peers + plan.passes) }
+    requires octets { (blanks.0.name ≡ J.Octets.name) × (blanks.0.parts ≡ J.Octets.parts) ×
+        (blanks.0.parts ≡ length plan.peers + plan.passes) }
+    requires steps { (blanks.1.name ≡ J.Steps.name) × (blanks.1.parts ≡ J.Steps.parts) ×
+        (blanks.1.parts ≡ length plan.peers + plan.passes) }
     requires first { (J.first_octets ≡ 2 ^ 48) × (J.first_steps ≡ 2 ^ 48) }
 {
-    match Exchange::<NoGate, J>::open(alloc, plan, NoGate, octets, steps) {
+    match Exchange::<G, J>::open(alloc, plan, gate, blanks.0, blanks.1) {
         Ok((exchange, passes)) => {
             let mut passes = passes;
-            play_any::<R, J, P>(rt, alloc, played, &exchange, &mut passes);
-            Ok(ended(exchange, passes))
+            play_any::<R, G, J, P>(rt, alloc, played, &exchange, &mut passes);
+            Some(ended(rt, exchange, passes))
         }
-        Err(_) => Err(PlanError::Memory),
+        Err(_) => None,
     }
 }
 
 // The same, by the ledgers and the plan that the caller names.
 fn play_named<
     R: Abort + Clock + Net + Sync + Threads + Wait,
+    G: Gate + Sync,
     O: Ledger + Send + Sync,
     T: Ledger + Send + Sync,
     P: Post + Send + Sync,
@@ -141,48 +202,53 @@ fn play_named<
     rt: &R,
     alloc: Global,
     plan: Plan,
+    gate: G,
     played: Play<'_>,
     octets: Blank,
     steps: Blank,
-) -> Result<Option<Sums>, PlanError>
+) -> Option<Sums>
     requires plan { plan ≡ P.plan }
     requires octets { (octets.name ≡ O.name) × (octets.parts ≡ O.parts) × (octets.parts ≡ length plan.peers + plan.passes) }
     requires steps { (steps.name ≡ T.name) × (steps.parts ≡ T.parts) × (steps.parts ≡ length plan.peers + plan.passes) }
 {
-    play_opened::<R, Service<O, T>, P>(rt, alloc, plan, played, octets, steps)
+    play_opened::<R, G, Service<O, T>, P>(rt, alloc, plan, gate, played, (octets, steps))
 }
 
-/// Opens an exchange of a plan, plays this on it, and closes its accounts, as `ended` does. `Err` where memory for the opening
-/// was refused, or the text is no plan.
-pub fn play_with<R: Abort + Clock + Net + Sync + Threads + Wait>(
+/// Opens an exchange of a plan, whose gate is this, plays this on it, and closes its accounts, as `ended` does. `None` where
+/// memory for the plan or for the opening was refused.
+pub fn play_with<R: Abort + Clock + Net + Sync + Threads + Wait, G: Gate + Sync>(
     rt: &R,
     alloc: Global,
     plan: &str,
+    gate: G,
     played: Play<'_>,
-) -> Result<Option<Sums>, PlanError> {
+) -> Option<Sums> {
     let plan = match Plan::read(alloc, plan.as_bytes()) {
         Ok(plan) => plan,
-        Err(error) => return Err(error),
+        Err(PlanError::Memory) => return None,
+        Err(_) => panic!(rt; "a plan"),
     };
     let parts = u64::from(plan.peer_count()) + u64::from(plan.passes());
     let (octets, steps) = (Blank::new(parts), Blank::new(parts));
-    play_named::<R, Brand, Brand, Brand>(rt, alloc, plan, played, octets, steps)
+    play_named::<R, G, Brand, Brand, Brand>(rt, alloc, plan, gate, played, octets, steps)
 }
 
-/// The same, of a scene.
+/// Plays a scene on an exchange of a plan. `None` as `play_with` answers it.
+pub fn try_scene<R: Abort + Clock + Net + Sync + Threads + Wait>(
+    rt: &R,
+    alloc: Global,
+    plan: &str,
+    scene: Scene,
+) -> Option<Sums> {
+    play_with(rt, alloc, plan, NoGate, Play::Scene(scene))
+}
+
+/// Plays a scene on an exchange of a plan, with ample memory.
 pub fn play_on<R: Abort + Clock + Net + Sync + Threads + Wait>(
     rt: &R,
     alloc: Global,
     plan: &str,
     scene: Scene,
-) -> Result<Option<Sums>, PlanError> {
-    play_with(rt, alloc, plan, Play::Scene(scene))
-}
-
-/// Whether the scene was played, and the accounts balance after it.
-pub fn is_ended(played: Result<Option<Sums>, PlanError>) -> bool {
-    match played {
-        Ok(sums) => sums.is_some(),
-        Err(_) => false,
-    }
+) -> Sums {
+    try_scene(rt, alloc, plan, scene).expect(rt, "an exchange")
 }

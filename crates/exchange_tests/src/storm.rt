@@ -1,10 +1,12 @@
 //! A storm of datagrams on calls of all numbers: no leg changes but those concerned, and in the end all settles.
 
 use crate::datagrams::{Call, Dice, Sent, new_call};
+use crate::desk::{Desk, EAST_PLACE, Told, WEST_PLACE, heard, peer_of, tick_both};
 use crate::legs::Legs;
 use crate::opened::{Scene, play_on};
-use crate::scenes::{EAST_PLACE, Told, WEST_PLACE, heard, recovers, take_out, ticked};
-use exchange_core::{Exchange, NoGate, Pass, Refusal};
+use crate::recovery::recovers;
+use crate::same::holds;
+use exchange_core::{Gate, Refusal};
 use peer_lock::Naming;
 use std::process::Abort;
 use std::sync::Wait;
@@ -26,7 +28,7 @@ struct Peers {
 
 fn call_of(number: u16) -> Call {
     Call {
-        peer: if number <= 4 { WEST_PLACE } else { EAST_PLACE },
+        peer: peer_of(number),
         number,
         source: 0,
         next: 0,
@@ -118,30 +120,16 @@ impl Peers {
 }
 
 // A peer gets all that waits for it.
-fn deliver_to<R: Wait, J: Naming>(
-    rt: &R,
-    exchange: &Exchange<NoGate, J>,
-    pass: &mut Pass<J>,
+fn deliver_to<R: Wait, G: Gate, J: Naming>(
+    desk: &mut Desk<'_, R, G, J>,
     peers: &mut Peers,
     peer: u16,
 ) {
     for _ in 0..256 {
-        match take_out(rt, exchange, pass, peer) {
+        match desk.take_out(peer) {
             Some(out) => peers.learn(out.octets()),
             None => return,
         }
-    }
-}
-
-// The peers get all that waits for them.
-fn deliver<R: Wait, J: Naming>(
-    rt: &R,
-    exchange: &Exchange<NoGate, J>,
-    pass: &mut Pass<J>,
-    peers: &mut Peers,
-) {
-    for peer in [WEST_PLACE, EAST_PLACE] {
-        deliver_to(rt, exchange, pass, peers, peer);
     }
 }
 
@@ -157,51 +145,30 @@ fn is_expected(refusal: Refusal) -> bool {
     )
 }
 
-// A datagram may meet this refusal.
-fn assert_expected(rt: &impl Abort, refusal: Refusal) {
-    assert!(rt; is_expected(refusal), "{refusal:?}");
-}
-
-// This holds of a datagram.
-fn holds(rt: &impl Abort, what: &str, sent: &Sent, is_so: bool) {
-    assert!(rt; is_so, "{what}: {:?}", sent.octets());
-}
-
-// The legs did as the answer of a datagram allows.
-fn assert_allowed(rt: &impl Abort, after: &mut Legs, before: &Legs, sent: &Sent, told: Told) {
+// Whether the legs did as the answer of a datagram allows: a refused one changes none, another only those that it concerns.
+fn is_allowed(legs: &mut Legs, sent: &Sent, told: Told) -> bool {
     match told.refused {
-        Some(refusal) => {
-            assert_expected(rt, refusal);
-            holds(
-                rt,
-                "a refused datagram changes no leg",
-                sent,
-                after.are(before),
-            );
-        }
+        Some(refusal) => is_expected(refusal) && legs.are_unchanged(),
         None => {
-            after.pair_new(before);
-            let is_so = after.differ_where_concerned(before, sent);
-            holds(rt, "only legs that are concerned change", sent, is_so);
+            legs.pair_new();
+            legs.differ_where_concerned(sent)
         }
     }
 }
 
 // A datagram comes. No leg changes but those that it concerns.
-fn hear_one<R: Abort + Wait, J: Naming>(
+fn hear_one<R: Abort + Wait, G: Gate, J: Naming>(
     rt: &R,
-    exchange: &Exchange<NoGate, J>,
-    pass: &mut Pass<J>,
+    desk: &mut Desk<'_, R, G, J>,
     legs: &mut Legs,
     sent: &Sent,
     now: u64,
 ) -> Told {
-    let told = heard(rt, exchange, pass, sent.peer, sent.octets(), now).expect(rt, "a peer");
-    let mut after = *legs;
-    after.look(rt, exchange, pass);
-    assert_allowed(rt, &mut after, legs, sent, told);
-    after.part_gone();
-    *legs = after;
+    let told = heard(desk, sent.peer, sent.octets(), now);
+    legs.look(desk);
+    let is_so = is_allowed(legs, sent, told);
+    assert!(rt; is_so, "{:?}: {:?}", told.refused, sent.octets());
+    legs.part_gone();
     told
 }
 
@@ -222,26 +189,8 @@ impl Tally {
     }
 }
 
-// Time goes on at both peers.
-fn tick_both<R: Wait, J: Naming>(
-    rt: &R,
-    exchange: &Exchange<NoGate, J>,
-    pass: &mut Pass<J>,
-    legs: &mut Legs,
-    now: u64,
-) {
-    let _west = ticked(rt, exchange, pass, WEST_PLACE, now);
-    let _east = ticked(rt, exchange, pass, EAST_PLACE, now);
-    legs.look(rt, exchange, pass);
-    legs.part_gone();
-}
-
 // A hundred thousand datagrams, many of them spoilt.
-fn storm<R: Abort + Wait, J: Naming>(
-    rt: &R,
-    exchange: &Exchange<NoGate, J>,
-    pass: &mut Pass<J>,
-) -> Tally {
+fn storm<R: Abort + Wait, G: Gate, J: Naming>(rt: &R, desk: &mut Desk<'_, R, G, J>) -> Tally {
     let mut peers = Peers::new();
     let mut legs = Legs::none();
     let mut tally = Tally {
@@ -250,28 +199,25 @@ fn storm<R: Abort + Wait, J: Naming>(
     };
     for now in 0..DATAGRAMS {
         let sent = peers.next(now);
-        let told = hear_one(rt, exchange, pass, &mut legs, &sent, now);
-        tally.count(told);
+        tally.count(hear_one(rt, desk, &mut legs, &sent, now));
         if now.is_multiple_of(250) {
-            tick_both(rt, exchange, pass, &mut legs, now);
+            tick_both(desk, now);
+            legs.look(desk);
+            legs.part_gone();
         }
-        deliver(rt, exchange, pass, &mut peers);
+        deliver_to(desk, &mut peers, WEST_PLACE);
+        deliver_to(desk, &mut peers, EAST_PLACE);
     }
     tally
 }
 
 /// The storm, then an end to all calls.
-pub fn storm_and_end<R: Abort + Wait, J: Naming>(
-    rt: &R,
-    exchange: &Exchange<NoGate, J>,
-    pass: &mut Pass<J>,
-) {
-    let tally = storm(rt, exchange, pass);
+pub fn storm_and_end<R: Abort + Wait, G: Gate, J: Naming>(rt: &R, desk: &mut Desk<'_, R, G, J>) {
+    let tally = storm(rt, desk);
     // The storm isn't all refusals.
     more_than(rt, "answered", tally.answered, DATAGRAMS / 4);
     more_than(rt, "retired", tally.retired, 1000);
-    let is_so = recovers(rt, exchange, pass, DATAGRAMS);
-    assert!(rt; is_so, "recovery");
+    holds(rt, "recovery", recovers(desk, DATAGRAMS));
 }
 
 // More than so many.
@@ -281,7 +227,6 @@ fn more_than(rt: &impl Abort, what: &str, count: u64, least: u64) {
 
 #[test]
 fn storm_of_datagrams(rt: HostRuntime) {
-    let played = play_on(&rt, rt.alloc(), ONE_WORKER, Scene::Storm).expect(&rt, "an exchange");
-    let sums = played.expect(&rt, "balanced accounts");
+    let sums = play_on(&rt, rt.alloc(), ONE_WORKER, Scene::Storm);
     more_than(&rt, "packed", sums.packed, 1000);
 }

@@ -3,16 +3,18 @@ ghost use Rattle.std.specs.Prelude.{◌≡◌};
 ghost use Rattle.udp_workers.specs.MioWire.{peers_of as wire_peers};
 ghost use Rattle.udp_workers.specs.Served.{AreEndpoints, peers_of};
 
+use crate::desk::{EAST, WEST};
 use crate::opened::{Play, play_with};
 use crate::same::{holds, same};
-use crate::wires::endpoints::{EAST, WEST};
+use crate::wires::sockets::address;
 use call_auth::Challenge;
-use exchange_core::{Exchange, NoGate, Pass};
+use exchange_core::{Exchange, Gate, NoGate, Pass};
 use mio::net::UdpSocket;
 use peer_lock::Naming;
-use peer_plan::Endpoint;
+use peer_plan::{Endpoint, Plan};
 use std::alloc::Global;
-use std::net::{IpAddr, Ipv4Addr, Net, SocketAddr};
+use std::net::Net;
+use std::process::Abort;
 use std::sync::Wait;
 use std::test::*;
 use test_plans::plans::ONE_WORKER;
@@ -28,10 +30,6 @@ const REJECT: &[u8] =
     b"\x80\x01\x00\x07\x00\x00\x00\x00\x00\x01\x06\x06\x16\x12\x75\x6e\x61\x6c\x6c\x6f\x63\x61\x74\x65\x64\x20\x6e\x75\x6d\x62\
     \x65\x72\x2a\x01\x01";
 
-fn address(of: Endpoint) -> SocketAddr {
-    SocketAddr::new(IpAddr::V4(Ipv4Addr::from_octets(of.address)), of.port)
-}
-
 // Whether the next datagram at the socket, if one is there, is this one.
 fn hears(socket: &UdpSocket, wanted: &[u8]) -> bool {
     let mut octets = [0u8; 2049];
@@ -42,9 +40,9 @@ fn hears(socket: &UdpSocket, wanted: &[u8]) -> bool {
 }
 
 // Turns of a worker, 200 at most, until the socket hears the REJECT.
-fn turn_until_rejected<J: Naming, R: Wait>(
+fn turn_until_rejected<G: Gate, J: Naming, R: Wait>(
     rt: &R,
-    exchange: &Exchange<NoGate, J>,
+    exchange: &Exchange<G, J>,
     pass: &mut Pass<J>,
     worker: &mut Worker,
     wire: &mut MioWire,
@@ -65,27 +63,55 @@ fn turn_until_rejected<J: Naming, R: Wait>(
 }
 
 // A socket at the endpoint of the peer in the west, which has sent its NEW.
-fn caller_at<R: Net>(rt: &R, at: Endpoint) -> Option<UdpSocket> {
-    let caller = UdpSocket::bind(rt, address(WEST)).ok()?;
-    let _len = caller.send_to(NEW_FOR_200, address(at)).ok()?;
-    Some(caller)
+fn caller_at<R: Abort + Net>(rt: &R, at: Endpoint) -> UdpSocket {
+    let caller = UdpSocket::bind(rt, address(WEST.port)).expect(rt, "a socket");
+    let _len = caller
+        .send_to(NEW_FOR_200, address(at.port))
+        .expect(rt, "sent");
+    caller
 }
 
-// The only worker of a plan hears the caller. Gives whether the call was rejected, and how many datagrams the wire was given for
-// the peer in the west and for the one in the east.
-fn call_worker<J: Naming, R: Net + Wait>(
+// A worker's wire at an endpoint.
+fn wire_of<R: Abort + Net>(
     rt: &R,
     alloc: Global,
-    exchange: &Exchange<NoGate, J>,
-    pass: &mut Pass<J>,
-) -> Option<(bool, u64, u64)> {
-    let challenge = Challenge::new(b"0")?;
-    let at = *exchange.plan().workers().first()?;
+    plan: &Plan,
+    worker: &Worker,
+    at: Endpoint,
+) -> MioWire
+    requires { worker.now.peers ≡ peers_of plan.now worker.now.place }
+    ensures { AreEndpoints plan.now worker.now.peers (wire_peers result) }
+{
+    let endpoints = worker.endpoints(alloc, plan).expect(rt, "the endpoints");
+    match MioWire::bind(rt, alloc, at, endpoints, Sharing::Alone) {
+        Ok(wire) => wire,
+        Err(_) => panic!(rt; "a wire"),
+    }
+}
+
+/// What became of a call for 200.
+#[derive(Clone, Copy)]
+pub struct Rejection {
+    is_heard: bool,
+    // How many datagrams the wire was given for the peer in the west, and for the one in the east.
+    to_west: u64,
+    to_east: u64,
+}
+
+/// The only worker of a plan hears a caller, under the exchange's first pass.
+pub fn call_first<G: Gate, J: Naming, R: Abort + Net + Wait>(
+    rt: &R,
+    alloc: Global,
+    exchange: &Exchange<G, J>,
+    passes: &mut [Pass<J>],
+) -> Rejection {
+    let pass = passes.first_mut().expect(rt, "a pass");
+    let challenge = Challenge::new(b"0").expect(rt, "a challenge");
+    let at = *exchange.plan().workers().first().expect(rt, "a worker");
     let mut worker = Worker::new(exchange.plan(), 0);
-    let endpoints = worker.endpoints(alloc, exchange.plan()).ok()?;
-    let mut wire = MioWire::bind(rt, alloc, at, endpoints, Sharing::Alone).ok()?;
-    let caller = caller_at(rt, at)?;
-    let rejected = turn_until_rejected(
+    let mut wire = wire_of(rt, alloc, exchange.plan(), &worker, at);
+    let caller = caller_at(rt, at);
+    let is_heard = turn_until_rejected(
         rt,
         exchange,
         pass,
@@ -94,23 +120,20 @@ fn call_worker<J: Naming, R: Net + Wait>(
         &caller,
         &challenge,
     );
-    Some((rejected, wire.given_to(WEST), wire.given_to(EAST)))
-}
-
-/// The same, under the first pass.
-pub fn call_first<J: Naming, R: Net + Wait>(
-    rt: &R,
-    alloc: Global,
-    exchange: &Exchange<NoGate, J>,
-    passes: &mut [Pass<J>],
-) -> Option<(bool, u64, u64)> {
-    call_worker(rt, alloc, exchange, passes.first_mut()?)
+    Rejection {
+        is_heard,
+        to_west: wire.given_to(WEST),
+        to_east: wire.given_to(EAST),
+    }
 }
 
 #[test]
 fn reject_on_loopback(rt: HostRuntime) {
     let mut called = None;
-    let played = play_with(&rt, rt.alloc(), ONE_WORKER, Play::CallFor200(&mut called));
-    holds(&rt, "played", played.is_ok());
-    same(&rt, &called, &Some((true, 1, 0)));
+    let played = Play::CallFor200(&mut called);
+    let sums = play_with(&rt, rt.alloc(), ONE_WORKER, NoGate, played);
+    holds(&rt, "played", sums.is_some());
+    let rejection = called.expect(&rt, "a call");
+    holds(&rt, "rejected", rejection.is_heard);
+    same(&rt, &[rejection.to_west, rejection.to_east], &[1, 0]);
 }

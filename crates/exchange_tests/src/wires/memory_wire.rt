@@ -1,14 +1,18 @@
 //! A wire in memory: it gives what a test puts there, keeps what it is given, and fails at one of its calls.
-use crate::wires::call::Arrival;
-use peer_plan::Endpoint;
-use std::alloc::{AllocError, Global};
-use udp_workers::{PeerCounts, Wire, WireFault};
+ghost use Rattle.std.specs.Prelude.{◌≡◌};
+ghost use Rattle.udp_workers.specs.Served.{AreEndpoints, peers_of};
 
-/// A datagram that was sent.
+use crate::arrivals::Arrival;
+use peer_plan::{Endpoint, Plan};
+use std::alloc::{AllocError, Global};
+use std::process::Abort;
+use udp_workers::{PeerCounts, Wire, WireFault, Worker};
+
+// A datagram that was sent.
 #[derive(Drop)]
-pub struct Sent {
-    pub to: Endpoint,
-    pub octets: Vec<u8>,
+struct Sent {
+    to: Endpoint,
+    octets: Vec<u8>,
 }
 
 /// A wire in memory.
@@ -20,8 +24,8 @@ pub struct MemoryWire {
     failures: u64,
     // The datagram that comes next.
     next: Option<(Endpoint, &'static [u8])>,
-    // The datagrams after it, the last first. Each comes when the wire is waited for.
-    later: Vec<Arrival>,
+    // The datagrams after it. Each comes when the wire is waited for.
+    later: &'static [Arrival],
     // What was sent, in order.
     sent: Vec<Sent>,
     // How many more calls of `receive` and `send` go well before one fails.
@@ -41,7 +45,7 @@ impl MemoryWire {
             given: 0,
             failures: 0,
             next: None,
-            later: Vec::new(alloc),
+            later: &[],
             sent: Vec::new(alloc),
             good_calls: fails_at.wrapping_sub(1),
         })
@@ -58,8 +62,8 @@ impl MemoryWire {
         true
     }
 
-    /// The first of these datagrams, which stand the last first, is there, and each other comes when the wire is waited for.
-    pub fn follow(&mut self, arrivals: Vec<Arrival>)
+    /// The first of these datagrams is there, and each other comes when the wire is waited for.
+    pub fn follow(&mut self, arrivals: &'static [Arrival])
         ensures { self.new.peers ≡ self.old.peers }
     {
         self.later = arrivals;
@@ -75,15 +79,30 @@ impl MemoryWire {
         if self.next.is_some() {
             return;
         }
-        if let Some(arrival) = self.later.pop() {
+        if let Some((arrival, later)) = self.later.split_first() {
             self.next = Some((arrival.from, arrival.octets));
+            self.later = later;
         }
     }
 
-    /// What was sent, in order.
-    pub fn into_sent(self) -> Vec<Sent> {
-        let MemoryWire { sent, .. } = self;
-        sent
+    /// How many datagrams were sent.
+    pub fn sent_count(&self) -> usize {
+        self.sent.len()
+    }
+
+    /// Whether what was sent to an endpoint is this, in order.
+    pub fn has_sent(&self, to: Endpoint, wanted: &[&[u8]]) -> bool {
+        let mut count: usize = 0;
+        for datagram in &self.sent {
+            if datagram.to == to {
+                match wanted.get(count) {
+                    Some(octets) if datagram.octets.as_slice() == *octets => {}
+                    _ => return false,
+                }
+                count = count.saturating_add(1);
+            }
+        }
+        count == wanted.len()
     }
 
     // Whether this call fails.
@@ -154,4 +173,19 @@ impl Wire for MemoryWire {
     fn failures(&self) -> u64 {
         self.failures
     }
+}
+
+/// A wire in memory for a worker of a plan, which fails at its call of this place; at 0 never.
+pub fn wire_of(
+    rt: &impl Abort,
+    alloc: Global,
+    plan: &Plan,
+    worker: &Worker,
+    fails_at: u64,
+) -> MemoryWire
+    requires { worker.now.peers ≡ peers_of plan.now worker.now.place }
+    ensures { AreEndpoints plan.now worker.now.peers result.peers.endpoints.items }
+{
+    let endpoints = worker.endpoints(alloc, plan).expect(rt, "the endpoints");
+    MemoryWire::new(alloc, endpoints, fails_at).expect(rt, "a wire")
 }

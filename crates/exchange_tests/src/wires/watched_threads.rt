@@ -5,10 +5,11 @@ use crate::opened::{Play, play_with};
 use crate::same::{holds, same};
 use crate::wires::both_at_once::{TestSeat, seats_of, turns_of};
 use crate::wires::counting_watch::{CountingWatch, read};
-use exchange_core::{Exchange, NoGate, Pass, Retired};
+use exchange_core::{Exchange, Gate, NoGate, Pass, Retired};
 use peer_lock::Naming;
 use std::alloc::Global;
 use std::marker::PhantomData;
+use std::process::Abort;
 use std::sync::Wait;
 use std::sync::atomic::{AtomicBool, AtomicU64, Ordering};
 use std::test::*;
@@ -57,84 +58,79 @@ fn stop_after_ten<R: Clock>(rt: &R, watch: &StoppedWatch) -> u64 {
     asked
 }
 
-// Both workers run until they have asked so often. True if no thread was refused.
-fn run_counted<J: Naming, P: Post + Send + Sync, R: Threads + Wait + Sync>(
+// Both workers run until their watch says that the service has ended; beside them one is stopped, if there is one to stop. Gives
+// whether no thread was refused, and how often was asked before the stop.
+fn run_beside<
+    V: Watch + Sync,
+    G: Gate + Sync,
+    J: Naming,
+    P: Post + Send + Sync,
+    R: Clock + Threads + Wait + Sync,
+>(
     rt: &R,
-    service: &WatchedExchange<'_, CountingWatch, NoGate, J, P>,
+    service: &WatchedExchange<'_, V, G, J, P>,
     seats: &[TestSeat<J, P>],
-) -> bool {
-    thread::scope(thread::scope_env(), rt, |scope| {
-        start_until(rt, scope, service, seats)
-    })
-}
-
-// Both workers run until they are stopped by what runs beside them. Gives whether no thread was refused, and what that answered.
-fn run_stopped<J: Naming, P: Post + Send + Sync, R: Clock + Threads + Wait + Sync>(
-    rt: &R,
-    service: &WatchedExchange<'_, StoppedWatch, NoGate, J, P>,
-    seats: &[TestSeat<J, P>],
+    stopped: Option<&StoppedWatch>,
 ) -> (bool, u64) {
     thread::scope(thread::scope_env(), rt, |scope| {
         let started = start_until(rt, scope, service, seats);
-        (started, stop_after_ten(rt, service.watch))
+        match stopped {
+            Some(watch) => (started, stop_after_ten(rt, watch)),
+            None => (started, 0),
+        }
     })
 }
 
-// Both workers make the first of these runs, and then the second. Gives what ran beside them; nothing where a thread was refused.
-fn run_both<J: Naming, P: Post + Send + Sync, R: Clock + Threads + Wait + Sync>(
-    rt: &R,
-    exchange: &Exchange<NoGate, J>,
-    seats: &[TestSeat<J, P>],
-    counting: &CountingWatch,
-    stopped: &StoppedWatch,
-) -> Option<u64>
-    requires { exchange.now ≡ P.plan }
-{
-    let first = WatchedExchange {
-        exchange,
-        watch: counting,
-        post: PhantomData,
-    };
-    let second = WatchedExchange {
-        exchange,
-        watch: stopped,
-        post: PhantomData,
-    };
-    let counted = run_counted(rt, &first, seats);
-    let (started, asked) = run_stopped(rt, &second, seats);
-    if counted && started {
-        Some(asked)
-    } else {
-        None
-    }
-}
-
 /// The two runs of both workers, each in its seat.
-#[derive(Drop)]
+#[derive(Clone, Copy)]
 pub struct TwoRuns<'a> {
     counting: &'a CountingWatch,
     stopped: &'a StoppedWatch,
 }
 
-/// Both workers make these runs. Gives how many turns they made, and what ran beside the second run.
-pub fn run_twice<J: Naming, P: Post + Send + Sync, R: Clock + Threads + Wait + Sync>(
+// Both workers make the first of these runs, and then the second. Gives how often was asked before the stop.
+fn run_both<
+    G: Gate + Sync,
+    J: Naming,
+    P: Post + Send + Sync,
+    R: Abort + Clock + Threads + Wait + Sync,
+>(rt: &R, runs: &TwoRuns<'_>, exchange: &Exchange<G, J>, seats: &[TestSeat<J, P>]) -> u64
+    requires { exchange.now ≡ P.plan }
+{
+    let first = WatchedExchange {
+        exchange,
+        watch: runs.counting,
+        post: PhantomData,
+    };
+    let second = WatchedExchange {
+        exchange,
+        watch: runs.stopped,
+        post: PhantomData,
+    };
+    let (counted, _) = run_beside(rt, &first, seats, None);
+    let (started, asked) = run_beside(rt, &second, seats, Some(runs.stopped));
+    holds(rt, "all threads", counted && started);
+    asked
+}
+
+/// Both workers make these runs. Gives how many turns they made, and how often was asked before the stop of the second run.
+pub fn run_twice<
+    G: Gate + Sync,
+    J: Naming,
+    P: Post + Send + Sync,
+    R: Abort + Clock + Threads + Wait + Sync,
+>(
     rt: &R,
     alloc: Global,
     runs: &TwoRuns<'_>,
-    exchange: &Exchange<NoGate, J>,
+    exchange: &Exchange<G, J>,
     passes: &mut Vec<Pass<J>>,
-) -> Option<(u64, u64)>
+) -> (u64, u64)
     requires { exchange.now ≡ P.plan }
 {
-    let Some(seats) = seats_of::<J, P>(alloc, exchange.plan(), passes) else {
-        return None;
-    };
-    let asked = run_both(rt, exchange, &seats, runs.counting, runs.stopped);
-    let turns = turns_of(seats);
-    match asked {
-        Some(asked) => Some((turns, asked)),
-        None => None,
-    }
+    let seats = seats_of::<J, P>(rt, alloc, exchange.plan(), passes);
+    let asked = run_both(rt, runs, exchange, &seats);
+    (turns_of(rt, seats, passes), asked)
 }
 
 #[test]
@@ -148,13 +144,14 @@ fn threads_until_ended(rt: HostRuntime) {
         counting: &counting,
         stopped: &stopped,
     };
-    let mut ran = None;
-    let played = play_with(&rt, rt.alloc(), TWO_WORKERS, Play::TwoRuns(&runs, &mut ran));
-    holds(&rt, "played", played.is_ok());
-    let (turns, asked) = ran.expect(&rt, "two runs");
+    let mut ran = (0, 0);
+    let played = Play::TwoRuns(&runs, &mut ran);
+    let sums = play_with(&rt, rt.alloc(), TWO_WORKERS, NoGate, played);
+    holds(&rt, "played", sums.is_some());
+    let (turns, asked) = ran;
     // Each of both workers is told once that the service has ended.
-    same(&rt, &read(&counting.asked), &7);
-    same(&rt, &read(&counting.refused_threads), &0);
+    let found = [read(&counting.asked), read(&counting.refused_threads)];
+    same(&rt, &found, &[7, 0]);
     same(&rt, &turns, &read(&stopped.asked).wrapping_add(3));
     holds(&rt, "asked", asked >= 10);
 }

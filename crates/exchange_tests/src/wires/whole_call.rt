@@ -2,15 +2,14 @@
 ghost use Rattle.std.specs.Prelude.{◌≡◌};
 ghost use Rattle.udp_workers.specs.Served.{AreEndpoints, peers_of};
 
-use crate::opened::{Play, is_ended, play_with};
+use crate::arrivals::{TO_EAST, TO_WEST, WHOLE_CALL};
+use crate::desk::{EAST, WEST};
+use crate::opened::{Play, play_with};
 use crate::same::{holds, same};
-use crate::wires::call::{ARRIVALS, TO_EAST, TO_WEST};
-use crate::wires::endpoints::{EAST, WEST};
-use crate::wires::memory_wire::{MemoryWire, Sent};
+use crate::wires::memory_wire::{MemoryWire, wire_of};
 use call_auth::Challenge;
-use exchange_core::{Exchange, NoGate, Pass};
+use exchange_core::{Exchange, Gate, NoGate, Pass};
 use peer_lock::Naming;
-use peer_plan::Endpoint;
 use std::alloc::Global;
 use std::net::Net;
 use std::process::Abort;
@@ -22,11 +21,12 @@ use test_plans::plans::ONE_WORKER;
 use udp_workers::{TurnReport, Wire, Worker};
 
 /// What a call over a wire in memory came to.
-#[derive(Drop)]
+#[derive(Clone, Copy)]
 pub struct Played {
     /// The sum of the reports.
     pub report: TurnReport,
-    pub sent: Vec<Sent>,
+    /// Whether the peers were sent what they are in the whole call.
+    pub is_whole: bool,
     /// How many datagrams the wire was given for the peer in the west, and for the one in the east.
     pub to_west: u64,
     pub to_east: u64,
@@ -47,9 +47,9 @@ fn sum_of(one: TurnReport, other: TurnReport) -> TurnReport {
 }
 
 // One turn for each arrival, at its moment.
-fn play_arrivals<J: Naming, R: Wait>(
+fn play_arrivals<G: Gate, J: Naming, R: Wait>(
     rt: &R,
-    exchange: &Exchange<NoGate, J>,
+    exchange: &Exchange<G, J>,
     pass: &mut Pass<J>,
     worker: &mut Worker,
     wire: &mut MemoryWire,
@@ -60,7 +60,7 @@ fn play_arrivals<J: Naming, R: Wait>(
 {
     let mut sum = TurnReport::default();
     let mut counted = true;
-    for arrival in ARRIVALS {
+    for arrival in &WHOLE_CALL {
         // One that wasn't received for a fault stays, and this one is lost before the wire.
         let _put = wire.put(arrival.from, arrival.octets);
         let given = wire.given();
@@ -77,43 +77,26 @@ fn play_arrivals<J: Naming, R: Wait>(
     (sum, counted)
 }
 
-// The only worker of a plan plays the call with the exchange's first pass.
-fn play_worker<J: Naming, R: Wait>(
+/// The call over a wire in memory that fails at its call of this place, with the exchange's first pass; at 0 never.
+pub fn play_call<G: Gate, J: Naming, R: Abort + Wait>(
     rt: &R,
     alloc: Global,
-    exchange: &Exchange<NoGate, J>,
-    pass: &mut Pass<J>,
     fails_at: u64,
-) -> Option<(TurnReport, bool, MemoryWire)> {
-    let challenge = Challenge::new(b"0")?;
+    exchange: &Exchange<G, J>,
+    passes: &mut [Pass<J>],
+) -> Played {
+    let pass = passes.first_mut().expect(rt, "a pass");
+    let challenge = Challenge::new(b"0").expect(rt, "a challenge");
     let _workers = exchange.plan().workers();
     let mut worker = Worker::new(exchange.plan(), 0);
-    let endpoints = worker.endpoints(alloc, exchange.plan()).ok()?;
-    let mut wire = MemoryWire::new(alloc, endpoints, fails_at).ok()?;
+    let mut wire = wire_of(rt, alloc, exchange.plan(), &worker, fails_at);
     let (report, counted) = play_arrivals(rt, exchange, pass, &mut worker, &mut wire, &challenge);
-    Some((report, counted, wire))
-}
-
-/// The call over a wire in memory that fails at its call of this place, with the exchange's first pass; at 0 never.
-pub fn play_call<J: Naming, R: Wait>(
-    rt: &R,
-    alloc: Global,
-    fails_at: u64,
-    exchange: &Exchange<NoGate, J>,
-    passes: &mut [Pass<J>],
-) -> Option<Played> {
-    let Some(pass) = passes.first_mut() else {
-        return None;
-    };
-    match play_worker(rt, alloc, exchange, pass, fails_at) {
-        Some((report, counted, wire)) => Some(Played {
-            report,
-            to_west: wire.given_to(WEST),
-            to_east: wire.given_to(EAST),
-            sent: wire.into_sent(),
-            counted,
-        }),
-        None => None,
+    Played {
+        report,
+        is_whole: wire.has_sent(WEST, &TO_WEST) && wire.has_sent(EAST, &TO_EAST),
+        to_west: wire.given_to(WEST),
+        to_east: wire.given_to(EAST),
+        counted,
     }
 }
 
@@ -124,31 +107,10 @@ pub fn play_over<R: Abort + Clock + Net + Sync + Threads + Wait>(
     fails_at: u64,
 ) -> Played {
     let mut call = None;
-    let played = play_with(rt, alloc, ONE_WORKER, Play::WholeCall(fails_at, &mut call));
-    holds(rt, "balances", is_ended(played));
+    let played = Play::WholeCall(fails_at, &mut call);
+    let sums = play_with(rt, alloc, ONE_WORKER, NoGate, played);
+    holds(rt, "balances", sums.is_some());
     call.expect(rt, "a call")
-}
-
-/// Whether what went to an endpoint is this, in order.
-pub fn went(sent: &[Sent], to: Endpoint, wanted: &[&[u8]]) -> bool {
-    let mut found: usize = 0;
-    for datagram in sent {
-        if datagram.to == to {
-            if !is_at(wanted, found, &datagram.octets) {
-                return false;
-            }
-            found = found.saturating_add(1);
-        }
-    }
-    found == wanted.len()
-}
-
-// Whether these octets are wanted at this place.
-fn is_at(wanted: &[&[u8]], place: usize, octets: &[u8]) -> bool {
-    match wanted.get(place) {
-        Some(wanted) => octets == *wanted,
-        None => false,
-    }
 }
 
 #[test]
@@ -163,8 +125,6 @@ fn whole_call_over_a_wire(rt: HostRuntime) {
         retired: 2,
     };
     same(&rt, &played.report, &expected);
-    holds(&rt, "to the west", went(&played.sent, WEST, &TO_WEST));
-    holds(&rt, "to the east", went(&played.sent, EAST, &TO_EAST));
     same(&rt, &(played.to_west, played.to_east), &(3, 4));
-    holds(&rt, "counted", played.counted);
+    holds(&rt, "counted, and whole", played.counted && played.is_whole);
 }

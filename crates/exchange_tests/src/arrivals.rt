@@ -1,0 +1,186 @@
+//! Datagrams that come from the peers, each at its moment: a peer in the west calls 300, which leads east.
+use crate::desk::{Desk, EAST, WEST, told_by};
+use exchange_core::Gate;
+use peer_lock::Naming;
+use peer_plan::Endpoint;
+use std::sync::Wait;
+use test_plans::frames::{EAST_ACCEPT, EAST_ANSWER, WEST_ACK, WEST_NEW};
+
+/// A datagram that comes from an endpoint, and its moment.
+#[derive(Clone, Copy)]
+pub struct Arrival {
+    pub at: u64,
+    pub from: Endpoint,
+    pub octets: &'static [u8],
+}
+
+// The west calls 300.
+const CALLED: Arrival = Arrival {
+    at: 0,
+    from: WEST,
+    octets: WEST_NEW,
+};
+
+// It has the ACCEPT.
+const ACCEPT_TAKEN: Arrival = Arrival {
+    at: 10,
+    from: WEST,
+    octets: b"\x80\x07\x00\x01\x00\x00\x00\x00\x01\x01\x06\x04",
+};
+
+// The east accepts.
+const ACCEPTS: Arrival = Arrival {
+    at: 10,
+    from: EAST,
+    octets: EAST_ACCEPT,
+};
+
+// It answers.
+const ANSWERS: Arrival = Arrival {
+    at: 20,
+    from: EAST,
+    octets: EAST_ANSWER,
+};
+
+// The west has the answer.
+const ANSWER_TAKEN: Arrival = Arrival {
+    at: 20,
+    from: WEST,
+    octets: WEST_ACK,
+};
+
+// It hangs up.
+const HANGS_UP: Arrival = Arrival {
+    at: 100,
+    from: WEST,
+    octets: b"\x80\x07\x00\x01\x00\x00\x00\x64\x01\x02\x06\x05",
+};
+
+// The east has the HANGUP.
+const HANGUP_TAKEN: Arrival = Arrival {
+    at: 100,
+    from: EAST,
+    octets: b"\x80\x09\x00\x05\x00\x00\x00\x64\x02\x02\x06\x04",
+};
+
+// A second call from the west.
+const SECOND_CALL: Arrival = Arrival {
+    at: 20,
+    from: WEST,
+    octets: b"\x80\x08\x00\x00\x00\x00\x00\x00\x00\x00\x06\x01\x0b\x02\x00\x02\x01\x03\x33\x30\x30\x09\x04\x00\x00\x00\x04\x08\
+    \x04\x00\x00\x00\x04",
+};
+
+// A NEW from nobody of the plan.
+const STRANGER: Arrival = Arrival {
+    at: 20,
+    from: Endpoint {
+        address: [127, 0, 0, 1],
+        port: 5003,
+    },
+    octets: b"\x80\x08\x00\x00\x00\x00\x00\x00\x00\x00\x06\x01",
+};
+
+// Too short for any frame.
+const SHORT: Arrival = Arrival {
+    at: 20,
+    from: EAST,
+    octets: b"\x80\x09",
+};
+
+/// The call from its first datagram to its last.
+pub const WHOLE_CALL: [Arrival; 7] = [
+    CALLED,
+    ACCEPT_TAKEN,
+    ACCEPTS,
+    ANSWERS,
+    ANSWER_TAKEN,
+    HANGS_UP,
+    HANGUP_TAKEN,
+];
+
+/// The same, with a second call while the first goes on.
+pub const WITH_SECOND_CALL: [Arrival; 8] = [
+    CALLED,
+    ACCEPT_TAKEN,
+    ACCEPTS,
+    ANSWERS,
+    ANSWER_TAKEN,
+    SECOND_CALL,
+    HANGS_UP,
+    HANGUP_TAKEN,
+];
+
+/// The call until both legs are up; then what nobody should send.
+pub const WITH_A_STRANGER: [Arrival; 7] = [
+    CALLED,
+    ACCEPT_TAKEN,
+    ACCEPTS,
+    ANSWERS,
+    ANSWER_TAKEN,
+    STRANGER,
+    SHORT,
+];
+
+/// The call until it is accepted, at once, and a voice frame from the east.
+pub const ACCEPTED: [Arrival; 3] = [
+    CALLED,
+    Arrival {
+        at: 0,
+        from: EAST,
+        octets: EAST_ACCEPT,
+    },
+    Arrival {
+        at: 20,
+        from: EAST,
+        octets: b"\x80\x09\x00\x05\x00\x00\x00\x14\x01\x01\x02\x04\xff",
+    },
+];
+
+/// The call until both legs are up; then a voice frame and a mini frame from the east, and a digit from the west.
+pub const MEDIA_AND_DIGIT: [Arrival; 8] = [
+    CALLED,
+    ACCEPT_TAKEN,
+    ACCEPTS,
+    ANSWERS,
+    ANSWER_TAKEN,
+    Arrival {
+        at: 20,
+        from: EAST,
+        octets: b"\x80\x09\x00\x05\x00\x00\x00\x14\x02\x01\x02\x04\xff",
+    },
+    Arrival {
+        at: 20,
+        from: EAST,
+        octets: b"\x00\x09\x00\x14\xaa\xbb\xcc",
+    },
+    Arrival {
+        at: 30,
+        from: WEST,
+        octets: b"\x80\x07\x00\x01\x00\x00\x00\x20\x02\x03\x01\x35",
+    },
+];
+
+/// What goes to the west in the whole call, in order.
+pub const TO_WEST: [&[u8]; 3] = [
+    b"\x80\x01\x00\x07\x00\x00\x00\x00\x00\x01\x06\x07\x09\x04\x00\x00\x00\x04",
+    b"\x80\x01\x00\x07\x00\x00\x00\x14\x01\x01\x04\x04",
+    b"\x80\x01\x00\x07\x00\x00\x00\x64\x02\x02\x06\x04",
+];
+
+/// What goes to the east, in order.
+pub const TO_EAST: [&[u8]; 4] = [
+    b"\x80\x05\x00\x00\x00\x00\x00\x00\x00\x00\x06\x01\x0b\x02\x00\x02\x01\x03\x33\x30\x30\x09\x04\x00\x00\x00\x04\x08\x04\x00\
+    \x00\x00\x04",
+    b"\x80\x05\x00\x09\x00\x00\x00\x03\x01\x01\x06\x04",
+    b"\x80\x05\x00\x09\x00\x00\x00\x0d\x01\x02\x06\x04",
+    b"\x80\x05\x00\x09\x00\x00\x00\x64\x01\x02\x06\x05\x16\x0f\x6e\x6f\x72\x6d\x61\x6c\x20\x63\x6c\x65\x61\x72\x69\x6e\x67\x2a\
+    \x01\x10",
+];
+
+/// These come, whatever is answered.
+pub fn hear_all<R: Wait, G: Gate, J: Naming>(desk: &mut Desk<'_, R, G, J>, arrivals: &[Arrival]) {
+    for arrival in arrivals {
+        let _told = told_by(desk.datagram(arrival.from, arrival.octets, arrival.at));
+    }
+}
