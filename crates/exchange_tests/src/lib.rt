@@ -1,5 +1,5 @@
 //! Tests of an exchange: growths that are refused, datagrams that nobody should send, a storm of them, passes that are missing,
-//! and two workers at once. Those of the workers over wires and sockets stand in `wires`.
+//! two workers at once, and the program that serves. Those of the workers over wires and sockets stand in `wires`.
 #![tactic(auto)]
 
 #[cfg(test)]
@@ -26,6 +26,8 @@ mod pairs;
 mod recovery;
 #[cfg(test)]
 mod same;
+#[cfg(test)]
+mod serving;
 #[cfg(test)]
 mod settling;
 #[cfg(test)]
