@@ -2,6 +2,7 @@
 #![tactic(auto)]
 
 mod finding;
+mod leg_steps;
 mod named_leg;
 mod openings;
 mod peer_legs;

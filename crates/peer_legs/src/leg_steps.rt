@@ -1,0 +1,200 @@
+//! The steps of one of a peer's legs: a full frame comes, an order is carried out, media goes out, time goes on.
+ghost use Rattle.std.specs.Option.{ForSome};
+ghost use Rattle.std.specs.Prelude.{◌≡◌, ◌==◌, ◌≤◌, ◌↔◌, length, map};
+ghost use Rattle.std.specs.Prelude.{slice_get, slice_set, true, None, Some, Err, [], IfErr, IfNone, IfOk};
+ghost use Rattle.std.specs.Prelude.{IsSome, OnErr, OnOk};
+ghost use Rattle.call_signals.specs.declared.rules.PeerRules.{PeerRules};
+ghost use Rattle.iax_frames.specs.FullFrame.{spelling};
+ghost use Rattle.leg_machine.specs.Leg.{is_short_of_entries};
+ghost use Rattle.leg_machine.specs.Media.{media_sent, after_media, media_frames};
+ghost use Rattle.leg_machine.specs.OrderTable.{order_refused, media_refused, is_voice, wants_memory, IsRefusal, IsShortMedia};
+ghost use Rattle.leg_machine.specs.OrderTable.{order_carried};
+ghost use Rattle.leg_machine.specs.Steps.{full_step, heard_of};
+ghost use Rattle.leg_machine.specs.Ticks.{tick_step};
+ghost use Rattle.leg_machine.specs.Tie.{TakesTurn, SendsAtMostOne};
+ghost use Rattle.peer_legs.specs.Finding.{can_reach};
+ghost use Rattle.peer_legs.specs.Legs.{NamedLeg as NamedLegValue};
+
+use crate::peer_legs::PeerLegs;
+use iax_frames::Full;
+use leg_machine::{Heard, MediaSent, Order, OrderError, Replies, StepError};
+
+impl PeerLegs {
+    ghost use Rattle.peer_legs.specs.Legs.{AreLegs, AreLegsOf, leg_at, filled, with_leg};
+
+    /// A full frame comes to the leg of a local number, at the moment `now`, in milliseconds, as `Leg::full_into` takes it; the
+    /// leg stands under its number still. The frame's source can reach that leg, and its data has at most 1,388 octets. What is
+    /// sent is written to the empty list.
+    ///
+    /// Refusals are looked for in this order: `RecordFull` where fewer than four entries of the leg's record are free, whatever
+    /// the frame is, then `Memory`. Then the legs are as before.
+    pub fn full(
+        &mut self,
+        number: u16,
+        frame: &Full,
+        now: u64,
+        replies: &mut Replies,
+    ) -> Result<Heard, StepError>
+        requires there { can_reach self.old frame.now.head.source (leg_at self.old number) ≡ true }
+        requires short { length frame.now.payload ≤ 1388 }
+        requires empty { replies.old ≡ [] }
+        ensures leg { OnOk result ((named : NamedLegValue) → leg_at self.old number ≡ Some named →
+            self.new ≡ with_leg self.old named.name (full_step named.leg frame.now now).leg) }
+        ensures replies { OnOk result ((named : NamedLegValue) → leg_at self.old number ≡ Some named →
+            replies.new ≡ map spelling (full_step named.leg frame.now now).replies) }
+        ensures heard { IfOk result (λ heard. (named : NamedLegValue) → leg_at self.old number ≡ Some named →
+            heard ≡ heard_of (full_step named.leg frame.now now)) }
+        // The leg's record grows as one side of a network lets it.
+        ensures tied { (named : NamedLegValue) → leg_at self.old number ≡ Some named →
+            OnOk result (TakesTurn named.leg frame.now (full_step named.leg frame.now now).leg) }
+        ensures kept { OnOk result (IsSome (leg_at self.new number)) }
+        ensures there { OnOk result ((named : NamedLegValue) → leg_at self.old number ≡ Some named
+            → leg_at self.new number ≡ Some (record { name = named.name; leg = (full_step named.leg frame.now now).leg })) }
+        ensures record_full { (named : NamedLegValue) → leg_at self.old number ≡ Some named →
+            (result ≡ Err StepError.RecordFull) ↔ (is_short_of_entries named.leg ≡ true) }
+        ensures err { OnErr result (self.new ≡ self.old) }
+        ensures none_sent { OnErr result (replies.new ≡ replies.old) }
+        ensures sound { AreLegs self.new }
+        ensures ruled { (rules : PeerRules) → AreLegsOf rules self.old → AreLegsOf rules self.new }
+    {
+        leg_machine::laws::steps_send_as_sides();
+        let index = self.place_of(number);
+        let Some(named) = &mut self.places[index] else {
+            unreachable!()
+        };
+        let heard = named.leg.full_into(frame, now, replies);
+        let _legal = named.leg.window().record();
+        let _held = named.leg.window().held_len();
+        let remote = named.leg.remote();
+        self.rest_until = self.rest_until.min(named.rest_until());
+        self.by_remote.note(remote, Some(number));
+        heard
+    }
+
+    /// An order to the leg that has this local number, at the moment `now`, in milliseconds, as `Leg::order_into` carries it out;
+    /// media has 1 to 1,380 octets. What is sent is written to the empty list.
+    ///
+    /// Refusals are looked for in this order: `WrongStage`, `WindowFull`, `RecordFull`, `Memory`; then nothing is changed or
+    /// written. Doom and Paid are never refused.
+    pub fn order(
+        &mut self,
+        number: u16,
+        order: &Order,
+        now: u64,
+        replies: &mut Replies,
+    ) -> Result<(), OrderError>
+        requires leg { IsSome (leg_at self.old number) }
+        requires media { IsShortMedia order.now }
+        requires empty { replies.old ≡ [] }
+        ensures leg { ForSome (leg_at self.old number) (λ named. OnOk result
+            (self.new ≡ with_leg self.old named.name (order_carried named.leg order.now now).leg)) }
+        ensures replies { ForSome (leg_at self.old number) (λ named. OnOk result
+            (replies.new ≡ (order_carried named.leg order.now now).datagrams)) }
+        ensures tied { ForSome (leg_at self.old number) (λ named. OnOk result
+            (SendsAtMostOne named.leg (order_carried named.leg order.now now).leg)) }
+        ensures unrefused { ForSome (leg_at self.old number) (λ named. OnOk result
+            (order_refused named.leg order.now now ≡ None)) }
+        ensures refused { ForSome (leg_at self.old number) (λ named. IfErr result
+            (IsRefusal (order_refused named.leg order.now now))) }
+        ensures memory { ForSome (leg_at self.old number) (λ named. result ≡ Err OrderError.Memory
+            → wants_memory named.leg order.now now ≡ true) }
+        ensures err { OnErr result (self.new ≡ self.old) }
+        ensures none_sent { OnErr result (replies.new ≡ replies.old) }
+        ensures sound { AreLegs self.new }
+        ensures ruled { (rules : PeerRules) → AreLegsOf rules self.old → AreLegsOf rules self.new }
+    {
+        leg_machine::laws::steps_send_as_sides();
+        let index = self.place_of(number);
+        let Some(named) = &mut self.places[index] else {
+            unreachable!()
+        };
+        let obeyed = named.leg.order_into(order, now, replies);
+        let _legal = named.leg.window().record();
+        let _held = named.leg.window().held_len();
+        self.rest_until = self.rest_until.min(named.rest_until());
+        obeyed
+    }
+
+    /// Media of 1 to 1,380 octets goes out at the leg that has this local number, at the moment `now`, in milliseconds, as
+    /// `Leg::media_into` sends it. A full frame is written to the empty list.
+    ///
+    /// Refusals are looked for in this order: `WrongStage`; then, only of a full frame, `WindowFull`, `RecordFull`, `Memory`.
+    /// Then nothing is changed or written.
+    pub fn media(
+        &mut self,
+        number: u16,
+        media: &[u8],
+        now: u64,
+        replies: &mut Replies,
+    ) -> Result<MediaSent, OrderError>
+        requires leg { IsSome (leg_at self.old number) }
+        requires short { length media.now ≤ 1380 }
+        requires empty { replies.old ≡ [] }
+        ensures sent { ForSome (leg_at self.old number) (λ named. IfOk result
+            (λ sent. sent ≡ media_sent named.leg now)) }
+        ensures leg { ForSome (leg_at self.old number) (λ named. OnOk result
+            (self.new ≡ with_leg self.old named.name (after_media (media_sent named.leg now) named.leg media.now now))) }
+        ensures replies { ForSome (leg_at self.old number) (λ named. OnOk result
+            (replies.new ≡ map spelling (media_frames (media_sent named.leg now) named.leg media.now now))) }
+        ensures tied { ForSome (leg_at self.old number) (λ named. OnOk result
+            (SendsAtMostOne named.leg (after_media (media_sent named.leg now) named.leg media.now now))) }
+        ensures unrefused { ForSome (leg_at self.old number) (λ named. OnOk result
+            (media_refused named.leg now ≡ None)) }
+        ensures refused { ForSome (leg_at self.old number) (λ named. IfErr result
+            (IsRefusal (media_refused named.leg now))) }
+        ensures memory { ForSome (leg_at self.old number) (λ named. result ≡ Err OrderError.Memory
+            → is_voice (media_sent named.leg now) ≡ true) }
+        ensures err { OnErr result (self.new ≡ self.old) }
+        ensures none_sent { OnErr result (replies.new ≡ replies.old) }
+        ensures sound { AreLegs self.new }
+        ensures ruled { (rules : PeerRules) → AreLegsOf rules self.old → AreLegsOf rules self.new }
+    {
+        leg_machine::laws::steps_send_as_sides();
+        let index = self.place_of(number);
+        let Some(named) = &mut self.places[index] else {
+            unreachable!()
+        };
+        let sent = named.leg.media_into(media, now, replies);
+        let _legal = named.leg.window().record();
+        let _held = named.leg.window().held_len();
+        self.rest_until = named.rest_after_media(&sent, self.rest_until);
+        sent
+    }
+
+    /// Time goes on, up to the moment `now`, in milliseconds, for the leg at a place, the first number's being 0. What is sent is
+    /// written to the empty list.
+    ///
+    /// The answer is how many frames were due and had no memory; they stay due. Where there is no leg, it is 0.
+    pub fn tick(&mut self, index: usize, now: u64, replies: &mut Replies) -> u32
+        requires { replies.old ≡ [] }
+        ensures leg { ForSome (filled (slice_get self.old.places index)) (λ named.
+            self.new ≡ with_leg self.old named.name (tick_step (result == 0) named.leg now).leg) }
+        ensures place { ForSome (filled (slice_get self.old.places index)) (λ named.
+            self.new.places ≡ slice_set self.old.places index
+            (Some (record { name = named.name; leg = (tick_step (result == 0) named.leg now).leg }))) }
+        ensures replies { ForSome (filled (slice_get self.old.places index)) (λ named.
+            replies.new ≡ map spelling (tick_step (result == 0) named.leg now).replies) }
+        ensures skipped { ForSome (filled (slice_get self.old.places index)) (λ named.
+            result ≡ (tick_step (result == 0) named.leg now).skipped) }
+        ensures tied { ForSome (filled (slice_get self.old.places index)) (λ named.
+            SendsAtMostOne named.leg (tick_step (result == 0) named.leg now).leg) }
+        ensures none { IfNone (filled (slice_get self.old.places index)) (result ≡ 0) }
+        ensures none_changed { IfNone (filled (slice_get self.old.places index)) (self.new ≡ self.old) }
+        ensures none_sent { IfNone (filled (slice_get self.old.places index)) (replies.new ≡ replies.old) }
+        ensures sound { AreLegs self.new }
+        ensures ruled { (rules : PeerRules) → AreLegsOf rules self.old → AreLegsOf rules self.new }
+    {
+        leg_machine::laws::steps_send_as_sides();
+        if index >= self.places.len() {
+            return 0;
+        }
+        let Some(named) = &mut self.places[index] else {
+            return 0;
+        };
+        self.rest_until = 0;
+        let skipped = named.leg.tick_into(now, replies);
+        let _legal = named.leg.window().record();
+        let _held = named.leg.window().held_len();
+        skipped
+    }
+}
