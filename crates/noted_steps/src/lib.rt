@@ -6,6 +6,8 @@ mod noted_book;
 mod noted_peer;
 mod pass;
 mod peer_steps;
+mod seen;
+mod trail;
 
 pub use made::{Made, Octets};
 pub use noted_book::NotedBook;

@@ -2,6 +2,8 @@
 ghost use Rattle.std.specs.Prelude.{◌≡◌, [], ◌∷◌, ◌++◌};
 ghost use Rattle.noted_steps.specs.Notes.{without_lease};
 
+use crate::seen::Seen;
+use crate::trail::Trail;
 use call_auth::Challenge;
 use call_book::{BridgeError, Lease, LegName, ReserveError, Stale};
 use iax_frames::FullHead;
@@ -9,7 +11,6 @@ use leg_machine::{Caller, Format, OrderKind};
 use peer_lock::{
     EndedLeg, Onwards, OpenError, OrderError, PeerError, Status, Step, StepsSpent, TickReport,
 };
-use trails::{Seen, Trail};
 
 /// Octets that were looked at.
 pub type Octets = Trail<u8>;

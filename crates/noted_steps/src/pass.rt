@@ -3,11 +3,12 @@ ghost use Rattle.std.specs.Prelude.{◌≡◌, ◌+◌, []};
 ghost use Rattle.peer_accounts.specs.HandedUp.{IsNothing};
 
 use crate::made::{Made, push};
+use crate::seen::Seen;
+use crate::trail::Trail;
 use media_ledger::Share;
 use peer_lock::{Naming, Onwards, Pass as Credits};
 use std::alloc::Global;
 use std::marker::Model;
-use trails::{Seen, Trail};
 
 /// The token of one worker or caller. Contracts see the credit that peers have passed to it, the steps that it began with, and
 /// what was made under it since: each step of a locked state, in order, with its answer.

@@ -25,6 +25,7 @@ ghost use Rattle.noted_steps.specs.declared.made.Made.TheVariants as mades;
 use crate::made::{Made, Octets, push, told};
 use crate::noted_peer::NotedPeer;
 use crate::pass::Pass;
+use crate::seen::Seen;
 use call_auth::Challenge;
 use call_book::{Lease, LegName};
 use iax_frames::Full;
@@ -33,7 +34,6 @@ use peer_lock::{
     EndedLeg, Naming, Onwards, OpenError, OrderError, PeerError, ReadDatagram, Status, Step,
     StepsSpent, TickReport,
 };
-use trails::Seen;
 
 // The octets of an order's media; of another order none.
 fn media_in(order: &Order) -> Octets

@@ -1,5 +1,5 @@
 use Rattle.std.proofs.Common.{◌≡◌, take}
-use Rattle.trails.proofs.trail.Trail.of.Given as goal
+use Rattle.noted_steps.proofs.trail.Trail.of.Given as goal
 
 -- the items so far
 abbrev pub invariant-loop-item : goal.invariant-loop-item

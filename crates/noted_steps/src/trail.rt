@@ -24,7 +24,7 @@ impl<T> Model for Trail<T> {
 
     ghost Value = { List T };
 
-    ghost use Rattle.trails.specs.Trails.{items_at};
+    ghost use Rattle.noted_steps.specs.Trails.{items_at};
 
     ghost view = { λ t. items_at t.end.value };
 

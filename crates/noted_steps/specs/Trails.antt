@@ -1,7 +1,7 @@
 -- The list of a trail.
 use Rattle.std.specs.Prelude.{List, [], ◌∷◌, ◌++◌}
-use Rattle.trails.specs.declared.trail.End.{End}
-use Rattle.trails.specs.declared.trail.End.TheVariants.{Start, After}
+use Rattle.noted_steps.specs.declared.trail.End.{End}
+use Rattle.noted_steps.specs.declared.trail.End.TheVariants.{Start, After}
 
 abbrev pub items_at : {T : Type 0} → End T → List T
 items_at Start = []
