@@ -1,5 +1,5 @@
 -- A leg that changed, or came, stands under its number.
-use Rattle.std.proofs.Common.{◌≡◌, ◌+◌, ◌-◌, ◌≤◌, ℕ, Option, Some, None, Result, Ok, Err, IfOk, OnOk, slice_get, slice_set, ap, refl, true, ◌∙◌, arith}
+use Rattle.std.proofs.Common.{◌≡◌, ◌+◌, ◌-◌, ◌≤◌, ℕ, Option, Some, None, Result, Ok, Err, IfOk, OnOk, slice_get, slice_set, ap, true, ◌∙◌, arith}
 use Rattle.std.proofs.lemmas.Option.{slice_get_within}
 use Rattle.leg_machine.specs.Leg.{LegState}
 use Rattle.peer_legs.specs.Finding.{can_reach}

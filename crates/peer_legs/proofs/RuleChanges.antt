@@ -6,7 +6,7 @@ use Rattle.call_signals.specs.declared.rules.PeerRules.{PeerRules}
 use Rattle.leg_machine.specs.Leg.{LegState}
 use Rattle.leg_machine.specs.Tie.{SendsNumbered}
 use Rattle.seq_window.specs.History.{IsLegal, acked_count, sent_count}
-use Rattle.seq_window.specs.Window.{WindowState, held_count}
+use Rattle.seq_window.specs.Window.{held_count}
 use Rattle.peer_legs.specs.Legs.{NamedLeg, PeerLegs, AreLegs, IsLegOf, AreLegsOf, leg_at}
 use Rattle.peer_legs.proofs.LegChanges.{none_placed}
 use Rattle.peer_legs.proofs.LegIndex.{placed}
@@ -35,14 +35,6 @@ placed_legs_of legs value place new rules view all here number named at =
 pub record IsRecorded (leg : LegState) : Type 0 where
   pub legal : IsLegal leg.window.width leg.window.limit leg.window.history
   pub held : held_count leg.window + acked_count leg.window.history ≡ sent_count leg.window.history
-
-pub recorded : (leg : LegState) (one other : WindowState) (count : ℕ) → one ≡ leg.window → other ≡ leg.window → IsLegal one.width one.limit one.history
-    → count ≡ held_count other → count + acked_count other.history ≡ sent_count other.history → IsRecorded leg
-recorded leg one other count is_one is_other legal value held = record {
-  legal = subst (λ (w : WindowState). IsLegal w.width w.limit w.history) is_one legal;
-  held = subst (λ (w : WindowState). held_count w + acked_count w.history ≡ sent_count w.history) is_other
-      (subst (λ (n : ℕ). n + acked_count other.history ≡ sent_count other.history) value held);
-}
 
 -- the step keeps what a peer says of each of its legs
 pub record IsLegStep (old new : LegState) : Type 0 where

@@ -15,6 +15,7 @@ ghost use Rattle.leg_machine.specs.Tie.{TakesTurn, SendsAtMostOne};
 ghost use Rattle.peer_legs.specs.Finding.{can_reach};
 ghost use Rattle.peer_legs.specs.Legs.{NamedLeg as NamedLegValue};
 
+use crate::named_leg::recorded;
 use crate::peer_legs::PeerLegs;
 use iax_frames::Full;
 use leg_machine::{Heard, MediaSent, Order, OrderError, Replies, StepError};
@@ -63,8 +64,7 @@ impl PeerLegs {
             unreachable!()
         };
         let heard = named.leg.full_into(frame, now, replies);
-        let _legal = named.leg.window().record();
-        let _held = named.leg.window().held_len();
+        recorded(&named.leg);
         let remote = named.leg.remote();
         self.rest_until = self.rest_until.min(named.rest_until());
         self.by_remote.note(remote, Some(number));
@@ -109,8 +109,7 @@ impl PeerLegs {
             unreachable!()
         };
         let obeyed = named.leg.order_into(order, now, replies);
-        let _legal = named.leg.window().record();
-        let _held = named.leg.window().held_len();
+        recorded(&named.leg);
         self.rest_until = self.rest_until.min(named.rest_until());
         obeyed
     }
@@ -155,8 +154,7 @@ impl PeerLegs {
             unreachable!()
         };
         let sent = named.leg.media_into(media, now, replies);
-        let _legal = named.leg.window().record();
-        let _held = named.leg.window().held_len();
+        recorded(&named.leg);
         self.rest_until = named.rest_after_media(&sent, self.rest_until);
         sent
     }
@@ -193,8 +191,7 @@ impl PeerLegs {
         };
         self.rest_until = 0;
         let skipped = named.leg.tick_into(now, replies);
-        let _legal = named.leg.window().record();
-        let _held = named.leg.window().held_len();
+        recorded(&named.leg);
         skipped
     }
 }

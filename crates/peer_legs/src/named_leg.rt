@@ -1,6 +1,8 @@
 //! Legs and the leases on their names.
-ghost use Rattle.std.specs.Prelude.{◌≡◌, ℕ, ◌<◌, ◌≤◌, true, Some, Ok};
+ghost use Rattle.std.specs.Prelude.{◌≡◌, ℕ, ◌+◌, ◌<◌, ◌≤◌, true, Some, Ok};
 ghost use Rattle.peer_legs.specs.Rests.{is_quiet, is_resting};
+ghost use Rattle.seq_window.specs.History.{IsLegal, acked_count, sent_count};
+ghost use Rattle.seq_window.specs.Window.{held_count};
 
 use call_book::{Lease, LegName};
 use leg_machine::{Leg, MediaSent, OrderError};
@@ -80,4 +82,15 @@ impl NamedLeg {
         let NamedLeg { lease, leg } = self;
         (lease, leg)
     }
+}
+
+// A leg's record is legal, and as many frames are held as it has as sent and not acknowledged: for proofs alone.
+pub(crate) fn recorded(leg: &Leg)
+    ensures legal { IsLegal leg.now.state.window.width leg.now.state.window.limit leg.now.state.window.history }
+    ensures held { held_count leg.now.state.window + acked_count leg.now.state.window.history ≡
+        sent_count leg.now.state.window.history }
+{
+    let window = leg.window();
+    let _legal = window.record();
+    let _held = window.held_len();
 }

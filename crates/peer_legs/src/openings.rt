@@ -6,6 +6,7 @@ ghost use Rattle.leg_machine.specs.PeerRules.{IsPeerRules};
 ghost use Rattle.leg_machine.specs.Steps.{heard_of};
 ghost use Rattle.peer_legs.specs.Legs.{IsLegOf};
 
+use crate::named_leg::recorded;
 use call_auth::Challenge;
 use iax_frames::{CallNumber, Full};
 use leg_machine::{Heard, Leg, PeerRules, Replies};
@@ -41,8 +42,7 @@ pub fn open_in(
     leg_machine::laws::steps_send_as_sides();
     match Leg::open_in_into(alloc, rules, number, frame, now, challenge, replies) {
         Ok((leg, heard)) => {
-            let _legal = leg.window().record();
-            let _held = leg.window().held_len();
+            recorded(&leg);
             Ok((leg, heard))
         }
         Err(error) => Err(error),

@@ -1,7 +1,6 @@
 use Rattle.std.proofs.Common.{◌∙◌, ap, rules, subst, sym}
 use Rattle.leg_machine.specs.Leg.{LegState}
 use Rattle.leg_machine.specs.Tie.{SendsNumbered}
-use Rattle.peer_legs.proofs.RuleChanges.{recorded}
 use Rattle.peer_legs.proofs.SameCall.{open_in_is}
 use Rattle.peer_legs.proofs.openings.open_in.Goals as goal
 
@@ -28,13 +27,11 @@ pub returns-in-Ok-clause-ruled : goal.returns-in-Ok-clause-ruled
 returns-in-Ok-clause-ruled c =
     let is = (open_in_is c.args.rules.now c.args.number c.args.frame.now c.args.now c.args.challenge.now).ruled in
     let sent = c.steps_send_as_sides.ensures.calls_in c.args.rules.now c.args.number c.args.frame.now c.args.now c.args.challenge.now in
-    let has = recorded c.in-Ok.leg.state c.window.result.now.state c.window-in-Ok.result.now.state c.held_len-held.result c.window.ensures c.window-in-Ok.ensures
-    c.record-legal.ensures.legal c.held_len-held.ensures.value c.held_len-held.ensures.held in
     record {
       rules_are = ap (λ (leg : LegState). leg.rules) c.in-Ok.ensures.leg ∙ is.rules;
       width = ap (λ (leg : LegState). leg.window.width) c.in-Ok.ensures.leg ∙ is.width;
       limit = ap (λ (leg : LegState). leg.window.limit) c.in-Ok.ensures.leg ∙ is.limit;
-      legal = has.legal;
+      legal = c.recorded.ensures.legal;
       numbered = subst SendsNumbered (sym c.in-Ok.ensures.leg) sent.numbered;
-      held = has.held;
+      held = c.recorded.ensures.held;
     }

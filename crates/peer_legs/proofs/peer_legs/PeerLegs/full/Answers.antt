@@ -10,7 +10,7 @@ use Rattle.peer_legs.proofs.LegChanges.{AreIndexed, learned, learns_either, plac
 use Rattle.peer_legs.proofs.LegIndex.{placed}
 use Rattle.peer_legs.proofs.LegSearch.{IsFound, found}
 use Rattle.peer_legs.proofs.LegThere.{each_ok, each_if_ok, from_reached, kept_there}
-use Rattle.peer_legs.proofs.RuleChanges.{IsLegStep, numbered_either, recorded, stepped_legs_of}
+use Rattle.peer_legs.proofs.RuleChanges.{IsLegStep, numbered_either, stepped_legs_of}
 use Rattle.peer_legs.proofs.SameCall.{MayLearn, full_learns}
 use Rattle.peer_legs.proofs.AtRest.{rest_placed}
 use Rattle.peer_legs.proofs.peer_legs.PeerLegs.full.Goals as goal
@@ -43,9 +43,7 @@ is_step c = record {
   numbered = numbered_either c.full_into-heard.result c.named.inside.leg.state c.full_into-heard.new.self.state (after c)
       (λ was. (c.steps_send_as_sides.ensures.frames c.named.inside.leg.state c.args.frame.now c.args.now was).numbered)
       c.full_into-heard.ensures.leg (still c);
-  recorded = λ _. recorded c.full_into-heard.new.self.state c.window.result.now.state c.window-2.result.now.state
-      c.held_len-held.result c.window.ensures c.window-2.ensures
-      c.record-legal.ensures.legal c.held_len-held.ensures.value c.held_len-held.ensures.held;
+  recorded = λ _. record { legal = c.recorded.ensures.legal; held = c.recorded.ensures.held };
 }
 
 all : (c : goal.After-note)

@@ -9,7 +9,7 @@ use Rattle.peer_legs.specs.LegsInside.{legs_of}
 use Rattle.peer_legs.proofs.LegChanges.{AreIndexed, stepped, placed_is_with_leg, same_either, sends_either, still_there}
 use Rattle.peer_legs.proofs.LegIndex.{placed}
 use Rattle.peer_legs.proofs.LegSearch.{IsFound, found}
-use Rattle.peer_legs.proofs.RuleChanges.{IsLegStep, recorded, numbered_either, stepped_legs_of, number_fits}
+use Rattle.peer_legs.proofs.RuleChanges.{IsLegStep, numbered_either, stepped_legs_of, number_fits}
 use Rattle.peer_legs.proofs.SameCall.{IsSameCall, same_media}
 use Rattle.peer_legs.proofs.AtRest.{rest_media}
 use Rattle.peer_legs.proofs.peer_legs.PeerLegs.media.Goals as goal
@@ -43,8 +43,7 @@ is_step c =
       numbered = numbered_either c.media_into-sent.result c.named.inside.leg.state c.media_into-sent.new.self.state (after c)
           (λ was. (c.steps_send_as_sides.ensures.orders c.named.inside.leg.state (orders.Media c.args.media) c.args.now was fits.0 fits.1).numbered)
           c.media_into-sent.ensures.leg (still c);
-      recorded = λ _. recorded c.media_into-sent.new.self.state c.window.result.now.state c.window-2.result.now.state c.held_len-held.result c.window.ensures c.window-2.ensures
-          c.record-legal.ensures.legal c.held_len-held.ensures.value c.held_len-held.ensures.held;
+      recorded = λ _. record { legal = c.recorded.ensures.legal; held = c.recorded.ensures.held };
     }
 
 all : (c : goal.After-self-3-1)

@@ -9,7 +9,7 @@ use Rattle.peer_legs.specs.LegsInside.{legs_of}
 use Rattle.peer_legs.proofs.LegChanges.{AreIndexed, stepped, placed_is_with_leg}
 use Rattle.peer_legs.proofs.LegIndex.{placed}
 use Rattle.peer_legs.proofs.LegSearch.{IsFoundAt, found_at, none_past, none_read}
-use Rattle.peer_legs.proofs.RuleChanges.{IsLegStep, recorded, placed_legs_of, stepped_legs_of}
+use Rattle.peer_legs.proofs.RuleChanges.{IsLegStep, placed_legs_of, stepped_legs_of}
 use Rattle.peer_legs.proofs.SameCall.{IsSameCall, same_tick}
 use Rattle.peer_legs.proofs.AtRest.{rest_never}
 use Rattle.peer_legs.proofs.peer_legs.PeerLegs.tick.Goals as goal
@@ -46,8 +46,7 @@ is_step c = record {
   ruled = (same c).ruled;
   numbered = λ numbered. subst SendsNumbered (sym (leg_is c))
       (c.steps_send_as_sides.ensures.ticks (c.tick_into-skipped.result == 0) c.named.inside.leg.state c.args.now numbered).numbered;
-  recorded = λ _. recorded c.tick_into-skipped.new.self.state c.window.result.now.state c.window-2.result.now.state c.held_len-held.result c.window.ensures c.window-2.ensures
-      c.record-legal.ensures.legal c.held_len-held.ensures.value c.held_len-held.ensures.held;
+  recorded = λ _. record { legal = c.recorded.ensures.legal; held = c.recorded.ensures.held };
 }
 
 all : (c : goal.After-self-2-1)
