@@ -16,7 +16,7 @@ pub enum Kind {
 }
 
 /// A label of a sample.
-#[derive(Clone, Copy)]
+#[derive(Clone, Copy, Debug, PartialEq, Eq)]
 pub struct Label<'a> {
     /// Letters, digits and `_`.
     pub name: &'a str,
@@ -25,7 +25,7 @@ pub struct Label<'a> {
 }
 
 /// The labels of a sample.
-#[derive(Clone, Copy)]
+#[derive(Clone, Copy, Debug, PartialEq, Eq)]
 pub enum Labels<'a> {
     None,
     One(Label<'a>),
@@ -33,14 +33,14 @@ pub enum Labels<'a> {
 }
 
 /// One value, of what its labels name.
-#[derive(Clone, Copy)]
+#[derive(Clone, Copy, Debug, PartialEq, Eq)]
 pub struct Sample<'a> {
     pub labels: Labels<'a>,
     pub value: u64,
 }
 
 /// A metric family: what is told of it, and its samples.
-#[derive(Clone, Copy)]
+#[derive(Clone, Copy, Debug, PartialEq, Eq)]
 pub struct Family<'a> {
     /// Letters, digits and `_`.
     pub name: &'a str,
@@ -63,7 +63,7 @@ impl Kind {
 }
 
 /// Families in the text form, one after the other. Contracts see their octets.
-#[derive(Drop)]
+#[derive(Drop, Debug)]
 pub struct Metrics {
     text: Vec<u8>,
 }
