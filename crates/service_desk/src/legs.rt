@@ -9,7 +9,7 @@ use leg_machine::Stage;
 use peer_lock::Naming;
 use std::sync::Wait;
 use trace_writer::TraceLane;
-use udp_workers::{Event, Watch};
+use worker_watch::{Event, Watch};
 
 // Whether a leg of this stage has still to be hung up.
 fn is_open(stage: Stage) -> bool {

@@ -10,7 +10,7 @@ use std::mem;
 use std::sync::atomic::{AtomicU64, Ordering};
 use std::sync::{Mutex, Wait};
 use trace_writer::Trace;
-use udp_workers::{Event, ServiceStage, Watch};
+use worker_watch::{Event, ServiceStage, Watch};
 
 const SERVING: u64 = 0;
 

@@ -16,7 +16,7 @@ use service_report::{Hearing, News, Rounds, news_of};
 use std::alloc::{AllocError, Global};
 use std::sync::Wait;
 use std::{iter, mem};
-use udp_workers::{ServiceStage, Watch};
+use worker_watch::{ServiceStage, Watch};
 
 // How long a round lasts in which ended legs are counted, in milliseconds.
 const LEGS_MS: u64 = 1000;

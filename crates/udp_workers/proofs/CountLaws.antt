@@ -1,68 +1,11 @@
--- Laws of the counts for each endpoint.
-use Rattle.std.proofs.Common.{◌≡◌, ◌≢◌, ℕ, ◌+◌, ◌-◌, ◌<◌, ◌≤◌, ◌⊎◌, inl, inr, Bool, true, false, List, length, get_or, set, Option, Some, None, refl, sym, ap, subst, ◌∙◌, arith, ◌&&◌, ◌==◌}
-use Rattle.std.proofs.lemmas.Bool.{true≢false}
-use Rattle.std.proofs.lemmas.Bool.Decides.{nat_tests}
-use Rattle.std.proofs.lemmas.Grind.{common_steps}
-use Rattle.std.proofs.lemmas.List.Quantifiers.{position-Some}
-use Rattle.std.proofs.lemmas.List.Sums.{fails_before_first}
+-- Laws of the counts of wires, one peer after another.
+use Rattle.std.proofs.Common.{◌≡◌, ◌≢◌, ℕ, ◌+◌, ◌-◌, ◌<◌, ◌≤◌, inl, inr, List, length, get_or, Some, sym, subst, ◌∙◌, arith}
 use Rattle.std.proofs.lemmas.Option.{get_or_from_slice_get}
-use Rattle.std.proofs.lemmas.Slice.Eq.{bytes_eq-Decides}
-use Rattle.std.specs.List.{AllWithin, position_or_len}
-use Rattle.std.specs.Prelude.{AllPairs, Contains, option_map, position, slice_get, slice_index, unwrap_or}
-use Rattle.std.specs.Str.{bytes_eq}
-use Rattle.peer_plan.specs.Reading.{is_endpoint}
+use Rattle.std.specs.List.{AllWithin}
+use Rattle.std.specs.Prelude.{AllPairs, slice_get}
 use Rattle.peer_plan.specs.declared.endpoint.Endpoint.{Endpoint}
-use Rattle.udp_workers.specs.Counts.{RiseAlike, RisesBy, RisesByAtMost}
-use Rattle.udp_workers.specs.PeerCounts.{count_for}
-
--- ---- endpoints are equal, or not
-
-both_true : (a b : Bool) → (a && b) ≡ true → (a ≡ true) × (b ≡ true)
-both_true true b h = (refl, h)
-both_true false b h = absurd (true≢false (sym h))
-
-same_endpoint : (a b : Endpoint) → is_endpoint a b ≡ true → a ≡ b
-same_endpoint a b h =
-    let both = both_true (bytes_eq a.address b.address) (a.port == b.port) h in
-    let address : a.address ≡ b.address = grind (arith, both.0, bytes_eq-Decides) in
-    let port : a.port ≡ b.port = grind (arith, nat_tests, both.1) in
-    λ i. record { address = address i; port = port i }
-
-other_endpoint : (a b : Endpoint) → is_endpoint a b ≡ false → a ≢ b
-other_endpoint a b h = λ same. grind (arith, nat_tests, bytes_eq-Decides)
-
-either_endpoint : (a b : Endpoint) → (a ≡ b) ⊎ (a ≢ b)
-either_endpoint a b = go (is_endpoint a b) refl
-  where
-    go : (test : Bool) → is_endpoint a b ≡ test → (a ≡ b) ⊎ (a ≢ b)
-    go true is = inl (same_endpoint a b is)
-    go false is = inr (other_endpoint a b is)
-
--- ---- the count of an endpoint
-
--- what the peers have is found
-pub found_there : (peers : List Endpoint) (to : Endpoint) → Contains peers to → position (λ peer. is_endpoint peer to) peers ≡ None → ⊥
-found_there peers to there none =
-    let test : Endpoint → Bool = λ peer. is_endpoint peer to in
-    let past : length peers ≤ position_or_len test peers = grind (arith, nat_tests, none) in
-    let within : there.0 < position_or_len test peers = omega (arith, there.1) in
-    other_endpoint (get_or peers there.0 to) to (fails_before_first test peers there.0 to within) there.2
-
--- another endpoint isn't found at the same place, so its count stays
-pub others_kept : (peers : List Endpoint) (counts : List ℕ) (to other : Endpoint) (place count : ℕ) → position (λ peer. is_endpoint peer to) peers ≡ Some place → other ≢ to
-    → count_for peers (set counts place count) other ≡ count_for peers counts other
-others_kept peers counts to other place count at differ = go (position (λ peer. is_endpoint peer other) peers) refl
-  where
-    here : get_or peers place to ≡ to
-    here = same_endpoint (get_or peers place to) to (position-Some (λ peer. is_endpoint peer to) peers place to at).1
-
-    go : (found : Option ℕ) → position (λ peer. is_endpoint peer other) peers ≡ found
-        → unwrap_or (option_map (slice_index (set counts place count)) found) 0 ≡ unwrap_or (option_map (slice_index counts) found) 0
-    go None is = refl
-    go (Some found) is =
-        let there : get_or peers found to ≡ other = same_endpoint (get_or peers found to) other (position-Some (λ peer. is_endpoint peer other) peers found to is).1 in
-        let apart : place ≡ found → ⊥ = λ same. differ (sym there ∙ sym (ap (λ n. get_or peers n to) same) ∙ here) in
-        grind (arith, common_steps, apart)
+use Rattle.udp_wires.specs.Counts.{RiseAlike, RisesBy, RisesByAtMost}
+use Rattle.udp_wires.proofs.EndpointLaws.{either_endpoint}
 
 -- ---- one peer after another
 

@@ -4,7 +4,7 @@ use Rattle.std.proofs.Math.Logic.{∥∥₁_map}
 use Rattle.std.proofs.lemmas.List.Elements.{All-cons}
 use Rattle.udp_workers.specs.Events.{Tells, counted}
 use Rattle.udp_workers.specs.declared.report.TurnReport.{TurnReport}
-use Rattle.udp_workers.specs.declared.watch.Event.{Event}
+use Rattle.worker_watch.specs.declared.watch.Event.{Event}
 
 -- an event more is told and counted
 pub tells_more : (told : Event → Type 0) (report new : TurnReport) (event : Event) → told event → new ≡ counted report event → ∥ Tells told report ∥₁ → ∥ Tells told new ∥₁

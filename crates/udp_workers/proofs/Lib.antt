@@ -1,7 +1,5 @@
-pub mod BitLaws
 pub mod CountLaws
 pub mod EventLaws
 pub mod HandingLaws
 pub mod ServedLaws
 pub mod TickLaws
-pub mod ToldLaws

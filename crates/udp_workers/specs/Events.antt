@@ -1,9 +1,9 @@
 -- What workers tell their watch, and how it is counted.
 use Rattle.std.specs.Prelude.{◌≡◌, ℕ, ◌+◌, ◌*◌, ◌%◌, ◌^◌, ◌<◌, ◌≤◌, ◌⊎◌, List, [], ◌∷◌, All}
-use Rattle.udp_workers.specs.Counts.{RisesBy}
+use Rattle.udp_wires.specs.Counts.{RisesBy}
 use Rattle.udp_workers.specs.declared.report.TurnReport.{TurnReport}
-use Rattle.udp_workers.specs.declared.watch.Event.{Event}
-use Rattle.udp_workers.specs.declared.watch.Event.TheVariants as events
+use Rattle.worker_watch.specs.declared.watch.Event.{Event}
+use Rattle.worker_watch.specs.declared.watch.Event.TheVariants as events
 
 -- nothing is counted yet
 abbrev pub nothing : TurnReport

@@ -2,8 +2,8 @@
 use Rattle.std.specs.Prelude.{◌≡◌, ◌≢◌, ℕ, ◌⊎◌, Some, option_map, slice_get, All}
 use Rattle.peer_plan.specs.Plan.{PlanView}
 use Rattle.peer_plan.specs.declared.endpoint.Endpoint.{Endpoint}
-use Rattle.udp_workers.specs.declared.watch.Event.{Event}
-use Rattle.udp_workers.specs.declared.watch.Event.TheVariants as events
+use Rattle.worker_watch.specs.declared.watch.Event.{Event}
+use Rattle.worker_watch.specs.declared.watch.Event.TheVariants as events
 
 -- it came from an endpoint: it is told as a stranger's, or as one of the peer that has this endpoint, with its moment
 abbrev pub TellsReceipt : (Event → Type 0) → PlanView → Endpoint → ℕ → Type 0

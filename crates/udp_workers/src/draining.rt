@@ -2,10 +2,10 @@
 ghost use Rattle.std.specs.Prelude.{◌↔◌, IsTrue};
 ghost use Rattle.udp_workers.specs.Draining.{IsNew, IsTurnedAway, SpellsNew};
 
-use crate::watch::ServiceStage;
 use call_signals::codes::{FRAME_IAX, IAX_NEW};
 use iax_frames::Full;
 use peer_lock::ReadDatagram;
+use worker_watch::ServiceStage;
 
 // Whether a full frame is a NEW that may open a leg.
 fn is_new(frame: &Full) -> bool

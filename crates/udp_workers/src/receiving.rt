@@ -2,7 +2,7 @@
 ghost use Rattle.std.specs.Prelude.{◌≡◌, ◌+◌, ◌≤◌, IsTrue, Some};
 ghost use Rattle.exchange_core.specs.Traces.{IsHeard, moment};
 ghost use Rattle.peer_plan.specs.declared.endpoint.Endpoint.{Endpoint};
-ghost use Rattle.udp_workers.specs.Counts.{RiseAlike};
+ghost use Rattle.udp_wires.specs.Counts.{RiseAlike};
 ghost use Rattle.udp_workers.specs.Draining.{IsTurnedAway};
 ghost use Rattle.udp_workers.specs.Events.{HasRoom};
 ghost use Rattle.udp_workers.specs.Handed.{GivesAll};
@@ -11,13 +11,13 @@ ghost use Rattle.udp_workers.specs.Ticked.{IsLater};
 
 use crate::draining::is_turned_away;
 use crate::tally::Tally;
-use crate::watch::{Event, ServiceStage, Watch};
-use crate::wire::Wire;
 use call_auth::Challenge;
 use exchange_core::{Exchange, Gate, Pass};
 use peer_lock::Naming;
 use peer_plan::Endpoint;
 use std::sync::Wait;
+use udp_wires::Wire;
+use worker_watch::{Event, ServiceStage, Watch};
 
 // The longest datagram is 2,048 octets; one more shows that a datagram is longer.
 const OCTETS: usize = 2049;

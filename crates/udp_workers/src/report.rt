@@ -1,7 +1,7 @@
 //! What a turn did.
 ghost use Rattle.std.specs.Prelude.{◌≡◌, ◌+◌, ◌<◌, ◌^◌};
 
-use crate::watch::Event;
+use worker_watch::Event;
 
 /// What one turn did, or several together.
 #[derive(Clone, Copy, Debug, Default, PartialEq, Eq)]

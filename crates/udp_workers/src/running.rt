@@ -1,6 +1,6 @@
 //! Turns one after another.
 ghost use Rattle.std.specs.Prelude.{◌≡◌, ◌+◌, ◌*◌, ◌≤◌, length};
-ghost use Rattle.udp_workers.specs.Counts.{RisesBy};
+ghost use Rattle.udp_wires.specs.Counts.{RisesBy};
 ghost use Rattle.udp_workers.specs.Events.{MakesTurns, Tells};
 ghost use Rattle.udp_workers.specs.Handed.{GivesAll};
 ghost use Rattle.udp_workers.specs.Served.{AreEndpoints, peers_of};
@@ -9,12 +9,12 @@ ghost use Rattle.udp_workers.specs.Ticked.{IsLater};
 use crate::report::TurnReport;
 use crate::sources::{Challenges, Moments};
 use crate::tally::Tally;
-use crate::watch::{ServiceStage, Watch};
-use crate::wire::Wire;
 use crate::worker::Worker;
 use exchange_core::{Exchange, Gate, Pass};
 use peer_lock::Naming;
 use std::sync::Wait;
+use udp_wires::Wire;
+use worker_watch::{ServiceStage, Watch};
 
 // How long a worker waits for a datagram between two turns, in milliseconds.
 const WAIT_MS: u64 = 20;

@@ -1,18 +1,18 @@
 //! A worker with all that its run needs.
 ghost use Rattle.std.specs.Prelude.{◌≡◌, ◌+◌, ◌≤◌};
 ghost use Rattle.peer_plan.specs.Plan.{PlanView};
-ghost use Rattle.udp_workers.specs.Counts.{RisesBy};
+ghost use Rattle.udp_wires.specs.Counts.{RisesBy};
 ghost use Rattle.udp_workers.specs.Served.{AreEndpoints, peers_of};
 
 use crate::report::TurnReport;
 use crate::sources::{Challenges, Moments};
-use crate::watch::Watch;
-use crate::wire::Wire;
 use crate::worker::Worker;
 use exchange_core::{Exchange, Gate, Pass};
 use peer_lock::Naming;
 use std::marker::{Brand, PhantomData};
 use std::sync::{Mutex, Wait};
+use udp_wires::Wire;
+use worker_watch::Watch;
 
 /// Names the plan of the exchange that seats are for.
 pub trait Post {
@@ -96,7 +96,7 @@ impl<W: Wire + Drop, M: Moments + Drop, C: Challenges + Drop, J: Naming, P: Post
 > {
     ghost use Rattle.udp_workers.specs.Events.{MakesTurns, Tells};
     ghost use Rattle.udp_workers.specs.Handed.{GivesAll};
-    ghost use Rattle.udp_workers.specs.declared.watch.ServiceStage.TheVariants as ServiceStage;
+    ghost use Rattle.worker_watch.specs.declared.watch.ServiceStage.TheVariants as ServiceStage;
 
     // A run from here: its counts begin with what is counted so far, and all its turns are made.
     fn run<G: Gate, R: Wait>(&mut self, rt: &R, exchange: &Exchange<G, J>, turns: u32)

@@ -2,18 +2,18 @@
 ghost use Rattle.std.specs.Prelude.{◌≡◌, ◌≢◌, ◌+◌, ◌<◌, ◌≤◌, ◌⊎◌, Contains, length};
 ghost use Rattle.iax_frames.specs.Datagram.{IsFrame};
 ghost use Rattle.peer_plan.specs.declared.endpoint.Endpoint.{Endpoint};
-ghost use Rattle.udp_workers.specs.Counts.{RiseAlike, RisesBy};
+ghost use Rattle.udp_wires.specs.Counts.{RiseAlike, RisesBy};
 ghost use Rattle.udp_workers.specs.Events.{HasRoom};
-ghost use Rattle.udp_workers.specs.declared.watch.Event.TheVariants as events;
+ghost use Rattle.worker_watch.specs.declared.watch.Event.TheVariants as events;
 
 use crate::tally::Tally;
-use crate::watch::{Event, Watch};
-use crate::wire::Wire;
 use exchange_core::{Exchange, Gate, Pass};
 use iax_frames::Out;
 use peer_lock::Naming;
 use peer_plan::Endpoint;
 use std::sync::Wait;
+use udp_wires::Wire;
+use worker_watch::{Event, Watch};
 
 // How many frames are taken from one outbox in one turn at most: all that it can hold.
 const FRAMES: u64 = 256;

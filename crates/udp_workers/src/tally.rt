@@ -4,8 +4,8 @@ ghost use Rattle.exchange_core.specs.Leaving.{departure_of};
 ghost use Rattle.udp_workers.specs.Events.{Tells};
 
 use crate::report::TurnReport;
-use crate::watch::{Event, Watch};
 use exchange_core::Retired;
+use worker_watch::{Event, Watch};
 
 // The events that a watch was told of, as they are counted.
 #[derive(Drop)]

@@ -3,14 +3,14 @@ ghost use Rattle.std.specs.Prelude.{◌≡◌, ◌≤◌, [], IsFalse, IsOk, len
 
 use crate::seat::{Post, Seat, Shift, WatchedExchange};
 use crate::sources::{Challenges, Moments};
-use crate::watch::Watch;
-use crate::wire::Wire;
 use exchange_core::{Exchange, Gate};
 use peer_lock::Naming;
 use std::marker::PhantomData;
 use std::sync::Wait;
 use std::thread;
 use std::thread::{Scope, Threads};
+use udp_wires::Wire;
+use worker_watch::Watch;
 
 /// The system refused a thread.
 #[derive(Clone, Copy, Debug, PartialEq, Eq)]

@@ -2,7 +2,7 @@
 ghost use Rattle.std.specs.Prelude.{◌≡◌, ◌≢◌, ◌+◌, ◌*◌, ◌<◌, ◌≤◌, All, AllPairs, length};
 ghost use Rattle.peer_plan.specs.declared.endpoint.Endpoint.{Endpoint};
 ghost use Rattle.noted_steps.specs.Notes.{Noted};
-ghost use Rattle.udp_workers.specs.Counts.{RiseAlike, RisesBy, RisesByAtMost};
+ghost use Rattle.udp_wires.specs.Counts.{RiseAlike, RisesBy, RisesByAtMost};
 ghost use Rattle.udp_workers.specs.Events.{HasRoom, OnlyRetires};
 ghost use Rattle.udp_workers.specs.Handed.{GivesAll};
 ghost use Rattle.udp_workers.specs.Served.{AreEndpoints, peers_of};
@@ -12,14 +12,15 @@ use crate::receiving::receive_all;
 use crate::report::TurnReport;
 use crate::sending::send_all;
 use crate::tally::Tally;
-use crate::watch::{ServiceStage, Unwatched, Watch};
-use crate::wire::Wire;
+use crate::unwatched::Unwatched;
 use crate::worker::Worker;
 use call_auth::Challenge;
 use exchange_core::{Exchange, Gate, Pass};
 use iax_frames::Out;
 use peer_lock::Naming;
 use std::sync::Wait;
+use udp_wires::Wire;
+use worker_watch::{ServiceStage, Watch};
 
 impl Worker {
     /// One turn, at a moment in milliseconds since the exchange was opened: receives what is there, at most 64 datagrams; then

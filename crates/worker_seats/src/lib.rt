@@ -8,6 +8,7 @@ mod reports;
 mod seats;
 mod service_error;
 mod sockets;
+mod spare_pass;
 mod traced_wire;
 
 pub use clock::SinceOpening;
@@ -16,4 +17,5 @@ pub use reports::{reports_of, write_reports};
 pub use seats::{ServiceSeat, seats_of};
 pub use service_error::{ServiceError, service_error_name};
 pub use sockets::{PlainSockets, Sockets};
+pub use spare_pass::with_spare_pass;
 pub use traced_wire::{TracedWire, lane_of};

@@ -5,7 +5,8 @@ use peer_lock::Naming;
 use std::alloc::Global;
 use std::io;
 use std::io::Write;
-use udp_workers::{Challenges, Moments, Place, Post, Seat, TurnReport, Wire};
+use udp_wires::Wire;
+use udp_workers::{Challenges, Moments, Place, Post, Seat, TurnReport};
 
 // What a worker did, and its pass.
 fn report_of<W: Wire + Drop, M: Moments + Drop, C: Challenges + Drop, J: Naming, P: Post>(

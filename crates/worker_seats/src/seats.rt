@@ -1,6 +1,6 @@
 //! The seats of the workers of a plan.
 ghost use Rattle.std.specs.Prelude.{◌≡◌, ◌+◌, ◌<◌, ◌≤◌, IfOk, OnOk, length, vec_capacity, vec_len};
-ghost use Rattle.udp_workers.specs.MioWire as wires;
+ghost use Rattle.udp_wires.specs.MioWire as wires;
 ghost use Rattle.udp_workers.specs.Served.{AreEndpoints, peers_of};
 
 use crate::clock::SinceOpening;

@@ -1,7 +1,8 @@
 //! Why a service ends early.
 use std::alloc::AllocError;
 use std::io;
-use udp_workers::{BindError, NoThread};
+use udp_wires::BindError;
+use udp_workers::NoThread;
 
 /// Why a service ends before its turns are made, or before its accounts are written.
 #[derive(Clone, Copy, Debug, PartialEq, Eq)]

@@ -1,6 +1,6 @@
 //! The sockets of workers.
 ghost use Rattle.std.specs.Prelude.{◌≡◌, ◌<◌, IfOk, length};
-ghost use Rattle.udp_workers.specs.MioWire as wires;
+ghost use Rattle.udp_wires.specs.MioWire as wires;
 ghost use Rattle.udp_workers.specs.Served.{AreEndpoints, peers_of};
 
 use crate::service_error::ServiceError;
@@ -8,7 +8,8 @@ use peer_plan::Plan;
 use std::alloc::Global;
 use std::net::Net;
 use std::os::fd::RawFd;
-use udp_workers::{MioWire, Sharing, Wire, Worker};
+use udp_wires::{MioWire, Sharing, Wire};
+use udp_workers::Worker;
 
 /// What is done with the sockets of workers.
 pub trait Sockets {

@@ -1,12 +1,12 @@
 //! A worker's wire, as it tells the trace what the worker hands to the exchange.
-ghost use Rattle.udp_workers.specs.MioWire as wires;
+ghost use Rattle.udp_wires.specs.MioWire as wires;
 
 use crate::service_error::ServiceError;
 use peer_plan::{Endpoint, Plan};
 use std::alloc::Global;
 use std::sync::Wait;
 use trace_writer::{Trace, TraceLane};
-use udp_workers::{MioWire, Wire, WireFault};
+use udp_wires::{MioWire, Wire, WireFault};
 
 /// A wire whose datagrams are noted, where there is a trace.
 #[derive(Drop)]

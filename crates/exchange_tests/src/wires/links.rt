@@ -5,7 +5,7 @@ use crate::wires::sockets::{
 };
 use peer_plan::Endpoint;
 use std::test::*;
-use udp_workers::{MioWire, Sharing, Wire};
+use udp_wires::{MioWire, Sharing, Wire};
 
 // How many of its peers a wire has a socket for.
 fn links(wire: &MioWire) -> usize {

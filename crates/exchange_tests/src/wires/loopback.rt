@@ -1,6 +1,6 @@
 //! A socket on loopback calls a number that leads nowhere.
 ghost use Rattle.std.specs.Prelude.{◌≡◌};
-ghost use Rattle.udp_workers.specs.MioWire.{peers_of as wire_peers};
+ghost use Rattle.udp_wires.specs.MioWire.{peers_of as wire_peers};
 ghost use Rattle.udp_workers.specs.Served.{AreEndpoints, peers_of};
 
 use crate::desk::{EAST, WEST};
@@ -18,7 +18,8 @@ use std::process::Abort;
 use std::sync::Wait;
 use std::test::*;
 use test_plans::plans::ONE_WORKER;
-use udp_workers::{MioWire, Sharing, Wire, Worker};
+use udp_wires::{MioWire, Sharing, Wire};
+use udp_workers::Worker;
 
 // A NEW for 200, for which the plan has no route.
 const NEW_FOR_200: &[u8] =

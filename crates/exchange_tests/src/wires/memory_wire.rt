@@ -6,7 +6,8 @@ use crate::arrivals::Arrival;
 use peer_plan::{Endpoint, Plan};
 use std::alloc::{AllocError, Global};
 use std::process::Abort;
-use udp_workers::{PeerCounts, Wire, WireFault, Worker};
+use udp_wires::{PeerCounts, Wire, WireFault};
+use udp_workers::Worker;
 
 // A datagram that was sent.
 #[derive(Drop)]
@@ -118,7 +119,7 @@ impl MemoryWire {
 }
 
 impl Wire for MemoryWire {
-    ghost use Rattle.udp_workers.specs.PeerCounts.{count_of};
+    ghost use Rattle.udp_wires.specs.PeerCounts.{count_of};
 
     ghost given = { λ wire. wire.given };
 

@@ -4,7 +4,7 @@ use crate::wires::sockets::{count_heard, is_refused, loopback, sender, wire_at};
 use std::net::Net;
 use std::process::Abort;
 use std::test::*;
-use udp_workers::{MioWire, Sharing};
+use udp_wires::{MioWire, Sharing};
 
 // Where four datagrams of one sender come: all at the one wire, or all at the other.
 fn come_to_one<R: Abort + Net>(rt: &R, port: u16, one: &mut MioWire, other: &mut MioWire) -> bool {

@@ -5,7 +5,7 @@ use peer_plan::Endpoint;
 use std::alloc::Global;
 use std::net::{IpAddr, Ipv4Addr, Net, SocketAddr};
 use std::process::Abort;
-use udp_workers::{BindError, MioWire, Sharing, Wire};
+use udp_wires::{BindError, MioWire, Sharing, Wire};
 
 const LOOPBACK: [u8; 4] = [127, 0, 0, 1];
 

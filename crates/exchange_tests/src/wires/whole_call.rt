@@ -18,7 +18,8 @@ use std::test::*;
 use std::thread::Threads;
 use std::time::Clock;
 use test_plans::plans::ONE_WORKER;
-use udp_workers::{TurnReport, Wire, Worker};
+use udp_wires::Wire;
+use udp_workers::{TurnReport, Worker};
 
 /// What a call over a wire in memory came to.
 #[derive(Clone, Copy)]

@@ -1,6 +1,6 @@
 use Rattle.std.proofs.Common.{◌≡◌, ◌≢◌, ◌+◌, ◌≤◌}
 use Rattle.peer_plan.specs.declared.endpoint.Endpoint.{Endpoint}
-use Rattle.udp_workers.specs.Counts.{RiseAlike}
+use Rattle.udp_wires.specs.Counts.{RiseAlike}
 use Rattle.udp_workers.proofs.sending.send_all.Given as goal
 
 abbrev pub invariant-loop : goal.invariant-loop

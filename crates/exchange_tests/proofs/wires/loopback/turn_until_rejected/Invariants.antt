@@ -1,5 +1,5 @@
 use Rattle.std.proofs.Common.{◌≡◌}
-use Rattle.udp_workers.specs.MioWire.{peers_of}
+use Rattle.udp_wires.specs.MioWire.{peers_of}
 use Rattle.exchange_tests.proofs.wires.loopback.turn_until_rejected.Given as goal
 
 abbrev pub invariant-loop : goal.invariant-loop

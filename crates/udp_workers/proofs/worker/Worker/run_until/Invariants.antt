@@ -1,5 +1,5 @@
 use Rattle.std.proofs.Common.{◌≡◌, ◌+◌, ◌*◌, ◌≤◌}
-use Rattle.udp_workers.specs.Counts.{RisesBy}
+use Rattle.udp_wires.specs.Counts.{RisesBy}
 use Rattle.udp_workers.specs.Handed.{GivesAll}
 use Rattle.udp_workers.specs.Ticked.{IsLater}
 use Rattle.udp_workers.proofs.worker.Worker.run_until.Given as goal

@@ -2,7 +2,7 @@ use Rattle.std.proofs.Common.{Bor, ◌≢◌, ℕ, ◌<◌, List, ◌∙◌, sub
 use Rattle.std.specs.Prelude.{All, AllPairs}
 use Rattle.peer_plan.specs.Plan.{IsPlan}
 use Rattle.peer_plan.specs.declared.endpoint.Endpoint.{Endpoint}
-use Rattle.udp_workers.specs.Counts.{RisesByAtMost}
+use Rattle.udp_wires.specs.Counts.{RisesByAtMost}
 use Rattle.udp_workers.specs.Handed.{GivesAll}
 use Rattle.udp_workers.specs.Served.{WorkerView, AreEndpoints}
 use Rattle.udp_workers.specs.Ticked.{TicksAll}

@@ -1,0 +1,20 @@
+//! Wires: sockets for datagrams, by what is asked of them, and those of the system. They know the endpoints of peers, and no
+//! exchange.
+#![tactic(auto)]
+
+mod bind_error;
+mod link;
+mod mio_wire;
+mod own_socket;
+mod peer_counts;
+mod shared_port;
+mod sharing;
+mod socket_set;
+mod sockets;
+mod wire;
+
+pub use bind_error::BindError;
+pub use mio_wire::MioWire;
+pub use peer_counts::PeerCounts;
+pub use sharing::Sharing;
+pub use wire::{Wire, WireFault};

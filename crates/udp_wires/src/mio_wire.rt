@@ -1,0 +1,177 @@
+//! A wire over UDP sockets of the system.
+ghost use Rattle.std.specs.Prelude.{◌≡◌, ◌≢◌, Contains, IfOk, position};
+ghost use Rattle.peer_plan.specs.Reading.{is_endpoint};
+ghost use Rattle.peer_plan.specs.declared.endpoint.Endpoint.{Endpoint};
+ghost use Rattle.udp_wires.specs.Counts.{RisesBy};
+ghost use Rattle.udp_wires.specs.Pauses.{pause_of};
+
+use crate::bind_error::BindError;
+use crate::peer_counts::PeerCounts;
+use crate::sharing::Sharing;
+use crate::sockets::Sockets;
+use crate::wire::{Wire, WireFault};
+use peer_plan::Endpoint;
+use std::alloc::Global;
+use std::net::Net;
+use std::os::fd::RawFd;
+
+// How long it waits at most where another worker may have taken a datagram that these peers are answered.
+const SHARED_MS: u64 = 2;
+
+/// UDP sockets of the system that are bound to an IPv4 endpoint: a worker's own, and where it may be, one for each peer that is
+/// connected to it.
+///
+/// `receive` asks those sockets at which the system told of a datagram, by turns, each until it has none. Of a datagram that
+/// comes meanwhile to another one it knows once `wait` was called, or once it has found none.
+#[derive(Drop)]
+pub struct MioWire {
+    sockets: Sockets,
+    // Whether a worker that shares its endpoint takes datagrams of these peers, too.
+    shared: bool,
+    peers: PeerCounts,
+    given: u64,
+    failures: u64,
+}
+
+// How long it waits at most: not where it may have a datagram, and where its endpoint is shared, a short time.
+fn pause_of(empty: bool, shared: bool, ms: u64) -> u64
+    ensures { result ≡ pause_of empty shared ms }
+{
+    if !empty {
+        return 0;
+    }
+    if shared { ms.min(SHARED_MS) } else { ms }
+}
+
+impl MioWire {
+    ghost use Rattle.udp_wires.specs.MioWire.{given_of, given_to_of, failures_of, peers_of};
+
+    /// A UDP socket that is bound to this IPv4 endpoint and may send to these peers. Nothing was given to it yet, and no call
+    /// failed.
+    ///
+    /// The socket doesn't block; the system tells of what comes where it is polled. `Alone`: it is bound with no option set, so
+    /// nobody else can be bound there. `First`: it is bound so, and then `SO_REUSEPORT` is set. `Beside`: `SO_REUSEPORT` is set
+    /// before it is bound. Contracts speak of the peers and of the counts alone: of the endpoint, the options, the sockets and
+    /// the polling they say nothing.
+    ///
+    /// `Alone`, at an address and a port that aren't 0: each of the first 32 peers gets a socket there too, which is connected
+    /// to it, so that the system needn't look up the way for each datagram. `SO_REUSEPORT` is set only while these are bound,
+    /// and nobody else can be bound there after it. A peer for which the system gives no such socket, or whose address or port
+    /// is 0, is served by the worker's own.
+    ///
+    /// Workers of one endpoint are bound in the order of their places: what comes from one sender then comes to one of them,
+    /// whichever the system chooses.
+    ///
+    /// `Memory`: a request for memory was refused. `Bind`: the system gives no socket or no poll, doesn't set the option, doesn't
+    /// bind the socket to that endpoint, or doesn't take `SO_REUSEPORT` back. At an `Err` the list is dropped.
+    pub fn bind<N: Net>(
+        rt: &N,
+        alloc: Global,
+        at: Endpoint,
+        peers: Vec<Endpoint>,
+        sharing: Sharing,
+    ) -> Result<MioWire, BindError>
+        ensures peers { IfOk result (λ wire. peers_of wire ≡ peers.items) }
+        ensures given { IfOk result (λ wire. given_of wire ≡ 0) }
+        ensures given_to { IfOk result (λ wire. (to : Endpoint) → given_to_of wire to ≡ 0) }
+        ensures failures { IfOk result (λ wire. failures_of wire ≡ 0) }
+    {
+        let peers = PeerCounts::new(alloc, peers)?;
+        let sockets = Sockets::bound(rt, alloc, at, &peers.endpoints, sharing)?;
+        Ok(MioWire::over(sockets, peers, sharing))
+    }
+
+    /// The descriptor of its own socket, for whoever sets what the system does with it. Contracts don't speak of it.
+    pub fn descriptor(&self) -> RawFd {
+        self.sockets.own_descriptor()
+    }
+
+    /// The descriptor of the socket that is connected to the peer at this place of its list, from 0 on, for whoever sets what the
+    /// system does with it. None: that peer has none. Contracts don't speak of it.
+    pub fn link_descriptor(&self, peer: usize) -> Option<RawFd> {
+        self.sockets.link_descriptor(peer)
+    }
+
+    // Over sockets that are bound and polled.
+    fn over(sockets: Sockets, peers: PeerCounts, sharing: Sharing) -> MioWire
+        ensures peers { result.peers ≡ peers }
+        ensures given { given_of result ≡ 0 }
+        ensures failures { failures_of result ≡ 0 }
+    {
+        MioWire {
+            sockets,
+            shared: sharing != Sharing::Alone,
+            peers,
+            given: 0,
+            failures: 0,
+        }
+    }
+
+    // A datagram is given to it, for this endpoint, which one of its peers has: the first place of such a peer.
+    fn count(&mut self, to: Endpoint) -> Option<usize>
+        requires { Contains (peers_of self.old) to }
+        ensures given { RisesBy (given_of self.old) (given_of self.new) 1 }
+        ensures to { RisesBy (given_to_of self.old to) (given_to_of self.new to) 1 }
+        ensures others { (other : Endpoint) → other ≢ to → given_to_of self.new other ≡ given_to_of self.old other }
+        ensures failures { failures_of self.new ≡ failures_of self.old }
+        ensures peers { peers_of self.new ≡ peers_of self.old }
+        ensures place { result ≡ position (λ peer. is_endpoint peer to) (peers_of self.old) }
+    {
+        self.given = self.given.wrapping_add(1);
+        self.peers.count_at(to)
+    }
+}
+
+impl Wire for MioWire {
+    ghost use Rattle.udp_wires.specs.MioWire.{given_of, given_to_of, failures_of, peers_of};
+
+    ghost given = { given_of };
+
+    ghost given_to = { given_to_of };
+
+    ghost failures = { failures_of };
+
+    ghost peers = { peers_of };
+
+    fn receive(&mut self, octets: &mut [u8]) -> Result<Option<(usize, Endpoint)>, WireFault> {
+        // Whoever didn't wait since it found nothing hears all the same what came meanwhile.
+        if self.sockets.are_empty() {
+            self.sockets.look(0);
+        }
+        let found = self.sockets.receive(octets);
+        if found.is_err() {
+            self.failures = self.failures.wrapping_add(1);
+        }
+        found
+    }
+
+    fn send(&mut self, to: Endpoint, octets: &[u8]) -> Result<bool, WireFault> {
+        let place = self.count(to);
+        let sent = self.sockets.send(place, to, octets);
+        if sent.is_err() {
+            self.failures = self.failures.wrapping_add(1);
+        }
+        sent
+    }
+
+    fn wait(&mut self, ms: u64) {
+        let pause = pause_of(self.sockets.are_empty(), self.shared, ms);
+        self.sockets.look(pause);
+    }
+
+    fn peers(&self) -> &[Endpoint] {
+        &self.peers.endpoints
+    }
+
+    fn given(&self) -> u64 {
+        self.given
+    }
+
+    fn given_to(&self, to: Endpoint) -> u64 {
+        self.peers.get(to)
+    }
+
+    fn failures(&self) -> u64 {
+        self.failures
+    }
+}

@@ -1,5 +1,0 @@
-use Rattle.std.proofs.Common.{rules}
-use Rattle.udp_workers.proofs.shared_port.socket_address.Goals as goal
-
-pub returns : goal.returns
-returns c = search rules

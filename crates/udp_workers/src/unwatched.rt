@@ -1,0 +1,25 @@
+//! A watch that nobody has.
+ghost use Rattle.std.specs.Prelude.{◌≡◌};
+
+use exchange_core::Retired;
+use worker_watch::{Event, ServiceStage, Watch};
+
+/// Always serves, and drops what it is told.
+#[derive(Clone, Copy, Debug, Drop)]
+pub struct Unwatched;
+
+impl Watch for Unwatched {
+    ghost use Rattle.worker_watch.specs.declared.watch.ServiceStage.TheVariants.{Serving};
+
+    ghost answered = { λ _ stage. stage ≡ Serving };
+
+    fn stage(&self) -> ServiceStage {
+        ServiceStage::Serving
+    }
+
+    fn tell(&self, _event: Event) {}
+
+    fn retire(&self, _worker: u16, _leg: &Retired) {}
+
+    fn no_thread(&self) {}
+}
