@@ -140,36 +140,8 @@ fn player_of<V: Viewer>(alloc: Global, plan: &Plan, viewer: &mut V) -> Result<Pl
     }
 }
 
-// The script, through an exchange of two ledgers.
-fn play<J: Naming, R: Wait, V: Viewer>(
-    rt: &R,
-    alloc: Global,
-    plan: Plan,
-    player: &mut Player,
-    script: &[u8],
-    viewer: &mut V,
-    octets: Blank,
-    steps: Blank,
-) -> Result<(), ReplayError>
-    requires octets { (octets.name ≡ J.Octets.name) × (octets.parts ≡ J.Octets.parts) ×
-        (octets.parts ≡ length plan.peers + plan.passes) }
-    requires steps { (steps.name ≡ J.Steps.name) × (steps.parts ≡ J.Steps.parts) ×
-        (steps.parts ≡ length plan.peers + plan.passes) }
-    requires first { (J.first_octets ≡ 2 ^ 48) × (J.first_steps ≡ 2 ^ 48) }
-{
-    match Exchange::<NoGate, J>::open(alloc, plan, NoGate, octets, steps) {
-        Ok(opened) => {
-            let mut open = Some(opened);
-            let played = work_script(rt, alloc, player, &mut open, script, viewer);
-            close(open);
-            played
-        }
-        Err(_) => Err(ReplayError::Memory),
-    }
-}
-
-// The same, by the ledgers that the caller names.
-fn play_named<O: Ledger + Send + Sync, S: Ledger + Send + Sync, R: Wait, V: Viewer>(
+// The script, through an exchange of the ledgers that the caller names.
+fn play<O: Ledger + Send + Sync, S: Ledger + Send + Sync, R: Wait, V: Viewer>(
     rt: &R,
     alloc: Global,
     plan: Plan,
@@ -182,7 +154,15 @@ fn play_named<O: Ledger + Send + Sync, S: Ledger + Send + Sync, R: Wait, V: View
     requires octets { (octets.name ≡ O.name) × (octets.parts ≡ O.parts) × (octets.parts ≡ length plan.peers + plan.passes) }
     requires steps { (steps.name ≡ S.name) × (steps.parts ≡ S.parts) × (steps.parts ≡ length plan.peers + plan.passes) }
 {
-    play::<Service<O, S>, R, V>(rt, alloc, plan, player, script, viewer, octets, steps)
+    match Exchange::<NoGate, Service<O, S>>::open(alloc, plan, NoGate, octets, steps) {
+        Ok(opened) => {
+            let mut open = Some(opened);
+            let played = work_script(rt, alloc, player, &mut open, script, viewer);
+            close(open);
+            played
+        }
+        Err(_) => Err(ReplayError::Memory),
+    }
 }
 
 /// Replays a script on an exchange of its plan, and tells the viewer what each line makes, up to the end of the script or to
@@ -219,7 +199,7 @@ fn play_plan<R: Wait, V: Viewer>(
     };
     let parts = u64::from(plan.peer_count()) + u64::from(plan.passes());
     let (octets, steps) = (Blank::new(parts), Blank::new(parts));
-    play_named::<Brand, Brand, R, V>(rt, alloc, plan, &mut player, script, viewer, octets, steps)
+    play::<Brand, Brand, R, V>(rt, alloc, plan, &mut player, script, viewer, octets, steps)
 }
 
 /// Replays a script on an exchange of its plan, prints what each line makes, and answers the status: 0 at the end of the script,

@@ -1,5 +1,5 @@
 //! The workers of a plan carry calls between real peers, for so many turns.
-ghost use Rattle.std.specs.Prelude.{◌≡◌, ◌+◌, ◌≤◌, ◌^◌, length, vec_len};
+ghost use Rattle.std.specs.Prelude.{◌≡◌, ◌+◌, ◌≤◌, length, vec_len};
 
 use exchange_core::{Exchange, NoGate, Pass};
 use exchange_report::{closed_accounts, settle};
@@ -77,46 +77,8 @@ fn report_turns<
     }
 }
 
-// The same, on an exchange that is opened for it; then its accounts are written.
+// The same, on an exchange that is opened for it, by the ledgers and the plan that the caller names; then its accounts are written.
 fn work<
-    J: Naming,
-    P: Post + Send + Sync,
-    R: Clock + Net + RandomSource + Threads + Wait + Sync,
-    W: Write,
->(
-    rt: &R,
-    alloc: Global,
-    plan: Plan,
-    turns: u32,
-    opened: Instant,
-    writer: &mut W,
-    octets: Blank,
-    steps: Blank,
-) -> Result<(), ServiceError>
-    requires plan { plan ≡ P.plan }
-    requires octets { (octets.name ≡ J.Octets.name) × (octets.parts ≡ J.Octets.parts) ×
-        (octets.parts ≡ length plan.peers + plan.passes) }
-    requires steps { (steps.name ≡ J.Steps.name) × (steps.parts ≡ J.Steps.parts) ×
-        (steps.parts ≡ length plan.peers + plan.passes) }
-    requires first { (J.first_octets ≡ 2 ^ 48) × (J.first_steps ≡ 2 ^ 48) }
-{
-    let _passes = plan.passes();
-    let exchange = Exchange::<NoGate, J>::open(alloc, plan, NoGate, octets, steps);
-    let Ok((exchange, mut passes)) = exchange else {
-        return Err(ServiceError::Memory);
-    };
-    match report_turns::<J, P, R, W>(rt, alloc, &exchange, &mut passes, turns, opened, writer) {
-        Ok(()) => settle(exchange, passes, writer),
-        // (Closed and not dropped, since that would have to be proved here anew, field by field.)
-        Err(error) => {
-            let _accounts = closed_accounts(exchange, passes);
-            Err(error)
-        }
-    }
-}
-
-// The same, by the ledgers and the plan that the caller names.
-fn work_named<
     O: Ledger + Send + Sync,
     S: Ledger + Send + Sync,
     P: Post + Send + Sync,
@@ -136,7 +98,19 @@ fn work_named<
     requires octets { (octets.name ≡ O.name) × (octets.parts ≡ O.parts) × (octets.parts ≡ length plan.peers + plan.passes) }
     requires steps { (steps.name ≡ S.name) × (steps.parts ≡ S.parts) × (steps.parts ≡ length plan.peers + plan.passes) }
 {
-    work::<Service<O, S>, P, R, W>(rt, alloc, plan, turns, opened, writer, octets, steps)
+    let _passes = plan.passes();
+    let exchange = Exchange::<NoGate, Service<O, S>>::open(alloc, plan, NoGate, octets, steps);
+    let Ok((exchange, mut passes)) = exchange else {
+        return Err(ServiceError::Memory);
+    };
+    match report_turns::<_, P, R, W>(rt, alloc, &exchange, &mut passes, turns, opened, writer) {
+        Ok(()) => settle(exchange, passes, writer),
+        // (Closed and not dropped, since that would have to be proved here anew, field by field.)
+        Err(error) => {
+            let _accounts = closed_accounts(exchange, passes);
+            Err(error)
+        }
+    }
 }
 
 // The turns of a plan that is right.
@@ -152,7 +126,7 @@ fn serve_plan<R: Clock + Net + RandomSource + Threads + Wait + Sync, W: Write>(
     };
     let parts = u64::from(plan.peer_count()) + u64::from(plan.passes());
     let (octets, steps) = (Blank::new(parts), Blank::new(parts));
-    work_named::<Brand, Brand, Brand, R, W>(rt, alloc, plan, turns, opened, writer, octets, steps)
+    work::<Brand, Brand, Brand, R, W>(rt, alloc, plan, turns, opened, writer, octets, steps)
 }
 
 // The status, and what is printed of a refusal.

@@ -2,14 +2,11 @@
 //! log.
 #![tactic(auto)]
 
-mod client;
 mod control;
-mod doors;
 mod journal;
 mod recording;
 mod running;
 mod seating;
 mod service_sockets;
-mod socket_file;
 
 pub use running::{Settings, TraceOptions, run};

@@ -1,11 +1,11 @@
 //! A service: the workers of a plan serve until they are told to stop.
-ghost use Rattle.std.specs.Prelude.{◌≡◌, ◌+◌, ◌≤◌, ◌^◌, length, vec_len};
+ghost use Rattle.std.specs.Prelude.{◌≡◌, ◌+◌, ◌≤◌, length, vec_len};
 
 use crate::control::Control;
-use crate::doors::bind_error_name;
 use crate::recording::watch_of;
 use crate::seating::serve_watched;
 use call_writer::Disk;
+use control_server::bind_error_name;
 use exchange_core::{Exchange, NoGate, Pass};
 use exchange_report::{closed_accounts, settle};
 use log::LevelFilter;
@@ -25,7 +25,7 @@ use std::thread::Threads;
 use std::time::{Clock, Instant};
 use trace_writer::Folder;
 use udp_workers::{Post, TurnReport};
-use worker_seats::{ServiceError, service_error_name, write_reports};
+use worker_seats::{ServiceError, service_error_name, with_spare_pass, write_reports};
 
 /// How a service is run.
 #[derive(Clone, Copy)]
@@ -136,58 +136,8 @@ fn serve_and_report<
     }
 }
 
-// The same, on an exchange that is opened for it; then its accounts are written.
+// The same, on an exchange that is opened for it, by the ledgers and the plan that the caller names; then its accounts are written.
 fn work<
-    J: Naming,
-    P: Post + Send + Sync,
-    R: Clock + Eprint + Net + RandomSource + Threads + Wait + Sync,
-    D: Disk + Folder + Sync,
-    W: Write,
->(
-    rt: &R,
-    disk: &D,
-    alloc: Global,
-    plan: Plan,
-    control: &mut Control<'_>,
-    opened: Instant,
-    writer: &mut W,
-    octets: Blank,
-    steps: Blank,
-) -> Result<(), ServiceError>
-    requires plan { plan ≡ P.plan }
-    requires enough { length plan.workers + 1 ≤ plan.passes }
-    requires octets { (octets.name ≡ J.Octets.name) × (octets.parts ≡ J.Octets.parts) ×
-        (octets.parts ≡ length plan.peers + plan.passes) }
-    requires steps { (steps.name ≡ J.Steps.name) × (steps.parts ≡ J.Steps.parts) ×
-        (steps.parts ≡ length plan.peers + plan.passes) }
-    requires first { (J.first_octets ≡ 2 ^ 48) × (J.first_steps ≡ 2 ^ 48) }
-{
-    let _passes = plan.passes();
-    let exchange = Exchange::<NoGate, J>::open(alloc, plan, NoGate, octets, steps);
-    let Ok((exchange, mut passes)) = exchange else {
-        return Err(ServiceError::Memory);
-    };
-    match serve_and_report::<J, P, R, D, W>(
-        rt,
-        disk,
-        alloc,
-        &exchange,
-        &mut passes,
-        control,
-        opened,
-        writer,
-    ) {
-        Ok(()) => settle(exchange, passes, writer),
-        // (Closed and not dropped, since that would have to be proved here anew, field by field.)
-        Err(error) => {
-            let _accounts = closed_accounts(exchange, passes);
-            Err(error)
-        }
-    }
-}
-
-// The same, by the ledgers and the plan that the caller names.
-fn work_named<
     O: Ledger + Send + Sync,
     S: Ledger + Send + Sync,
     P: Post + Send + Sync,
@@ -210,21 +160,28 @@ fn work_named<
     requires octets { (octets.name ≡ O.name) × (octets.parts ≡ O.parts) × (octets.parts ≡ length plan.peers + plan.passes) }
     requires steps { (steps.name ≡ S.name) × (steps.parts ≡ S.parts) × (steps.parts ≡ length plan.peers + plan.passes) }
 {
-    work::<Service<O, S>, P, R, D, W>(
-        rt, disk, alloc, plan, control, opened, writer, octets, steps,
-    )
-}
-
-// The plan with a pass beside those of its workers.
-fn with_spare_pass(plan: Plan) -> Plan
-    ensures passes { length result.workers + 1 ≤ result.passes }
-    ensures same { result ≡ record plan { passes = result.passes } }
-{
-    let least = plan.workers().len() as u16 + 1;
-    if plan.passes() >= least {
-        return plan;
+    let _passes = plan.passes();
+    let exchange = Exchange::<NoGate, Service<O, S>>::open(alloc, plan, NoGate, octets, steps);
+    let Ok((exchange, mut passes)) = exchange else {
+        return Err(ServiceError::Memory);
+    };
+    match serve_and_report::<_, P, R, D, W>(
+        rt,
+        disk,
+        alloc,
+        &exchange,
+        &mut passes,
+        control,
+        opened,
+        writer,
+    ) {
+        Ok(()) => settle(exchange, passes, writer),
+        // (Closed and not dropped, since that would have to be proved here anew, field by field.)
+        Err(error) => {
+            let _accounts = closed_accounts(exchange, passes);
+            Err(error)
+        }
     }
-    plan.with_passes(least)
 }
 
 // The service of a plan that is right.
@@ -246,7 +203,7 @@ fn serve_plan<
     let plan = with_spare_pass(plan);
     let parts = u64::from(plan.peer_count()) + u64::from(plan.passes());
     let (octets, steps) = (Blank::new(parts), Blank::new(parts));
-    work_named::<Brand, Brand, Brand, R, D, W>(
+    work::<Brand, Brand, Brand, R, D, W>(
         rt, disk, alloc, plan, control, opened, writer, octets, steps,
     )
 }

@@ -13,7 +13,7 @@ const ROUNDS: u32 = 64;
 
 /// How far a client is.
 #[derive(Clone, Copy, Debug, PartialEq, Eq)]
-pub(crate) enum Stage {
+pub enum Stage {
     /// Its request isn't whole.
     Asking,
     /// Its answer isn't sent.
@@ -26,11 +26,11 @@ pub(crate) enum Stage {
 
 /// A client, with what it sent and what it is sent.
 #[derive(Drop)]
-pub(crate) struct Client {
+pub struct Client {
     stream: Stream,
-    pub(crate) door: Door,
-    pub(crate) since: Instant,
-    pub(crate) stage: Stage,
+    pub door: Door,
+    pub since: Instant,
+    pub stage: Stage,
     input: Vec<u8>,
     output: Vec<u8>,
     sent: usize,
@@ -38,7 +38,7 @@ pub(crate) struct Client {
 
 impl Client {
     /// A client that has said nothing yet.
-    pub(crate) fn new(alloc: Global, stream: Stream, door: Door, since: Instant) -> Client {
+    pub fn new(alloc: Global, stream: Stream, door: Door, since: Instant) -> Client {
         Client {
             stream,
             door,
@@ -101,7 +101,7 @@ impl Client {
     }
 
     /// Reads what is there, in at most 64 reads, until the request is whole.
-    pub(crate) fn hear(&mut self) -> Result<(), AllocError> {
+    pub fn hear(&mut self) -> Result<(), AllocError> {
         for _ in 0..ROUNDS {
             if self.stage == Stage::Answered || self.is_whole() || !self.take_some()? {
                 break;
@@ -116,18 +116,23 @@ impl Client {
     }
 
     /// What it has sent so far.
-    pub(crate) fn reading(&self) -> Reading<'_> {
+    pub fn reading(&self) -> Reading<'_> {
         read_request(&self.input)
     }
 
-    /// What it is to be sent.
-    pub(crate) fn answer(&mut self, octets: Vec<u8>) {
-        self.output = octets;
-        self.stage = Stage::Answered;
+    /// What it is to be sent; without memory for that it has ended.
+    pub fn answer(&mut self, octets: Result<Vec<u8>, AllocError>) {
+        match octets {
+            Ok(octets) => {
+                self.output = octets;
+                self.stage = Stage::Answered;
+            }
+            Err(_) => self.stage = Stage::Ended,
+        }
     }
 
     /// Sends what the system takes, in at most 64 writes.
-    pub(crate) fn speak(&mut self) {
+    pub fn speak(&mut self) {
         for _ in 0..ROUNDS {
             if self.stage != Stage::Answered || !self.give_some() {
                 break;

@@ -12,7 +12,7 @@ use std::net::{Net, Shutdown, SocketAddr};
 
 /// By which way a client came.
 #[derive(Clone, Copy, Debug, PartialEq, Eq)]
-pub(crate) enum Door {
+pub enum Door {
     /// The control socket, which takes orders.
     Control,
     /// The address of the metrics, which takes none.
@@ -21,14 +21,14 @@ pub(crate) enum Door {
 
 /// A connection by either way.
 #[derive(Drop)]
-pub(crate) enum Stream {
+pub enum Stream {
     Unix(UnixStream),
     Tcp(TcpStream),
 }
 
 impl Stream {
     /// Has the system tell when it can be read or written.
-    pub(crate) fn register(&mut self, registry: &Registry) -> io::Result<()> {
+    pub fn register(&mut self, registry: &Registry) -> io::Result<()> {
         let both = Interest::READABLE | Interest::WRITABLE;
         match self {
             Stream::Unix(stream) => registry.register(stream, Token(1), both),
@@ -37,7 +37,7 @@ impl Stream {
     }
 
     /// Reads what is there.
-    pub(crate) fn read_some(&mut self, octets: &mut [u8]) -> io::Result<usize>
+    pub fn read_some(&mut self, octets: &mut [u8]) -> io::Result<usize>
         ensures { ReadsAtMost result octets.new }
     {
         match self {
@@ -47,7 +47,7 @@ impl Stream {
     }
 
     /// Writes what the system takes.
-    pub(crate) fn write_some(&mut self, octets: &[u8]) -> io::Result<usize> {
+    pub fn write_some(&mut self, octets: &[u8]) -> io::Result<usize> {
         match self {
             Stream::Unix(stream) => stream.write(octets),
             Stream::Tcp(stream) => stream.write(octets),
@@ -55,7 +55,7 @@ impl Stream {
     }
 
     /// Tells the client that nothing more is sent.
-    pub(crate) fn end_output(&self) -> io::Result<()> {
+    pub fn end_output(&self) -> io::Result<()> {
         match self {
             Stream::Unix(stream) => stream.shutdown(Shutdown::Write),
             Stream::Tcp(stream) => stream.shutdown(Shutdown::Write),
@@ -64,7 +64,7 @@ impl Stream {
 }
 
 /// Why there is no listener: for want of memory, or by this name.
-pub(crate) fn bind_error_name(error: &io::Error, name: &'static str) -> &'static str {
+pub fn bind_error_name(error: &io::Error, name: &'static str) -> &'static str {
     match error.kind() {
         ErrorKind::OutOfMemory => "Memory",
         _ => name,
@@ -73,14 +73,14 @@ pub(crate) fn bind_error_name(error: &io::Error, name: &'static str) -> &'static
 
 /// The listeners that there are.
 #[derive(Drop)]
-pub(crate) struct Doors {
-    pub(crate) control: Option<UnixListener>,
-    pub(crate) metrics: Option<TcpListener>,
+pub struct Doors {
+    pub control: Option<UnixListener>,
+    pub metrics: Option<TcpListener>,
 }
 
 impl Doors {
     /// No listener.
-    pub(crate) fn none() -> Doors {
+    pub fn none() -> Doors {
         Doors {
             control: None,
             metrics: None,
@@ -88,7 +88,7 @@ impl Doors {
     }
 
     /// Binds the control socket at its path, where there is to be one. `Err` is the name of what refuses it.
-    pub(crate) fn bind_control<R: Files + Net>(
+    pub fn bind_control<R: Files + Net>(
         &mut self,
         rt: &R,
         alloc: Global,
@@ -105,7 +105,7 @@ impl Doors {
     }
 
     /// Binds the listener of the metrics, where there is to be one. `Err` is the name of what refuses it.
-    pub(crate) fn bind_metrics<R: Net>(
+    pub fn bind_metrics<R: Net>(
         &mut self,
         rt: &R,
         address: Option<SocketAddr>,
@@ -121,7 +121,7 @@ impl Doors {
     }
 
     /// Has the system tell when a client waits.
-    pub(crate) fn register(&mut self, registry: &Registry) -> io::Result<()> {
+    pub fn register(&mut self, registry: &Registry) -> io::Result<()> {
         if let Some(listener) = &mut self.control {
             registry.register(listener, Token(0), Interest::READABLE)?;
         }
@@ -132,7 +132,7 @@ impl Doors {
     }
 
     /// The next connection by this way. `WouldBlock`: none waits.
-    pub(crate) fn accept(&self, door: Door) -> io::Result<Stream> {
+    pub fn accept(&self, door: Door) -> io::Result<Stream> {
         match (door, &self.control, &self.metrics) {
             (Door::Control, Some(listener), _) => match listener.accept() {
                 Ok((stream, _)) => Ok(Stream::Unix(stream)),
