@@ -1,108 +1,112 @@
 //! Information elements in words ("Information Elements").
-use crate::words::{write_formats, write_octets, write_quoted};
+use crate::page::Page;
+use crate::words::{write_formats, write_octets};
 use info_elements::{
     AUTHMETHODS, CALLED_NUMBER, CALLING_NAME, CALLING_NUMBER, CALLINGPRES, CALLINGTNS, CALLINGTON,
     CAPABILITY, CAUSE, CAUSECODE, CHALLENGE, FORMAT, IAX_UNKNOWN, MD5_RESULT, USERNAME, VERSION,
     next_element, u32_in,
 };
-use std::io;
-use std::io::Write;
 
-// A text with what it is.
-fn write_named(name: &str, value: &[u8], out: &mut Vec<u8>) -> io::Result<()> {
-    out.write_all(name.as_bytes())?;
-    if value.is_empty() {
-        out.write_all(b"\"\"")
-    } else {
-        write_octets(value, out)
-    }
+// What the octets of an element are.
+#[derive(Clone, Copy)]
+enum Form {
+    // A number of one octet, and of two.
+    Octet,
+    Pair,
+    // The methods of authentication, of which MD5 is bit 0x0002.
+    Methods,
+    // Whether the number that calls may be shown, by two bits; the others say who vouches for it.
+    Presentation,
+    Formats,
+    Text,
+    Quoted,
+    // Nobody is to read them.
+    Hidden,
 }
 
-// Octets of an element that has another form than it should.
-fn write_raw(number: u8, value: &[u8], out: &mut Vec<u8>) -> io::Result<()> {
-    let count = value.len();
-    write!(out, "element 0x{number:02x} of {count} octets")
-}
+// The kinds of elements: the number, what is written first, and what the octets are.
+const KINDS: [(u8, &str, Form); 16] = [
+    (FORMAT, "", Form::Formats),
+    (CAPABILITY, "can ", Form::Formats),
+    (VERSION, "version ", Form::Pair),
+    (AUTHMETHODS, "by ", Form::Methods),
+    (CAUSECODE, "cause ", Form::Octet),
+    (CALLINGPRES, "presentation ", Form::Presentation),
+    (CALLINGTON, "type of number ", Form::Octet),
+    (CALLINGTNS, "transit network ", Form::Pair),
+    (IAX_UNKNOWN, "unknown subclass ", Form::Octet),
+    (CALLED_NUMBER, "", Form::Text),
+    (CALLING_NUMBER, "from ", Form::Text),
+    (CALLING_NAME, "name ", Form::Text),
+    (USERNAME, "user ", Form::Text),
+    (CHALLENGE, "challenge ", Form::Text),
+    (CAUSE, "", Form::Quoted),
+    // (the digits would let a listener try secrets)
+    (MD5_RESULT, "MD5 result", Form::Hidden),
+];
 
-// Formats, with what they are.
-fn write_bits(number: u8, name: &str, value: &[u8], out: &mut Vec<u8>) -> io::Result<()> {
-    match value {
-        [a, b, c, d] => {
-            out.write_all(name.as_bytes())?;
-            write_formats(u32::from_be_bytes([*a, *b, *c, *d]), out)
+// What is written first of an element, and what its octets are, where they are what they should be.
+fn kind_of(number: u8, value: &[u8]) -> Option<(&'static str, Form)> {
+    for (known, name, form) in &KINDS {
+        if *known == number && fits(*form, value.len()) {
+            return Some((*name, *form));
         }
-        _ => write_raw(number, value, out),
+    }
+    None
+}
+
+fn fits(form: Form, octets: usize) -> bool {
+    match form {
+        Form::Octet | Form::Presentation => octets == 1,
+        Form::Pair | Form::Methods => octets == 2,
+        Form::Formats => octets == 4,
+        Form::Text | Form::Quoted | Form::Hidden => true,
     }
 }
 
-// A number of two octets, with what it is.
-fn write_u16(number: u8, name: &str, value: &[u8], out: &mut Vec<u8>) -> io::Result<()> {
-    match value {
-        [a, b] => {
-            let value = u16::from_be_bytes([*a, *b]);
-            write!(out, "{name}{value}")
-        }
-        _ => write_raw(number, value, out),
+// The number that octets are.
+fn number_in(value: &[u8]) -> u32 {
+    let mut number: u32 = 0;
+    for octet in value {
+        number = number.wrapping_shl(8) | u32::from(*octet);
     }
+    number
 }
 
-// The methods of authentication, of which MD5 is bit 0x0002.
-fn write_methods(value: &[u8], out: &mut Vec<u8>) -> io::Result<()> {
-    match value {
-        [0, 2] => out.write_all(b"by MD5"),
-        _ => write_u16(AUTHMETHODS, "by methods ", value, out),
+// A number, and what it means.
+fn write_number(form: Form, number: u32, out: &mut Page) {
+    match form {
+        Form::Formats => return write_formats(number, out),
+        Form::Methods if number == 2 => return out.text("MD5"),
+        Form::Methods => out.text("methods "),
+        _ => {}
     }
-}
-
-// A number of one octet, with what it is.
-fn write_u8(number: u8, name: &str, value: &[u8], out: &mut Vec<u8>) -> io::Result<()> {
-    match value {
-        [value] => write!(out, "{name}{value}"),
-        _ => write_raw(number, value, out),
-    }
-}
-
-// Whether the number that calls may be shown, by two bits; the others say who vouches for it.
-fn write_presentation(value: &[u8], out: &mut Vec<u8>) -> io::Result<()> {
-    write_u8(CALLINGPRES, "presentation ", value, out)?;
-    match value {
-        [value] => match *value & 0x60 {
-            0x20 => out.write_all(b" (withheld)"),
-            0x40 => out.write_all(b" (no number)"),
-            _ => Ok(()),
-        },
-        _ => Ok(()),
-    }
-}
-
-// An element of a number that has a text.
-fn write_text(number: u8, value: &[u8], out: &mut Vec<u8>) -> io::Result<()> {
-    match number {
-        CALLED_NUMBER => write_named("", value, out),
-        CALLING_NUMBER => write_named("from ", value, out),
-        CALLING_NAME => write_named("name ", value, out),
-        USERNAME => write_named("user ", value, out),
-        CHALLENGE => write_named("challenge ", value, out),
-        CAUSE => write_quoted(value, out),
-        // (the digits would let a listener try secrets)
-        MD5_RESULT => out.write_all(b"MD5 result"),
-        _ => write_raw(number, value, out),
+    out.number(u64::from(number));
+    match (form, number & 0x60) {
+        (Form::Presentation, 0x20) => out.text(" (withheld)"),
+        (Form::Presentation, 0x40) => out.text(" (no number)"),
+        _ => {}
     }
 }
 
 // An element.
-fn write_element(number: u8, value: &[u8], out: &mut Vec<u8>) -> io::Result<()> {
-    match number {
-        FORMAT => write_bits(number, "", value, out),
-        CAPABILITY => write_bits(number, "can ", value, out),
-        VERSION => write_u16(number, "version ", value, out),
-        AUTHMETHODS => write_methods(value, out),
-        CAUSECODE => write_u8(number, "cause ", value, out),
-        CALLINGPRES => write_presentation(value, out),
-        CALLINGTON => write_u8(number, "type of number ", value, out),
-        CALLINGTNS => write_u16(number, "transit network ", value, out),
-        IAX_UNKNOWN => write_u8(number, "unknown subclass ", value, out),
-        _ => write_text(number, value, out),
+fn write_element(number: u8, value: &[u8], out: &mut Page) {
+    let Some((name, form)) = kind_of(number, value) else {
+        out.text("element 0x");
+        out.hexadecimal(u32::from(number), 2);
+        out.count(" of ", value.len() as u64);
+        return out.text(" octets");
+    };
+    out.text(name);
+    match form {
+        Form::Hidden => {}
+        Form::Text if !value.is_empty() => write_octets(value, out),
+        Form::Text | Form::Quoted => {
+            out.text("\"");
+            write_octets(value, out);
+            out.text("\"");
+        }
+        _ => write_number(form, number_in(value), out),
     }
 }
 
@@ -111,28 +115,27 @@ fn is_left_out(number: u8, value: &[u8], elements: &[u8]) -> bool {
     match number {
         VERSION => value == [0, 2].as_slice(),
         CAPABILITY => {
-            u32_in(elements, FORMAT).is_some()
-                && u32_in(elements, FORMAT) == u32_in(elements, CAPABILITY)
+            let format = u32_in(elements, FORMAT);
+            format.is_some() && format == u32_in(elements, CAPABILITY)
         }
         _ => false,
     }
 }
 
 /// Writes the elements, in their order, each behind a blank or a comma.
-pub(crate) fn write_elements(elements: &[u8], out: &mut Vec<u8>) -> io::Result<()> {
+pub(crate) fn write_elements(elements: &[u8], out: &mut Page) {
     let mut gap = " ";
     let mut rest = elements;
     while let Some((number, value, after)) = next_element(rest) {
         if !is_left_out(number, value, elements) {
-            out.write_all(gap.as_bytes())?;
-            write_element(number, value, out)?;
+            out.text(gap);
+            write_element(number, value, out);
             gap = ", ";
         }
         rest = after;
     }
-    if rest.is_empty() {
-        Ok(())
-    } else {
-        write!(out, "{gap}an element that is cut")
+    if !rest.is_empty() {
+        out.text(gap);
+        out.text("an element that is cut");
     }
 }

@@ -11,6 +11,7 @@ mod ladder;
 pub mod laws;
 mod media_runs;
 mod number_pairs;
+mod page;
 mod row;
 mod sides;
 mod svg;

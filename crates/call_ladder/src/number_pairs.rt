@@ -2,7 +2,7 @@
 use std::alloc::{AllocError, Global};
 
 // A leg's number at the peer, and at the exchange.
-#[derive(Clone, Copy, Debug, PartialEq, Eq)]
+#[derive(Clone, Copy)]
 struct Pair {
     peer: u16,
     remote: u16,
@@ -10,7 +10,7 @@ struct Pair {
 }
 
 /// The numbers of legs, as frames tell them.
-#[derive(Debug, Drop)]
+#[derive(Drop)]
 pub(crate) struct NumberPairs {
     pairs: Vec<Pair>,
 }

@@ -1,12 +1,12 @@
 //! The rows of a ladder, from the first on downwards.
 use crate::media_runs::{Direction, MediaKind, MediaRun};
+use crate::page::Page;
+use crate::sides::{Peer, Sides};
 use crate::words::write_count;
 use std::alloc::Global;
-use std::io;
-use std::io::Write;
 
 /// What a row shows.
-#[derive(Clone, Copy, Debug, PartialEq, Eq)]
+#[derive(Clone, Copy, PartialEq, Eq)]
 pub(crate) enum RowKind {
     /// An arrow between a peer and the exchange: a datagram.
     Frame,
@@ -18,8 +18,51 @@ pub(crate) enum RowKind {
     Order,
 }
 
+/// How an arrow is drawn: in SVG by the classes of its line, of its head, and of its label; in plain text as it points to the
+/// right, and to the left.
+#[derive(Clone, Copy)]
+pub(crate) struct Look {
+    pub line: &'static str,
+    pub head: &'static str,
+    pub label: &'static str,
+    pub to_the_right: &'static str,
+    pub to_the_left: &'static str,
+}
+
+const REFUSED: Look = Look {
+    line: "x",
+    head: "px",
+    label: "lx",
+    to_the_right: "-------x",
+    to_the_left: "x-------",
+};
+
+const MEDIA: Look = Look {
+    line: "m",
+    head: "pm",
+    label: "l",
+    to_the_right: "=======>",
+    to_the_left: "<=======",
+};
+
+const RESENT: Look = Look {
+    line: "s",
+    head: "p",
+    label: "l",
+    to_the_right: "- - - ->",
+    to_the_left: "<- - - -",
+};
+
+const SENT: Look = Look {
+    line: "f",
+    head: "p",
+    label: "l",
+    to_the_right: "------->",
+    to_the_left: "<-------",
+};
+
 /// A row.
-#[derive(Debug, Drop)]
+#[derive(Drop)]
 pub(crate) struct Row {
     pub kind: RowKind,
     /// The place of the peer; none of what is done at the exchange alone.
@@ -33,8 +76,17 @@ pub(crate) struct Row {
     pub is_resent: bool,
     pub is_refused: bool,
     /// What it says, and the frame's numbers: ASCII.
-    pub text: Vec<u8>,
-    pub numbers: Vec<u8>,
+    pub text: Page,
+    pub numbers: Page,
+}
+
+/// What is drawn: the peers, where they stand, and the rows; of all, or of the leg of one local number.
+#[derive(Clone, Copy)]
+pub(crate) struct Scene<'a> {
+    pub peers: &'a [Peer],
+    pub sides: &'a Sides,
+    pub rows: &'a [Row],
+    pub leg: Option<u16>,
 }
 
 impl Row {
@@ -49,8 +101,8 @@ impl Row {
             remote: None,
             is_resent: false,
             is_refused: false,
-            text: Vec::new(alloc),
-            numbers: Vec::new(alloc),
+            text: Page::new(alloc),
+            numbers: Page::new(alloc),
         }
     }
 
@@ -76,9 +128,34 @@ impl Row {
     }
 
     /// Its text is told to be a refusal of this name.
-    pub(crate) fn refuse(&mut self, name: &str) -> io::Result<()> {
+    pub(crate) fn refuse(&mut self, name: &str) {
         self.is_refused = true;
-        write!(self.text, ": refused {name}")
+        self.text.text(": refused ");
+        self.text.text(name);
+    }
+
+    /// How it is drawn, if it is an arrow.
+    pub(crate) fn look(&self) -> &'static Look {
+        if self.is_refused {
+            &REFUSED
+        } else if self.kind == RowKind::Media {
+            &MEDIA
+        } else if self.is_resent {
+            &RESENT
+        } else {
+            &SENT
+        }
+    }
+
+    /// The class of its text in SVG, if it is a note beside the exchange's lifeline.
+    pub(crate) fn note_class(&self) -> &'static str {
+        if self.is_refused {
+            "lx"
+        } else if self.kind == RowKind::Stage {
+            "g"
+        } else {
+            "o"
+        }
     }
 }
 
@@ -91,25 +168,20 @@ fn names_of(kind: MediaKind) -> (&'static str, &'static str) {
     }
 }
 
-// How many frames, how many octets, and until when.
-fn write_run(run: &MediaRun, out: &mut Vec<u8>) -> io::Result<()> {
-    let (one, more) = names_of(run.key.kind);
-    write_count(run.frames, one, more, out)?;
-    out.write_all(b", ")?;
-    write_count(run.octets, "octet", "octets", out)?;
-    if run.last > run.first {
-        write!(out, ", until {} ms", run.last)?;
-    }
-    Ok(())
-}
-
-/// The row of a run, whose leg has this number at the exchange.
-pub(crate) fn row_of(alloc: Global, run: &MediaRun, local: Option<u16>) -> io::Result<Row> {
+/// The row of a run, whose leg has this number at the exchange: how many frames, how many octets, and until when.
+pub(crate) fn row_of(alloc: Global, run: &MediaRun, local: Option<u16>) -> Row {
     let mut row = Row::new(alloc, RowKind::Media, run.first);
     row.peer = Some(run.key.peer);
     row.direction = run.key.direction;
     row.local = local;
-    write_run(run, &mut row.text)?;
-    write!(row.numbers, "call {}", run.key.number)?;
-    Ok(row)
+    let (one, more) = names_of(run.key.kind);
+    write_count(run.frames, one, more, &mut row.text);
+    row.text.text(", ");
+    write_count(run.octets, "octet", "octets", &mut row.text);
+    if run.last > run.first {
+        row.text.count(", until ", run.last);
+        row.text.text(" ms");
+    }
+    row.numbers.count("call ", u64::from(run.key.number));
+    row
 }

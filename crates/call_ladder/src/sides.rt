@@ -1,9 +1,9 @@
 //! Where the lifelines stand: the exchange between its peers.
 use crate::row::Row;
-use std::alloc::{AllocError, Global};
+use std::alloc::Global;
 
 /// A peer: its name, and its call numbers at the exchange.
-#[derive(Debug, Drop)]
+#[derive(Drop)]
 pub(crate) struct Peer {
     pub name: String,
     pub first: u16,
@@ -18,41 +18,43 @@ impl Peer {
 }
 
 /// On which side of the exchange a peer stands.
-#[derive(Clone, Copy, Debug, PartialEq, Eq)]
+#[derive(Clone, Copy)]
 pub(crate) enum Side {
     Left,
     Right,
 }
 
 /// The peers that are shown, in the order of the plan: the first half left of the exchange, the others right of it.
-#[derive(Debug, Drop)]
+#[derive(Drop)]
 pub(crate) struct Sides {
     shown: Vec<u16>,
+    /// Whether a request for memory was refused: not all are there.
+    pub are_cut: bool,
 }
 
 // Whether a shown row is of this peer.
 fn is_seen(rows: &[Row], peer: u16, leg: Option<u16>) -> bool {
-    rows.iter()
-        .any(|row| row.peer == Some(peer) && row.is_shown(leg))
+    for row in rows {
+        if row.peer == Some(peer) && row.is_shown(leg) {
+            return true;
+        }
+    }
+    false
 }
 
 impl Sides {
     /// The sides of the peers that shown rows speak of.
-    pub(crate) fn of(
-        alloc: Global,
-        rows: &[Row],
-        peer_count: usize,
-        leg: Option<u16>,
-    ) -> Result<Sides, AllocError> {
+    pub(crate) fn of(alloc: Global, rows: &[Row], peer_count: usize, leg: Option<u16>) -> Sides {
         let mut shown = Vec::new(alloc);
+        let mut are_cut = false;
         for place in 0..peer_count {
             if let Ok(peer) = u16::try_from(place) {
-                if is_seen(rows, peer, leg) {
-                    shown.push(peer)?;
+                if is_seen(rows, peer, leg) && shown.push(peer).is_err() {
+                    are_cut = true;
                 }
             }
         }
-        Ok(Sides { shown })
+        Sides { shown, are_cut }
     }
 
     /// The peers that are shown, from left to right.
@@ -68,7 +70,12 @@ impl Sides {
     /// The place of a peer among them.
     pub(crate) fn place(&self, peer: Option<u16>) -> Option<usize> {
         let peer = peer?;
-        self.shown.iter().position(|other| *other == peer)
+        for (place, other) in self.shown.iter().enumerate() {
+            if *other == peer {
+                return Some(place);
+            }
+        }
+        None
     }
 
     /// On which side a peer stands.

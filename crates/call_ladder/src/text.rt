@@ -3,12 +3,11 @@
 ghost use Rattle.std.specs.Prelude.{◌<◌};
 
 use crate::media_runs::Direction;
-use crate::row::{Row, RowKind};
-use crate::sides::{Peer, Side, Sides};
+use crate::page::Page;
+use crate::row::{Row, Scene};
+use crate::sides::{Peer, Side};
 use crate::wrapping::split_line;
 use std::alloc::Global;
-use std::io;
-use std::io::Write;
 
 // How many columns a line has at most, a name has at most, and an arrow has.
 const COLUMNS: usize = 100;
@@ -18,7 +17,7 @@ const NAME: usize = 14;
 const ARROW: usize = 8;
 
 // How many columns the moments and the names have.
-#[derive(Clone, Copy, Debug)]
+#[derive(Clone, Copy)]
 struct Columns {
     moment: usize,
     name: usize,
@@ -49,30 +48,18 @@ impl Columns {
     }
 }
 
-fn write_blanks(count: usize, out: &mut Vec<u8>) -> io::Result<()> {
-    for _ in 0..count {
-        out.write_all(b" ")?;
+// A moment at the right end of so many columns.
+fn write_moment(moment: u64, columns: usize, out: &mut Page) {
+    out.blanks(columns.saturating_sub(digits(moment)));
+    out.number(moment);
+}
+
+// How many decimal digits a number has.
+fn digits(number: u64) -> usize {
+    match number.checked_ilog10() {
+        Some(power) => power as usize + 1,
+        None => 1,
     }
-    Ok(())
-}
-
-// A text at the right end of so many columns.
-fn write_right_aligned(text: &[u8], columns: usize, out: &mut Vec<u8>) -> io::Result<()> {
-    write_blanks(columns.saturating_sub(text.len()), out)?;
-    out.write_all(text)
-}
-
-// A text at the left end of so many columns.
-fn write_left_aligned(text: &[u8], columns: usize, out: &mut Vec<u8>) -> io::Result<()> {
-    out.write_all(text)?;
-    write_blanks(columns.saturating_sub(text.len()), out)
-}
-
-// The octets of a number in decimal digits.
-fn digits(alloc: Global, number: u64) -> io::Result<Vec<u8>> {
-    let mut text = Vec::new(alloc);
-    write!(text, "{number}")?;
-    Ok(text)
 }
 
 // The name of a row's peer, cut to its columns.
@@ -86,168 +73,108 @@ fn name_of<'a>(peers: &'a [Peer], peer: Option<u16>) -> &'a [u8] {
     }
 }
 
-// The arrow of a row, pointing to the right.
-fn arrow_to_the_right(row: &Row) -> &'static str {
+// An arrow, pointing to the right or to the left.
+fn write_arrow(row: &Row, is_to_the_right: bool, out: &mut Page) {
     if !row.is_arrow() {
-        "        "
-    } else if row.is_refused {
-        "-------x"
-    } else if row.kind == RowKind::Media {
-        "=======>"
-    } else if row.is_resent {
-        "- - - ->"
+        out.blanks(ARROW);
+    } else if is_to_the_right {
+        out.text(row.look().to_the_right);
     } else {
-        "------->"
+        out.text(row.look().to_the_left);
     }
 }
 
-// The arrow of a row, pointing to the left.
-fn arrow_to_the_left(row: &Row) -> &'static str {
-    if !row.is_arrow() {
-        "        "
-    } else if row.is_refused {
-        "x-------"
-    } else if row.kind == RowKind::Media {
-        "<======="
-    } else if row.is_resent {
-        "<- - - -"
-    } else {
-        "<-------"
+// The exchange's lifeline, and on the side of a row's peer its name, at the end of its arrow.
+fn write_sides(scene: &Scene<'_>, row: &Row, columns: Columns, out: &mut Page) {
+    let side = scene.sides.side(row.peer);
+    let name = name_of(scene.peers, row.peer);
+    let blanks = columns.name.saturating_sub(name.len());
+    let is_in = matches!(row.direction, Direction::In);
+    match side {
+        Some(Side::Left) => {
+            out.blanks(blanks.saturating_add(1));
+            out.put(name);
+            out.text(" ");
+            write_arrow(row, is_in, out);
+        }
+        _ => out.blanks(columns.name.saturating_add(2 + ARROW)),
     }
-}
-
-// Left of the exchange: a name of so many columns and an arrow, where the peer stands there.
-fn write_left(
-    side: Option<Side>,
-    name: &[u8],
-    columns: usize,
-    row: &Row,
-    out: &mut Vec<u8>,
-) -> io::Result<()> {
-    if side != Some(Side::Left) {
-        return write_blanks(columns.saturating_add(2 + ARROW), out);
+    out.text("|");
+    match side {
+        Some(Side::Right) => {
+            write_arrow(row, !is_in, out);
+            out.text(" ");
+            out.put(name);
+            out.blanks(blanks);
+        }
+        _ => out.blanks(columns.name.saturating_add(1 + ARROW)),
     }
-    out.write_all(b" ")?;
-    write_right_aligned(name, columns, out)?;
-    let arrow = match row.direction {
-        Direction::In => arrow_to_the_right(row),
-        Direction::Out => arrow_to_the_left(row),
-    };
-    out.write_all(b" ")?;
-    out.write_all(arrow.as_bytes())
-}
-
-// Right of the exchange.
-fn write_right(
-    side: Option<Side>,
-    name: &[u8],
-    columns: usize,
-    row: &Row,
-    out: &mut Vec<u8>,
-) -> io::Result<()> {
-    if side != Some(Side::Right) {
-        return write_blanks(columns.saturating_add(1 + ARROW), out);
-    }
-    let arrow = match row.direction {
-        Direction::In => arrow_to_the_left(row),
-        Direction::Out => arrow_to_the_right(row),
-    };
-    out.write_all(arrow.as_bytes())?;
-    out.write_all(b" ")?;
-    write_left_aligned(name, columns, out)
+    out.text("  ");
 }
 
 // All that a row says.
-fn label_of(alloc: Global, row: &Row) -> io::Result<Vec<u8>> {
-    let mut label = Vec::new(alloc);
-    label.write_all(&row.text)?;
-    if row.is_resent {
-        label.write_all(b", sent again")?;
+fn label_of(alloc: Global, row: &Row) -> Page {
+    let mut label = Page::new(alloc);
+    label.put(row.text.octets());
+    if !row.numbers.octets().is_empty() {
+        label.text(" (");
+        label.put(row.numbers.octets());
+        label.text(")");
     }
-    if !row.numbers.is_empty() {
-        label.write_all(b" (")?;
-        label.write_all(&row.numbers)?;
-        label.write_all(b")")?;
-    }
-    Ok(label)
+    label
 }
 
 // What is left of a label, on lines of their own behind the exchange's lifeline.
-fn write_more(label: &[u8], columns: Columns, out: &mut Vec<u8>) -> io::Result<()> {
+fn write_more(label: &[u8], columns: Columns, out: &mut Page) {
     let mut rest = label;
     while !rest.is_empty() {
         let (line, after) = split_line(rest, columns.width());
-        write_blanks(columns.margin(), out)?;
-        out.write_all(b"|")?;
-        write_blanks(columns.gap(), out)?;
-        out.write_all(line)?;
-        out.write_all(b"\n")?;
+        out.blanks(columns.margin());
+        out.text("|");
+        out.blanks(columns.gap());
+        out.put(line);
+        out.text("\n");
         rest = after;
     }
-    Ok(())
 }
 
 // A row.
-fn write_row(
-    alloc: Global,
-    peers: &[Peer],
-    sides: &Sides,
-    row: &Row,
-    columns: Columns,
-    out: &mut Vec<u8>,
-) -> io::Result<()> {
-    let side = sides.side(row.peer);
-    let name = name_of(peers, row.peer);
-    let moment = digits(alloc, row.moment)?;
-    write_right_aligned(&moment, columns.moment, out)?;
-    write_left(side, name, columns.name, row, out)?;
-    out.write_all(b"|")?;
-    write_right(side, name, columns.name, row, out)?;
-    out.write_all(b"  ")?;
-    let label = label_of(alloc, row)?;
-    let (line, rest) = split_line(&label, columns.width());
-    out.write_all(line)?;
-    out.write_all(b"\n")?;
-    write_more(rest, columns, out)
+fn write_row(alloc: Global, scene: &Scene<'_>, row: &Row, columns: Columns, out: &mut Page) {
+    write_moment(row.moment, columns.moment, out);
+    write_sides(scene, row, columns, out);
+    let label = label_of(alloc, row);
+    let (line, rest) = split_line(label.octets(), columns.width());
+    out.put(line);
+    out.text("\n");
+    write_more(rest, columns, out);
+    out.includes(&label);
 }
 
-// How many columns the moments have: those of the last one, and at least two.
-fn moment_columns(alloc: Global, rows: &[Row]) -> io::Result<usize> {
-    match rows.last() {
-        Some(row) => Ok(digits(alloc, row.moment)?.len().max(2)),
-        None => Ok(2),
+// How many columns the moments have: those of the last one, and at least two. The names have those of the longest of a shown
+// peer.
+fn columns_of(scene: &Scene<'_>) -> Columns {
+    let mut columns = Columns { moment: 2, name: 0 };
+    if let Some(row) = scene.rows.last() {
+        columns.moment = digits(row.moment).max(2);
     }
-}
-
-// How many columns the longest name of a shown peer has.
-fn name_columns(peers: &[Peer], sides: &Sides) -> usize {
-    let mut columns = 0;
-    for peer in sides.peers() {
-        columns = name_of(peers, Some(*peer)).len().max(columns);
+    for peer in scene.sides.peers() {
+        columns.name = name_of(scene.peers, Some(*peer)).len().max(columns.name);
     }
     columns
 }
 
 /// The shown rows, each on a line or some.
-pub(crate) fn write_text(
-    alloc: Global,
-    peers: &[Peer],
-    sides: &Sides,
-    rows: &[Row],
-    leg: Option<u16>,
-) -> io::Result<Vec<u8>> {
-    let mut out = Vec::new(alloc);
-    let columns = Columns {
-        moment: moment_columns(alloc, rows)?,
-        name: name_columns(peers, sides),
-    };
-    write_right_aligned(b"ms", columns.moment, &mut out)?;
-    write_blanks(columns.name.saturating_add(ARROW - 2), &mut out)?;
-    out.write_all(b"exchange\n")?;
-    for row in rows {
-        if row.is_shown(leg) {
-            write_row(alloc, peers, sides, row, columns, &mut out)?;
+pub(crate) fn write_text(alloc: Global, scene: &Scene<'_>) -> Page {
+    let mut out = Page::new(alloc);
+    let columns = columns_of(scene);
+    out.blanks(columns.moment.saturating_sub(2));
+    out.text("ms");
+    out.blanks(columns.name.saturating_add(ARROW - 2));
+    out.text("exchange\n");
+    for row in scene.rows {
+        if row.is_shown(scene.leg) {
+            write_row(alloc, scene, row, columns, &mut out);
         }
     }
-    Ok(out)
+    out
 }

@@ -75,37 +75,42 @@ impl<'a, D: Disk> DiskFile<'a, D> {
         self.file = Some(file);
         Ok(beginning)
     }
-
-    // Where the name leads, beside the file that is open.
-    fn compare(&self, file: &File) -> io::Result<Whereabouts> {
-        let named = self.disk.metadata(self.path)?;
-        if !is_same(&named, &file.metadata()?) {
-            return Ok(Whereabouts::Elsewhere);
-        }
-        Ok(if named.is_file() && named.len() == 0 {
-            Whereabouts::Emptied
-        } else {
-            Whereabouts::Same
-        })
-    }
 }
 
 impl<'a, D: Disk> RowFile for DiskFile<'a, D> {
     fn open(&mut self) -> Result<Beginning, Fault> {
-        self.open_named().map_err(|error| fault_of(&error))
+        match self.open_named() {
+            Ok(beginning) => Ok(beginning),
+            Err(error) => Err(fault_of(&error)),
+        }
     }
 
     fn look(&mut self) -> Whereabouts {
-        match &self.file {
-            Some(file) => self.compare(file).unwrap_or(Whereabouts::Elsewhere),
-            None => Whereabouts::Elsewhere,
+        let Some(file) = &self.file else {
+            return Whereabouts::Elsewhere;
+        };
+        let Ok(named) = self.disk.metadata(self.path) else {
+            return Whereabouts::Elsewhere;
+        };
+        match file.metadata() {
+            Ok(opened) if is_same(&named, &opened) => {
+                if named.is_file() && named.len() == 0 {
+                    Whereabouts::Emptied
+                } else {
+                    Whereabouts::Same
+                }
+            }
+            _ => Whereabouts::Elsewhere,
         }
     }
 
     fn append(&mut self, octets: &[u8]) -> Result<usize, Fault> {
-        match &mut self.file {
-            Some(file) => write(file, octets).map_err(|error| fault_of(&error)),
-            None => Err(Fault { code: None }),
+        let Some(file) = &mut self.file else {
+            return Err(Fault { code: None });
+        };
+        match write(file, octets) {
+            Ok(count) => Ok(count),
+            Err(error) => Err(fault_of(&error)),
         }
     }
 

@@ -36,11 +36,9 @@ pub(crate) struct Seam {
     pub(crate) ring: Consumer<CallRow>,
 }
 
-impl Seam {
-    // Whether the outlet is the second one of its thread.
-    fn is_second(&self) -> bool {
-        self.outlet % 2 == 1
-    }
+// Whether the outlet at a place is the second one of its thread.
+fn is_second(place: usize) -> bool {
+    place % 2 == 1
 }
 
 /// Two outlets for each thread that takes legs out, and what the writer tells of its file. All threads share it.
@@ -101,16 +99,15 @@ impl CallOutlets {
     ) -> Result<(CallOutlets, Vec<Seam>), AllocError> {
         let mut outlets = Vec::new(alloc);
         let mut seams = Vec::new(alloc);
-        for _ in 0..threads {
-            for room in [RING, SECOND_RING] {
-                let (outlet, ring) = outlet(alloc, room)?;
-                let seam = Seam {
-                    outlet: outlets.len(),
-                    ring,
-                };
-                if outlets.push(outlet).is_err() || seams.push(seam).is_err() {
-                    return Err(AllocError);
-                }
+        for place in 0..threads.saturating_mul(2) {
+            let room = if is_second(place) { SECOND_RING } else { RING };
+            let (outlet, ring) = outlet(alloc, room)?;
+            let seam = Seam {
+                outlet: place,
+                ring,
+            };
+            if outlets.push(outlet).is_err() || seams.push(seam).is_err() {
+                return Err(AllocError);
             }
         }
         let shared = CallOutlets {
@@ -189,7 +186,7 @@ impl CallOutlets {
         seam: &mut Seam,
         are_over: bool,
     ) -> Option<(usize, Backlog<CallRow>)> {
-        if seam.is_second() && !are_over {
+        if is_second(seam.outlet) && !are_over {
             return None;
         }
         let outlet = self.outlets.get(seam.outlet)?;

@@ -29,12 +29,18 @@ pub struct CallRows {
     header: Vec<u8>,
 }
 
+// The rows that have come: each has the serial of its call, and waits for the file.
+#[derive(Drop)]
+struct Ledger<'a, D: Disk> {
+    calls: CallNumbering,
+    log: RowLog<DiskFile<'a, D>, CallRow>,
+}
+
 // What is written of rows that have come.
 #[derive(Drop)]
 struct Writer<'a, D: Disk> {
     seams: Vec<Seam>,
-    calls: CallNumbering,
-    log: RowLog<DiskFile<'a, D>, CallRow>,
+    ledger: Ledger<'a, D>,
     written: u64,
 }
 
@@ -48,17 +54,19 @@ impl CallRows {
         plan: &Plan,
         calendar: Calendar,
     ) -> Result<(CallOutlets, CallRows), AllocError> {
-        let (outlets, seams) = CallOutlets::new(alloc, plan.workers().len() + 1)?;
         let first = calendar.opened_us.cast_unsigned();
         let mut line_end = Vec::new(alloc);
         line_end.push(b'\n')?;
         let mut header = Vec::new(alloc);
         push_header(alloc, &mut header)?;
+        let calls = CallNumbering::new(alloc, plan.number_count(), first)?;
+        let waiting = Backlog::new(alloc, WAITING)?;
+        let (outlets, seams) = CallOutlets::new(alloc, plan.workers().len() + 1)?;
         let rows = CallRows {
             alloc,
             seams,
-            calls: CallNumbering::new(alloc, plan.number_count(), first)?,
-            waiting: Backlog::new(alloc, WAITING)?,
+            calls,
+            waiting,
             line_end,
             header,
         };
@@ -66,80 +74,112 @@ impl CallRows {
     }
 }
 
-// A row that came has the serial of its call, and waits for the file.
-fn note<D: Disk>(
-    calls: &mut CallNumbering,
-    log: &mut RowLog<DiskFile<'_, D>, CallRow>,
-    row: CallRow,
-) {
-    let mut row = row;
-    row.call = calls.number_of(row.name, row.partner);
-    let _ = log.push(row);
-}
-
-// So many rows of a ring, the oldest first.
-fn take_sent<D: Disk>(
-    seam: &mut Seam,
-    count: usize,
-    calls: &mut CallNumbering,
-    log: &mut RowLog<DiskFile<'_, D>, CallRow>,
-) {
-    for _ in 0..count {
-        if let Ok(row) = seam.ring.pop() {
-            note(calls, log, row);
-        }
+impl<'a, D: Disk> Ledger<'a, D> {
+    // A row has come.
+    fn note(&mut self, row: CallRow) {
+        let mut row = row;
+        row.call = self.calls.number_of(row.name, row.partner);
+        let _ = self.log.push(row);
     }
-}
 
-// The rows of an outlet, the oldest first: where it keeps some, those of its ring that came before these.
-fn take_from<R: Wait, D: Disk>(
-    rt: &R,
-    alloc: Global,
-    outlets: &CallOutlets,
-    are_over: bool,
-    seam: &mut Seam,
-    calls: &mut CallNumbering,
-    log: &mut RowLog<DiskFile<'_, D>, CallRow>,
-) {
-    match outlets.take_kept(rt, alloc, seam, are_over) {
-        Some((before, mut kept)) => {
-            take_sent(seam, before, calls, log);
-            for _ in 0..kept.len() {
-                if let Some(row) = kept.take() {
-                    note(calls, log, row);
-                }
+    // So many rows of a ring, the oldest first.
+    fn take_sent(&mut self, seam: &mut Seam, count: usize) {
+        for _ in 0..count {
+            if let Ok(row) = seam.ring.pop() {
+                self.note(row);
             }
         }
-        None => {
+    }
+
+    // The rows of an outlet, the oldest first: where it keeps some, those of its ring that came before these.
+    fn take_from<R: Wait>(
+        &mut self,
+        rt: &R,
+        alloc: Global,
+        outlets: &CallOutlets,
+        are_over: bool,
+        seam: &mut Seam,
+    ) {
+        let Some((before, mut kept)) = outlets.take_kept(rt, alloc, seam, are_over) else {
             let count = seam.ring.slots();
-            take_sent(seam, count, calls, log);
+            return self.take_sent(seam, count);
+        };
+        self.take_sent(seam, before);
+        for _ in 0..kept.len() {
+            if let Some(row) = kept.take() {
+                self.note(row);
+            }
         }
     }
 }
 
 impl<'a, D: Disk> Writer<'a, D> {
+    // A writer to the file of this name, which isn't open.
+    fn new(disk: &'a D, path: &'a str, rows: CallRows) -> Writer<'a, D> {
+        let CallRows {
+            alloc,
+            seams,
+            calls,
+            waiting,
+            line_end,
+            header,
+        } = rows;
+        let appender = Appender::new(DiskFile::new(disk, path), line_end, header);
+        Writer {
+            seams,
+            ledger: Ledger {
+                calls,
+                log: RowLog::new(alloc, appender, waiting),
+            },
+            written: 0,
+        }
+    }
+
     // All rows that have come.
     fn take_all<R: Wait>(&mut self, rt: &R, alloc: Global, outlets: &CallOutlets, are_over: bool) {
         for seam in self.seams.iter_mut() {
-            let (calls, log) = (&mut self.calls, &mut self.log);
-            take_from(rt, alloc, outlets, are_over, seam, calls, log);
+            self.ledger.take_from(rt, alloc, outlets, are_over, seam);
         }
     }
 
     // Writes what waits; at the end all of it is on the disk, as far as the system lets it. Tells how the file is.
     fn write(&mut self, outlets: &CallOutlets, spelling: &RowSpelling<'_>, now: u64, is_end: bool) {
+        let log = &mut self.ledger.log;
         let count = if is_end {
-            self.log.end(spelling, now)
+            log.end(spelling, now)
         } else {
-            self.log.write(spelling, now)
+            log.write(spelling, now)
         };
         self.written = self.written.wrapping_add(count);
         outlets.tell(FileState {
             written: self.written,
-            waiting: (self.log.waiting() as u64).saturating_add(u64::from(self.log.has_row())),
-            lost: self.log.lost(),
-            trouble: self.log.trouble(),
+            waiting: (log.waiting() as u64).saturating_add(u64::from(log.has_row())),
+            lost: log.lost(),
+            trouble: log.trouble(),
         });
+    }
+
+    // Appends to the file what is handed over, until the outlets are over.
+    fn write_rounds<R: Clock + Wait>(
+        &mut self,
+        rt: &R,
+        opened: Instant,
+        outlets: &CallOutlets,
+        spelling: &RowSpelling<'_>,
+    ) {
+        let mut now = moment(rt, opened, 0);
+        let _ = self.ledger.log.open(now);
+        for _ in rt.forever() {
+            // (asked first, so that nothing is missed that a thread handed over before its end)
+            let are_over = outlets.are_over();
+            now = moment(rt, opened, now);
+            self.take_all(rt, spelling.alloc, outlets, are_over);
+            self.write(outlets, spelling, now, are_over);
+            if are_over {
+                break;
+            }
+            thread::sleep(rt, Duration::from_millis(ROUND_MS));
+        }
     }
 }
 
@@ -162,39 +202,13 @@ fn write_calls<R: Clock + Wait, D: Disk>(
     outlets: &CallOutlets,
     rows: CallRows,
 ) {
-    let CallRows {
-        alloc,
-        seams,
-        calls,
-        waiting,
-        line_end,
-        header,
-    } = rows;
     let spelling = RowSpelling {
-        alloc,
+        alloc: rows.alloc,
         plan,
         calendar,
     };
-    let appender = Appender::new(DiskFile::new(disk, path), line_end, header);
-    let mut writer = Writer {
-        seams,
-        calls,
-        log: RowLog::new(alloc, appender, waiting),
-        written: 0,
-    };
-    let mut now = moment(rt, opened, 0);
-    let _ = writer.log.open(now);
-    for _ in rt.forever() {
-        // (asked first, so that nothing is missed that a thread handed over before its end)
-        let are_over = outlets.are_over();
-        now = moment(rt, opened, now);
-        writer.take_all(rt, alloc, outlets, are_over);
-        writer.write(outlets, &spelling, now, are_over);
-        if are_over {
-            break;
-        }
-        thread::sleep(rt, Duration::from_millis(ROUND_MS));
-    }
+    let mut writer = Writer::new(disk, path, rows);
+    writer.write_rounds(rt, opened, outlets, &spelling);
 }
 
 /// Has a service serve, and appends meanwhile, on a thread of its own, to the file of this name what the service's threads hand

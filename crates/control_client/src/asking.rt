@@ -40,20 +40,22 @@ fn read_whole(alloc: Global, stream: &mut UnixStream) -> io::Result<Vec<u8>> {
 fn response_of(alloc: Global, octets: &[u8]) -> io::Result<Answered> {
     let mut headers = [EMPTY_HEADER; 16];
     let mut response = Response::new(&mut headers);
-    let head = match response.parse(octets) {
-        Ok(Status::Complete(head)) => head,
-        _ => return Err(io::Error::from(ErrorKind::InvalidData)),
-    };
-    let (Some(status), Some(body)) = (response.code, octets.get(head..)) else {
-        return Err(io::Error::from(ErrorKind::InvalidData));
-    };
-    match str::from_utf8(body) {
-        Ok(body) => Ok(Answered {
-            status,
-            body: String::from_str(alloc, body)?,
-        }),
-        Err(_) => Err(io::Error::from(ErrorKind::InvalidData)),
+    if let Ok(Status::Complete(head)) = response.parse(octets) {
+        if let (Some(status), Some(body)) = (response.code, octets.get(head..)) {
+            if let Ok(body) = str::from_utf8(body) {
+                let body = String::from_str(alloc, body)?;
+                return Ok(Answered { status, body });
+            }
+        }
     }
+    Err(io::Error::from(ErrorKind::InvalidData))
+}
+
+// Sends a request, and reads what comes back.
+fn exchange(alloc: Global, stream: &mut UnixStream, request: &str) -> io::Result<Vec<u8>> {
+    stream.set_read_timeout(Some(Duration::from_secs(SECONDS)))?;
+    stream.write_all(request.as_bytes())?;
+    read_whole(alloc, stream)
 }
 
 /// Sends a request to the socket at a path, and reads the whole response. An answer that is silent for ten seconds is an error.
@@ -64,8 +66,6 @@ pub(crate) fn ask<N: Net>(
     request: &str,
 ) -> io::Result<Answered> {
     let mut stream = UnixStream::connect(rt, path)?;
-    stream.set_read_timeout(Some(Duration::from_secs(SECONDS)))?;
-    stream.write_all(request.as_bytes())?;
-    let octets = read_whole(alloc, &mut stream)?;
+    let octets = exchange(alloc, &mut stream, request)?;
     response_of(alloc, &octets)
 }

@@ -54,14 +54,14 @@ impl<'w> Order<'w> {
         }
     }
 
-    // Its path. A number that isn't one names no call.
-    fn path(self, alloc: Global) -> Result<String, AllocError> {
+    // Its path, and the number that ends it, if one does. A number that isn't one names no call.
+    fn path(self) -> (&'static str, &'w str) {
         match self {
-            Order::Peers => String::from_str(alloc, "/peers"),
-            Order::Accounts => String::from_str(alloc, "/accounts"),
-            Order::Calls | Order::Call { .. } => String::from_str(alloc, "/calls"),
-            Order::HangUp(number) => format!(in alloc; "/calls/{number}"),
-            Order::Stop => String::from_str(alloc, "/stop"),
+            Order::Peers => ("/peers", ""),
+            Order::Accounts => ("/accounts", ""),
+            Order::Calls | Order::Call { .. } => ("/calls", ""),
+            Order::HangUp(number) => ("/calls/", number),
+            Order::Stop => ("/stop", ""),
         }
     }
 
@@ -77,12 +77,13 @@ impl<'w> Order<'w> {
 
     /// The octets of its request.
     pub(crate) fn request(self, alloc: Global) -> Result<String, AllocError> {
-        let path = self.path(alloc)?;
+        let (path, number) = self.path();
         let body = self.body(alloc)?;
         format!(in alloc;
-            "{} {} HTTP/1.1\r\nHost: localhost\r\nContent-Length: {}\r\nConnection: close\r\n\r\n{}",
+            "{} {}{} HTTP/1.1\r\nHost: localhost\r\nContent-Length: {}\r\nConnection: close\r\n\r\n{}",
             self.method(),
             path,
+            number,
             body.len(),
             body
         )

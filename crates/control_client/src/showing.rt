@@ -29,11 +29,17 @@ fn number_in(value: &Value, key: &str) -> Option<u64> {
 }
 
 // A line for a call that was placed or hung up.
-fn call_line(alloc: Global, what: &str, body: &str) -> Option<String> {
-    let value = Value::from_str(alloc, body).ok()?;
-    let number = number_in(&value, "number")?;
-    let serial = number_in(&value, "serial")?;
+fn call_line(alloc: Global, what: &str, value: &Value) -> Option<String> {
+    let number = number_in(value, "number")?;
+    let serial = number_in(value, "serial")?;
     format!(in alloc; "{what} number {number} serial {serial}\n").ok()
+}
+
+fn call_text(alloc: Global, what: &str, body: &str) -> Option<String> {
+    match Value::from_str(alloc, body) {
+        Ok(value) => call_line(alloc, what, &value),
+        Err(_) => None,
+    }
 }
 
 // What an order's answer says.
@@ -42,17 +48,18 @@ fn text_of(alloc: Global, order: Order<'_>, body: &str) -> Option<String> {
         Order::Peers => peers_table(alloc, body).ok(),
         Order::Calls => calls_table(alloc, body).ok(),
         Order::Accounts => accounts_table(alloc, body).ok(),
-        Order::Call { .. } => call_line(alloc, "calls", body),
-        Order::HangUp(_) => call_line(alloc, "hung up", body),
+        Order::Call { .. } => call_text(alloc, "calls", body),
+        Order::HangUp(_) => call_text(alloc, "hung up", body),
         Order::Stop => String::from_str(alloc, "stops\n").ok(),
     }
 }
 
 // The name of what was refused.
-fn refusal_of(alloc: Global, body: &str) -> Option<String> {
-    let value = Value::from_str(alloc, body).ok()?;
-    let name = value.get("error").and_then(Value::as_str)?;
-    String::from_str(alloc, name).ok()
+fn refusal_in(value: &Value) -> &str {
+    match value.get("error") {
+        Some(Value::String(name)) => name,
+        _ => "Control",
+    }
 }
 
 // Writes an answer.
@@ -66,9 +73,9 @@ fn show_answer<W: Write>(
     if (200..300).contains(&answered.status) {
         return show(writer, text_of(alloc, order, body));
     }
-    match refusal_of(alloc, body) {
-        Some(name) => refuse(writer, &name),
-        None => refuse(writer, "Control"),
+    match Value::from_str(alloc, body) {
+        Ok(value) => refuse(writer, refusal_in(&value)),
+        Err(_) => refuse(writer, "Control"),
     }
 }
 

@@ -72,14 +72,6 @@ const ACCOUNTS: Kind = Kind {
     columns: &["accepted", "packed", "queued", "dropped", "quelched"],
 };
 
-fn value_of(alloc: Global, body: &str) -> Result<Value, TableFault> {
-    match Value::from_str(alloc, body) {
-        Ok(value) => Ok(value),
-        Err(error) if error.is_memory() => Err(TableFault::Memory),
-        Err(_) => Err(TableFault::NotJson),
-    }
-}
-
 // What a row has in a column: the text of a string, a number as it is, and `-` where there is nothing. Where there is no row, it
 // is the head line, and has the column's name.
 fn cell(alloc: Global, row: Option<&Value>, column: &str) -> Result<String, AllocError> {
@@ -121,77 +113,74 @@ fn columns_of(
     Ok(columns)
 }
 
-fn push_cell(line: &mut String, cell: &str, width: usize) -> Result<(), AllocError> {
-    line.push_str(cell)?;
-    for _ in cell.chars().count()..width {
-        line.push_str(" ")?;
-    }
-    line.push_str("  ")
+// A text as it is written. That a request for memory was refused is remembered.
+#[derive(Drop)]
+struct Text {
+    text: String,
+    is_cut: bool,
 }
 
-fn push_cells(
-    alloc: Global,
-    line: &mut String,
-    row: Option<&Value>,
-    columns: &[Column],
-) -> Result<(), AllocError> {
+impl Text {
+    fn new(alloc: Global) -> Text {
+        Text {
+            text: String::new(alloc),
+            is_cut: false,
+        }
+    }
+
+    fn push(&mut self, text: &str) {
+        if self.text.push_str(text).is_err() {
+            self.is_cut = true;
+        }
+    }
+
+    // A cell, as wide as its column, and two blanks.
+    fn push_cell(&mut self, cell: &str, width: usize) {
+        self.push(cell);
+        for _ in cell.chars().count()..width {
+            self.push(" ");
+        }
+        self.push("  ");
+    }
+}
+
+// The line of a row, or the head line.
+fn push_line(alloc: Global, table: &mut Text, row: Option<&Value>, columns: &[Column]) {
+    let mut line = Text::new(alloc);
     for column in columns {
-        push_cell(line, &cell(alloc, row, column.name)?, column.width)?;
+        match cell(alloc, row, column.name) {
+            Ok(cell) => line.push_cell(&cell, column.width),
+            Err(_) => line.is_cut = true,
+        }
     }
-    Ok(())
-}
-
-fn push_line(
-    alloc: Global,
-    table: &mut String,
-    row: Option<&Value>,
-    columns: &[Column],
-) -> Result<(), AllocError> {
-    let mut line = String::new(alloc);
-    push_cells(alloc, &mut line, row, columns)?;
-    table.push_str(line.trim_end())?;
-    table.push_str("\n")
+    table.push(line.text.trim_end());
+    table.push("\n");
+    table.is_cut = table.is_cut || line.is_cut;
 }
 
 // A head line with the names of the columns, and a line for each row.
-fn push_lines(
-    alloc: Global,
-    table: &mut String,
-    rows: &[Value],
-    columns: &[Column],
-) -> Result<(), AllocError> {
-    push_line(alloc, table, None, columns)?;
-    for row in rows {
-        push_line(alloc, table, Some(row), columns)?;
-    }
-    Ok(())
-}
-
 fn table(alloc: Global, rows: &[Value], names: &[&'static str]) -> Result<String, AllocError> {
     let columns = columns_of(alloc, rows, names)?;
-    let mut table = String::new(alloc);
-    push_lines(alloc, &mut table, rows, &columns)?;
-    Ok(table)
-}
-
-fn list_of<'v>(value: &'v Value, name: Option<&str>) -> Option<&'v [Value]> {
-    match value.get(name?) {
-        Some(Value::Array(rows)) => Some(rows),
-        _ => None,
+    let mut table = Text::new(alloc);
+    push_line(alloc, &mut table, None, &columns);
+    for row in rows {
+        push_line(alloc, &mut table, Some(row), &columns);
     }
-}
-
-fn one_of<'v>(value: &'v Value, name: Option<&str>) -> Option<&'v [Value]> {
-    match value.get(name?) {
-        Some(_) => Some(slice::from_ref(value)),
-        None => None,
+    if table.is_cut {
+        return Err(AllocError);
     }
+    Ok(table.text)
 }
 
 fn rows_of<'v>(value: &'v Value, kind: &Kind) -> Option<&'v [Value]> {
-    match list_of(value, kind.list) {
-        Some(rows) => Some(rows),
-        None => one_of(value, kind.one),
+    if let Some(name) = kind.list {
+        if let Some(Value::Array(rows)) = value.get(name) {
+            return Some(rows);
+        }
+    }
+    match value.get(kind.one?) {
+        Some(_) => Some(slice::from_ref(value)),
+        None => None,
     }
 }
 
@@ -203,8 +192,11 @@ fn table_in(alloc: Global, value: &Value, kind: &Kind) -> Result<String, TableFa
 }
 
 fn table_of(alloc: Global, body: &str, kind: &Kind) -> Result<String, TableFault> {
-    let value = value_of(alloc, body)?;
-    table_in(alloc, &value, kind)
+    match Value::from_str(alloc, body) {
+        Ok(value) => table_in(alloc, &value, kind),
+        Err(error) if error.is_memory() => Err(TableFault::Memory),
+        Err(_) => Err(TableFault::NotJson),
+    }
 }
 
 /// The table of the answer to `GET /peers`: a head line, and a line for each peer. Columns are as wide as their longest cell,

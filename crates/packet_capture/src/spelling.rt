@@ -1,5 +1,6 @@
 //! The octets of a packet.
 ghost use Rattle.std.specs.Prelude.{◌≡◌, ◌+◌, ◌≤◌, ◌<◌, ◌^◌, ◌++◌, length, IfOk, OnOk};
+ghost use Rattle.std.specs.List.{flat_map};
 ghost use Rattle.packet_capture.specs.Capture.{record_header, ipv4_front, ipv4_header_with, ipv4_header, pseudo_header};
 ghost use Rattle.packet_capture.specs.Capture.{udp_with, udp_summed, sent_checksum, udp_checksum, udp_datagram, packet_octets};
 
@@ -7,16 +8,28 @@ use crate::internet_checksum::checksum;
 use crate::packet::Packet;
 use std::alloc::{AllocError, Global};
 
+// Pieces, one behind the other.
+fn push_pieces(octets: &mut Vec<u8>, pieces: &[&[u8]]) -> Result<(), AllocError>
+    ensures { OnOk result (octets.new.items ≡ octets.old.items ++ flat_map (λ piece. piece.now) pieces.now) }
+{
+    for piece in pieces {
+        octets.extend_from_slice(piece)?;
+    }
+    Ok(())
+}
+
 // The head of a packet of so many octets.
 fn push_record_header(octets: &mut Vec<u8>, moment: u64, count: u32) -> Result<(), AllocError>
     ensures { OnOk result (octets.new.items ≡ octets.old.items ++ record_header moment count) }
 {
     let seconds = (moment / 1000 % 4294967296) as u32;
     let micros = (moment % 1000 * 1000) as u32;
-    octets.extend_from_slice(&seconds.to_be_bytes())?;
-    octets.extend_from_slice(&micros.to_be_bytes())?;
-    octets.extend_from_slice(&count.to_be_bytes())?;
-    octets.extend_from_slice(&count.to_be_bytes())
+    let (seconds, micros, count) = (
+        seconds.to_be_bytes(),
+        micros.to_be_bytes(),
+        count.to_be_bytes(),
+    );
+    push_pieces(octets, &[&seconds, &micros, &count, &count])
 }
 
 // The IPv4 header of a datagram of so many octets, up to the checksum.
@@ -24,9 +37,8 @@ fn push_ipv4_front(octets: &mut Vec<u8>, count: u16) -> Result<(), AllocError>
     requires { 20 + count < 2 ^ 16 }
     ensures { OnOk result (octets.new.items ≡ octets.old.items ++ ipv4_front count) }
 {
-    octets.extend_from_slice(&[0x45, 0])?;
-    octets.extend_from_slice(&(20 + count).to_be_bytes())?;
-    octets.extend_from_slice(&[0, 0, 0x40, 0, 64, 17])
+    let count = (20 + count).to_be_bytes();
+    push_pieces(octets, &[&[0x45, 0], &count, &[0, 0, 0x40, 0, 64, 17]])
 }
 
 // The IPv4 header of a datagram of so many octets, with this checksum.
@@ -41,9 +53,12 @@ fn push_ipv4_with(
     ensures { OnOk result (octets.new.items ≡ octets.old.items ++ ipv4_header_with sum source destination count) }
 {
     push_ipv4_front(octets, count)?;
-    octets.extend_from_slice(&sum.to_be_bytes())?;
-    octets.extend_from_slice(&source.to_be_bytes())?;
-    octets.extend_from_slice(&destination.to_be_bytes())
+    let (sum, source, destination) = (
+        sum.to_be_bytes(),
+        source.to_be_bytes(),
+        destination.to_be_bytes(),
+    );
+    push_pieces(octets, &[&sum, &source, &destination])
 }
 
 // The checksum of that header.
@@ -68,11 +83,9 @@ fn push_udp_with(octets: &mut Vec<u8>, sum: u16, packet: &Packet<'_>) -> Result<
         ++ udp_with sum packet.now.from.port packet.now.to.port packet.now.payload.now) }
 {
     let count = 8 + packet.payload.len() as u16;
-    octets.extend_from_slice(&packet.from.port.to_be_bytes())?;
-    octets.extend_from_slice(&packet.to.port.to_be_bytes())?;
-    octets.extend_from_slice(&count.to_be_bytes())?;
-    octets.extend_from_slice(&sum.to_be_bytes())?;
-    octets.extend_from_slice(packet.payload)
+    let (from, to) = (packet.from.port.to_be_bytes(), packet.to.port.to_be_bytes());
+    let (count, sum) = (count.to_be_bytes(), sum.to_be_bytes());
+    push_pieces(octets, &[&from, &to, &count, &sum, packet.payload])
 }
 
 // What is summed before the UDP header of a datagram of so many octets.
@@ -84,10 +97,11 @@ fn push_pseudo_header(
 ) -> Result<(), AllocError>
     ensures { OnOk result (octets.new.items ≡ octets.old.items ++ pseudo_header source destination count) }
 {
-    octets.extend_from_slice(&source.to_be_bytes())?;
-    octets.extend_from_slice(&destination.to_be_bytes())?;
-    octets.extend_from_slice(&[0, 17])?;
-    octets.extend_from_slice(&count.to_be_bytes())
+    let (source, destination) = (source.to_be_bytes(), destination.to_be_bytes());
+    push_pieces(
+        octets,
+        &[&source, &destination, &[0, 17], &count.to_be_bytes()],
+    )
 }
 
 // All that is summed for a packet.

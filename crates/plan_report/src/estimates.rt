@@ -2,10 +2,9 @@
 ghost use Rattle.std.specs.Prelude.{◌≡◌, ◌≤◌, ◌+◌, ◌-◌, ◌*◌};
 ghost use Rattle.plan_report.specs.Estimates as estimate;
 
+use crate::report::Report;
 use crate::values::limits_of;
 use peer_plan::Plan;
-use std::io;
-use std::io::Write;
 
 // How long a frame is sent again before its call ends, in milliseconds.
 fn silence_ms(retry_ms: u64, max_retries: u32) -> u64
@@ -44,29 +43,20 @@ fn megabytes(legs: u16, record_limit: u32, octets: u16) -> u64
     u64::from(legs) * u64::from(record_limit) * (16 + u64::from(octets)) / 1_000_000 + 1
 }
 
-fn write_time<W: Write>(minutes: u64, writer: &mut W) -> io::Result<()> {
-    write!(writer, "{} h {} min", minutes / 60, minutes % 60)
-}
-
 /// Writes what follows from the values of a plan.
-pub(crate) fn write_estimates<W: Write>(plan: &Plan, writer: &mut W) -> io::Result<()> {
+pub(crate) fn write_estimates(plan: &Plan, report: &mut Report) {
     let rules = limits_of(plan);
     let legs = plan.number_count();
-    let silence_ms = silence_ms(rules.retry_ms, rules.max_retries);
-    writeln!(
-        writer,
-        "a frame that nobody acknowledges ends its call after {silence_ms} ms"
-    )?;
-    write!(
-        writer,
-        "record_limit ends a call that only talks after about "
-    )?;
-    write_time(minutes(rules.record_limit, rules.ping_ms), writer)?;
-    writeln!(writer)?;
-    let usual = megabytes(legs, rules.record_limit, 8);
-    let most = megabytes(legs, rules.record_limit, 1388);
-    writeln!(
-        writer,
-        "{legs} legs with full records take some {usual} MB; {most} MB where each frame is as long as it may be"
-    )
+    report.text("a frame that nobody acknowledges ends its call after ");
+    report.count(silence_ms(rules.retry_ms, rules.max_retries), " ms\n");
+    report.text("record_limit ends a call that only talks after about ");
+    let minutes = minutes(rules.record_limit, rules.ping_ms);
+    report.count(minutes / 60, " h ");
+    report.count(minutes % 60, " min\n");
+    report.count(u64::from(legs), " legs with full records take some ");
+    report.count(megabytes(legs, rules.record_limit, 8), " MB; ");
+    report.count(
+        megabytes(legs, rules.record_limit, 1388),
+        " MB where each frame is as long as it may be\n",
+    );
 }

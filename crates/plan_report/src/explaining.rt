@@ -1,24 +1,25 @@
 //! A plan is explained.
 use crate::estimates::write_estimates;
+use crate::report::Report;
 use crate::unknown_keys::warn_of_unknown_keys;
 use crate::values::write_values;
 use crate::warnings::write_warnings;
 use peer_plan::Plan;
-use std::alloc::Global;
-use std::io;
+use std::alloc::{AllocError, Global};
 use std::io::Write;
-use toml::Table;
 
-fn write_all<W: Write>(plan: &Plan, table: &Table, writer: &mut W) -> io::Result<()> {
-    write_values(plan, table, writer)?;
-    write_estimates(plan, writer)?;
-    warn_of_unknown_keys(table, writer)?;
-    write_warnings(plan, writer)
-}
-
-fn refuse<W: Write>(writer: &mut W) -> u8 {
-    let _ = writeln!(writer, "refused Memory");
-    1
+// What is told of a plan, which was read from this text.
+fn report_of(alloc: Global, plan: &Plan, text: &[u8]) -> Result<Vec<u8>, AllocError> {
+    let Ok(table) = toml::table_from_slice(alloc, text) else {
+        // (the text was read a moment ago, so it was memory)
+        return Err(AllocError);
+    };
+    let mut report = Report::new(alloc);
+    write_values(plan, &table, &mut report);
+    write_estimates(plan, &mut report);
+    warn_of_unknown_keys(&table, &mut report);
+    write_warnings(plan, &mut report);
+    report.into_octets()
 }
 
 /// Writes what a plan means: each value, whether it was given or stands by default, what follows from it, and a line that begins
@@ -32,12 +33,11 @@ pub fn explain<W: Write>(alloc: Global, text: &[u8], writer: &mut W) -> u8 {
             return 1;
         }
     };
-    match toml::table_from_slice(alloc, text) {
-        Ok(table) => match write_all(&plan, &table, writer) {
-            Ok(()) => 0,
-            Err(_) => 1,
-        },
-        // (the text was read a moment ago, so it was memory)
-        Err(_) => refuse(writer),
+    match report_of(alloc, &plan, text) {
+        Ok(report) => u8::from(writer.write_all(&report).is_err()),
+        Err(_) => {
+            let _ = writer.write_all(b"refused Memory\n");
+            1
+        }
     }
 }

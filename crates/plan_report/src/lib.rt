@@ -3,6 +3,7 @@
 
 mod estimates;
 mod explaining;
+mod report;
 mod unknown_keys;
 mod values;
 mod warnings;

@@ -2,10 +2,9 @@
 ghost use Rattle.std.specs.Prelude.{◌<◌, length};
 ghost use Rattle.call_signals.specs.PeerRules.{IsPeerRules};
 
-use call_signals::{Format, Formats, PeerRules};
+use crate::report::Report;
+use call_signals::{Format, PeerRules};
 use peer_plan::{Endpoint, Key, Plan, format_name};
-use std::io;
-use std::io::Write;
 use toml::{Table, Value};
 
 // What stands behind a value that wasn't given.
@@ -25,38 +24,41 @@ pub(crate) fn format_of(table: &Table) -> u64 {
     }
 }
 
-// The table of a peer, by its place.
-fn table_at(table: &Table, list: Key, place: usize) -> Option<&Table> {
-    table.get(list.name())?.as_array()?.get(place)?.as_table()
-}
-
-fn write_number<W: Write>(table: &Table, key: Key, value: u64, writer: &mut W) -> io::Result<()> {
-    let by_default = by_default(table, key);
-    writeln!(writer, "  {key} {value}{by_default}")
-}
-
-fn write_flag<W: Write>(table: &Table, key: Key, value: bool, writer: &mut W) -> io::Result<()> {
-    let by_default = by_default(table, key);
-    let value = if value { "true" } else { "false" };
-    writeln!(writer, "  {key} {value}{by_default}")
-}
-
-// An address and a port.
-fn write_endpoint<W: Write>(endpoint: Endpoint, writer: &mut W) -> io::Result<()> {
-    let [a, b, c, d] = endpoint.address;
-    let port = endpoint.port;
-    write!(writer, "{a}.{b}.{c}.{d}:{port}")
-}
-
-/// The formats, those of lower bits first.
-pub(crate) fn write_formats<W: Write>(formats: Formats, writer: &mut W) -> io::Result<()> {
-    for format in [Format::Gsm, Format::Ulaw, Format::Alaw] {
-        if formats.contains(format) {
-            let name = format_name(format);
-            write!(writer, " {name}")?;
-        }
+/// The values of a list, as the tables of the peers; none where it isn't there.
+pub(crate) fn tables_of(table: &Table, list: Key) -> &[Value] {
+    match table.get(list.name()) {
+        Some(Value::Array(values)) => values,
+        _ => &[],
     }
-    Ok(())
+}
+
+fn begin_line(key: Key, report: &mut Report) {
+    report.text("  ");
+    report.text(key.name());
+    report.text(" ");
+}
+
+fn write_number(table: &Table, key: Key, value: u64, report: &mut Report) {
+    begin_line(key, report);
+    report.count(value, by_default(table, key));
+    report.text("\n");
+}
+
+fn write_flag(table: &Table, key: Key, value: bool, report: &mut Report) {
+    begin_line(key, report);
+    report.text(if value { "true" } else { "false" });
+    report.text(by_default(table, key));
+    report.text("\n");
+}
+
+// An address and a port, and what stands behind them.
+fn write_endpoint(endpoint: Endpoint, rest: &str, report: &mut Report) {
+    let [a, b, c, d] = endpoint.address;
+    report.count(u64::from(a), ".");
+    report.count(u64::from(b), ".");
+    report.count(u64::from(c), ".");
+    report.count(u64::from(d), ":");
+    report.count(u64::from(endpoint.port), rest);
 }
 
 /// What the legs of all peers go by, as those of the first.
@@ -69,145 +71,146 @@ pub(crate) fn limits_of(plan: &Plan) -> &PeerRules
 }
 
 // The limits that all peers have, and how many passes there are. Only format 3 has a key for the time between two VNAKs.
-fn write_limits<W: Write>(
-    plan: &Plan,
-    table: &Table,
-    format: u64,
-    writer: &mut W,
-) -> io::Result<()> {
+fn write_limits(plan: &Plan, table: &Table, format: u64, report: &mut Report) {
     let rules = limits_of(plan);
-    write_number(table, Key::RetryMs, rules.retry_ms, writer)?;
-    write_number(table, Key::MaxRetries, u64::from(rules.max_retries), writer)?;
-    write_number(table, Key::PingMs, rules.ping_ms, writer)?;
-    write_number(
-        table,
-        Key::RecordLimit,
-        u64::from(rules.record_limit),
-        writer,
-    )?;
-    if format == 3 {
-        write_number(table, Key::VnakMs, rules.vnak_ms, writer)?;
+    let numbers = [
+        (Key::RetryMs, rules.retry_ms),
+        (Key::MaxRetries, u64::from(rules.max_retries)),
+        (Key::PingMs, rules.ping_ms),
+        (Key::RecordLimit, u64::from(rules.record_limit)),
+        (Key::VnakMs, rules.vnak_ms),
+        (Key::Passes, u64::from(plan.passes())),
+    ];
+    for &(key, number) in &numbers {
+        if key != Key::VnakMs || format == 3 {
+            write_number(table, key, number, report);
+        }
     }
-    write_number(table, Key::Passes, u64::from(plan.passes()), writer)
 }
 
 // Whether more than one worker has this endpoint.
 fn is_shared(workers: &[Endpoint], at: Endpoint) -> bool {
-    workers.iter().filter(|other| **other == at).count() > 1
+    let mut count: u32 = 0;
+    for other in workers {
+        if *other == at {
+            count = count.saturating_add(1);
+        }
+    }
+    count > 1
 }
 
-fn write_workers<W: Write>(plan: &Plan, writer: &mut W) -> io::Result<()> {
+fn write_workers(plan: &Plan, report: &mut Report) {
     for (place, endpoint) in plan.workers().iter().enumerate() {
-        write!(writer, "worker {place}: ")?;
-        write_endpoint(*endpoint, writer)?;
-        if is_shared(plan.workers(), *endpoint) {
-            writer.write_all(b", shared (by run; serve refuses to bind it)")?;
-        }
-        writeln!(writer)?;
+        report.text("worker ");
+        report.count(place as u64, ": ");
+        let rest = if is_shared(plan.workers(), *endpoint) {
+            ", shared (by run; serve refuses to bind it)\n"
+        } else {
+            "\n"
+        };
+        write_endpoint(*endpoint, rest, report);
     }
-    Ok(())
 }
 
 // Who calls, and whether he can prove it.
-fn write_credentials<W: Write>(rules: &PeerRules, writer: &mut W) -> io::Result<()> {
-    match &rules.user {
-        None => writeln!(writer, "  no user, no secret"),
-        Some(user) => {
-            write!(writer, "  user \"")?;
-            writer.write_all(user.as_slice())?;
-            match &rules.secret {
-                Some(_) => writeln!(writer, "\", with a secret"),
-                None => writeln!(writer, "\", no secret"),
-            }
-        }
-    }
+fn write_credentials(rules: &PeerRules, report: &mut Report) {
+    let Some(user) = &rules.user else {
+        return report.text("  no user, no secret\n");
+    };
+    report.text("  user \"");
+    report.put(user.as_slice());
+    report.text(match &rules.secret {
+        Some(_) => "\", with a secret\n",
+        None => "\", no secret\n",
+    });
 }
 
 // How many frames a leg holds, for which format 1 has no key.
-fn write_window<W: Write>(
-    window: u8,
-    table: &Table,
-    format: u64,
-    writer: &mut W,
-) -> io::Result<()> {
+fn write_window(window: u8, table: &Table, format: u64, report: &mut Report) {
     let by_default = if format == 1 {
         " (default)"
     } else {
         by_default(table, Key::Window)
     };
-    writeln!(writer, "  {} {window}{by_default}", Key::Window)
+    begin_line(Key::Window, report);
+    report.count(u64::from(window), by_default);
+    report.text("\n");
 }
 
 // How media goes to a peer.
-fn write_media<W: Write>(rules: &PeerRules, table: &Table, writer: &mut W) -> io::Result<()> {
-    write!(writer, "  {}", Key::Formats)?;
-    write_formats(rules.formats, writer)?;
-    writeln!(writer)?;
-    write_flag(table, Key::Trunk, rules.trunk, writer)?;
-    write_flag(table, Key::TrunkTimestamps, rules.trunk_timestamps, writer)
+fn write_media(rules: &PeerRules, table: &Table, report: &mut Report) {
+    report.text("  ");
+    report.text(Key::Formats.name());
+    // (those of lower bits first)
+    for format in [Format::Gsm, Format::Ulaw, Format::Alaw] {
+        if rules.formats.contains(format) {
+            report.text(" ");
+            report.text(format_name(format));
+        }
+    }
+    report.text("\n");
+    write_flag(table, Key::Trunk, rules.trunk, report);
+    write_flag(table, Key::TrunkTimestamps, rules.trunk_timestamps, report);
 }
 
-fn write_numbers<W: Write>(plan: &Plan, peer: u16, table: &Table, writer: &mut W) -> io::Result<()>
+fn write_numbers(plan: &Plan, peer: u16, table: &Table, report: &mut Report)
     requires { peer < length plan.now.peers }
 {
     let range = plan.range(peer);
-    let last = range.first + range.count - 1;
-    let by_default = by_default(table, Key::Numbers);
-    writeln!(
-        writer,
-        "  {} {}{by_default}: {} to {last}",
-        Key::Numbers,
-        range.count,
-        range.first
-    )
+    begin_line(Key::Numbers, report);
+    report.count(u64::from(range.count), by_default(table, Key::Numbers));
+    report.text(": ");
+    report.count(u64::from(range.first), " to ");
+    report.count(u64::from(range.first + range.count - 1), "\n");
 }
 
-fn write_peer<W: Write>(
-    plan: &Plan,
-    peer: u16,
-    table: &Table,
-    format: u64,
-    writer: &mut W,
-) -> io::Result<()>
+fn write_peer(plan: &Plan, peer: u16, table: &Table, format: u64, report: &mut Report)
     requires { peer < length plan.now.peers }
 {
-    write!(writer, "peer {}: ", plan.name(peer))?;
-    write_endpoint(plan.endpoint(peer), writer)?;
+    report.text("peer ");
+    report.text(plan.name(peer));
+    report.text(": ");
+    write_endpoint(plan.endpoint(peer), "\n  worker ", report);
     let worker = plan.worker(peer);
-    write!(writer, "\n  worker {worker}: it sends to ")?;
-    write_endpoint(plan.workers()[usize::from(worker)], writer)?;
-    writeln!(writer)?;
+    report.count(u64::from(worker), ": it sends to ");
+    write_endpoint(plan.workers()[usize::from(worker)], "\n", report);
     let rules = plan.rules(peer);
-    write_credentials(rules, writer)?;
-    write_media(rules, table, writer)?;
-    write_window(rules.window, table, format, writer)?;
+    write_credentials(rules, report);
+    write_media(rules, table, report);
+    write_window(rules.window, table, format, report);
     if format == 3 {
-        write_flag(table, Key::Poke, rules.poke, writer)?;
+        write_flag(table, Key::Poke, rules.poke, report);
     }
-    write_numbers(plan, peer, table, writer)
+    write_numbers(plan, peer, table, report);
 }
 
-fn write_routes<W: Write>(plan: &Plan, writer: &mut W) -> io::Result<()> {
+fn write_routes(plan: &Plan, report: &mut Report) {
     for route in 0..plan.route_count() {
-        write!(writer, "route \"{}\"", plan.prefix(route))?;
+        report.text("route \"");
+        report.text(plan.prefix(route));
+        report.text("\"");
         if let Some(source) = plan.source(route) {
-            write!(writer, " from {}", plan.name(source))?;
+            report.text(" from ");
+            report.text(plan.name(source));
         }
-        writeln!(writer, " to {}", plan.name(plan.target(route)))?;
+        report.text(" to ");
+        report.text(plan.name(plan.target(route)));
+        report.text("\n");
     }
-    Ok(())
 }
 
 /// Writes the values of a plan, which was read from this table.
-pub(crate) fn write_values<W: Write>(plan: &Plan, table: &Table, writer: &mut W) -> io::Result<()> {
+pub(crate) fn write_values(plan: &Plan, table: &Table, report: &mut Report) {
     let format = format_of(table);
-    writeln!(writer, "plan of format {format}")?;
-    write_limits(plan, table, format, writer)?;
-    write_workers(plan, writer)?;
+    report.text("plan of format ");
+    report.count(format, "\n");
+    write_limits(plan, table, format, report);
+    write_workers(plan, report);
+    let tables = tables_of(table, Key::Peer);
     for peer in 0..plan.peer_count() {
-        if let Some(table) = table_at(table, Key::Peer, usize::from(peer)) {
-            write_peer(plan, peer, table, format, writer)?;
+        if let Some(Value::Table(table)) = tables.get(usize::from(peer)) {
+            write_peer(plan, peer, table, format, report);
         }
     }
-    write_routes(plan, writer)
+    write_routes(plan, report);
 }

@@ -3,10 +3,9 @@ ghost use Rattle.std.specs.Prelude.{◌≡◌, ◌<◌, length};
 ghost use Rattle.call_signals.specs.Format.{has_format};
 ghost use Rattle.plan_report.specs.Warnings.{lacks};
 
+use crate::report::Report;
 use call_signals::{Format, Formats};
 use peer_plan::{Plan, format_name};
-use std::io;
-use std::io::Write;
 
 // Whether calls of one peer in a format are rejected by another.
 fn lacks(caller: Formats, target: Formats, format: Format) -> bool
@@ -15,24 +14,23 @@ fn lacks(caller: Formats, target: Formats, format: Format) -> bool
     caller.contains(format) && !target.contains(format)
 }
 
-fn warn_of_credentials<W: Write>(plan: &Plan, peer: u16, writer: &mut W) -> io::Result<()>
+fn warn_of_credentials(plan: &Plan, peer: u16, report: &mut Report)
     requires { peer < length plan.now.peers }
 {
     let name = plan.name(peer);
     let rules = plan.rules(peer);
     if rules.user.is_none() {
-        writeln!(
-            writer,
-            "warning: {name} has no user: an Asterisk takes our calls for a guest's, and asks for a call token"
-        )?;
+        report.text("warning: ");
+        report.text(name);
+        report.text(
+            " has no user: an Asterisk takes our calls for a guest's, and asks for a call token\n",
+        );
     }
     if rules.secret.is_none() {
-        writeln!(
-            writer,
-            "warning: {name} has no secret: whoever sends from its address can call"
-        )?;
+        report.text("warning: ");
+        report.text(name);
+        report.text(" has no secret: whoever sends from its address can call\n");
     }
-    Ok(())
 }
 
 // Whether calls of a peer may take a route: it is for all, or for this peer's.
@@ -61,19 +59,21 @@ fn is_passed_over(plan: &Plan, route: usize, caller: u16) -> bool
 }
 
 // Unless a route has a source, the peer that it leads to reaches itself.
-fn warn_of_return<W: Write>(plan: &Plan, route: usize, writer: &mut W) -> io::Result<()>
+fn warn_of_return(plan: &Plan, route: usize, report: &mut Report)
     requires { route < length plan.now.routes }
 {
     let peer = plan.target(route);
     if !is_open_to(plan, route, peer) || is_passed_over(plan, route, peer) {
-        return Ok(());
+        return;
     }
     let target = plan.name(peer);
-    let prefix = plan.prefix(route);
-    writeln!(
-        writer,
-        "warning: route \"{prefix}\" leads calls of {target} back to {target}"
-    )
+    report.text("warning: route \"");
+    report.text(plan.prefix(route));
+    report.text("\" leads calls of ");
+    report.text(target);
+    report.text(" back to ");
+    report.text(target);
+    report.text("\n");
 }
 
 // Whether a route leads calls of a peer to another, or back to it.
@@ -86,61 +86,40 @@ fn reaches(plan: &Plan, caller: u16, target: u16) -> bool {
     false
 }
 
-fn warn_of_formats<W: Write>(
-    plan: &Plan,
-    caller: u16,
-    target: u16,
-    writer: &mut W,
-) -> io::Result<()>
+fn warn_of_formats(plan: &Plan, caller: u16, target: u16, report: &mut Report)
     requires caller { caller < length plan.now.peers }
     requires target { target < length plan.now.peers }
 {
+    let (rules, others) = (plan.rules(caller), plan.rules(target));
     // Where a call has other formats too, one of them may do.
-    let alone = if plan.rules(caller).routes_format {
-        " alone"
-    } else {
-        ""
-    };
+    let alone = if rules.routes_format { " alone" } else { "" };
     for format in [Format::Gsm, Format::Ulaw, Format::Alaw] {
-        if lacks(
-            plan.rules(caller).formats,
-            plan.rules(target).formats,
-            format,
-        ) {
-            writeln!(
-                writer,
-                "warning: calls of {} in {}{} are rejected where they lead to {}, cause 21",
-                plan.name(caller),
-                format_name(format),
-                alone,
-                plan.name(target)
-            )?;
+        if lacks(rules.formats, others.formats, format) {
+            report.text("warning: calls of ");
+            report.text(plan.name(caller));
+            report.text(" in ");
+            report.text(format_name(format));
+            report.text(alone);
+            report.text(" are rejected where they lead to ");
+            report.text(plan.name(target));
+            report.text(", cause 21\n");
         }
     }
-    Ok(())
-}
-
-fn warn_of_callers<W: Write>(plan: &Plan, target: u16, writer: &mut W) -> io::Result<()>
-    requires { target < length plan.now.peers }
-{
-    for caller in 0..plan.peer_count() {
-        if reaches(plan, caller, target) {
-            warn_of_formats(plan, caller, target, writer)?;
-        }
-    }
-    Ok(())
 }
 
 /// Writes a warning for each thing of a plan that may not be meant.
-pub(crate) fn write_warnings<W: Write>(plan: &Plan, writer: &mut W) -> io::Result<()> {
+pub(crate) fn write_warnings(plan: &Plan, report: &mut Report) {
     for peer in 0..plan.peer_count() {
-        warn_of_credentials(plan, peer, writer)?;
+        warn_of_credentials(plan, peer, report);
     }
     for route in 0..plan.route_count() {
-        warn_of_return(plan, route, writer)?;
+        warn_of_return(plan, route, report);
     }
     for target in 0..plan.peer_count() {
-        warn_of_callers(plan, target, writer)?;
+        for caller in 0..plan.peer_count() {
+            if reaches(plan, caller, target) {
+                warn_of_formats(plan, caller, target, report);
+            }
+        }
     }
-    Ok(())
 }

@@ -61,48 +61,95 @@ fn words(line: &[u8]) -> [Option<&[u8]>; 4] {
     [parts.next(), parts.next(), parts.next(), parts.next()]
 }
 
-// What a line of one word says.
-fn said_by_one(word: &[u8]) -> Option<Line<'_>> {
-    match word {
-        b"tick" => Some(Line::Tick),
-        b"hold" => Some(Line::Hold),
-        b"send" => Some(Line::Send),
-        b"settle" => Some(Line::Settle),
+// The first word of a line that asks for something.
+#[derive(Clone, Copy)]
+enum Command {
+    At,
+    Back,
+    Challenge,
+    Rx,
+    Stranger,
+    Call,
+    HangUp,
+    Tick,
+    Hold,
+    Send,
+    Free,
+    Settle,
+}
+
+const COMMANDS: [(&[u8], Command); 12] = [
+    (b"at", Command::At),
+    (b"back", Command::Back),
+    (b"challenge", Command::Challenge),
+    (b"rx", Command::Rx),
+    (b"stranger", Command::Stranger),
+    (b"call", Command::Call),
+    (b"hangup", Command::HangUp),
+    (b"tick", Command::Tick),
+    (b"hold", Command::Hold),
+    (b"send", Command::Send),
+    (b"free", Command::Free),
+    (b"settle", Command::Settle),
+];
+
+fn command_of(word: &[u8]) -> Option<Command> {
+    for (name, command) in &COMMANDS {
+        if *name == word {
+            return Some(*command);
+        }
+    }
+    None
+}
+
+// What a line of a command alone says.
+fn said_by_one<'a>(command: Command) -> Option<Line<'a>> {
+    match command {
+        Command::Tick => Some(Line::Tick),
+        Command::Hold => Some(Line::Hold),
+        Command::Send => Some(Line::Send),
+        Command::Settle => Some(Line::Settle),
         _ => None,
     }
 }
 
 // What a line of a command and one word more says.
-fn said_by_two<'a>(command: &[u8], word: &'a [u8]) -> Option<Line<'a>> {
+fn said_by_two<'a>(command: Command, word: &'a [u8]) -> Option<Line<'a>> {
     match command {
-        b"at" => Some(Line::At(decimal(word)?)),
-        b"back" => Some(Line::Back(decimal(word)?)),
-        b"challenge" => Some(Line::Challenge(word)),
-        b"hangup" => Some(Line::HangUp(decimal(word)?)),
-        b"tick" => Some(Line::TickOf(word)),
-        b"send" => Some(Line::SendTo(word)),
+        Command::Challenge => return Some(Line::Challenge(word)),
+        Command::Tick => return Some(Line::TickOf(word)),
+        Command::Send => return Some(Line::SendTo(word)),
+        _ => {}
+    }
+    let number = decimal(word)?;
+    match command {
+        Command::At => Some(Line::At(number)),
+        Command::Back => Some(Line::Back(number)),
+        Command::HangUp => Some(Line::HangUp(number)),
         _ => None,
     }
 }
 
 // What a line of a command, a peer and one word more says.
-fn said_by_three<'a>(command: &[u8], peer: &'a [u8], word: &'a [u8]) -> Option<Line<'a>> {
+fn said_by_three<'a>(command: Command, peer: &'a [u8], word: &'a [u8]) -> Option<Line<'a>> {
     match command {
         _ if word.is_empty() => None,
-        b"rx" => Some(Line::Rx(peer, word)),
-        b"stranger" => Some(Line::Stranger(peer, word)),
-        b"free" => Some(Line::Free(peer, word)),
-        b"call" => Some(Line::Call(peer, word)),
+        Command::Rx => Some(Line::Rx(peer, word)),
+        Command::Stranger => Some(Line::Stranger(peer, word)),
+        Command::Free => Some(Line::Free(peer, word)),
+        Command::Call => Some(Line::Call(peer, word)),
         _ => None,
     }
 }
 
 // What a line that asks for something says.
 fn said_by(line: &[u8]) -> Option<Line<'_>> {
-    match words(line) {
-        [Some(word), None, None, None] => said_by_one(word),
-        [Some(command), Some(word), None, None] => said_by_two(command, word),
-        [Some(command), Some(peer), Some(word), None] => said_by_three(command, peer, word),
+    let [first, second, third, fourth] = words(line);
+    let command = command_of(first?)?;
+    match (second, third, fourth) {
+        (None, None, None) => said_by_one(command),
+        (Some(word), None, None) => said_by_two(command, word),
+        (Some(peer), Some(word), None) => said_by_three(command, peer, word),
         _ => None,
     }
 }

@@ -11,7 +11,7 @@ pub(crate) struct Calls {
 }
 
 /// A call that is open.
-#[derive(Clone, Copy, Debug, PartialEq, Eq)]
+#[derive(Clone, Copy)]
 pub(crate) struct OpenCall {
     /// How many calls had begun before it.
     pub(crate) number: u64,

@@ -1,8 +1,8 @@
 //! The order in which free numbers are given out, as the lines of a script say it.
+use crate::lines::Lines;
 use crate::trace::Trace;
 use peer_plan::Plan;
 use std::alloc::{AllocError, Global};
-use std::io::Write;
 
 // The numbers of a peer that has no leg, each with when it was freed last, as they are given out: those first that never had a
 // leg.
@@ -24,43 +24,45 @@ fn free_numbers(
 }
 
 // The numbers of this list, those that follow one another as `first-last`.
-fn push_numbers(octets: &mut Vec<u8>, numbers: &[(u64, u16)]) {
+fn write_numbers(lines: &mut Lines, numbers: &[(u64, u16)]) {
     let mut run: Option<(u16, u16)> = None;
     for &(_, number) in numbers {
         run = match run {
             Some((first, last)) if last.wrapping_add(1) == number => Some((first, number)),
             Some((first, last)) => {
-                push_run(octets, first, last);
-                let _ = octets.write_all(b",");
+                write_run(lines, first, last);
+                lines.text(",");
                 Some((number, number))
             }
             None => Some((number, number)),
         };
     }
     if let Some((first, last)) = run {
-        push_run(octets, first, last);
+        write_run(lines, first, last);
     }
 }
 
-fn push_run(octets: &mut Vec<u8>, first: u16, last: u16) {
-    let _ = if first == last {
-        write!(octets, "{first}")
-    } else {
-        write!(octets, "{first}-{last}")
-    };
+fn write_run(lines: &mut Lines, first: u16, last: u16) {
+    lines.number(u64::from(first));
+    if first != last {
+        lines.text("-");
+        lines.number(u64::from(last));
+    }
 }
 
 /// The lines that give each peer the order of its free numbers.
-///
-/// `AllocError`: a request for memory was refused.
-pub(crate) fn orders_of(alloc: Global, trace: &Trace, plan: &Plan) -> Result<Vec<u8>, AllocError> {
-    let mut lines = Vec::new(alloc);
+pub(crate) fn orders_of(alloc: Global, trace: &Trace, plan: &Plan) -> Lines {
+    let mut lines = Lines::new(alloc);
     for peer in 0..plan.peer_count() {
         let range = plan.range(peer);
-        let numbers = free_numbers(alloc, trace, range.first, range.count)?;
-        let _ = write!(lines, "free {} ", plan.name(peer));
-        push_numbers(&mut lines, &numbers);
-        let _ = lines.write_all(b"\n");
+        lines.text("free ");
+        lines.text(plan.name(peer));
+        lines.text(" ");
+        match free_numbers(alloc, trace, range.first, range.count) {
+            Ok(numbers) => write_numbers(&mut lines, &numbers),
+            Err(_) => lines.is_cut = true,
+        }
+        lines.text("\n");
     }
-    Ok(lines)
+    lines
 }

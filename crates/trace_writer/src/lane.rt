@@ -337,15 +337,11 @@ impl<'t> TraceLane<'t> {
             number: call.number,
             is_beside,
         };
-        let lines = match &orders {
-            Ok(lines) if !is_beside && call.number == begun => Some(lines.as_slice()),
-            _ => None,
-        };
-        let input = match lines {
-            Some(_) => Input::Rest,
-            None => Input::Nothing,
-        };
-        self.note(call, input, lines.unwrap_or(b""), b"");
+        if !is_beside && call.number == begun && !orders.is_cut {
+            self.note(call, Input::Rest, &orders.octets, b"");
+        } else {
+            self.note(call, Input::Nothing, b"", b"");
+        }
         self.hand_over(rt);
     }
 }

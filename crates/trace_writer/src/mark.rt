@@ -13,7 +13,7 @@ const MARKS: usize = 4096;
 const OCTETS: usize = 1_048_576;
 
 /// What a call of the exchange was given. A peer is named by its place in the plan.
-#[derive(Clone, Copy, Debug, PartialEq, Eq)]
+#[derive(Clone, Copy)]
 pub(crate) enum Input {
     /// A datagram of a peer. Of the octets the first ones, so many, are the challenge of its moment.
     Datagram { peer: u16, challenge: u8 },
@@ -36,7 +36,7 @@ pub(crate) enum Input {
 }
 
 /// A call of the exchange.
-#[derive(Clone, Copy, Debug, PartialEq, Eq)]
+#[derive(Clone, Copy)]
 pub(crate) struct Mark {
     /// How many calls had begun before it.
     pub(crate) number: u64,

@@ -96,8 +96,10 @@ impl TraceFolder<'_> {
         file: &TraceFile,
     ) -> Result<TraceFile, Fault> {
         let place = file.place.wrapping_add(1) % FILES;
-        self.begin(disk, alloc, place)
-            .map_err(|error| fault_of(&error))
+        match self.begin(disk, alloc, place) {
+            Ok(file) => Ok(file),
+            Err(error) => Err(fault_of(&error)),
+        }
     }
 
     /// How many octets a file has at most, but for a turn.
@@ -157,10 +159,12 @@ impl TraceFile {
     // Where the lines end that are left when these octets at the end of the file have gone.
     fn cut(&self) -> u64 {
         let half = self.tail.get(..self.tail.len() / 2).unwrap_or(b"");
-        let left = match half.iter().rposition(|octet| *octet == b'\n') {
-            Some(place) => place.saturating_add(1),
-            None => 0,
-        };
+        let mut left = 0;
+        for (place, octet) in half.iter().enumerate() {
+            if *octet == b'\n' {
+                left = place.saturating_add(1);
+            }
+        }
         let cut = self.tail.len().saturating_sub(left) as u64;
         self.length.saturating_sub(cut)
     }
@@ -171,15 +175,12 @@ impl TraceFile {
         if writeln!(line, "# The trace ends here: {error}.").is_err() {
             return;
         }
-        if self.file.write_all_at(&line, self.length).is_ok() {
-            let _ = self
-                .file
-                .set_len(self.length.saturating_add(line.len() as u64));
-            return;
-        }
-        let left = self.cut();
-        if self.file.write_all_at(&line, left).is_ok() {
-            let _ = self.file.set_len(left.saturating_add(line.len() as u64));
+        // (where there is no room for it, some lines make room)
+        for length in [self.length, self.cut()] {
+            if self.file.write_all_at(&line, length).is_ok() {
+                let _ = self.file.set_len(length.saturating_add(line.len() as u64));
+                return;
+            }
         }
     }
 }

@@ -4,24 +4,24 @@ ghost use Rattle.hex.specs.Hex.{encode_lower};
 ghost use Rattle.trace_writer.specs.Digits.{spells_digit, hidden, shown};
 
 use crate::hexadecimal::end_in_hex;
+use crate::lines::Lines;
 use crate::mark::{Input, Mark};
 use peer_plan::{Endpoint, Plan};
 use std::alloc::{AllocError, Global};
-use std::io;
 use std::io::Write;
 
 /// How a trace is written.
-#[derive(Clone, Copy, Debug)]
+#[derive(Clone, Copy)]
 pub(crate) struct Manner {
     /// Whether digits are written as they are.
     pub(crate) shows_digits: bool,
 }
 
 /// What the first lines of a file say.
-#[derive(Clone, Copy, Debug)]
+#[derive(Clone, Copy)]
 pub(crate) struct Head<'a> {
-    /// Why a replay of the file may not give what went out.
-    pub(crate) why_not_exact: Option<&'a str>,
+    /// The first of them: whether a replay of the file gives what went out.
+    pub(crate) exactness: &'static str,
     /// The service.
     pub(crate) about: &'a str,
     /// The number of the file, from 1 on.
@@ -35,8 +35,8 @@ pub(crate) struct Script<'p> {
     plan: &'p Plan,
     manner: Manner,
     // How the line of a datagram begins, of each peer by its place in the plan.
-    heads: Vec<Vec<u8>>,
-    pub(crate) text: Vec<u8>,
+    heads: Vec<String>,
+    pub(crate) lines: Lines,
     now: u64,
     challenge: Vec<u8>,
     // How many calls of the exchange aren't there, since the last that is.
@@ -79,13 +79,10 @@ fn end_in_octets(
 }
 
 // How the line of a datagram begins, of each peer.
-fn heads_of(alloc: Global, plan: &Plan) -> Result<Vec<Vec<u8>>, AllocError> {
+fn heads_of(alloc: Global, plan: &Plan) -> Result<Vec<String>, AllocError> {
     let mut heads = Vec::new(alloc);
     for peer in 0..plan.peer_count() {
-        let mut head = Vec::new(alloc);
-        head.extend_from_slice(b"rx ")?;
-        head.extend_from_slice(plan.name(peer).as_bytes())?;
-        head.push(b' ')?;
+        let head = format!(in alloc; "rx {} ", plan.name(peer))?;
         if heads.push(head).is_err() {
             return Err(AllocError);
         }
@@ -93,41 +90,41 @@ fn heads_of(alloc: Global, plan: &Plan) -> Result<Vec<Vec<u8>>, AllocError> {
     Ok(heads)
 }
 
-// Ticks of the peers of a worker.
-fn push_ticks(plan: &Plan, thread: usize, text: &mut Vec<u8>) -> io::Result<()> {
-    if plan.workers().len() == 1 {
-        return text.write_all(b"tick\n");
-    }
+// The peers of a worker, as bits.
+fn peers_of(plan: &Plan, thread: usize) -> u32 {
+    let mut peers: u32 = 0;
     for peer in 0..plan.peer_count() {
         if usize::from(plan.worker(peer)) == thread {
-            writeln!(text, "tick {}", plan.name(peer))?;
+            peers |= 1u32.wrapping_shl(u32::from(peer));
         }
     }
-    Ok(())
+    peers
 }
 
-// What waited went out to these peers.
-fn push_sends(plan: &Plan, peers: u32, lost: u32, text: &mut Vec<u8>) -> io::Result<()> {
-    if lost > 0 {
-        writeln!(
-            text,
-            "# The socket didn't take {lost} of the next datagrams."
-        )?;
-    }
+// A line for each of these peers, or one for all where one worker has them.
+fn write_peers(plan: &Plan, command: &str, peers: u32, lines: &mut Lines) {
     if plan.workers().len() == 1 {
-        return text.write_all(b"send\n");
+        lines.text(command);
+        return lines.text("\n");
     }
     for peer in 0..plan.peer_count() {
         if peers.wrapping_shr(u32::from(peer)) & 1 == 1 {
-            writeln!(text, "send {}", plan.name(peer))?;
+            lines.text(command);
+            lines.text(" ");
+            lines.text(plan.name(peer));
+            lines.text("\n");
         }
     }
-    Ok(())
 }
 
 // Whether a text may stand in a line as a word.
 fn is_word(text: &[u8]) -> bool {
-    !text.is_empty() && text.iter().all(|octet| octet.is_ascii_graphic())
+    for octet in text {
+        if !octet.is_ascii_graphic() {
+            return false;
+        }
+    }
+    !text.is_empty()
 }
 
 // The name of a peer, by its place in the plan.
@@ -153,83 +150,83 @@ impl<'p> Script<'p> {
             plan,
             manner,
             heads: heads_of(alloc, plan)?,
-            text: Vec::new(alloc),
+            lines: Lines::new(alloc),
             now: 0,
             challenge: Vec::new(alloc),
             missing: 0,
         })
     }
 
-    /// The first lines of a file that begins at the moment 0, with the challenge `0`, as a replay does.
-    pub(crate) fn begin(&mut self, head: &Head<'_>, orders: &[u8]) -> io::Result<()> {
-        self.now = 0;
-        self.begin_lines(head)?;
-        self.text.write_all(orders)
-    }
-
-    /// The same of a file that goes on at the moment of the last line of the one before it. It may stand behind that in a script.
-    pub(crate) fn go_on(&mut self, head: &Head<'_>) -> io::Result<()> {
-        self.begin_lines(head)?;
-        writeln!(self.text, "at {}", self.now)
-    }
-
-    fn begin_lines(&mut self, head: &Head<'_>) -> io::Result<()> {
+    /// The first lines of a file. One with orders of free numbers begins at the moment 0, with the challenge `0`, as a replay
+    /// does. Another goes on at the moment of the last line of the file before it, and may stand behind that in a script.
+    pub(crate) fn begin(&mut self, head: &Head<'_>, orders: Option<&[u8]>) {
         self.challenge.clear();
-        match head.why_not_exact {
-            Some(why) => writeln!(self.text, "# Not exact: {why}.")?,
-            None => writeln!(self.text, "# Exact: no call is up where this begins.")?,
+        self.lines.text(head.exactness);
+        self.lines.text("# ");
+        self.lines.text(head.about);
+        self.lines.text(", part ");
+        self.lines.number(head.part);
+        self.lines.text(".\nhold\n");
+        match orders {
+            Some(orders) => {
+                self.now = 0;
+                self.lines.put(orders);
+            }
+            None => self.write_moment("at "),
         }
-        writeln!(self.text, "# {}, part {}.", head.about, head.part)?;
-        self.text.write_all(b"hold\n")
     }
 
     /// The last lines, of a service that has ended: its accounts are closed.
-    pub(crate) fn end(&mut self) -> io::Result<()> {
-        self.text.write_all(b"settle\n")
+    pub(crate) fn end(&mut self) {
+        self.lines.text("settle\n");
     }
 
     /// The lines of a call of the exchange that a thread made, or handed to it. False where there was no memory for them: then
     /// none is there, and the next ones say so.
     pub(crate) fn push(&mut self, thread: usize, mark: &Mark, octets: &[u8]) -> bool {
-        let (length, now) = (self.text.len(), self.now);
+        let (length, now) = (self.lines.octets.len(), self.now);
         let missing = self.missing.saturating_add(mark.lost);
         self.missing = missing;
-        let are_there = match mark.input {
+        match mark.input {
             Input::Datagram { peer, challenge: 0 } if self.goes_on(mark) => {
-                self.push_datagram(peer, octets).is_ok()
+                self.write_datagram(peer, octets);
             }
-            _ => self.push_lines(thread, mark, octets).is_ok(),
-        };
+            Input::Nothing | Input::Rest => {}
+            input => {
+                self.begin_call(mark);
+                self.write_input(thread, input, octets);
+            }
+        }
         // (room for the end of the file, which is written with them)
-        if are_there && self.text.reserve(1).is_ok() {
+        if !self.lines.is_cut && self.lines.octets.reserve(1).is_ok() {
             return true;
         }
-        self.text.truncate(length);
+        self.lines.octets.truncate(length);
+        self.lines.is_cut = false;
         self.now = now;
         self.challenge.clear();
         self.missing = missing.saturating_add(1);
         false
     }
 
-    // The same; where there is no memory for a line, those before it are there.
-    fn push_lines(&mut self, thread: usize, mark: &Mark, octets: &[u8]) -> io::Result<()> {
-        if matches!(mark.input, Input::Nothing | Input::Rest) {
-            return Ok(());
-        }
+    // What is to be said before what a call was given.
+    fn begin_call(&mut self, mark: &Mark) {
         if self.missing > 0 {
-            writeln!(
-                self.text,
-                "# Not exact from here on: {} calls of the exchange are missing.",
-                self.missing
-            )?;
+            self.lines.text("# Not exact from here on: ");
+            self.lines.number(self.missing);
+            self.lines.text(" calls of the exchange are missing.\n");
         }
         if mark.is_beside {
-            self.text.write_all(b"# The next was at work at the same time as another one.\n")?;
+            self.lines.text("# The next was at work at the same time as another one.\n");
         }
-        self.push_moment(mark.now)?;
-        self.push_input(thread, mark.input, octets)?;
+        let before = self.now;
+        self.now = mark.now;
+        if mark.now > before {
+            self.write_moment("at ");
+        } else if mark.now < before {
+            self.write_moment("back ");
+        }
         self.missing = 0;
-        Ok(())
     }
 
     // Whether nothing is to be said before what a call was given.
@@ -237,87 +234,101 @@ impl<'p> Script<'p> {
         self.missing == 0 && !mark.is_beside && mark.now == self.now
     }
 
-    // The moment, where it is another than before.
-    fn push_moment(&mut self, now: u64) -> io::Result<()> {
-        if now > self.now {
-            writeln!(self.text, "at {now}")?;
-        } else if now < self.now {
-            writeln!(self.text, "back {now}")?;
-        }
-        self.now = now;
-        Ok(())
+    fn write_moment(&mut self, command: &str) {
+        self.lines.text(command);
+        self.lines.number(self.now);
+        self.lines.text("\n");
     }
 
     // What the exchange was given.
-    fn push_input(&mut self, thread: usize, input: Input, octets: &[u8]) -> io::Result<()> {
+    fn write_input(&mut self, thread: usize, input: Input, octets: &[u8]) {
         match input {
             Input::Datagram { peer, challenge } => {
                 let (challenge, octets) = octets.split_at(octets.len().min(usize::from(challenge)));
-                self.push_challenge(challenge)?;
-                self.push_datagram(peer, octets)?;
-                Ok(())
+                self.write_challenge(challenge);
+                self.write_datagram(peer, octets);
             }
             Input::TurnedAway { peer, challenge } => {
+                self.lines.text("# Turned away, since the service drains: ");
                 let octets = octets.get(usize::from(challenge)..).unwrap_or(b"");
-                self.text
-                    .write_all(b"# Turned away, since the service drains: ")?;
-                self.push_datagram(peer, octets)?;
-                Ok(())
+                self.write_datagram(peer, octets);
             }
-            Input::Stranger { from } => self.push_stranger(from, octets),
-            Input::Tick => push_ticks(self.plan, thread, &mut self.text),
-            Input::Send { peers, lost } => push_sends(self.plan, peers, lost, &mut self.text),
-            Input::Call { peer } => self.push_call(peer, octets),
-            Input::HangUp { number } => writeln!(self.text, "hangup {number}"),
-            Input::Nothing | Input::Rest => Ok(()),
+            Input::Stranger { from } => self.write_stranger(from, octets),
+            Input::Tick => {
+                let peers = peers_of(self.plan, thread);
+                write_peers(self.plan, "tick", peers, &mut self.lines);
+            }
+            Input::Send { peers, lost } => self.write_sends(peers, lost),
+            Input::Call { peer } => self.write_call(peer, octets),
+            Input::HangUp { number } => {
+                self.lines.text("hangup ");
+                self.lines.number(u64::from(number));
+                self.lines.text("\n");
+            }
+            Input::Nothing | Input::Rest => {}
         }
+    }
+
+    // What waited went out to these peers.
+    fn write_sends(&mut self, peers: u32, lost: u32) {
+        if lost > 0 {
+            self.lines.text("# The socket didn't take ");
+            self.lines.number(u64::from(lost));
+            self.lines.text(" of the next datagrams.\n");
+        }
+        write_peers(self.plan, "send", peers, &mut self.lines);
     }
 
     // The challenge, where a datagram needs one, and it is another than before.
-    fn push_challenge(&mut self, challenge: &[u8]) -> io::Result<()> {
+    fn write_challenge(&mut self, challenge: &[u8]) {
         if challenge.is_empty() || self.challenge.as_slice() == challenge {
-            return Ok(());
+            return;
         }
         self.challenge.clear();
-        self.challenge.write_all(challenge)?;
-        self.text.write_all(b"challenge ")?;
-        self.text.write_all(challenge)?;
-        self.text.write_all(b"\n")
+        if self.challenge.extend_from_slice(challenge).is_err() {
+            self.lines.is_cut = true;
+        }
+        self.lines.text("challenge ");
+        self.lines.put(challenge);
+        self.lines.text("\n");
     }
 
     // A datagram of a peer. One without octets can't be said by a script, and does nothing.
-    fn push_datagram(&mut self, peer: u16, octets: &[u8]) -> Result<(), AllocError> {
+    fn write_datagram(&mut self, peer: u16, octets: &[u8]) {
         if octets.is_empty() {
-            self.text.extend_from_slice(b"# Without an octet: ")?;
+            self.lines.text("# Without an octet: ");
         }
         if let Some(head) = self.heads.get(usize::from(peer)) {
-            self.text.extend_from_slice(head)?;
+            self.lines.text(head);
         }
-        end_in_octets(self.alloc, self.manner, &mut self.text, octets)
+        if end_in_octets(self.alloc, self.manner, &mut self.lines.octets, octets).is_err() {
+            self.lines.is_cut = true;
+        }
     }
 
     // A datagram of nobody in the plan.
-    fn push_stranger(&mut self, from: Endpoint, octets: &[u8]) -> io::Result<()> {
+    fn write_stranger(&mut self, from: Endpoint, octets: &[u8]) {
         if octets.is_empty() {
-            self.text.write_all(b"# Without an octet: ")?;
+            self.lines.text("# Without an octet: ");
         }
         let [a, b, c, d] = from.address;
-        write!(self.text, "stranger {a}.{b}.{c}.{d}:{} ", from.port)?;
-        end_in_hex(&mut self.text, octets)?;
-        Ok(())
+        if write!(self.lines.octets, "stranger {a}.{b}.{c}.{d}:{} ", from.port).is_err() {
+            self.lines.is_cut = true;
+        }
+        self.lines.end_in_hex(octets);
     }
 
     // A call that an order had go out.
-    fn push_call(&mut self, peer: u16, number: &[u8]) -> io::Result<()> {
+    fn write_call(&mut self, peer: u16, number: &[u8]) {
         if !is_word(number) {
             return self
-                .text
-                .write_all(b"# A call to a number that is none was refused.\n");
+                .lines
+                .text("# A call to a number that is none was refused.\n");
         }
-        self.text.write_all(b"call ")?;
-        self.text.write_all(name_of(self.plan, peer).as_bytes())?;
-        self.text.write_all(b" ")?;
-        self.text.write_all(number)?;
-        self.text.write_all(b"\n")
+        self.lines.text("call ");
+        self.lines.text(name_of(self.plan, peer));
+        self.lines.text(" ");
+        self.lines.put(number);
+        self.lines.text("\n");
     }
 }

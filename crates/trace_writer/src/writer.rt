@@ -135,39 +135,33 @@ struct Writer<'a, D: Folder> {
 }
 
 impl<'a, D: Folder> Writer<'a, D> {
-    // The head of the next part.
-    fn next_head(&mut self, is_at_rest: bool) -> Head<'a> {
+    // The first lines of the next part: of one that begins where no call is up, with the order of free numbers there, or of
+    // another.
+    fn begin_part(&mut self, orders: Option<&[u8]>) -> Result<(), Fault> {
         self.part = self.part.wrapping_add(1);
-        let why_not_exact = if !self.settings.shows_digits {
-            Some("digits are written as 0")
-        } else if !is_at_rest {
-            Some("calls are up where this begins")
+        let exactness = if !self.settings.shows_digits {
+            "# Not exact: digits are written as 0.\n"
+        } else if orders.is_none() {
+            "# Not exact: calls are up where this begins.\n"
         } else {
-            None
+            "# Exact: no call is up where this begins.\n"
         };
-        Head {
-            why_not_exact,
+        let head = Head {
+            exactness,
             about: self.settings.about,
             part: self.part,
+        };
+        self.script.begin(&head, orders);
+        if self.script.lines.is_cut {
+            return Err(NO_MEMORY);
         }
-    }
-
-    // The first lines of a part that begins where no call is up, with the order of free numbers there.
-    fn begin_part(&mut self, orders: &[u8]) -> Result<(), Fault> {
-        let head = self.next_head(true);
-        self.script.begin(&head, orders).map_err(|_| NO_MEMORY)
-    }
-
-    // The first lines of another part.
-    fn go_on(&mut self) -> Result<(), Fault> {
-        let head = self.next_head(false);
-        self.script.go_on(&head).map_err(|_| NO_MEMORY)
+        Ok(())
     }
 
     // The lines that there are go to the file.
     fn write(&mut self) -> Result<(), Fault> {
         let before = self.file.length();
-        self.file.write(&mut self.script.text)?;
+        self.file.write(&mut self.script.lines.octets)?;
         let octets = self.file.length().saturating_sub(before);
         self.written = self.written.saturating_add(octets);
         self.trace.count_written(octets);
@@ -175,65 +169,56 @@ impl<'a, D: Folder> Writer<'a, D> {
     }
 
     // The next file is begun.
-    fn turn_over(&mut self) -> Result<(), Fault> {
+    fn turn_over(&mut self, orders: Option<&[u8]>) -> Result<(), Fault> {
         self.write()?;
         self.file.finish();
         self.file = self
             .settings
             .folder
             .next(self.disk, self.alloc, &self.file)?;
-        Ok(())
+        self.begin_part(orders)
     }
 
     // How many octets the file has once the lines are written.
     fn length(&self) -> u64 {
         self.file
             .length()
-            .saturating_add(self.script.text.len() as u64)
+            .saturating_add(self.script.lines.octets.len() as u64)
     }
 
     // The lines of a call. It may begin a file: where no call is up, a file that is half as long as it may be has a next one.
     fn tell(&mut self, thread: usize, mark: &Mark, octets: &[u8]) -> Result<(), Fault> {
         let part = self.settings.folder.part();
-        if matches!(mark.input, Input::Rest) && self.length() >= part / 2 {
-            self.turn_over()?;
-            self.begin_part(octets)?;
-        } else if self.length() >= part {
-            self.turn_over()?;
-            self.go_on()?;
+        let length = self.length();
+        if matches!(mark.input, Input::Rest) && length >= part / 2 {
+            self.turn_over(Some(octets))?;
+        } else if length >= part {
+            self.turn_over(None)?;
         }
         if !self.script.push(thread, mark, octets) {
             self.trace.count_lost();
         }
-        if self.script.text.len() >= PIECE {
+        if self.script.lines.octets.len() >= PIECE {
             self.write()?;
         }
         Ok(())
     }
 }
 
-// The thread whose next call has this number.
-fn thread_of(taken: &[Taken], number: u64) -> Option<usize> {
-    for (thread, one) in taken.iter().enumerate() {
-        if one.next() == Some(number) {
-            return Some(thread);
-        }
-    }
-    None
-}
-
-// The lines of calls, in the order in which they began, as far as that is known. True if there were some.
-fn tell_all<D: Folder>(taken: &mut [Taken], writer: &mut Writer<'_, D>) -> Result<bool, Fault> {
+// The lines of calls, in the order in which they began, as far as that is known: of each thread in turn those that come next.
+// True if there were some.
+fn tell_some<R: Wait, D: Folder>(
+    rt: &R,
+    taken: &mut [Taken],
+    writer: &mut Writer<'_, D>,
+) -> Result<bool, Fault> {
     let mut has_told = false;
-    for _ in 0..u64::MAX {
-        let Some(thread) = thread_of(taken, writer.next) else {
-            break;
-        };
-        let Some(one) = taken.get_mut(thread) else {
-            break;
-        };
-        one.tell(thread, writer)?;
-        has_told = true;
+    for (thread, one) in taken.iter_mut().enumerate() {
+        one.refill(rt, writer.trace, thread);
+        if one.next() == Some(writer.next) {
+            one.tell(thread, writer)?;
+            has_told = true;
+        }
     }
     Ok(has_told)
 }
@@ -255,15 +240,12 @@ fn write_noted<R: Wait, D: Folder>(
     are_over: bool,
 ) -> Result<(), Fault> {
     for _ in 0..u64::MAX {
-        for (thread, one) in notes.taken.iter_mut().enumerate() {
-            one.refill(rt, writer.trace, thread);
-        }
-        if !tell_all(&mut notes.taken, writer)? {
+        if !tell_some(rt, &mut notes.taken, writer)? {
             break;
         }
     }
     if are_over {
-        let _ = writer.script.end();
+        writer.script.end();
     }
     writer.write()?;
     if are_over {
@@ -275,6 +257,28 @@ fn write_noted<R: Wait, D: Folder>(
 }
 
 // Writes what the threads of a service note, until they are over.
+fn write_rounds<R: Clock + Wait, D: Folder>(
+    rt: &R,
+    notes: &mut TraceNotes,
+    writer: &mut Writer<'_, D>,
+) -> Result<(), Fault> {
+    writer.begin_part(Some(b""))?;
+    let mut rest_ms = REST_MS;
+    for _ in rt.forever() {
+        // (asked first, so that nothing is missed that a thread noted before its end)
+        let are_over = writer.trace.are_over();
+        writer.written = 0;
+        write_noted(rt, notes, writer, are_over)?;
+        if are_over {
+            break;
+        }
+        rest_ms = rest_after(writer.written, rest_ms);
+        thread::sleep(rt, Duration::from_millis(rest_ms));
+    }
+    Ok(())
+}
+
+// The same, to the files of a folder. Where that fails the writer gives up.
 fn write_trace<R: Clock + Wait, D: Folder>(
     rt: &R,
     disk: &D,
@@ -285,17 +289,15 @@ fn write_trace<R: Clock + Wait, D: Folder>(
     file: TraceFile,
 ) {
     let mut notes = notes;
-    let alloc = notes.alloc;
     let manner = Manner {
         shows_digits: settings.shows_digits,
     };
-    let Ok(script) = Script::new(alloc, plan, manner) else {
-        trace.give_up(NO_MEMORY);
-        return;
+    let Ok(script) = Script::new(notes.alloc, plan, manner) else {
+        return trace.give_up(NO_MEMORY);
     };
     let mut writer = Writer {
         disk,
-        alloc,
+        alloc: notes.alloc,
         trace,
         settings,
         script,
@@ -304,24 +306,8 @@ fn write_trace<R: Clock + Wait, D: Folder>(
         next: 0,
         written: 0,
     };
-    if let Err(fault) = writer.begin_part(b"") {
+    if let Err(fault) = write_rounds(rt, &mut notes, &mut writer) {
         trace.give_up(fault);
-        return;
-    }
-    let mut rest_ms = REST_MS;
-    for _ in rt.forever() {
-        // (asked first, so that nothing is missed that a thread noted before its end)
-        let are_over = trace.are_over();
-        writer.written = 0;
-        if let Err(fault) = write_noted(rt, &mut notes, &mut writer, are_over) {
-            trace.give_up(fault);
-            break;
-        }
-        if are_over {
-            break;
-        }
-        rest_ms = rest_after(writer.written, rest_ms);
-        thread::sleep(rt, Duration::from_millis(rest_ms));
     }
 }
 
