@@ -1,5 +1,5 @@
 //! Datagrams that come from the peers, each at its moment: a peer in the west calls 300, which leads east.
-use crate::desk::{Desk, EAST, WEST, told_by};
+use crate::desk::{Desk, EAST, WEST};
 use exchange_core::Gate;
 use peer_lock::Naming;
 use peer_plan::Endpoint;
@@ -89,7 +89,7 @@ const SHORT: Arrival = Arrival {
 };
 
 /// The call from its first datagram to its last.
-pub const WHOLE_CALL: [Arrival; 7] = [
+pub static WHOLE_CALL: [Arrival; 7] = [
     CALLED,
     ACCEPT_TAKEN,
     ACCEPTS,
@@ -100,7 +100,7 @@ pub const WHOLE_CALL: [Arrival; 7] = [
 ];
 
 /// The same, with a second call while the first goes on.
-pub const WITH_SECOND_CALL: [Arrival; 8] = [
+pub static WITH_SECOND_CALL: [Arrival; 8] = [
     CALLED,
     ACCEPT_TAKEN,
     ACCEPTS,
@@ -112,7 +112,7 @@ pub const WITH_SECOND_CALL: [Arrival; 8] = [
 ];
 
 /// The call until both legs are up; then what nobody should send.
-pub const WITH_A_STRANGER: [Arrival; 7] = [
+pub static WITH_A_STRANGER: [Arrival; 7] = [
     CALLED,
     ACCEPT_TAKEN,
     ACCEPTS,
@@ -122,23 +122,8 @@ pub const WITH_A_STRANGER: [Arrival; 7] = [
     SHORT,
 ];
 
-/// The call until it is accepted, at once, and a voice frame from the east.
-pub const ACCEPTED: [Arrival; 3] = [
-    CALLED,
-    Arrival {
-        at: 0,
-        from: EAST,
-        octets: EAST_ACCEPT,
-    },
-    Arrival {
-        at: 20,
-        from: EAST,
-        octets: b"\x80\x09\x00\x05\x00\x00\x00\x14\x01\x01\x02\x04\xff",
-    },
-];
-
 /// The call until both legs are up; then a voice frame and a mini frame from the east, and a digit from the west.
-pub const MEDIA_AND_DIGIT: [Arrival; 8] = [
+pub static MEDIA_AND_DIGIT: [Arrival; 8] = [
     CALLED,
     ACCEPT_TAKEN,
     ACCEPTS,
@@ -162,14 +147,14 @@ pub const MEDIA_AND_DIGIT: [Arrival; 8] = [
 ];
 
 /// What goes to the west in the whole call, in order.
-pub const TO_WEST: [&[u8]; 3] = [
+pub static TO_WEST: [&[u8]; 3] = [
     b"\x80\x01\x00\x07\x00\x00\x00\x00\x00\x01\x06\x07\x09\x04\x00\x00\x00\x04",
     b"\x80\x01\x00\x07\x00\x00\x00\x14\x01\x01\x04\x04",
     b"\x80\x01\x00\x07\x00\x00\x00\x64\x02\x02\x06\x04",
 ];
 
 /// What goes to the east, in order.
-pub const TO_EAST: [&[u8]; 4] = [
+pub static TO_EAST: [&[u8]; 4] = [
     b"\x80\x05\x00\x00\x00\x00\x00\x00\x00\x00\x06\x01\x0b\x02\x00\x02\x01\x03\x33\x30\x30\x09\x04\x00\x00\x00\x04\x08\x04\x00\
     \x00\x00\x04",
     b"\x80\x05\x00\x09\x00\x00\x00\x03\x01\x01\x06\x04",
@@ -181,6 +166,6 @@ pub const TO_EAST: [&[u8]; 4] = [
 /// These come, whatever is answered.
 pub fn hear_all<R: Wait, G: Gate, J: Naming>(desk: &mut Desk<'_, R, G, J>, arrivals: &[Arrival]) {
     for arrival in arrivals {
-        let _told = told_by(desk.datagram(arrival.from, arrival.octets, arrival.at));
+        let _told = desk.datagram(arrival.from, arrival.octets, arrival.at);
     }
 }

@@ -143,7 +143,7 @@ pub struct Call {
 }
 
 /// Type, subclass and data of what is sent on a call ("Full Frames"). What ends a call is rare among them.
-const FRAMES: [(u8, u8, &[u8]); 24] = [
+static FRAMES: [(u8, u8, &[u8]); 24] = [
     // ACK, VNAK, PING, LAGRQ, POKE.
     (6, 4, &[]),
     (6, 4, &[]),
@@ -179,7 +179,7 @@ impl Call {
     pub fn full(&self, now: u64, dice: &mut Dice) -> Sent {
         let (kind, subclass, octets) = match FRAMES.get(dice.place(FRAMES.len())) {
             Some(frame) => *frame,
-            None => (6, 4, FRAMES[0].2),
+            None => (6, 4, [].as_slice()),
         };
         let source = (self.source | 0x8000).to_be_bytes();
         let number = self.number.to_be_bytes();

@@ -4,7 +4,7 @@ use call_auth::Challenge;
 use call_book::LegName;
 use exchange_core::{Answer, Exchange, Gate, Pass, Refusal};
 use iax_frames::Out;
-use peer_lock::{Description, Naming, OrderError, Status, Sums};
+use peer_lock::{Naming, OrderError, Status};
 use peer_plan::Endpoint;
 use std::sync::Wait;
 
@@ -43,9 +43,11 @@ pub fn peer_of(number: u16) -> u16 {
 
 impl<R: Wait, G: Gate, J: Naming> Desk<'_, R, G, J> {
     /// A datagram comes from an endpoint.
-    pub fn datagram(&mut self, from: Endpoint, octets: &[u8], now: u64) -> Answer {
-        self.exchange
-            .datagram(self.rt, self.pass, from, octets, now, self.challenge)
+    pub fn datagram(&mut self, from: Endpoint, octets: &[u8], now: u64) -> Told {
+        told_by(
+            self.exchange
+                .datagram(self.rt, self.pass, from, octets, now, self.challenge),
+        )
     }
 
     /// Time goes on at a peer.
@@ -56,15 +58,12 @@ impl<R: Wait, G: Gate, J: Naming> Desk<'_, R, G, J> {
         Some(told_by(self.exchange.tick(self.rt, self.pass, peer, now)))
     }
 
-    /// A leg hangs up.
-    pub fn hang_up(&mut self, name: LegName, now: u64) -> Option<Result<Told, OrderError>> {
+    /// A leg hangs up. Gives why it doesn't.
+    pub fn hang_up(&mut self, name: LegName, now: u64) -> Option<OrderError> {
         if name.peer >= self.exchange.plan().peer_count() {
-            return None;
+            return Some(OrderError::Gone);
         }
-        match self.exchange.hang_up(self.rt, self.pass, name, now) {
-            Ok(answer) => Some(Ok(told_by(answer))),
-            Err(error) => Some(Err(error)),
-        }
+        self.exchange.hang_up(self.rt, self.pass, name, now).err()
     }
 
     /// The oldest datagram for a peer. `None`, too, where none waits.
@@ -75,14 +74,6 @@ impl<R: Wait, G: Gate, J: Naming> Desk<'_, R, G, J> {
         self.exchange.take_out(self.rt, self.pass, peer)
     }
 
-    /// The same, written over this one. False where none waits.
-    pub fn take_into(&mut self, peer: u16, out: &mut Out) -> bool {
-        if peer >= self.exchange.plan().peer_count() {
-            return false;
-        }
-        self.exchange.take_into(self.rt, self.pass, peer, out)
-    }
-
     /// How the leg of a number stands, at whatever peer. `None`, too, where there is none.
     pub fn status(&mut self, number: u16) -> Option<Status> {
         let peer = peer_of(number);
@@ -90,28 +81,6 @@ impl<R: Wait, G: Gate, J: Naming> Desk<'_, R, G, J> {
             return None;
         }
         self.exchange.status(self.rt, self.pass, peer, number)
-    }
-
-    /// The leg of a number, at whatever peer. `None`, too, where there is none.
-    pub fn describe(&mut self, number: u16) -> Option<Description> {
-        let peer = peer_of(number);
-        if peer >= self.exchange.plan().peer_count() {
-            return None;
-        }
-        self.exchange.describe(self.rt, self.pass, peer, number)
-    }
-
-    /// The leg that a leg is bridged with.
-    pub fn partner_of(&mut self, name: LegName) -> Option<LegName> {
-        self.exchange.partner_of(self.rt, self.pass, name)
-    }
-
-    /// The sums of a peer's accounts.
-    pub fn sums(&mut self, peer: u16) -> Option<Sums> {
-        if peer >= self.exchange.plan().peer_count() {
-            return None;
-        }
-        Some(self.exchange.sums(self.rt, self.pass, peer))
     }
 }
 
@@ -124,8 +93,8 @@ pub struct Told {
     pub retired: usize,
 }
 
-/// What an answer tells.
-pub fn told_by(answer: Answer) -> Told {
+// What an answer tells.
+fn told_by(answer: Answer) -> Told {
     Told {
         refused: answer.refused,
         steps: answer.steps,
@@ -141,7 +110,7 @@ pub fn heard<R: Wait, G: Gate, J: Naming>(
     now: u64,
 ) -> Told {
     let from = if peer == WEST_PLACE { WEST } else { EAST };
-    told_by(desk.datagram(from, octets, now))
+    desk.datagram(from, octets, now)
 }
 
 /// Time goes on at both peers.

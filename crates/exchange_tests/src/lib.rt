@@ -1,5 +1,5 @@
-//! Tests of an exchange: growths that are refused, datagrams that nobody should send, a storm of them, passes that are missing,
-//! two workers at once, and the program that serves. Those of the workers over wires and sockets stand in `wires`.
+//! Tests of an exchange: growths that are refused, datagrams that nobody should send, a storm of them, and two workers at once.
+//! Those of the workers over wires and sockets stand in `wires`.
 #![tactic(auto)]
 
 #[cfg(test)]
@@ -13,11 +13,7 @@ mod growths;
 #[cfg(test)]
 mod hostile;
 #[cfg(test)]
-mod leaving;
-#[cfg(test)]
 mod legs;
-#[cfg(test)]
-mod looking;
 #[cfg(test)]
 mod opened;
 #[cfg(test)]
@@ -26,10 +22,6 @@ mod pairs;
 mod recovery;
 #[cfg(test)]
 mod same;
-#[cfg(test)]
-mod serving;
-#[cfg(test)]
-mod settling;
 #[cfg(test)]
 mod storm;
 #[cfg(test)]

@@ -2,14 +2,11 @@
 ghost use Rattle.std.specs.Prelude.{◌≡◌, ◌+◌, ◌^◌, length};
 
 use crate::desk::Desk;
-use crate::growths::{call_and_end, call_up};
-use crate::hostile::{from_nobody, outbox_filled, poked};
-use crate::leaving::left;
-use crate::looking::looked;
+use crate::growths::call_and_end;
+use crate::hostile::{outbox_filled, poked};
 use crate::pairs::at_once;
 use crate::recovery::{Sums, ended};
 use crate::same::holds;
-use crate::settling::queue_filled;
 use crate::storm::storm_and_end;
 use crate::two_peers::Progress;
 use crate::wires::{
@@ -30,25 +27,15 @@ use std::thread::Threads;
 use std::time::Clock;
 use udp_workers::Post;
 
-/// What is played on an exchange under its last pass, and asserts what it comes to.
+/// What is played on an exchange under its only pass, and asserts what it comes to.
 #[derive(Clone, Copy)]
 pub enum Scene {
-    /// The queue of a peer is filled, under the second of two passes.
-    QueueFilled,
-    /// A call with media and a digit.
-    Call,
     /// A call with media and a digit, then an end to it.
     CallAndEnd,
-    /// A datagram comes from nobody of the plan.
-    FromNobody,
     /// Nobody takes out what waits to be sent.
     OutboxFilled,
     /// A hundred thousand POKEs, then a call.
     Poked,
-    /// An accepted call is looked at from outside.
-    Looked,
-    /// An accepted call ends, and its legs are told.
-    Left,
     /// A storm of datagrams, then an end to all calls.
     Storm,
 }
@@ -79,34 +66,27 @@ fn play_scene<R: Abort + Wait, G: Gate, J: Naming>(
     desk: &mut Desk<'_, R, G, J>,
 ) {
     match scene {
-        Scene::QueueFilled => queue_filled(rt, desk),
-        Scene::Call => call_up(rt, desk),
         Scene::CallAndEnd => call_and_end(rt, desk),
-        Scene::FromNobody => from_nobody(rt, desk),
         Scene::OutboxFilled => outbox_filled(rt, desk),
         Scene::Poked => poked(rt, desk),
-        Scene::Looked => looked(rt, desk),
-        Scene::Left => left(rt, desk),
         Scene::Storm => storm_and_end(rt, desk),
     }
 }
 
-// A scene is played under the last pass: the only one, or of `QueueFilled` the second of two.
-fn play_last<R: Abort + Wait, G: Gate, J: Naming>(
+// A scene is played under the only pass.
+fn play_only<R: Abort + Wait, G: Gate, J: Naming>(
     rt: &R,
     scene: Scene,
     exchange: &Exchange<G, J>,
     passes: &mut [Pass<J>],
 ) {
-    let count = match scene {
-        Scene::QueueFilled => 2,
-        _ => 1,
+    let [pass] = passes else {
+        panic!(rt; "one pass");
     };
-    holds(rt, "as many passes as the plan says", passes.len() == count);
     let mut desk = Desk {
         rt,
         exchange,
-        pass: passes.last_mut().expect(rt, "a pass"),
+        pass,
         challenge: &Challenge::new(b"0").expect(rt, "a challenge"),
     };
     play_scene(rt, scene, &mut desk);
@@ -147,7 +127,7 @@ fn play_any<
     requires { exchange.now ≡ P.plan }
 {
     match play {
-        Play::Scene(scene) => play_last(rt, scene, exchange, passes),
+        Play::Scene(scene) => play_only(rt, scene, exchange, passes),
         Play::Tickers => play_pair(rt, exchange, passes, None),
         Play::TwoTicks(progress) => play_pair(rt, exchange, passes, Some(progress)),
         Play::Run(run, ran) => *ran = Some(run_first(rt, alloc, run, exchange, passes)),
@@ -233,16 +213,6 @@ pub fn play_with<R: Abort + Clock + Net + Sync + Threads + Wait, G: Gate + Sync>
     play_named::<R, G, Brand, Brand, Brand>(rt, alloc, plan, gate, played, octets, steps)
 }
 
-/// Plays a scene on an exchange of a plan. `None` as `play_with` answers it.
-pub fn try_scene<R: Abort + Clock + Net + Sync + Threads + Wait>(
-    rt: &R,
-    alloc: Global,
-    plan: &str,
-    scene: Scene,
-) -> Option<Sums> {
-    play_with(rt, alloc, plan, NoGate, Play::Scene(scene))
-}
-
 /// Plays a scene on an exchange of a plan, with ample memory.
 pub fn play_on<R: Abort + Clock + Net + Sync + Threads + Wait>(
     rt: &R,
@@ -250,5 +220,5 @@ pub fn play_on<R: Abort + Clock + Net + Sync + Threads + Wait>(
     plan: &str,
     scene: Scene,
 ) -> Sums {
-    try_scene(rt, alloc, plan, scene).expect(rt, "an exchange")
+    play_with(rt, alloc, plan, NoGate, Play::Scene(scene)).expect(rt, "an exchange")
 }

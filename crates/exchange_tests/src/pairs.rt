@@ -1,7 +1,7 @@
 //! What two threads do with an exchange at once, each with a pass of its own.
 
-use crate::desk::Desk;
-use crate::two_peers::{Progress, tick_east, tick_west};
+use crate::desk::{Desk, WEST_PLACE};
+use crate::two_peers::{Progress, tick, tick_east};
 use crate::workers::ticked;
 use exchange_core::Gate;
 use peer_lock::Naming;
@@ -18,7 +18,7 @@ fn first<R: Abort + Wait, G: Gate, J: Naming>(
     progress: Option<&Progress>,
 ) {
     match progress {
-        Some(_) => tick_west(rt, desk),
+        Some(_) => tick(rt, desk, WEST_PLACE),
         None => ticked(rt, desk),
     }
 }

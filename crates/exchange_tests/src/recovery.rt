@@ -25,8 +25,8 @@ fn hangs_up<R: Wait, G: Gate, J: Naming>(
 ) -> bool {
     for _ in 0..2 {
         match desk.hang_up(name, now) {
-            Some(Err(OrderError::Memory)) => {}
-            Some(Ok(_) | Err(OrderError::WrongStage)) => return true,
+            Some(OrderError::Memory) => {}
+            None | Some(OrderError::WrongStage) => return true,
             _ => return false,
         }
     }
@@ -66,31 +66,18 @@ pub fn legs_up_to<R: Wait, G: Gate, J: Naming>(desk: &mut Desk<'_, R, G, J>, las
     legs
 }
 
-// A caller from this call number of a peer is let in. A growth that is refused is asked for again.
-fn is_let_in<R: Wait, G: Gate, J: Naming>(
-    desk: &mut Desk<'_, R, G, J>,
-    peer: u16,
-    source: u8,
-    now: u64,
-) -> bool {
-    let mut octets = LATE_NEW;
-    octets[1] = source;
-    for _ in 0..2 {
-        if heard(desk, peer, &octets, now).refused.is_none() {
-            return true;
-        }
-    }
-    false
-}
-
-// Four callers of a peer are let in, as many as it has numbers.
+// Four callers of a peer are let in, as many as it has numbers. A growth that is refused is asked for again.
 fn all_are_let_in<R: Wait, G: Gate, J: Naming>(
     desk: &mut Desk<'_, R, G, J>,
     peer: u16,
     now: u64,
 ) -> bool {
+    let mut octets = LATE_NEW;
     for source in 96..100 {
-        if !is_let_in(desk, peer, source, now) {
+        octets[1] = source;
+        if heard(desk, peer, &octets, now).refused.is_some()
+            && heard(desk, peer, &octets, now).refused.is_some()
+        {
             return false;
         }
     }
@@ -113,7 +100,6 @@ pub fn recovers<R: Wait, G: Gate, J: Naming>(desk: &mut Desk<'_, R, G, J>, now: 
 /// The sums of closed accounts.
 #[derive(Clone, Copy)]
 pub struct Sums {
-    pub peers: usize,
     pub accepted: u64,
     pub packed: u64,
     pub queued: u64,
@@ -156,7 +142,6 @@ fn handed_back<R: Abort, G: Gate, J: Naming>(
 fn sums_of<R: Abort, G: Gate, J: Naming>(rt: &R, settled: Settled<G, J>) -> Sums {
     match settled {
         Ok(settlement) => Sums {
-            peers: settlement.peers.len(),
             accepted: settlement.accepted,
             packed: settlement.packed,
             queued: settlement.queued,

@@ -53,15 +53,10 @@ impl<R: Clock> Gate for HoldsWest<'_, R> {
     }
 }
 
-// A tick of a peer isn't refused.
-fn tick<R: Abort + Wait, G: Gate, J: Naming>(rt: &R, desk: &mut Desk<'_, R, G, J>, peer: u16) {
+/// A tick of a peer isn't refused.
+pub fn tick<R: Abort + Wait, G: Gate, J: Naming>(rt: &R, desk: &mut Desk<'_, R, G, J>, peer: u16) {
     let told = desk.tick(peer, 0).expect(rt, "a peer");
     holds(rt, "a tick", told.refused.is_none());
-}
-
-/// A tick of the west.
-pub fn tick_west<R: Abort + Wait, G: Gate, J: Naming>(rt: &R, desk: &mut Desk<'_, R, G, J>) {
-    tick(rt, desk, WEST_PLACE);
 }
 
 /// A tick of the east, once the west is held.

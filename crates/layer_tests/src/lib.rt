@@ -1,6 +1,5 @@
-//! Tests of the layers below an exchange, one module each, by what they offer to those above: outside values, and each public
-//! function once. Those of a whole leg stand in `leg`, those of a peer in `peer`, those of the records of ended legs in
-//! `records`.
+//! Tests of the layers below an exchange, one module each, by what they offer to those above: outside values, and each function
+//! that may want memory once. Those of a whole leg stand in `leg`, those of a peer in `peer`.
 #![tactic(auto)]
 
 #[cfg(test)]
@@ -8,23 +7,17 @@ mod book;
 #[cfg(test)]
 mod challenges;
 #[cfg(test)]
-mod elements;
-#[cfg(test)]
-mod frames;
-#[cfg(test)]
 mod held_frames;
 #[cfg(test)]
 mod ledger;
 #[cfg(test)]
 mod leg;
 #[cfg(test)]
+mod octets_read;
+#[cfg(test)]
 mod outboxes;
 #[cfg(test)]
 mod peer;
-#[cfg(test)]
-mod plans;
-#[cfg(test)]
-mod records;
 #[cfg(test)]
 mod same;
 #[cfg(test)]

@@ -2,6 +2,5 @@
 
 mod credits;
 mod desk;
-mod examples;
 mod refused_memory;
 mod steps;

@@ -7,11 +7,6 @@ pub fn same<T: PartialEq + Debug>(rt: &impl Abort, found: &T, expected: &T) {
     assert_eq!(rt; *found, *expected);
 }
 
-/// These octets are found.
-pub fn same_octets(rt: &impl Abort, found: &[u8], expected: &[u8]) {
-    assert_eq!(rt; found, expected);
-}
-
 /// This holds.
 pub fn holds(rt: &impl Abort, what: &str, is_so: bool) {
     assert!(rt; is_so, "{what}");
@@ -27,11 +22,6 @@ pub struct Place<'a> {
 /// At a place of a table, what is found is what is expected.
 pub fn same_at<T: PartialEq + Debug>(rt: &impl Abort, at: Place<'_>, found: &T, expected: &T) {
     assert_eq!(rt; *found, *expected, "{}, step {}", at.case, at.step);
-}
-
-/// At a place of a table, these octets are found.
-pub fn same_octets_at(rt: &impl Abort, at: Place<'_>, found: &[u8], expected: &[u8]) {
-    assert_eq!(rt; found, expected, "{}, step {}", at.case, at.step);
 }
 
 /// At a place of a table, all is as it should be.

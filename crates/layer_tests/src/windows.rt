@@ -1,8 +1,8 @@
 //! Windows of sequence numbers.
 ghost use Rattle.std.specs.Prelude.{◌≤◌, length};
 
-use crate::same::{Place, holds, holds_at, same, same_octets};
-use seq_window::{Acknowledged, EntryView, FrameView, Received, Record, Resent, SendError, Window};
+use crate::same::{Place, holds_at};
+use seq_window::{Acknowledged, FrameView, Received, Resent, SendError, Window};
 use std::alloc::Global;
 use std::process::Abort;
 
@@ -27,12 +27,8 @@ enum Step {
     Touches(u64),
     /// So many frames are held, the oldest under this number.
     Holds(usize, Option<u8>),
-    /// This is the number of the next frame that goes out.
-    Next(u8),
-    /// The record has so many entries.
-    Entries(usize),
-    /// The record has so many frames that were sent, acknowledged and taken.
-    Counts(usize, usize, usize),
+    /// The number of the next frame that goes out, and how many frames the record has as sent, as acknowledged and as taken.
+    Counts(u8, [usize; 3]),
 }
 
 /// What happens to a window for 64 frames, or for 127.
@@ -43,7 +39,7 @@ struct Case {
     steps: &'static [Step],
 }
 
-const CASES: [Case; 7] = [
+static CASES: [Case; 7] = [
     Case {
         name: "acknowledgement counts",
         is_wide: true,
@@ -53,8 +49,8 @@ const CASES: [Case; 7] = [
             Step::Holds(1, Some(2)),
             Step::Acknowledges(4, Acknowledged::Ignored),
             Step::Acknowledges(2, Acknowledged::Acked(0)),
-            // Three sent, one acknowledgement that counts.
-            Step::Entries(4),
+            // Three sent, two acknowledged by the one that counts.
+            Step::Counts(3, [3, 2, 0]),
         ],
     },
     Case {
@@ -63,10 +59,10 @@ const CASES: [Case; 7] = [
         steps: &[
             Step::Turns(250),
             Step::Sends(8),
-            Step::Counts(258, 250, 0),
+            Step::Counts(2, [258, 250, 0]),
             Step::Acknowledges(1, Acknowledged::Acked(7)),
             Step::Holds(1, Some(1)),
-            Step::Counts(258, 257, 0),
+            Step::Counts(2, [258, 257, 0]),
         ],
     },
     Case {
@@ -79,7 +75,7 @@ const CASES: [Case; 7] = [
             Step::Receives(4, Received::Taken),
             Step::Receives(5, Received::Taken),
             Step::Receives(5, Received::Repeat),
-            Step::Counts(0, 0, 6),
+            Step::Counts(0, [0, 0, 6]),
         ],
     },
     Case {
@@ -87,7 +83,7 @@ const CASES: [Case; 7] = [
         is_wide: true,
         steps: &[
             Step::Turns(300),
-            Step::Next(44),
+            Step::Counts(44, [300, 300, 0]),
             Step::Holds(0, None),
             Step::Acknowledges(44, Acknowledged::Acked(0)),
             Step::Acknowledges(45, Acknowledged::Ignored),
@@ -139,33 +135,14 @@ fn frame() -> FrameView<'static>
     }
 }
 
-// A frame goes out. Gives its number.
-fn send(window: &mut Window) -> Result<u8, SendError> {
-    window.send(frame(), 0)
-}
-
-fn acknowledge(window: &mut Window, iseq: u8) -> Option<Acknowledged> {
-    window.acknowledge(iseq).ok()
-}
-
-fn receive(window: &mut Window, oseq: u8) -> Option<Received> {
-    window.receive(oseq, frame()).ok()
-}
-
-// Whether a frame goes out, and is acknowledged where that is wanted.
-fn sends(window: &mut Window, is_acknowledged: bool) -> bool {
-    let number = window.next();
-    if send(window) != Ok(number) {
-        return false;
-    }
-    let next = number.wrapping_add(1);
-    !is_acknowledged || acknowledge(window, next) == Some(Acknowledged::Acked(1))
-}
-
-// Whether so many frames go out.
+// Whether so many frames go out, each under the next number, and each is acknowledged where that is wanted.
 fn sends_all(window: &mut Window, count: u32, are_acknowledged: bool) -> bool {
     for _ in 0..count {
-        if !sends(window, are_acknowledged) {
+        let number = window.next();
+        let is_sent = window.send(frame(), 0) == Ok(number);
+        let next = number.wrapping_add(1);
+        let is_right = !are_acknowledged || window.acknowledge(next) == Ok(Acknowledged::Acked(1));
+        if !is_sent || !is_right {
             return false;
         }
     }
@@ -176,40 +153,30 @@ fn sends_all(window: &mut Window, count: u32, are_acknowledged: bool) -> bool {
 fn takes_all(window: &mut Window, count: u32) -> bool {
     for _ in 0..count {
         let number = window.expected();
-        if receive(window, number) != Some(Received::Taken) {
+        if window.receive(number, frame()) != Ok(Received::Taken) {
             return false;
         }
     }
     true
 }
 
-fn oldest_held(window: &Window) -> Option<u8> {
+// How many frames are held, and the number of the oldest.
+fn held(window: &Window) -> (usize, Option<u8>) {
     match window.held(0) {
-        Some(held) => Some(held.number),
-        None => None,
+        Some(held) => (window.held_len(), Some(held.number)),
+        None => (window.held_len(), None),
     }
 }
 
-// How many frames the record has as sent, as acknowledged and as taken.
-fn counts_of(record: &Record) -> (usize, usize, usize) {
-    (
+// The number of the next frame, and how many frames the record has as sent, as acknowledged and as taken.
+fn counts(window: &Window) -> (u8, [usize; 3]) {
+    let record = window.record();
+    let counts = [
         record.sent_count(),
         record.acked_count(),
         record.taken_count(),
-    )
-}
-
-// Whether this is seen of a window.
-fn shows(window: &Window, step: Step) -> bool {
-    match step {
-        Step::Holds(count, oldest) => window.held_len() == count && oldest_held(window) == oldest,
-        Step::Next(number) => window.next() == number,
-        Step::Entries(count) => window.record().len() == count,
-        Step::Counts(sent, acknowledged, taken) => {
-            counts_of(window.record()) == (sent, acknowledged, taken)
-        }
-        _ => false,
-    }
+    ];
+    (window.next(), counts)
 }
 
 // Whether this happens to a window, or is seen of it.
@@ -217,16 +184,17 @@ fn makes(window: &mut Window, step: Step) -> bool {
     match step {
         Step::Turns(count) => sends_all(window, count, true),
         Step::Sends(count) => sends_all(window, count, false),
-        Step::IsFull => send(window) == Err(SendError::WindowFull),
+        Step::IsFull => window.send(frame(), 0) == Err(SendError::WindowFull),
         Step::Takes(count) => takes_all(window, count),
-        Step::Acknowledges(iseq, judged) => acknowledge(window, iseq) == Some(judged),
-        Step::Receives(oseq, judged) => receive(window, oseq) == Some(judged),
+        Step::Acknowledges(iseq, judged) => window.acknowledge(iseq) == Ok(judged),
+        Step::Receives(oseq, judged) => window.receive(oseq, frame()) == Ok(judged),
         Step::Resends(now, resent) => window.resend(now, 1000, 1) == resent,
         Step::Touches(now) => {
             window.touch_all(now);
             true
         }
-        _ => shows(window, step),
+        Step::Holds(count, oldest) => held(window) == (count, oldest),
+        Step::Counts(next, frames) => counts(window) == (next, frames),
     }
 }
 
@@ -249,71 +217,4 @@ fn steps_of_a_window(rt: HostRuntime) {
     for case in &CASES {
         plays(&rt, rt.alloc(), case);
     }
-}
-
-// A voice frame of these octets goes out.
-fn send_voice(window: &mut Window, payload: &[u8]) -> Option<u8>
-    requires { length payload.now ≤ 1388 }
-{
-    let frame = FrameView {
-        ts: 9,
-        kind: 2,
-        subclass: 4,
-        payload,
-    };
-    window.send(frame, 0).ok()
-}
-
-// The timestamp and the payload of a frame that was sent.
-fn sent_at(record: &Record, place: usize) -> Option<(u32, &[u8])> {
-    match record.entry(place)? {
-        EntryView::Sent(sent) => Some((sent.ts, sent.payload)),
-        _ => None,
-    }
-}
-
-// Two frames go out, with one between them that comes, and the first is acknowledged.
-fn exchanges(window: &mut Window) -> Option<Acknowledged> {
-    send_voice(window, b"a")?;
-    receive(window, 0)?;
-    send_voice(window, b"bc")?;
-    acknowledge(window, 1)
-}
-
-// The second frame is held.
-fn shows_the_second(rt: &impl Abort, window: &Window) {
-    let held = window.held(0).expect(rt, "a held frame");
-    let number = (held.number, held.frame.ts, held.frame.kind);
-    same(rt, &number, &(1, 9, 2));
-    same_octets(rt, held.frame.payload, b"bc");
-    holds(rt, "no second one", window.held(1).is_none());
-}
-
-#[test]
-fn held_frame_is_looked_at_in_the_record(rt: HostRuntime) {
-    let mut window = Window::new(rt.alloc(), 2, 64).expect(&rt, "a window");
-    holds(&rt, "a turn", exchanges(&mut window).is_some());
-    shows_the_second(&rt, &window);
-}
-
-// A frame is taken, and the longest goes out, for which there is room.
-fn sends_the_longest(window: &mut Window) -> Option<u8> {
-    receive(window, 0)?;
-    window.reserve(2).ok()?;
-    send_voice(window, &[0xaa; 1388])
-}
-
-// The longest frame stands in the record, behind the first.
-fn has_the_longest(rt: &impl Abort, record: &Record) {
-    let (ts, payload) = sent_at(record, 1).expect(rt, "a sent frame");
-    same(rt, &ts, &9);
-    same_octets(rt, payload, &[0xaa; 1388]);
-    holds(rt, "no third entry", record.entry(2).is_none());
-}
-
-#[test]
-fn record_keeps_frames(rt: HostRuntime) {
-    let mut window = Window::new(rt.alloc(), 64, 4096).expect(&rt, "a window");
-    holds(&rt, "it is sent", sends_the_longest(&mut window).is_some());
-    has_the_longest(&rt, &window.into_record());
 }

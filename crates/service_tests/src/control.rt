@@ -1,7 +1,6 @@
-//! Tests of the control socket's requests and answers: hostile requests, each path with each method, bodies, tables.
+//! Tests of the control socket's requests and answers: hostile requests, bodies, tables.
 
 mod answers;
 mod bodies;
-mod commands;
 mod requests;
 mod tables;

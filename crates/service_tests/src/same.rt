@@ -7,11 +7,6 @@ pub fn same<T: PartialEq + Debug>(rt: &impl Abort, found: &T, expected: &T) {
     assert_eq!(rt; *found, *expected);
 }
 
-/// This text is found.
-pub fn same_text(rt: &impl Abort, found: &str, expected: &str) {
-    assert_eq!(rt; found, expected);
-}
-
 /// These octets are found.
 pub fn same_octets(rt: &impl Abort, found: &[u8], expected: &[u8]) {
     assert_eq!(rt; found, expected);
@@ -27,4 +22,9 @@ pub struct Row<'a> {
 /// At a row of a table, what is found is what is expected.
 pub fn same_at<T: PartialEq + Debug>(rt: &impl Abort, at: Row<'_>, found: &T, expected: &T) {
     assert_eq!(rt; *found, *expected, "{}, row {}", at.table, at.row);
+}
+
+/// At a row of a table, all is as it should be.
+pub fn holds_at(rt: &impl Abort, at: Row<'_>, is_so: bool) {
+    assert!(rt; is_so, "{}, row {}", at.table, at.row);
 }

@@ -5,137 +5,138 @@
 ghost use Rattle.std.specs.Prelude.{◌≤◌, length};
 
 use crate::leg::lines::{ANSWERING, Event, Handed, Line};
-use crate::leg::{Opening, Tested, Wish, leg_of};
+use crate::leg::{Tested, Wish, leg_of};
 use crate::same::{Place, same, same_at};
 use leg_machine::{Judged, Stage};
 use seq_window::{Acknowledged, FrameView, Received, Window};
 use std::alloc::Global;
 use std::process::Abort;
 use test_plans::frames::NEW_300;
-use test_plans::west_and_east;
-
-/// No leg pings.
-const NO_PINGS: &str = west_and_east!(format 2 "ping_ms = 0"; west; east;);
-
-/// A leg pings after 30 milliseconds.
-const PINGS: &str = west_and_east!(format 2 "ping_ms = 30"; west; east;);
 
 /// A digit and media come, a digit and media go out, and the call is hung up.
-const TALK: [Line<'static>; 5] = [
+static TALK: [Line<'static>; 5] = [
     Line {
         at: 32,
         event: Event::Frame(Judged::Taken, Handed::Digit),
         text: "800700010000002001020135",
-        said: &["800100070000002002020604"],
+        said: "800100070000002002020604",
         stage: Stage::Up,
     },
     Line {
         at: 40,
-        event: Event::Frame(Judged::Taken, Handed::Media(12, 13)),
+        event: Event::Frame(Judged::Taken, Handed::Media),
         text: "800700010000002802020204ff",
-        said: &["800100070000002802030604"],
+        said: "800100070000002802030604",
         stage: Stage::Up,
     },
     Line {
         at: 50,
-        event: Event::Order(Wish::Digit, Ok(())),
+        event: Event::Order(Wish::Digit),
         text: "",
-        said: &["800100070000003202030135"],
+        said: "800100070000003202030135",
         stage: Stage::Up,
     },
     Line {
         at: 60,
-        event: Event::Order(Wish::Media, Ok(())),
-        text: "aa",
-        said: &["800100070000003c03030204aa"],
+        event: Event::Order(Wish::Media),
+        text: "",
+        said: "800100070000003c03030204aa",
         stage: Stage::Up,
     },
     Line {
         at: 70,
-        event: Event::Order(Wish::Hangup, Ok(())),
+        event: Event::Order(Wish::Hangup),
         text: "",
-        said: &["800100070000004604030605160f6e6f726d616c20636c656172696e672a0110"],
+        said: "800100070000004604030605160f6e6f726d616c20636c656172696e672a0110",
         stage: Stage::Closing,
     },
 ];
 
-// The leg of a NEW for 300 that answered the call.
-fn talking(rt: &impl Abort, alloc: Global, plan: &str) -> Tested {
-    let mut tested = leg_of(rt, alloc, plan, Opening::In(NEW_300), true);
+// The leg of a NEW for 300 that answered the call. It pings after so many milliseconds, and never at 0.
+fn talking(rt: &impl Abort, alloc: Global, ping_ms: u16) -> Tested {
+    let mut tested = leg_of(rt, alloc, ping_ms, NEW_300);
     tested.plays(rt, "the call is answered", &ANSWERING);
     tested
 }
 
 #[test]
 fn any_growth_of_a_leg_refused(rt: HostRuntime) {
-    talking(&rt, rt.alloc(), NO_PINGS).plays(&rt, "talk", &TALK);
+    talking(&rt, rt.alloc(), 0).plays(&rt, "talk", &TALK);
 }
 
 // The leg is Up, and four digits go out, after which its record has no room for a further frame: two more entries need memory.
-// Then this is asked of it, if anything is.
-fn fills(rt: &impl Abort, tested: &mut Tested, last: Option<Wish>) {
-    for step in 0..4usize {
-        let at = Place {
-            case: "a digit",
-            step,
-        };
-        same_at(
-            rt,
-            at,
-            &tested.grants(rt, at, 20, Wish::Digit, &[]),
-            &Ok(()),
-        );
-    }
-    if let Some(wish) = last {
-        let at = Place {
-            case: "the last wish",
-            step: 0,
-        };
-        same_at(rt, at, &tested.grants(rt, at, 20, wish, &[]), &Ok(()));
+// Then this is asked of it.
+fn fills(rt: &impl Abort, tested: &mut Tested, last: &[Wish]) {
+    asks(rt, tested, "four digits", &[Wish::Digit; 4]);
+    asks(rt, tested, "the last wish", last);
+}
+
+// These are asked of the leg, and granted.
+fn asks(rt: &impl Abort, tested: &mut Tested, case: &str, wishes: &[Wish]) {
+    for (step, wish) in wishes.iter().enumerate() {
+        let at = Place { case, step };
+        same_at(rt, at, &tested.grants(rt, at, 20, *wish), &Ok(()));
     }
 }
 
-// The frame goes out in the tick of 30, or, where its growth was refused, in that of 40.
-fn goes_out(rt: &impl Abort, tested: &mut Tested, at_30: &str, at_40: &str, stage: Stage) {
+/// A leg that pings after so many milliseconds, the last wish, and the frame that goes out in the tick of 30, or, where its
+/// growth was refused, in that of 40; and the stage after.
+#[derive(Clone, Copy)]
+struct Skipped<'a> {
+    ping_ms: u16,
+    last: &'a [Wish],
+    at_30: &'a str,
+    at_40: &'a str,
+    stage: Stage,
+}
+
+static PING: Skipped<'static> = Skipped {
+    ping_ms: 30,
+    last: &[],
+    at_30: "800100070000001e06010602",
+    at_40: "800100070000002806010602",
+    stage: Stage::Up,
+};
+
+static HANGUP: Skipped<'static> = Skipped {
+    ping_ms: 0,
+    last: &[Wish::Doom],
+    at_30: "800100070000001e06010605160f6e6f726d616c20636c656172696e672a0110",
+    at_40: "800100070000002806010605160f6e6f726d616c20636c656172696e672a0110",
+    stage: Stage::Closing,
+};
+
+// The frame goes out in the tick of 30 or of 40.
+fn goes_out(rt: &impl Abort, tested: &mut Tested, case: &Skipped<'_>) {
     let at = Place {
         case: "the ticks of 30 and 40",
         step: 0,
     };
     let skipped = tested.waits(30);
     if skipped == 0 {
-        tested.shows(rt, at, &[at_30], stage);
+        tested.shows(rt, at, case.at_30, case.stage);
         return;
     }
     same_at(rt, at, &skipped, &1);
-    tested.shows(rt, at, &[], Stage::Up);
+    tested.shows(rt, at, "", Stage::Up);
     same_at(rt, at, &tested.waits(40), &0);
-    tested.shows(rt, at, &[at_40], stage);
+    tested.shows(rt, at, case.at_40, case.stage);
+}
+
+fn plays(rt: &impl Abort, alloc: Global, case: &Skipped<'_>) {
+    let mut tested = talking(rt, alloc, case.ping_ms);
+    fills(rt, &mut tested, case.last);
+    goes_out(rt, &mut tested, case);
 }
 
 #[test]
 fn ping_without_memory(rt: HostRuntime) {
-    let mut tested = talking(&rt, rt.alloc(), PINGS);
-    fills(&rt, &mut tested, None);
-    goes_out(
-        &rt,
-        &mut tested,
-        "800100070000001e06010602",
-        "800100070000002806010602",
-        Stage::Up,
-    );
+    plays(&rt, rt.alloc(), &PING);
 }
 
 #[test]
 fn hangup_without_memory(rt: HostRuntime) {
-    let mut tested = talking(&rt, rt.alloc(), NO_PINGS);
-    fills(&rt, &mut tested, Some(Wish::Doom));
-    goes_out(
-        &rt,
-        &mut tested,
-        "800100070000001e06010605160f6e6f726d616c20636c656172696e672a0110",
-        "800100070000002806010605160f6e6f726d616c20636c656172696e672a0110",
-        Stage::Closing,
-    );
+    plays(&rt, rt.alloc(), &HANGUP);
 }
 
 // A PING of two octets of data, which no leg would send: a window doesn't look into frames.

@@ -1,8 +1,7 @@
 //! The octets of answers.
-use crate::same::{Row, same_at, same_text};
+use crate::same::{Row, same_at};
 use control_requests::{Answer, Methods, Status};
-use std::alloc::Global;
-use std::process::Abort;
+use std::alloc::{AllocError, Global};
 
 const GET_AND_POST: Methods = Methods {
     get: true,
@@ -11,7 +10,7 @@ const GET_AND_POST: Methods = Methods {
 };
 
 /// Errors, each with its reason and the octets of the answer.
-const ERRORS: [(Status, &str, &[u8]); 2] = [
+static ERRORS: [(Status, &str, &[u8]); 3] = [
     (
         Status::NotFound,
         "no such path",
@@ -24,65 +23,26 @@ Connection: close\r\n\r\n{\"error\":\"no such path\"}",
         b"HTTP/1.1 405 Method Not Allowed\r\nContent-Type: application/json\r\nContent-Length: 12\r\n\
 Connection: close\r\nAllow: GET, POST\r\n\r\n{\"error\":\"\"}",
     ),
+    (
+        Status::BadRequest,
+        "a \"quote\"\n",
+        b"HTTP/1.1 400 Bad Request\r\nContent-Type: application/json\r\nContent-Length: 25\r\n\
+Connection: close\r\n\r\n{\"error\":\"a \\\"quote\\\"\\n\"}",
+    ),
 ];
 
-const STATUSES: [(Status, u16, &str); 9] = [
-    (Status::Ok, 200, "OK"),
-    (Status::Created, 201, "Created"),
-    (Status::Accepted, 202, "Accepted"),
-    (Status::BadRequest, 400, "Bad Request"),
-    (Status::Conflict, 409, "Conflict"),
-    (Status::TooLarge, 413, "Content Too Large"),
-    (Status::Unprocessable, 422, "Unprocessable Content"),
-    (Status::HeadTooLarge, 431, "Request Header Fields Too Large"),
-    (Status::Unavailable, 503, "Service Unavailable"),
-];
-
-fn error_of(rt: &impl Abort, alloc: Global, status: Status, why: &str) -> Answer {
-    Answer::error(alloc, status, why).expect(rt, "an answer")
-}
-
-fn has_octets(
-    rt: &impl Abort,
-    at: Row<'_>,
-    alloc: Global,
-    (status, why, expected): (Status, &str, &[u8]),
-) {
-    let octets = error_of(rt, alloc, status, why)
-        .octets(alloc)
-        .expect(rt, "octets");
-    same_at(rt, at, &octets.as_slice(), &expected);
+fn octets_of(alloc: Global, status: Status, why: &str) -> Result<Vec<u8>, AllocError> {
+    Answer::error(alloc, status, why)?.octets(alloc)
 }
 
 #[test]
 fn errors(rt: HostRuntime) {
-    for (row, error) in ERRORS.iter().enumerate() {
+    for (row, (status, why, expected)) in ERRORS.iter().enumerate() {
         let at = Row {
             table: "errors",
             row,
         };
-        has_octets(&rt, at, rt.alloc(), *error);
-    }
-}
-
-#[test]
-fn reasons_are_escaped(rt: HostRuntime) {
-    let answer = error_of(&rt, rt.alloc(), Status::BadRequest, "a \"quote\"\n");
-    same_text(&rt, &answer.body, "{\"error\":\"a \\\"quote\\\"\\n\"}");
-}
-
-#[test]
-fn statuses(rt: HostRuntime) {
-    for (row, (status, code, reason)) in STATUSES.iter().enumerate() {
-        let at = Row {
-            table: "statuses",
-            row,
-        };
-        same_at(
-            &rt,
-            at,
-            &(status.code(), status.reason()),
-            &(*code, *reason),
-        );
+        let octets = octets_of(rt.alloc(), *status, why).expect(&rt, "octets");
+        same_at(&rt, at, &octets.as_slice(), expected);
     }
 }

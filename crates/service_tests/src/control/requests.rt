@@ -8,7 +8,7 @@ use std::process::Abort;
 const ORDER: &[u8] = b"POST /calls HTTP/1.1\r\nHost: x\r\nContent-Length: 4\r\n\r\nbody";
 
 /// Octets of a whole request, with its method, its path and its body.
-const WHOLE: [(&[u8], &str, &str, &[u8]); 9] = [
+static WHOLE: [(&[u8], &str, &str, &[u8]); 9] = [
     (b"GET / HTTP/1.1\r\n\r\n", "GET", "/", b""),
     (
         b"GET /peers HTTP/1.1\r\nHost: x\r\nUser-Agent: curl/8.5.0\r\nAccept: */*\r\n\r\n",
@@ -57,7 +57,7 @@ const WHOLE: [(&[u8], &str, &str, &[u8]); 9] = [
     ),
 ];
 
-const PARTS: [&[u8]; 8] = [
+static PARTS: [&[u8]; 8] = [
     b"",
     b"\r\n",
     b"GE",
@@ -68,7 +68,7 @@ const PARTS: [&[u8]; 8] = [
     b"POST /calls HTTP/1.1\r\nContent-Length: 4096\r\n\r\n",
 ];
 
-const MALFORMED: [&[u8]; 16] = [
+static MALFORMED: [&[u8]; 16] = [
     b"POST / HTTP/1.1\r\nContent-Length: 1\r\nContent-Length: 2\r\n\r\nab",
     b"POST / HTTP/1.1\r\nContent-Length: 1\r\nA: b\r\ncontent-length: 01\r\n\r\na",
     b"POST / HTTP/1.1\r\nContent-Length: +5\r\n\r\nabcde",
@@ -87,7 +87,7 @@ const MALFORMED: [&[u8]; 16] = [
     b"GET / HTTP/1.1\r\na: b\r\n c\r\n\r\n",
 ];
 
-const BODY_TOO_LARGE: [&[u8]; 4] = [
+static BODY_TOO_LARGE: [&[u8]; 4] = [
     b"POST / HTTP/1.1\r\nContent-Length: 4097\r\n\r\n",
     b"POST / HTTP/1.1\r\nContent-Length: 18446744073709551615\r\n\r\n",
     b"POST / HTTP/1.1\r\nContent-Length: 18446744073709551616\r\n\r\n",
@@ -163,7 +163,7 @@ const GET_FIELD: &[u8] = b"GET / HTTP/1.1\r\na: ";
 /// A front of 46 octets, before a body.
 const POST: &[u8] = b"POST /calls HTTP/1.1\r\nContent-Length: 4096\r\n\r\n";
 
-const LONG: [Long; 9] = [
+static LONG: [Long; 9] = [
     // The most fields, one more, and one more that isn't whole.
     Long {
         front: GET,
@@ -262,19 +262,14 @@ fn expected_of(octets: &[u8], outcome: Outcome) -> Option<Reading<'_>> {
     Some(Reading::Whole(Request { method, path, body }))
 }
 
-// The octets are as long as they are to be, and read as they are to be.
-fn is_read(rt: &impl Abort, row: usize, octets: &[u8], long: &Long) {
-    let at = Row { table: "long", row };
-    same_at(rt, at, &octets.len(), &long.len);
-    let expected = expected_of(octets, long.outcome);
-    same_at(rt, at, &Some(read_request(octets)), &expected);
-}
-
-// Writes the octets, and reads them.
+// Writes the octets, which are as long as they are to be, and read as they are to be.
 fn reads(rt: &impl Abort, alloc: Global, row: usize, long: &Long) {
+    let at = Row { table: "long", row };
     let mut octets = Vec::new(alloc);
     write(&mut octets, long).expect(rt, "memory");
-    is_read(rt, row, &octets, long);
+    let found = (octets.len(), Some(read_request(&octets)));
+    let expected = expected_of(&octets, long.outcome);
+    same_at(rt, at, &found, &(long.len, expected));
 }
 
 #[test]

@@ -4,7 +4,7 @@ use crate::files::played::{Case, Step, Text, play};
 
 /// Twelve rows, four in each of three rounds, on a disk that fails; then rounds in which nothing comes. How many of them are
 /// written when isn't told; in the end all are.
-const TWELVE_ROWS: Case<'static> = Case {
+static TWELVE_ROWS: Case<'static> = Case {
     name: "twelve rows",
     has_file: false,
     before: "",

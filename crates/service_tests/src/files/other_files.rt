@@ -19,7 +19,7 @@ const ONE_ROW: [Step; 2] = [
     },
 ];
 
-const CASES: [Case<'static>; 8] = [
+static CASES: [Case<'static>; 8] = [
     // The second of two rows is cut; then the name leads to another file, in which it stands whole.
     Case {
         name: "a new file",

@@ -1,9 +1,8 @@
 //! Rows that are handed over by a ring with little room.
-use crate::same::{Row, same_at};
+use crate::same::{Row, holds_at, same};
 use call_files::Outlet;
 use call_records::Backlog;
 use rtrb::{Consumer, RingBuffer};
-use std::alloc::AllocError;
 use std::process::Abort;
 
 /// What happens to an outlet with room for three rows, before a ring with room for two, or is seen of it.
@@ -18,7 +17,7 @@ enum Step {
 }
 
 // Rows come in their order, and what the ring has no room for is kept.
-const IN_ORDER: [Step; 15] = [
+static IN_ORDER: [Step; 15] = [
     Step::HandsOver(0, true),
     Step::HandsOver(1, true),
     Step::HandsOver(2, true),
@@ -37,12 +36,21 @@ const IN_ORDER: [Step; 15] = [
 ];
 
 // What was kept is taken away after it.
-const AFTER_IT: [Step; 4] = [
+static AFTER_IT: [Step; 4] = [
     Step::Keeps(0),
     Step::HandsOver(7, true),
     Step::Comes(Some(7)),
     Step::Comes(None),
 ];
+
+// Whether a step is made.
+fn makes(outlet: &mut Outlet<u64>, rows: &mut Consumer<u64>, step: Step) -> bool {
+    match step {
+        Step::HandsOver(row, has_room) => outlet.hand_over(row) == has_room,
+        Step::Comes(row) => rows.pop().ok() == row,
+        Step::Keeps(count) => outlet.kept() == count,
+    }
+}
 
 // These steps are made.
 fn make(
@@ -53,30 +61,17 @@ fn make(
     steps: &[Step],
 ) {
     for (row, step) in steps.iter().enumerate() {
-        let at = Row { table, row };
-        match *step {
-            Step::HandsOver(row, has_room) => same_at(rt, at, &outlet.hand_over(row), &has_room),
-            Step::Comes(row) => same_at(rt, at, &rows.pop().ok(), &row),
-            Step::Keeps(count) => same_at(rt, at, &outlet.kept(), &count),
-        }
-    }
-}
-
-// These rows were kept.
-fn were_kept(rt: &impl Abort, kept: &mut Backlog<u64>, rows: &[u64]) {
-    for (row, expected) in rows.iter().enumerate() {
-        let at = Row { table: "kept", row };
-        same_at(rt, at, &kept.take(), &Some(*expected));
+        let is_so = makes(outlet, rows, *step);
+        holds_at(rt, Row { table, row }, is_so);
     }
 }
 
 #[test]
-fn in_order(rt: HostRuntime) -> Result<(), AllocError> {
-    let (ring, mut rows) = RingBuffer::new(rt.alloc(), 2)?;
-    let mut outlet = Outlet::new(ring, Backlog::new(rt.alloc(), 3)?);
+fn in_order(rt: HostRuntime) {
+    let (ring, mut rows) = RingBuffer::new(rt.alloc(), 2).expect(&rt, "memory");
+    let mut outlet = Outlet::new(ring, Backlog::new(rt.alloc(), 3).expect(&rt, "memory"));
     make(&rt, "in order", &mut outlet, &mut rows, &IN_ORDER);
-    let mut kept = outlet.take_kept(Backlog::new(rt.alloc(), 3)?);
-    were_kept(&rt, &mut kept, &[4, 6]);
+    let mut kept = outlet.take_kept(Backlog::new(rt.alloc(), 3).expect(&rt, "memory"));
+    same(&rt, &[kept.take(), kept.take()], &[Some(4), Some(6)]);
     make(&rt, "after it", &mut outlet, &mut rows, &AFTER_IT);
-    Ok(())
 }

@@ -1,7 +1,7 @@
 //! A log on a disk in memory, played step by step.
 use crate::files::disk::{Disk, DiskFile, Event};
 use crate::files::log::{Digits, log_on, push_all, push_line, write_rounds};
-use crate::same::{Row, same, same_at};
+use crate::same::{Row, holds_at, same, same_at};
 use call_files::{RowLog, Trouble};
 use std::alloc::{AllocError, Global};
 use std::process::Abort;
@@ -68,33 +68,27 @@ pub struct Case<'a> {
 
 type Log<'d> = RowLog<DiskFile<'d>, u64>;
 
-// A step, after which so many rows were written by rounds that wrote as many as they did.
-fn makes(
-    rt: &impl Abort,
-    at: Row<'_>,
-    disk: &Disk,
-    log: &mut Log<'_>,
-    digits: &Digits,
-    some: &mut u64,
-    step: Step,
-) {
+// Whether a step gives what it is to give. So many rows were written by rounds that wrote as many as they did.
+fn makes(disk: &Disk, log: &mut Log<'_>, digits: &Digits, some: &mut u64, step: Step) -> bool {
     match step {
-        Step::Push { first, count, lost } => same_at(rt, at, &push_all(log, first, count), &lost),
+        Step::Push { first, count, lost } => push_all(log, first, count) == lost,
         Step::Write {
             round,
             rounds,
             written,
-        } => same_at(rt, at, &write_rounds(log, digits, round, rounds), &written),
+        } => write_rounds(log, digits, round, rounds) == written,
         Step::WriteSome { round, rounds } => {
             *some = some.wrapping_add(write_rounds(log, digits, round, rounds));
+            true
         }
-        Step::Written(count) => same_at(rt, at, some, &count),
-        Step::End { now, written } => same_at(rt, at, &log.end(digits, now), &written),
-        Step::Is { trouble, lost } => {
-            same_at(rt, at, &(log.trouble(), log.lost()), &(trouble, lost));
+        Step::Written(count) => *some == count,
+        Step::End { now, written } => log.end(digits, now) == written,
+        Step::Is { trouble, lost } => log.trouble() == trouble && log.lost() == lost,
+        Step::Synced(count) => disk.syncs() == count,
+        Step::Disk(event) => {
+            disk.meets(event);
+            true
         }
-        Step::Synced(count) => same_at(rt, at, &disk.syncs(), &count),
-        Step::Disk(event) => disk.meets(event),
     }
 }
 
@@ -115,7 +109,8 @@ fn makes_all(
             table: case.name,
             row,
         };
-        makes(rt, at, disk, log, digits, &mut some, *step);
+        let is_so = makes(disk, log, digits, &mut some, *step);
+        holds_at(rt, at, is_so);
     }
 }
 

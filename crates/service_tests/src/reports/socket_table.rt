@@ -11,7 +11,7 @@ const TABLE: &str =
 120: 0100007F:11DA 0200007F:11D9 01 00000000:00000000 00:00000000 00000000  1000        0 31340 2 0000000000000000 31\n";
 
 /// A table, the address of a socket, and the drops of all sockets that have it.
-const DROPS: [(&str, &str, Option<u64>); 8] = [
+static DROPS: [(&str, &str, Option<u64>); 8] = [
     (TABLE, "0100007F:11D9", Some(0)),
     // Two sockets, one of which is connected.
     (TABLE, "0100007F:11DA", Some(301)),

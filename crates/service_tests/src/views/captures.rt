@@ -1,7 +1,6 @@
 //! Captures.
 use crate::same::{same, same_octets};
-use packet_capture::{Capture, CaptureError, Packet, UdpEndpoint, checksum};
-use std::alloc::Global;
+use packet_capture::{Capture, Packet, UdpEndpoint, checksum};
 use std::process::Abort;
 
 // The example of RFC 1071, section 3: the sum is 0xddf2.
@@ -45,30 +44,4 @@ fn header_with_a_known_checksum(rt: HostRuntime) {
     };
     capture.push(rt.alloc(), &packet).expect(&rt, "memory");
     has_header(&rt, capture.octets());
-}
-
-// The longest datagram stands in a capture, and one that is an octet longer doesn't.
-fn takes_the_longest(rt: &impl Abort, alloc: Global, capture: &mut Capture, longer: &[u8]) {
-    let end = UdpEndpoint {
-        address: 1,
-        port: 1,
-    };
-    let mut packet = Packet {
-        moment: 0,
-        from: end,
-        to: end,
-        payload: longer,
-    };
-    let refused = capture.push(alloc, &packet);
-    same(rt, &refused, &Err(CaptureError::TooLong));
-    packet.payload = longer.get(..65507).expect(rt, "a front");
-    same(rt, &capture.push(alloc, &packet), &Ok(()));
-}
-
-#[test]
-fn longest_datagram_and_one_more(rt: HostRuntime) {
-    let mut capture = Capture::new(rt.alloc()).expect(&rt, "memory");
-    let longer = vec![in rt.alloc(); 7; 65508].expect(&rt, "memory");
-    takes_the_longest(&rt, rt.alloc(), &mut capture, &longer);
-    same(&rt, &capture.octets().len(), &(24 + 16 + 65535));
 }

@@ -48,7 +48,7 @@ fn full_run_begins_another(rt: HostRuntime) {
 }
 
 /// A text, a width, the line that is split off, and the rest.
-const LINES: [(&str, usize, &str, &str); 3] = [
+static LINES: [(&str, usize, &str, &str); 3] = [
     (
         "HANGUP \"normal clearing\"",
         14,
