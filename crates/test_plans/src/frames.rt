@@ -1,13 +1,6 @@
 //! Frames of a call: the west calls from call number 7, the exchange calls the east under local number 5, and the east answers
 //! under call number 9. As octets, and those of NEWs in hexadecimal digits too.
 
-/// A NEW for 200 from call number 7, in hexadecimal digits.
-pub const NEW_200: &str = "8007000000000000000006010b0200020103323030090400000004080400000004";
-
-/// The same, sent again: with R.
-pub const NEW_200_AGAIN: &str =
-    "8007800000000000000006010b0200020103323030090400000004080400000004";
-
 /// A NEW for 300 from call number 7, in hexadecimal digits.
 pub const NEW_300: &str = "8007000000000000000006010b0200020103333030090400000004080400000004";
 

@@ -24,13 +24,3 @@ pub const TWO_WORKERS: &str = plan!(
     peer "east" 5002 worker 1 "numbers = 4";
     route "3" "east";
 );
-
-/// A worker serves both peers, of which none is a trunk peer.
-pub const NO_TRUNK: &str = west_and_east!(format 2; west; east;);
-
-/// The same; callers from the west are challenged: their user is `alpha`, their secret is `bc`.
-pub const ALPHA_IN_THE_WEST: &str = west_and_east!(
-    format 2;
-    west "user = \"alpha\"" "secret = \"bc\"";
-    east;
-);
