@@ -1,10 +1,17 @@
 /* Stands before the C library and refuses a program one thing, once: the request for memory whose place, counted from 1, the
-   environment has as REFUSED_MEMORY, or the thread whose place it has as REFUSED_THREAD. Says so on standard error. */
+   environment has as REFUSED_MEMORY, or the thread whose place it has as REFUSED_THREAD. Says so on standard error.
+
+   Of a file of call records (its name ends in .csv) REFUSED_WRITE is the place of the first write that fails, after REFUSED_WRITE_CUT of
+   its octets, and REFUSED_WRITES how many behind it fail; with REFUSED_SYNC it can't be put on the disk. Both end once there is a file of the name
+   REFUSED_UNTIL. */
 #define _GNU_SOURCE
 #include <dlfcn.h>
 #include <errno.h>
 #include <pthread.h>
+#include <stdio.h>
 #include <stdlib.h>
+#include <string.h>
+#include <sys/syscall.h>
 #include <unistd.h>
 
 extern void *__libc_malloc(size_t size);
@@ -51,4 +58,53 @@ int pthread_create(pthread_t *thread, const pthread_attr_t *attributes, void *(*
         return EAGAIN;
     *(void **)&create = dlsym(RTLD_NEXT, "pthread_create");
     return create(thread, attributes, start, argument);
+}
+
+static int is_of_records(int file)
+{
+    char link[64], path[4096];
+    ssize_t length;
+
+    snprintf(link, sizeof link, "/proc/self/fd/%d", file);
+    length = readlink(link, path, sizeof path);
+    return length > 4 && memcmp(path + length - 4, ".csv", 4) == 0;
+}
+
+static unsigned long number_of(const char *name)
+{
+    const char *text = getenv(name);
+
+    return text == NULL ? 0 : strtoul(text, NULL, 10);
+}
+
+static int is_over(void)
+{
+    const char *path = getenv("REFUSED_UNTIL");
+
+    return path != NULL && access(path, F_OK) == 0;
+}
+
+/* (one thread writes records) */
+ssize_t write(int file, const void *octets, size_t length)
+{
+    static unsigned long made;
+    unsigned long first = number_of("REFUSED_WRITE"), cut = number_of("REFUSED_WRITE_CUT");
+
+    if (first == 0 || is_over() || !is_of_records(file) || ++made < first || made - first > number_of("REFUSED_WRITES"))
+        return syscall(SYS_write, file, octets, length);
+    if (made == first) {
+        syscall(SYS_write, STDERR_FILENO, "this was refused\n", 17);
+        if (cut > 0 && cut < length)
+            return syscall(SYS_write, file, octets, cut);
+    }
+    errno = ENOSPC;
+    return -1;
+}
+
+int fdatasync(int file)
+{
+    if (number_of("REFUSED_SYNC") == 0 || is_over() || !is_of_records(file))
+        return syscall(SYS_fdatasync, file);
+    errno = EIO;
+    return -1;
 }

@@ -63,31 +63,6 @@ const HANGUP_TAKEN: Arrival = Arrival {
     octets: b"\x80\x09\x00\x05\x00\x00\x00\x64\x02\x02\x06\x04",
 };
 
-// A second call from the west.
-const SECOND_CALL: Arrival = Arrival {
-    at: 20,
-    from: WEST,
-    octets: b"\x80\x08\x00\x00\x00\x00\x00\x00\x00\x00\x06\x01\x0b\x02\x00\x02\x01\x03\x33\x30\x30\x09\x04\x00\x00\x00\x04\x08\
-    \x04\x00\x00\x00\x04",
-};
-
-// A NEW from nobody of the plan.
-const STRANGER: Arrival = Arrival {
-    at: 20,
-    from: Endpoint {
-        address: [127, 0, 0, 1],
-        port: 5003,
-    },
-    octets: b"\x80\x08\x00\x00\x00\x00\x00\x00\x00\x00\x06\x01",
-};
-
-// Too short for any frame.
-const SHORT: Arrival = Arrival {
-    at: 20,
-    from: EAST,
-    octets: b"\x80\x09",
-};
-
 /// The call from its first datagram to its last.
 pub static WHOLE_CALL: [Arrival; 7] = [
     CALLED,
@@ -97,29 +72,6 @@ pub static WHOLE_CALL: [Arrival; 7] = [
     ANSWER_TAKEN,
     HANGS_UP,
     HANGUP_TAKEN,
-];
-
-/// The same, with a second call while the first goes on.
-pub static WITH_SECOND_CALL: [Arrival; 8] = [
-    CALLED,
-    ACCEPT_TAKEN,
-    ACCEPTS,
-    ANSWERS,
-    ANSWER_TAKEN,
-    SECOND_CALL,
-    HANGS_UP,
-    HANGUP_TAKEN,
-];
-
-/// The call until both legs are up; then what nobody should send.
-pub static WITH_A_STRANGER: [Arrival; 7] = [
-    CALLED,
-    ACCEPT_TAKEN,
-    ACCEPTS,
-    ANSWERS,
-    ANSWER_TAKEN,
-    STRANGER,
-    SHORT,
 ];
 
 /// The call until both legs are up; then a voice frame and a mini frame from the east, and a digit from the west.
@@ -142,7 +94,7 @@ pub static MEDIA_AND_DIGIT: [Arrival; 8] = [
     Arrival {
         at: 30,
         from: WEST,
-        octets: b"\x80\x07\x00\x01\x00\x00\x00\x20\x02\x03\x01\x35",
+        octets: b"\x80\x07\x00\x01\x00\x00\x00\x20\x01\x03\x01\x35",
     },
 ];
 

@@ -1,4 +1,4 @@
-//! Tests of an exchange: growths that are refused, datagrams that nobody should send, a storm of them, and two workers at once.
+//! Tests of an exchange: growths that are refused, a storm of datagrams, and two workers at once.
 //! Those of the workers over wires and sockets stand in `wires`.
 #![tactic(auto)]
 
@@ -10,8 +10,6 @@ mod datagrams;
 mod desk;
 #[cfg(test)]
 mod growths;
-#[cfg(test)]
-mod hostile;
 #[cfg(test)]
 mod legs;
 #[cfg(test)]

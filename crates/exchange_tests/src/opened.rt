@@ -3,15 +3,12 @@ ghost use Rattle.std.specs.Prelude.{◌≡◌, ◌+◌, ◌^◌, length};
 
 use crate::desk::Desk;
 use crate::growths::call_and_end;
-use crate::hostile::{outbox_filled, poked};
 use crate::pairs::at_once;
 use crate::recovery::{Sums, ended};
 use crate::same::holds;
 use crate::storm::storm_and_end;
 use crate::two_peers::Progress;
-use crate::wires::{
-    Played, Ran, Rejection, Run, TwoRuns, call_first, play_call, run_first, run_twice, turn_on,
-};
+use crate::wires::{Played, Rejection, call_first, play_call, turn_on};
 use call_auth::Challenge;
 use exchange_core::{Exchange, Gate, NoGate, Pass};
 use media_ledger::Blank;
@@ -32,10 +29,6 @@ use udp_workers::Post;
 pub enum Scene {
     /// A call with media and a digit, then an end to it.
     CallAndEnd,
-    /// Nobody takes out what waits to be sent.
-    OutboxFilled,
-    /// A hundred thousand POKEs, then a call.
-    Poked,
     /// A storm of datagrams, then an end to all calls.
     Storm,
 }
@@ -48,12 +41,8 @@ pub enum Play<'a> {
     Tickers,
     /// Two threads tick a peer each, one of them once the other is held.
     TwoTicks(&'a Progress),
-    /// The only worker of a plan runs.
-    Run(&'a Run<'a>, &'a mut Option<Ran>),
     /// The only worker of a plan plays a whole call, over a wire that fails at its call of this place; at 0 never.
     WholeCall(u64, &'a mut Option<Played>),
-    /// Both workers of a plan run twice: how many turns they made, and how often was asked before the second run was stopped.
-    TwoRuns(&'a TwoRuns<'a>, &'a mut (u64, u64)),
     /// Each worker of a plan makes one turn: how many made theirs.
     OneTurn(&'a mut u64),
     /// A socket calls a number that leads nowhere.
@@ -67,8 +56,6 @@ fn play_scene<R: Abort + Wait, G: Gate, J: Naming>(
 ) {
     match scene {
         Scene::CallAndEnd => call_and_end(rt, desk),
-        Scene::OutboxFilled => outbox_filled(rt, desk),
-        Scene::Poked => poked(rt, desk),
         Scene::Storm => storm_and_end(rt, desk),
     }
 }
@@ -130,11 +117,7 @@ fn play_any<
         Play::Scene(scene) => play_only(rt, scene, exchange, passes),
         Play::Tickers => play_pair(rt, exchange, passes, None),
         Play::TwoTicks(progress) => play_pair(rt, exchange, passes, Some(progress)),
-        Play::Run(run, ran) => *ran = Some(run_first(rt, alloc, run, exchange, passes)),
         Play::WholeCall(at, played) => *played = Some(play_call(rt, alloc, at, exchange, passes)),
-        Play::TwoRuns(runs, ran) => *ran = run_twice::<G, J, P, R>(
-            rt, alloc, runs, exchange, passes,
-        ),
         Play::OneTurn(turns) => *turns = turn_on::<G, J, P, R>(rt, alloc, exchange, passes),
         Play::CallFor200(called) => *called = Some(call_first(rt, alloc, exchange, passes)),
     }

@@ -55,10 +55,10 @@ fn wait_out<R: Wait, G: Gate, J: Naming>(desk: &mut Desk<'_, R, G, J>, now: u64)
     moment
 }
 
-/// How many of the numbers up to this one have a leg.
-pub fn legs_up_to<R: Wait, G: Gate, J: Naming>(desk: &mut Desk<'_, R, G, J>, last: u16) -> u16 {
+// How many numbers have a leg.
+fn leg_count<R: Wait, G: Gate, J: Naming>(desk: &mut Desk<'_, R, G, J>) -> u16 {
     let mut legs = 0u16;
-    for number in 1..=last {
+    for number in 1..=NUMBERS {
         if desk.status(number).is_some() {
             legs = legs.saturating_add(1);
         }
@@ -91,10 +91,10 @@ pub fn recovers<R: Wait, G: Gate, J: Naming>(desk: &mut Desk<'_, R, G, J>, now: 
         return false;
     }
     let later = wait_out(desk, now);
-    legs_up_to(desk, NUMBERS) == 0
+    leg_count(desk) == 0
         && all_are_let_in(desk, WEST_PLACE, later)
         && all_are_let_in(desk, EAST_PLACE, later)
-        && legs_up_to(desk, NUMBERS) == NUMBERS
+        && leg_count(desk) == NUMBERS
 }
 
 /// The sums of closed accounts.

@@ -7,11 +7,6 @@ pub fn same<T: PartialEq + Debug>(rt: &impl Abort, found: &T, expected: &T) {
     assert_eq!(rt; *found, *expected);
 }
 
-/// These octets are found.
-pub fn same_octets(rt: &impl Abort, found: &[u8], expected: &[u8]) {
-    assert_eq!(rt; found, expected);
-}
-
 /// This holds.
 pub fn holds(rt: &impl Abort, what: &str, is_so: bool) {
     assert!(rt; is_so, "{what}");

@@ -52,9 +52,9 @@ impl<'a, R: Clock> Gate for Meeting<'a, R> {
     }
 }
 
-/// Moment 0.
+// Moment 0.
 #[derive(Drop)]
-pub struct AtOnce;
+struct AtOnce;
 
 impl Moments for AtOnce {
     fn now(&mut self) -> u64 {
@@ -62,9 +62,9 @@ impl Moments for AtOnce {
     }
 }
 
-/// The challenge `0`.
+// The challenge `0`.
 #[derive(Drop)]
-pub struct Zero(pub Challenge);
+struct Zero(Challenge);
 
 impl Challenges for Zero {
     fn draw(&mut self) -> Challenge {
@@ -72,8 +72,8 @@ impl Challenges for Zero {
     }
 }
 
-/// A seat over a wire in memory.
-pub type TestSeat<J, P> = Seat<MemoryWire, AtOnce, Zero, J, P>;
+// A seat over a wire in memory.
+type TestSeat<J, P> = Seat<MemoryWire, AtOnce, Zero, J, P>;
 
 // The seat of the worker at a place of a plan, over a wire in memory.
 fn seat_of<J: Naming, P: Post>(
@@ -92,8 +92,8 @@ fn seat_of<J: Naming, P: Post>(
     Seat::new(worker, wire, pass, AtOnce, Zero(challenge))
 }
 
-/// The seats of the workers of a plan, in its order, each with a pass of its own.
-pub fn seats_of<J: Naming, P: Post>(
+// The seats of the workers of a plan, in its order, each with a pass of its own.
+fn seats_of<J: Naming, P: Post>(
     rt: &impl Abort,
     alloc: Global,
     plan: &Plan,
@@ -110,8 +110,8 @@ pub fn seats_of<J: Naming, P: Post>(
     seats
 }
 
-/// How many turns the workers of these seats made. Their passes are given back.
-pub fn turns_of<J: Naming, P: Post>(
+// How many turns the workers of these seats made. Their passes are given back.
+fn turns_of<J: Naming, P: Post>(
     rt: &impl Abort,
     seats: Vec<TestSeat<J, P>>,
     passes: &mut Vec<Pass<J>>,

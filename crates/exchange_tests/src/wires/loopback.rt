@@ -6,14 +6,13 @@ ghost use Rattle.udp_workers.specs.Served.{AreEndpoints, peers_of};
 use crate::desk::{EAST, WEST};
 use crate::opened::{Play, play_with};
 use crate::same::{holds, same};
-use crate::wires::sockets::address;
 use call_auth::Challenge;
 use exchange_core::{Exchange, Gate, NoGate, Pass};
 use mio::net::UdpSocket;
 use peer_lock::Naming;
 use peer_plan::{Endpoint, Plan};
 use std::alloc::Global;
-use std::net::Net;
+use std::net::{IpAddr, Ipv4Addr, Net, SocketAddr};
 use std::process::Abort;
 use std::sync::Wait;
 use std::test::*;
@@ -30,6 +29,11 @@ const NEW_FOR_200: &[u8] =
 const REJECT: &[u8] =
     b"\x80\x01\x00\x07\x00\x00\x00\x00\x00\x01\x06\x06\x16\x12\x75\x6e\x61\x6c\x6c\x6f\x63\x61\x74\x65\x64\x20\x6e\x75\x6d\x62\
     \x65\x72\x2a\x01\x01";
+
+// The address of a port at loopback.
+fn address(port: u16) -> SocketAddr {
+    SocketAddr::new(IpAddr::V4(Ipv4Addr::from_octets([127, 0, 0, 1])), port)
+}
 
 // Whether the next datagram at the socket, if one is there, is this one.
 fn hears(socket: &UdpSocket, wanted: &[u8]) -> bool {

@@ -2,7 +2,6 @@
 ghost use Rattle.std.specs.Prelude.{◌≡◌};
 ghost use Rattle.udp_workers.specs.Served.{AreEndpoints, peers_of};
 
-use crate::arrivals::Arrival;
 use peer_plan::{Endpoint, Plan};
 use std::alloc::{AllocError, Global};
 use std::process::Abort;
@@ -25,8 +24,6 @@ pub struct MemoryWire {
     failures: u64,
     // The datagram that comes next.
     next: Option<(Endpoint, &'static [u8])>,
-    // The datagrams after it. Each comes when the wire is waited for.
-    later: &'static [Arrival],
     // What was sent, in order.
     sent: Vec<Sent>,
     // How many more calls of `receive` and `send` go well before one fails.
@@ -46,7 +43,6 @@ impl MemoryWire {
             given: 0,
             failures: 0,
             next: None,
-            later: &[],
             sent: Vec::new(alloc),
             good_calls: fails_at.wrapping_sub(1),
         })
@@ -61,34 +57,6 @@ impl MemoryWire {
         }
         self.next = Some((from, octets));
         true
-    }
-
-    /// The first of these datagrams is there, and each other comes when the wire is waited for.
-    pub fn follow(&mut self, arrivals: &'static [Arrival])
-        ensures { self.new.peers ≡ self.old.peers }
-    {
-        self.later = arrivals;
-        self.bring();
-    }
-
-    // The next datagram is there, unless the one before it wasn't received yet.
-    fn bring(&mut self)
-        ensures peers { self.new.peers ≡ self.old.peers }
-        ensures given { self.new.given ≡ self.old.given }
-        ensures failures { self.new.failures ≡ self.old.failures }
-    {
-        if self.next.is_some() {
-            return;
-        }
-        if let Some((arrival, later)) = self.later.split_first() {
-            self.next = Some((arrival.from, arrival.octets));
-            self.later = later;
-        }
-    }
-
-    /// How many datagrams were sent.
-    pub fn sent_count(&self) -> usize {
-        self.sent.len()
     }
 
     /// Whether what was sent to an endpoint is this, in order.
@@ -155,9 +123,7 @@ impl Wire for MemoryWire {
         Ok(self.sent.push(Sent { to, octets }).is_ok())
     }
 
-    fn wait(&mut self, _ms: u64) {
-        self.bring();
-    }
+    fn wait(&mut self, _ms: u64) {}
 
     fn peers(&self) -> &[Endpoint] {
         &self.peers.endpoints

@@ -1,0 +1,272 @@
+"""What the parts of the gate share that run the program: peers on loopback, clients of a service, and the service itself.
+
+They need the program as `rt ci` has built it. What isn't as it should be ends a part, with its name and a sentence."""
+import csv
+import itertools
+import json
+import os
+import re
+import socket
+import struct
+import subprocess
+import sys
+import time
+
+TOP = os.path.dirname(os.path.dirname(os.path.realpath(__file__)))
+PROGRAM = os.environ.get("EXCHANGE_MAIN") or f"{TOP}/crates/exchange_main/out/exchange_main"
+PART = os.path.basename(sys.argv[0])
+PORTS = itertools.count(20000 + 2000 * ("service", "control", "call_files", "traces").index(PART))
+# IAX subclasses.
+NEW, HANGUP, ACK, ACCEPT, REJECT, AUTHREQ, AUTHREP = 1, 5, 4, 7, 6, 8, 9
+PLAN = """format = 1
+record_limit = 65536
+[[worker]]
+address = "127.0.0.1"
+port = {worker}
+[[peer]]
+name = "west"
+address = "127.0.0.1"
+port = {west}
+worker = 0
+formats = ["ulaw"]
+numbers = 4
+user = "exchange"
+secret = "a secret of the west"
+[[peer]]
+name = "east"
+address = "127.0.0.1"
+port = {east}
+worker = 0
+formats = ["ulaw"]
+numbers = 4
+[[route]]
+prefix = "3"
+peer = "east"
+"""
+
+
+def same(what, found, wanted):
+    if found != wanted:
+        raise SystemExit(f"{PART}: {what}: {found!r}, not {wanted!r}")
+
+
+def within(what, seconds, look):
+    """Waits until a look finds something, at most so long."""
+    end = time.monotonic() + seconds
+    while time.monotonic() < end:
+        found = look()
+        if found:
+            return found
+        time.sleep(0.02)
+    raise SystemExit(f"{PART}: {what}: not within {seconds} s")
+
+
+class Peer:
+    """A peer: a UDP socket, and the full frames that came to it."""
+
+    def __init__(self):
+        self.socket = socket.socket(socket.AF_INET, socket.SOCK_DGRAM)
+        self.socket.bind(("127.0.0.1", 0))
+        self.socket.settimeout(0.05)
+        self.port = self.socket.getsockname()[1]
+        self.frames = []
+
+    def listen(self):
+        try:
+            while True:
+                octets = self.socket.recv(2048)
+                if octets[0] & 0x80:
+                    self.frames.append(octets)
+        except TimeoutError:
+            pass
+
+    def frame(self, what, frame_type, subclass, place=-1):
+        """Waits for a frame of this type and subclass."""
+
+        def look():
+            self.listen()
+            found = [it for it in self.frames if it[10] == frame_type and it[11] == subclass]
+            return found[place] if found else None
+
+        return within(f"{what} at a peer", 5, look)
+
+    def send(self, to, source, destination, timestamp, oseq, iseq, frame_type, subclass, data=b""):
+        head = struct.pack(">HHIBBBB", 0x8000 | source, destination, timestamp, oseq, iseq, frame_type, subclass)
+        self.socket.sendto(head + data, ("127.0.0.1", to))
+
+
+def spare(kind):
+    """A port that nobody has. Each part has its own ones, which the system gives nobody: parts run side by side, and a port that was
+    let go is another's before the program has it."""
+    for port in PORTS:
+        with socket.socket(socket.AF_INET, kind) as it:
+            try:
+                it.bind(("127.0.0.1", port))
+                return port
+            except OSError:
+                continue
+
+
+def spare_port():
+    return spare(socket.SOCK_DGRAM)
+
+
+def spare_tcp_port():
+    return spare(socket.SOCK_STREAM)
+
+
+def connected(path):
+    it = socket.socket(socket.AF_UNIX)
+    it.settimeout(10)
+    it.connect(path)
+    return it
+
+
+def read_all(client):
+    octets = b""
+    while piece := client.recv(65536):
+        octets += piece
+    return octets
+
+
+def status_and_body(octets):
+    head, _, body = octets.partition(b"\r\n\r\n")
+    lines = head.split(b"\r\n")
+    fields = dict(it.split(b": ", 1) for it in lines[1:])
+    same("Content-Length", int(fields[b"Content-Length"]), len(body))
+    return int(lines[0].split()[1]), json.loads(body), fields
+
+
+def said(path, octets):
+    """What the service answers to these octets."""
+    with connected(path) as client:
+        client.sendall(octets)
+        return status_and_body(read_all(client))
+
+
+def ask(path, method, target, body=None):
+    octets = b"" if body is None else json.dumps(body).encode()
+    head = f"{method} {target} HTTP/1.1\r\nHost: x\r\nContent-Length: {len(octets)}\r\n\r\n"
+    return said(path, head.encode() + octets)[:2]
+
+
+def ctl(path, *words):
+    """What `ctl` prints, and its status."""
+    it = subprocess.run([PROGRAM, "ctl", path, *words], capture_output=True, text=True, timeout=20)
+    return it.stdout, it.returncode
+
+
+LABEL = r'([a-z_]+)="((?:[^"\\\\\n]|\\\\["n\\\\])*)"'
+SAMPLE = re.compile(rf"([a-z_]+)(?:{{({LABEL}(?:,{LABEL})*)}})? ([0-9]+)")
+
+
+def samples_of(text):
+    """The samples of a text in Prometheus' form, by name and labels, each below the HELP and TYPE of its family."""
+    samples, name, kind = {}, None, None
+    for line in text.splitlines():
+        if line.startswith("# HELP "):
+            name, kind = line.split(" ", 3)[2], None
+            same(f"what {name} means", len(line.split(" ", 3)[3]) > 10, True)
+            same(f"{name} comes once", any(it[0] == name for it in samples), False)
+        elif line.startswith("# TYPE "):
+            same("HELP stands before TYPE", line.split()[2], name)
+            kind = line.split()[3]
+            same(f"the kind of {name}", kind, "counter" if name.endswith("_total") else "gauge")
+        else:
+            read = SAMPLE.fullmatch(line)
+            same(f"a sample: {line!r}", read is not None and (read[1], kind is None), (name, False))
+            labels = tuple(re.findall(LABEL, read[2] or ""))
+            same(f"{line} comes once", (name, labels) in samples, False)
+            samples[name, labels] = int(read[len(read.groups())])
+    return samples
+
+
+def scraped(port, request=b"GET /metrics HTTP/1.1\r\nHost: x\r\n\r\n"):
+    """The status, the body and the fields of the answer at the metrics' address."""
+    with socket.create_connection(("127.0.0.1", port), timeout=10) as client:
+        client.sendall(request)
+        head, _, body = read_all(client).partition(b"\r\n\r\n")
+    lines = head.split(b"\r\n")
+    fields = dict(it.split(b": ", 1) for it in lines[1:])
+    same("Content-Length", int(fields[b"Content-Length"]), len(body))
+    return int(lines[0].split()[1]), body.decode(), fields
+
+
+def metrics(port):
+    status, body, fields = scraped(port)
+    same("GET /metrics", (status, fields[b"Content-Type"]), (200, b"text/plain; version=0.0.4"))
+    return samples_of(body)
+
+
+def samples_with_labels(port):
+    return [it for it in metrics(port).items() if it[0][1]]
+
+
+def of(name, **labels):
+    return name, tuple(labels.items())
+
+
+class Service:
+    """The program, running. What it logs goes to a file."""
+
+    def __init__(self, plan, path, *options, environment=None):
+        self.path = path
+        self.log = f"{path}.log"
+        with open(self.log, "ab") as log:
+            words = [PROGRAM, "run", plan, "--control", path, *options]
+            self.process = subprocess.Popen(words, stdout=subprocess.PIPE, stderr=log, text=True, env={**os.environ, **(environment or {})})
+        within("the control socket", 10, self.is_there)
+
+    def is_there(self):
+        if self.process.poll() is not None:
+            raise SystemExit(f"{PART}: ended with {self.process.returncode}: {self.process.stdout.read()}")
+        try:
+            connected(self.path).close()
+            return True
+        except OSError:
+            return False
+
+    def ended(self):
+        printed, _ = self.process.communicate(timeout=20)
+        return self.process.returncode, printed
+
+
+def stages(path):
+    status, calls = ask(path, "GET", "/calls")
+    same("GET /calls", status, 200)
+    return {it["number"]: it["stage"] for it in calls["calls"]}
+
+
+def a_short_call(path, worker, east, source):
+    """A call is placed, answered and hung up. The number and the serial of its leg."""
+    placed = ask(path, "POST", "/calls", {"peer": "east", "number": f"3{source}"})
+    same("POST /calls", placed[0], 201)
+    number = placed[1]["number"]
+    within("a NEW", 5, lambda: east.listen() or [it for it in east.frames if (it[10], it[11]) == (6, NEW)])
+    east.frames.clear()
+    east.send(worker, source, number, 3, 0, 1, 6, ACCEPT, bytes.fromhex("090400000004"))
+    east.send(worker, source, number, 13, 1, 1, 4, 4)
+    within("an answered call", 5, lambda: stages(path).get(number) == "Up")
+    same("DELETE", ask(path, "DELETE", f"/calls/{number}")[0], 200)
+    hangup = east.frame("HANGUP", 6, HANGUP)
+    east.frames.clear()
+    east.send(worker, source, number, 20, hangup[9], hangup[8] + 1, 6, ACK)
+    within("a call that is gone", 5, lambda: number not in stages(path))
+    return str(number), str(placed[1]["serial"])
+
+
+def rows_of(file):
+    """The rows of a file of records, behind its header; each is whole."""
+    if not os.path.exists(file):
+        return []
+    with open(file, encoding="utf-8", newline="") as it:
+        text = it.read()
+    same("the last row is whole", text == "" or text.endswith("\n"), True)
+    rows = [*csv.DictReader(text.splitlines())]
+    same("whole rows", [it for it in rows if None in it or None in it.values() or it["call"] == "call"], [])
+    return rows
+
+
+def warnings_of(service):
+    with open(service.log, encoding="utf-8") as it:
+        return [line.split(" ", 2)[2].rstrip("\n") for line in it if " WARN " in line]
