@@ -12,7 +12,7 @@ use peer_plan::{Plan, PlanError};
 use script_lines::{Line, ends_script, line_of};
 use std::alloc::{AllocError, Global};
 use std::io;
-use std::io::Write;
+use std::io::{BufWriter, Write};
 use std::marker::Brand;
 use std::sync::Wait;
 use std::sync::ledger::Ledger;
@@ -215,4 +215,27 @@ pub fn replay<R: Wait, W: Write>(
 ) -> u8 {
     let outcome = replay_with(rt, alloc, plan, script, &mut Printer { writer });
     tell_outcome(outcome, writer)
+}
+
+// The status of a replay, once all of it is written: a writer that can't write is told of by the status alone.
+fn flushed<W: Write>(status: u8, writer: &mut W) -> u8 {
+    match writer.flush() {
+        Ok(()) => status,
+        Err(_) => 1,
+    }
+}
+
+/// The same, written in large pieces: a script may have millions of lines. `refused Memory` where there is none for a piece.
+pub fn replay_buffered<R: Wait, W: Write>(
+    rt: &R,
+    alloc: Global,
+    plan: &[u8],
+    script: &[u8],
+    writer: &mut W,
+) -> u8 {
+    if let Ok(mut buffered) = BufWriter::new(alloc, &mut *writer) {
+        let status = replay(rt, alloc, plan, script, &mut buffered);
+        return flushed(status, &mut buffered);
+    }
+    tell_outcome(Err(ReplayError::Memory), writer)
 }

@@ -11,13 +11,12 @@ use clap::ArgMatches;
 use clap::error::ErrorKind;
 use command_line::{VERSION, command_line};
 use control_client::{give_order, order_of};
-use exchange_commands::{check, replay, serve, turn_count};
+use exchange_commands::{check, replay_buffered, serve, turn_count};
 use exchange_service::{Settings, TraceOptions, run as run_service};
 use log::LevelFilter;
 use plan_report::explain;
 use std::alloc::Global;
 use std::fs::File;
-use std::io::{BufWriter, Write};
 use std::net::{Net, SocketAddr};
 use std::process::ExitCode;
 use std::random::RandomSource;
@@ -103,25 +102,8 @@ fn replay_files<R: Files + Print + Alloc + Wait>(
     script: &str,
 ) -> u8 {
     match both_of(rt, plan, script) {
-        Some((plan, script)) => replay_buffered(rt, alloc, &plan, &script),
+        Some((plan, script)) => { replay_buffered(rt, alloc, &plan, &script, &mut io::writer(rt)) }
         None => 1,
-    }
-}
-
-// A replay's lines go out in large pieces: a script may have millions.
-fn replay_buffered<R: Print + Alloc + Wait>(
-    rt: &R,
-    alloc: Global,
-    plan: &[u8],
-    script: &[u8],
-) -> u8 {
-    let Ok(mut writer) = BufWriter::new(alloc, io::writer(rt)) else {
-        return refuse_memory(rt);
-    };
-    let status = replay(rt, alloc, plan, script, &mut writer);
-    match writer.flush() {
-        Ok(()) => status,
-        Err(_) => 1,
     }
 }
 
