@@ -1,6 +1,7 @@
 //! In which order the free numbers of a peer are given out.
 ghost use Rattle.std.specs.Prelude.{◌<◌, length};
 
+use crate::desk::Desk;
 use crate::viewer::Stop;
 use crate::words::peer_of;
 use call_auth::Challenge;
@@ -53,6 +54,15 @@ fn list_numbers(numbers: &mut Vec<u16>, text: &[u8]) -> Result<(), Stop> {
         }
     }
     Ok(())
+}
+
+// The numbers that a text lists, in a list of their own.
+fn listed(alloc: Global, text: &[u8]) -> Result<Vec<u16>, Stop> {
+    let mut numbers = Vec::new(alloc);
+    match list_numbers(&mut numbers, text) {
+        Ok(()) => Ok(numbers),
+        Err(stop) => Err(stop),
+    }
 }
 
 // Whether a list has each number of a range once, and no other.
@@ -152,20 +162,20 @@ fn order_listed<J: Naming, R: Wait>(
 /// end in that order. What waits in the peer's outbox is dropped.
 ///
 /// `Script`: no peer has that name, one of its numbers has a leg, or the text doesn't list each of its numbers once.
-pub(crate) fn order_free<J: Naming, R: Wait>(
-    rt: &R,
-    alloc: Global,
-    exchange: &Exchange<NoGate, J>,
-    pass: &mut Pass<J>,
+pub(crate) fn order_free<J: Naming, R: Wait, V>(
+    desk: &mut Desk<'_, R, J, V>,
     peer: &[u8],
     text: &[u8],
     now: u64,
     challenge: &Challenge,
 ) -> Result<(), Stop> {
-    let peer = peer_of(exchange.plan(), peer)?;
-    let mut numbers = Vec::new(alloc);
-    match list_numbers(&mut numbers, text) {
-        Ok(()) => order_listed(rt, exchange, pass, peer, &numbers, now, challenge),
+    let exchange = desk.exchange;
+    let peer = match peer_of(exchange.plan(), peer) {
+        Ok(peer) => peer,
+        Err(stop) => return Err(stop),
+    };
+    match listed(desk.alloc, text) {
+        Ok(numbers) => order_listed(desk.rt, exchange, desk.pass, peer, &numbers, now, challenge),
         Err(stop) => Err(stop),
     }
 }

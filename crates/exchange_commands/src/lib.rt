@@ -3,6 +3,7 @@
 
 mod arguments;
 mod checking;
+mod desk;
 mod free_order;
 mod outboxes;
 mod player;

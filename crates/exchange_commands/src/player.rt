@@ -1,11 +1,12 @@
 //! The lines of a script are played on an exchange, and a viewer is told what came of each.
+use crate::desk::Desk;
 use crate::free_order::order_free;
 use crate::outboxes::empty_outbox;
 use crate::stages::Stages;
 use crate::viewer::{PeerOfPlan, Stop, Viewer};
 use crate::words::{Sender, octets_of, peer_of, places_of, sender_of};
 use call_auth::Challenge;
-use exchange_core::{Answer, Exchange, NoGate, Pass, Refusal, Retired};
+use exchange_core::{Answer, Refusal, Retired};
 use exchange_report::{call_error_name, order_error_name, refusal_name};
 use peer_lock::{Naming, Status};
 use peer_plan::Plan;
@@ -61,18 +62,14 @@ impl Player {
     /// `Script`: no peer has the name that the line gives, `at` goes back or `back` goes on, what should be a challenge, an
     /// endpoint, a datagram or a list of numbers is none, or a stranger's endpoint is a peer's. `Memory`: a request for memory
     /// was refused. What the viewer answers by `Err` is handed on.
-    pub fn line<J: Naming, R: Wait, V: Viewer>(
+    pub(crate) fn line<J: Naming, R: Wait, V: Viewer>(
         &mut self,
-        rt: &R,
-        alloc: Global,
-        exchange: &Exchange<NoGate, J>,
-        pass: &mut Pass<J>,
+        desk: &mut Desk<'_, R, J, V>,
         line: &Line<'_>,
-        viewer: &mut V,
     ) -> Result<(), Stop> {
-        match self.begin(line, viewer) {
-            Ok(sends) => match self.work(rt, alloc, exchange, pass, line, viewer) {
-                Ok(()) if sends => self.send(rt, exchange, pass, &Line::Send, viewer),
+        match self.begin(line, desk.viewer) {
+            Ok(sends) => match self.work(desk, line) {
+                Ok(()) if sends => self.send(desk, &Line::Send),
                 worked => worked,
             },
             Err(stop) => Err(stop),
@@ -93,25 +90,18 @@ impl Player {
     // What a line asks for.
     fn work<J: Naming, R: Wait, V: Viewer>(
         &mut self,
-        rt: &R,
-        alloc: Global,
-        exchange: &Exchange<NoGate, J>,
-        pass: &mut Pass<J>,
+        desk: &mut Desk<'_, R, J, V>,
         line: &Line<'_>,
-        viewer: &mut V,
     ) -> Result<(), Stop> {
         match line {
-            Line::Rx(_, digits) | Line::Stranger(_, digits) => {
-                self.hear(rt, alloc, exchange, pass, line, digits, viewer)
-            }
-            Line::Call(peer, number) => self.call(rt, exchange, pass, peer, number, viewer),
-            Line::HangUp(number) => self.hang_up(rt, exchange, pass, *number, viewer),
-            Line::Tick | Line::TickOf(_) => self.tick(rt, exchange, pass, line, viewer),
-            Line::Send | Line::SendTo(_) => self.send(rt, exchange, pass, line, viewer),
+            Line::Rx(_, digits) | Line::Stranger(_, digits) => self.hear(desk, line, digits),
+            Line::Call(peer, number) => self.call(desk, peer, number),
+            Line::HangUp(number) => self.hang_up(desk, *number),
+            Line::Tick | Line::TickOf(_) => self.tick(desk, line),
+            Line::Send | Line::SendTo(_) => self.send(desk, line),
             Line::Free(peer, numbers) => {
                 self.stages.doubt();
-                let (now, challenge) = (self.now, &self.challenge);
-                order_free(rt, alloc, exchange, pass, peer, numbers, now, challenge)
+                order_free(desk, peer, numbers, self.now, &self.challenge)
             }
             _ => self.set(line),
         }
@@ -136,23 +126,36 @@ impl Player {
     // A datagram comes.
     fn hear<J: Naming, R: Wait, V: Viewer>(
         &mut self,
-        rt: &R,
-        alloc: Global,
-        exchange: &Exchange<NoGate, J>,
-        pass: &mut Pass<J>,
+        desk: &mut Desk<'_, R, J, V>,
         line: &Line<'_>,
         digits: &[u8],
-        viewer: &mut V,
     ) -> Result<(), Stop> {
-        let Sender { from, peer } = sender_of(exchange.plan(), line)?;
-        let octets = octets_of(alloc, digits)?;
-        if peer.is_some() && is_full(&octets) {
+        match sender_of(desk.exchange.plan(), line) {
+            Ok(sender) => match octets_of(desk.alloc, digits) {
+                Ok(octets) => self.hear_octets(desk, sender, &octets),
+                Err(stop) => Err(stop),
+            },
+            Err(stop) => Err(stop),
+        }
+    }
+
+    // These octets come.
+    fn hear_octets<J: Naming, R: Wait, V: Viewer>(
+        &mut self,
+        desk: &mut Desk<'_, R, J, V>,
+        sender: Sender<'_>,
+        octets: &[u8],
+    ) -> Result<(), Stop> {
+        let Sender { from, peer } = sender;
+        if peer.is_some() && is_full(octets) {
             self.stages.doubt();
         }
         let (now, challenge) = (self.now, &self.challenge);
-        let answer = exchange.datagram(rt, pass, from, &octets, now, challenge);
+        let answer = desk
+            .exchange
+            .datagram(desk.rt, desk.pass, from, octets, now, challenge);
         let refused = self.keep(answer);
-        self.tell_heard(peer, &octets, refused, viewer)
+        self.tell_heard(peer, octets, refused, desk.viewer)
     }
 
     // The viewer is told of a datagram from a peer, and of a stranger's where that is refused.
@@ -172,57 +175,52 @@ impl Player {
     // A call goes out.
     fn call<J: Naming, R: Wait, V: Viewer>(
         &mut self,
-        rt: &R,
-        exchange: &Exchange<NoGate, J>,
-        pass: &mut Pass<J>,
+        desk: &mut Desk<'_, R, J, V>,
         peer: &[u8],
         number: &[u8],
-        viewer: &mut V,
     ) -> Result<(), Stop> {
-        let peer = peer_of(exchange.plan(), peer)?;
+        let peer = peer_of(desk.exchange.plan(), peer)?;
         self.stages.doubt();
-        match exchange.call(rt, pass, peer, number, self.now) {
+        match desk
+            .exchange
+            .call(desk.rt, desk.pass, peer, number, self.now)
+        {
             Ok(_) => Ok(()),
-            Err(error) => viewer.refused(self.now, call_error_name(error)),
+            Err(error) => desk.viewer.refused(self.now, call_error_name(error)),
         }
     }
 
     // The leg of a number hangs up.
     fn hang_up<J: Naming, R: Wait, V: Viewer>(
         &mut self,
-        rt: &R,
-        exchange: &Exchange<NoGate, J>,
-        pass: &mut Pass<J>,
+        desk: &mut Desk<'_, R, J, V>,
         number: u64,
-        viewer: &mut V,
     ) -> Result<(), Stop> {
         let number = u16::try_from(number).unwrap_or(0);
-        match self.stages.status(rt, exchange, pass, number) {
-            Some(Status { name, .. }) if name.peer < exchange.plan().peer_count() => {
+        match self.stages.status(desk, number) {
+            Some(Status { name, .. }) if name.peer < desk.exchange.plan().peer_count() => {
                 self.stages.doubt_live();
-                match exchange.hang_up(rt, pass, name, self.now) {
-                    Ok(answer) => self.answered(answer, viewer),
-                    Err(error) => viewer.refused(self.now, order_error_name(error)),
+                match desk.exchange.hang_up(desk.rt, desk.pass, name, self.now) {
+                    Ok(answer) => self.answered(answer, desk.viewer),
+                    Err(error) => desk.viewer.refused(self.now, order_error_name(error)),
                 }
             }
-            _ => viewer.refused(self.now, "NoLeg"),
+            _ => desk.viewer.refused(self.now, "NoLeg"),
         }
     }
 
     // Time goes on at the peers that the line means, in the order of the plan.
     fn tick<J: Naming, R: Wait, V: Viewer>(
         &mut self,
-        rt: &R,
-        exchange: &Exchange<NoGate, J>,
-        pass: &mut Pass<J>,
+        desk: &mut Desk<'_, R, J, V>,
         line: &Line<'_>,
-        viewer: &mut V,
     ) -> Result<(), Stop> {
+        let exchange = desk.exchange;
         let (first, end) = places_of(exchange.plan(), line)?;
         self.stages.doubt_live();
         for peer in first..end {
-            let answer = exchange.tick(rt, pass, peer, self.now);
-            if let Err(stop) = self.answered(answer, viewer) {
+            let answer = exchange.tick(desk.rt, desk.pass, peer, self.now);
+            if let Err(stop) = self.answered(answer, desk.viewer) {
                 return Err(stop);
             }
         }
@@ -265,20 +263,17 @@ impl Player {
     // the order of the plan; then the legs that were taken out, and the stages that changed.
     fn send<J: Naming, R: Wait, V: Viewer>(
         &mut self,
-        rt: &R,
-        exchange: &Exchange<NoGate, J>,
-        pass: &mut Pass<J>,
+        desk: &mut Desk<'_, R, J, V>,
         line: &Line<'_>,
-        viewer: &mut V,
     ) -> Result<(), Stop> {
-        let (first, end) = places_of(exchange.plan(), line)?;
+        let (first, end) = places_of(desk.exchange.plan(), line)?;
         for peer in first..end {
-            if let Err(stop) = empty_outbox(rt, exchange, pass, peer, self.now, viewer) {
+            if let Err(stop) = empty_outbox(desk, peer, self.now) {
                 return Err(stop);
             }
         }
-        match self.tell_retired(viewer) {
-            Ok(()) => self.stages.tell(rt, exchange, pass, self.now, viewer),
+        match self.tell_retired(desk.viewer) {
+            Ok(()) => self.stages.tell(desk, self.now),
             Err(stop) => Err(stop),
         }
     }

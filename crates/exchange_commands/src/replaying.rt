@@ -1,6 +1,7 @@
 //! A script is replayed, line by line, through an exchange.
 ghost use Rattle.std.specs.Prelude.{◌≡◌, ◌+◌, ◌<◌, ◌^◌, length, IfSome};
 
+use crate::desk::Desk;
 use crate::player::Player;
 use crate::printing::Printer;
 use crate::viewer::{Stop, Viewer};
@@ -95,7 +96,16 @@ fn work_line<J: Naming, R: Wait, V: Viewer>(
             None => Err(Stop::Script),
         },
         (Some(line), Some((exchange, passes))) => match passes.first_mut() {
-            Some(pass) => player.line(rt, alloc, exchange, pass, &line, viewer),
+            Some(pass) => {
+                let mut desk = Desk {
+                    rt,
+                    alloc,
+                    exchange: &*exchange,
+                    pass,
+                    viewer,
+                };
+                player.line(&mut desk, &line)
+            }
             None => Err(Stop::Script),
         },
         _ => Err(Stop::Script),

@@ -1,6 +1,6 @@
 //! The stages of the plan's numbers, as a viewer was told them last.
+use crate::desk::Desk;
 use crate::viewer::{Stop, Viewer};
-use exchange_core::{Exchange, NoGate, Pass};
 use leg_machine::Stage;
 use peer_lock::{Naming, Status};
 use peer_plan::Plan;
@@ -75,18 +75,18 @@ impl Stages {
     }
 
     /// How the leg of a number stands.
-    pub(crate) fn status<J: Naming, R: Wait>(
+    pub(crate) fn status<J: Naming, R: Wait, V>(
         &self,
-        rt: &R,
-        exchange: &Exchange<NoGate, J>,
-        pass: &mut Pass<J>,
+        desk: &mut Desk<'_, R, J, V>,
         number: u16,
     ) -> Option<Status> {
-        let &peer = self.peers.get(usize::from(number).wrapping_sub(1))?;
-        if peer >= exchange.plan().peer_count() {
-            return None;
+        let exchange = desk.exchange;
+        match self.peers.get(usize::from(number).wrapping_sub(1)) {
+            Some(peer) if *peer < exchange.plan().peer_count() => {
+                exchange.status(desk.rt, desk.pass, *peer, number)
+            }
+            _ => None,
         }
-        exchange.status(rt, pass, peer, number)
     }
 
     // Whether a number may be another way than was told: one of those in `live`, where all are put that may.
@@ -108,11 +108,8 @@ impl Stages {
     /// The viewer is told each stage that is another than before, by ascending number.
     pub(crate) fn tell<J: Naming, R: Wait, V: Viewer>(
         &mut self,
-        rt: &R,
-        exchange: &Exchange<NoGate, J>,
-        pass: &mut Pass<J>,
+        desk: &mut Desk<'_, R, J, V>,
         now: u64,
-        viewer: &mut V,
     ) -> Result<(), Stop> {
         match self.are_doubted() {
             Ok(true) => {}
@@ -122,7 +119,7 @@ impl Stages {
         let mut count: usize = 0;
         for turn in 0..self.live.len() {
             let place = self.live.get(turn).copied().unwrap_or(0);
-            match self.tell_one(rt, exchange, pass, place, now, viewer) {
+            match self.tell_one(desk, place, now) {
                 Ok(true) => {
                     self.keep(count, place);
                     count = count.saturating_add(1);
@@ -145,20 +142,17 @@ impl Stages {
     // The stage of the number at a place is told, where it is another than before. Whether it has a leg.
     fn tell_one<J: Naming, R: Wait, V: Viewer>(
         &mut self,
-        rt: &R,
-        exchange: &Exchange<NoGate, J>,
-        pass: &mut Pass<J>,
+        desk: &mut Desk<'_, R, J, V>,
         place: usize,
         now: u64,
-        viewer: &mut V,
     ) -> Result<bool, Stop> {
         let number = u16::try_from(place.saturating_add(1)).unwrap_or(0);
-        let stage = match self.status(rt, exchange, pass, number) {
+        let stage = match self.status(desk, number) {
             Some(status) => Some(status.stage),
             None => None,
         };
         let told = if self.changes(place, stage) {
-            viewer.staged(now, number, stage)
+            desk.viewer.staged(now, number, stage)
         } else {
             Ok(())
         };

@@ -1,0 +1,14 @@
+//! What a script is played on, and who looks on.
+use exchange_core::{Exchange, NoGate, Pass};
+use peer_lock::Naming;
+use std::alloc::Global;
+
+/// An exchange and a pass of it, on which a script is played, and the viewer who is told what comes of it.
+#[derive(Drop)]
+pub(crate) struct Desk<'a, R, J: Naming, V> {
+    pub(crate) rt: &'a R,
+    pub(crate) alloc: Global,
+    pub(crate) exchange: &'a Exchange<NoGate, J>,
+    pub(crate) pass: &'a mut Pass<J>,
+    pub(crate) viewer: &'a mut V,
+}
