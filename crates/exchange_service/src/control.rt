@@ -6,8 +6,9 @@ use control_requests::Request;
 use control_server::{Clients, Door};
 use log::{Log, warn};
 use peer_lock::Naming;
-use service_desk::{Desk, Drain, SocketTable, answer_scrape};
+use service_desk::{Desk, Drain, answer_scrape, count_legs};
 use service_log::Told;
+use service_watch::SocketTable;
 use std::alloc::{AllocError, Global};
 use std::fs::{File, Files};
 use std::io;
@@ -76,10 +77,14 @@ impl<'s> Control<'s> {
         let log = Journal { rt, level };
         self.begin(&log);
         // Without memory for what was logged, nothing is.
-        let mut told = Told::new(self.alloc, desk.exchange.plan(), moment(rt, opened, 0)).ok();
+        let (calls, trace) = (self.settings.calls, self.settings.trace_path());
+        let (plan, watch) = (desk.exchange.plan(), desk.watch);
+        let now = moment(rt, opened, 0);
+        let mut told = Told::new(self.alloc, plan, watch, calls, trace, now).ok();
         let now = self.go_on(rt, &log, desk, &mut told, opened);
         if let Some(told) = &mut told {
-            told.end(rt, &log, self.alloc, desk, &mut self.table, now);
+            told.end_rounds();
+            self.tell(rt, &log, desk, told, now);
         }
     }
 
@@ -89,7 +94,7 @@ impl<'s> Control<'s> {
         rt: &R,
         log: &L,
         desk: &mut Desk<'_, J>,
-        told: &mut Option<Told>,
+        told: &mut Option<Told<'_>>,
         opened: Instant,
     ) -> u64 {
         let mut drain = Drain::new(self.settings.drain_ms);
@@ -115,17 +120,35 @@ impl<'s> Control<'s> {
         log: &L,
         desk: &mut Desk<'_, J>,
         drain: &mut Drain,
-        told: &mut Option<Told>,
+        told: &mut Option<Told<'_>>,
         now: u64,
     ) -> bool {
         let alloc = self.alloc;
         self.serve_all(rt, desk, now);
         if let Some(told) = told {
-            told.look(rt, log, alloc, desk, &mut self.table, now);
+            self.tell(rt, log, desk, told, now);
         }
         drain.go_on(rt, desk, now);
         desk.look_for_rest(rt, alloc, now);
         desk.watch.has_ended() && !self.clients.is_answering()
+    }
+
+    // The log tells what there is to tell at a moment. Legs are counted where it tells how many there are.
+    fn tell<R: Wait, J: Naming, L: Log>(
+        &mut self,
+        rt: &R,
+        log: &L,
+        desk: &mut Desk<'_, J>,
+        told: &mut Told<'_>,
+        now: u64,
+    ) {
+        let exchange = desk.exchange;
+        for peer in 0..exchange.plan().peer_count() {
+            if told.see_peer(log, peer, now) {
+                told.note_legs(peer, count_legs(rt, exchange, &mut desk.pass, peer));
+            }
+        }
+        told.look(rt, log, self.alloc, &mut self.table, now);
     }
 
     // Each client goes on as far as the system lets it.

@@ -10,8 +10,9 @@ use call_writer::Disk;
 use exchange_core::{Exchange, NoGate, Pass};
 use peer_lock::Naming;
 use peer_plan::Plan;
-use service_desk::{Desk, ServiceWatch};
+use service_desk::Desk;
 use service_log::tell_start;
+use service_watch::ServiceWatch;
 use std::alloc::Global;
 use std::marker::PhantomData;
 use std::net::Net;
@@ -127,8 +128,6 @@ fn serve_seated<
         pass: passes.remove(0),
         watch,
         lane,
-        calls: control.settings.calls,
-        trace: control.settings.trace_path(),
     };
     let is_served = serve_desk::<J, P, R, D>(
         rt, disk, exchange, watch, written, seats, &mut desk, control, opened,

@@ -2,7 +2,6 @@
 ghost use Rattle.std.specs.Prelude.{◌≡◌, ◌<◌, IfOk, length, string_bytes};
 
 use crate::legs::{count_legs, find_leg, hang_up, hang_up_peer, is_at_rest};
-use crate::service_watch::ServiceWatch;
 use crate::showing::{ShownLeg, push_calls};
 use call_book::LegName;
 use control_requests::{
@@ -13,6 +12,7 @@ use exchange_core::{CallError, Exchange, NoGate, Pass};
 use exchange_report::{call_error_name, peer_named};
 use peer_lock::Naming;
 use peer_plan::{Endpoint, Plan};
+use service_watch::ServiceWatch;
 use std::alloc::{AllocError, Global};
 use std::sync::Wait;
 use trace_writer::TraceLane;
@@ -30,10 +30,6 @@ pub struct Desk<'x, J: Naming> {
     pub watch: &'x ServiceWatch,
     /// Where its orders are noted, if that is wanted.
     pub lane: Option<TraceLane<'x>>,
-    /// The name of the file of call records, if they are wanted.
-    pub calls: Option<&'x str>,
-    /// The name of the folder of the trace, if that is wanted.
-    pub trace: Option<&'x str>,
 }
 
 impl<'x, J: Naming> Desk<'x, J> {

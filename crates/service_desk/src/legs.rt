@@ -1,12 +1,12 @@
 //! The legs of an exchange, found and hung up by their local numbers.
 ghost use Rattle.std.specs.Prelude.{◌<◌, IfSome, length};
 
-use crate::service_watch::ServiceWatch;
 use call_book::LegName;
 use exchange_core::{Exchange, NoGate, Pass, Retired};
 use exchange_report::order_error_name;
 use leg_machine::Stage;
 use peer_lock::Naming;
+use service_watch::ServiceWatch;
 use std::sync::Wait;
 use trace_writer::TraceLane;
 use worker_watch::{Event, Watch};

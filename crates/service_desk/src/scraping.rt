@@ -3,8 +3,6 @@ ghost use Rattle.std.specs.Prelude.{◌<◌, length};
 
 use crate::desk::Desk;
 use crate::legs::count_legs;
-use crate::service_watch::{REFUSALS, ServiceWatch};
-use crate::socket_table::{DropCount, SocketTable, drop_counts};
 use control_requests::{Answer, Methods, Request, Status};
 use exchange_core::{Exchange, NoGate, Pass};
 use exchange_report::refusal_name;
@@ -13,6 +11,7 @@ use peer_plan::Plan;
 use service_report::{
     Family, Figure, Kind, Label, Labels, Metrics, PeerFigures, Sample, Scrape, scrape_of,
 };
+use service_watch::{DropCount, REFUSALS, ServiceWatch, SocketTable, drop_counts};
 use std::alloc::{AllocError, Global};
 use std::iter;
 use std::sync::Wait;

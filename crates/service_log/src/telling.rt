@@ -7,12 +7,11 @@ use crate::strangers::Strangers;
 use crate::trace_told::TraceTold;
 use exchange_report::refusal_name;
 use log::{Level, Log, log_enabled};
-use peer_lock::Naming;
 use peer_plan::{Endpoint, Plan};
-use service_desk::{
-    Desk, DropCount, REFUSALS, STRANGERS, ServiceWatch, SocketTable, count_legs, drop_counts,
-};
 use service_report::{Hearing, News, Rounds, news_of};
+use service_watch::{
+    DropCount, PeerMarksRead, REFUSALS, STRANGERS, ServiceWatch, SocketTable, drop_counts,
+};
 use std::alloc::{AllocError, Global};
 use std::sync::Wait;
 use std::{iter, mem};
@@ -27,12 +26,16 @@ const REFUSALS_MS: u64 = 10_000;
 // After so many times its `ping_ms` a peer is silent.
 const PINGS: u64 = 3;
 
-// What was told of a peer.
+// What was told of a peer, and what is told of it next.
 #[derive(Clone, Copy)]
 struct PeerTold {
     hearing: Hearing,
+    news: Option<News>,
     legs: u64,
     legs_ended: u64,
+    // The legs that it has, and those that had ended when these were counted.
+    legs_now: u16,
+    legs_ended_now: u64,
     turned_away: u64,
     // In the order of `REFUSALS`.
     refused: [u64; REFUSALS.len()],
@@ -40,7 +43,12 @@ struct PeerTold {
 
 /// What was told of a service.
 #[derive(Drop)]
-pub struct Told {
+pub struct Told<'s> {
+    plan: &'s Plan,
+    watch: &'s ServiceWatch,
+    // The names of the file of call records and of the folder of the trace.
+    calls_path: Option<&'s str>,
+    trace_path: Option<&'s str>,
     stage: ServiceStage,
     peers: Vec<PeerTold>,
     // The drops of each worker's socket.
@@ -60,16 +68,32 @@ impl PeerTold {
     fn new() -> PeerTold {
         PeerTold {
             hearing: Hearing::Never,
+            news: None,
             legs: 0,
             legs_ended: 0,
+            legs_now: 0,
+            legs_ended_now: 0,
             turned_away: 0,
             refused: [0; REFUSALS.len()],
         }
     }
 
+    // What was counted of it at a moment. Whether it has fallen silent.
+    fn see(&mut self, marks: PeerMarksRead, now: u64, limit: u64) -> bool {
+        let (hearing, news) = news_of(self.hearing, marks.heard, now, limit);
+        self.hearing = hearing;
+        self.news = news;
+        self.legs_ended_now = marks.legs_ended;
+        match news {
+            Some(News::Silent(_)) => true,
+            _ => false,
+        }
+    }
+
     // How many legs began and how many ended, in a round. A leg that began and ended in it is one of both.
-    fn tell_legs<L: Log>(&mut self, log: &L, name: &str, legs: u64, legs_ended: u64) {
-        let ended = more_than(&mut self.legs_ended, legs_ended);
+    fn tell_legs<L: Log>(&mut self, log: &L, name: &str) {
+        let legs = u64::from(self.legs_now);
+        let ended = more_than(&mut self.legs_ended, self.legs_ended_now);
         let begun = legs.saturating_add(ended).saturating_sub(self.legs);
         self.legs = legs;
         if begun > 0 {
@@ -161,13 +185,26 @@ fn tell_drops<L: Log>(log: &L, told: &mut [u64], counts: &[DropCount], seconds: 
     }
 }
 
-impl Told {
-    /// Nothing was told yet of a service that began at this moment, in milliseconds since the exchange was opened.
+impl<'s> Told<'s> {
+    /// Nothing was told yet of a service that began at this moment, in milliseconds since the exchange was opened: the service of
+    /// this plan with this watch. `calls` is the name of the file of call records, `trace` that of the folder of the trace, where
+    /// these are wanted.
     ///
     /// `AllocError`: a request for memory was refused.
-    pub fn new(alloc: Global, plan: &Plan, now: u64) -> Result<Told, AllocError> {
+    pub fn new(
+        alloc: Global,
+        plan: &'s Plan,
+        watch: &'s ServiceWatch,
+        calls: Option<&'s str>,
+        trace: Option<&'s str>,
+        now: u64,
+    ) -> Result<Told<'s>, AllocError> {
         let strangers = Strangers::new(alloc)?;
         let mut told = Told {
+            plan,
+            watch,
+            calls_path: calls,
+            trace_path: trace,
             stage: ServiceStage::Serving,
             peers: Vec::new(alloc),
             drops: Vec::new(alloc),
@@ -185,14 +222,15 @@ impl Told {
                 since: now,
             },
         };
-        match told.make_room(plan) {
+        match told.make_room() {
             Ok(()) => Ok(told),
             Err(error) => Err(error),
         }
     }
 
     // Room for the plan's peers and workers, and for strangers.
-    fn make_room(&mut self, plan: &Plan) -> Result<(), AllocError> {
+    fn make_room(&mut self) -> Result<(), AllocError> {
+        let plan = self.plan;
         for _ in 0..plan.peer_count() {
             self.peers.push(PeerTold::new())?;
         }
@@ -200,6 +238,32 @@ impl Told {
             self.drops.push(0)?;
         }
         self.spare.reserve_exact(STRANGERS)
+    }
+
+    /// Reads what was counted of the peer at this place of the plan, at a moment in milliseconds since the exchange was opened,
+    /// as the next `look` tells it. Gives whether that tells how many legs the peer has, too: where it has fallen silent, and once
+    /// a second where `Info` is logged. Then `note_legs` has to say it first.
+    pub fn see_peer<L: Log>(&mut self, log: &L, peer: u16, now: u64) -> bool {
+        let (plan, watch) = (self.plan, self.watch);
+        if peer >= plan.peer_count() {
+            return false;
+        }
+        let limit = silence_limit(plan, peer);
+        let mut legs = self.legs;
+        match self.peers.get_mut(usize::from(peer)) {
+            Some(told) => {
+                let is_silent = told.see(watch.marks(peer), now, limit);
+                is_silent || (legs.due(now).is_some() && log_enabled!(log; Level::Info))
+            }
+            None => false,
+        }
+    }
+
+    /// The peer at this place of the plan has so many legs, counted right after `see_peer`.
+    pub fn note_legs(&mut self, peer: u16, legs: u16) {
+        if let Some(told) = self.peers.get_mut(usize::from(peer)) {
+            told.legs_now = legs;
+        }
     }
 
     // That the service stops.
@@ -217,65 +281,39 @@ impl Told {
     }
 
     // Who was heard for the first time, who is silent, and who is heard again.
-    fn tell_peers<L: Log, J: Naming, R: Wait>(
-        &mut self,
-        rt: &R,
-        log: &L,
-        desk: &mut Desk<'_, J>,
-        now: u64,
-    ) {
-        let exchange = desk.exchange;
-        for peer in 0..exchange.plan().peer_count() {
-            let limit = silence_limit(exchange.plan(), peer);
-            let heard = desk.watch.marks(peer).heard;
-            if let Some(news) = self.news_of(peer, heard, now, limit) {
-                let legs = match news {
-                    News::Silent(_) => count_legs(rt, exchange, &mut desk.pass, peer),
-                    _ => 0,
-                };
-                tell_news(log, exchange.plan().name(peer), news, legs);
+    fn tell_peers<L: Log>(&mut self, log: &L) {
+        let plan = self.plan;
+        for peer in 0..plan.peer_count() {
+            if let Some(told) = self.peers.get_mut(usize::from(peer)) {
+                if let Some(news) = told.news.take() {
+                    tell_news(log, plan.name(peer), news, told.legs_now);
+                }
             }
         }
     }
 
-    // What is to be told of a peer.
-    fn news_of(&mut self, peer: u16, heard: Option<u64>, now: u64, limit: u64) -> Option<News> {
-        let told = self.peers.get_mut(usize::from(peer))?;
-        let (hearing, news) = news_of(told.hearing, heard, now, limit);
-        told.hearing = hearing;
-        news
-    }
-
     // The legs that began and ended in a round, where that is logged.
-    fn tell_legs<L: Log, J: Naming, R: Wait>(&mut self, rt: &R, log: &L, desk: &mut Desk<'_, J>) {
+    fn tell_legs<L: Log>(&mut self, log: &L) {
         if !log_enabled!(log; Level::Info) {
             return;
         }
-        let exchange = desk.exchange;
-        for peer in 0..exchange.plan().peer_count() {
-            let legs_ended = desk.watch.marks(peer).legs_ended;
-            let legs = u64::from(count_legs(rt, exchange, &mut desk.pass, peer));
-            let name = exchange.plan().name(peer);
+        let plan = self.plan;
+        for peer in 0..plan.peer_count() {
             if let Some(told) = self.peers.get_mut(usize::from(peer)) {
-                told.tell_legs(log, name, legs, legs_ended);
+                told.tell_legs(log, plan.name(peer));
             }
         }
     }
 
     // What is wrong with the file of call records and with the trace, where there are such.
-    fn tell_files<L: Log>(
-        &mut self,
-        log: &L,
-        watch: &ServiceWatch,
-        calls: Option<&str>,
-        trace: Option<&str>,
-    ) {
-        if let Some(path) = calls {
+    fn tell_files<L: Log>(&mut self, log: &L) {
+        let watch = self.watch;
+        if let Some(path) = self.calls_path {
             if let Some(calls) = watch.calls() {
                 self.calls.look(log, path, calls.state());
             }
         }
-        if let Some(path) = trace {
+        if let Some(path) = self.trace_path {
             if let Some(trace) = watch.trace() {
                 self.trace.look(log, path, trace.state());
             }
@@ -283,7 +321,8 @@ impl Told {
     }
 
     // What was refused in a round of so many seconds.
-    fn tell_refusals<L: Log>(&mut self, log: &L, plan: &Plan, watch: &ServiceWatch, seconds: u64) {
+    fn tell_refusals<L: Log>(&mut self, log: &L, seconds: u64) {
+        let (plan, watch) = (self.plan, self.watch);
         for peer in 0..plan.peer_count() {
             let name = plan.name(peer);
             if let Some(told) = self.peers.get_mut(usize::from(peer)) {
@@ -293,9 +332,9 @@ impl Told {
     }
 
     // Takes the strangers that came.
-    fn see_strangers<R: Wait>(&mut self, rt: &R, alloc: Global, watch: &ServiceWatch) {
+    fn see_strangers<R: Wait>(&mut self, rt: &R, alloc: Global) {
         let spare = mem::replace(&mut self.spare, Vec::new(alloc));
-        let mut seen = watch.take_strangers(rt, spare);
+        let mut seen = self.watch.take_strangers(rt, spare);
         for from in &seen {
             self.strangers.see(*from);
         }
@@ -304,17 +343,9 @@ impl Told {
     }
 
     // What was refused, and came from strangers, and failed, in a round of so many milliseconds.
-    fn tell_round<L: Log>(
-        &mut self,
-        table: &mut SocketTable,
-        log: &L,
-        alloc: Global,
-        plan: &Plan,
-        watch: &ServiceWatch,
-        lasted: u64,
-    ) {
-        let seconds = lasted / 1000;
-        self.tell_refusals(log, plan, watch, seconds);
+    fn tell_round<L: Log>(&mut self, table: &mut SocketTable, log: &L, alloc: Global, lasted: u64) {
+        let (watch, seconds) = (self.watch, lasted / 1000);
+        self.tell_refusals(log, seconds);
         self.strangers.tell(log, watch.strangers(), seconds);
         let faults = more_than(&mut self.faults, watch.faults());
         tell_count(log, Level::Warn, &"faults of the sockets", faults, seconds);
@@ -324,50 +355,38 @@ impl Told {
         if let Some(trace) = watch.trace() {
             self.trace.tell_lost(log, trace.state(), seconds);
         }
-        match drop_counts(table, alloc, plan) {
+        match drop_counts(table, alloc, self.plan) {
             Ok(counts) => tell_drops(log, &mut self.drops, &counts, seconds),
             Err(_) => tell(log, Level::Debug, &"no memory for the table of sockets"),
         }
     }
 
-    /// Tells the log what is to be told at this moment, in milliseconds since the exchange was opened: the stage, peers, the
-    /// files of records and of the trace; legs once a second; refusals, strangers, faults, lost rows and drops once in ten.
-    pub fn look<L: Log, J: Naming, R: Wait>(
+    /// Tells the log what is to be told at this moment, in milliseconds since the exchange was opened, once `see_peer` has read
+    /// each peer at that moment: the stage, peers, the files of records and of the trace; legs once a second; refusals,
+    /// strangers, faults, lost rows and drops once in ten.
+    pub fn look<L: Log, R: Wait>(
         &mut self,
         rt: &R,
         log: &L,
         alloc: Global,
-        desk: &mut Desk<'_, J>,
         table: &mut SocketTable,
         now: u64,
     ) {
-        let plan = desk.exchange.plan();
-        self.tell_stage(log, desk.watch.stage());
-        self.tell_peers(rt, log, desk, now);
-        self.see_strangers(rt, alloc, desk.watch);
-        self.tell_files(log, desk.watch, desk.calls, desk.trace);
+        self.tell_stage(log, self.watch.stage());
+        self.tell_peers(log);
+        self.see_strangers(rt, alloc);
+        self.tell_files(log);
         if self.legs.due(now).is_some() {
-            self.tell_legs(rt, log, desk);
+            self.tell_legs(log);
         }
         if let Some(lasted) = self.refusals.due(now) {
-            self.tell_round(table, log, alloc, plan, desk.watch, lasted);
+            self.tell_round(table, log, alloc, lasted);
         }
     }
 
-    /// Tells the log the rest, at the end: all that `look` tells, whether it is due or not.
-    pub fn end<L: Log, J: Naming, R: Wait>(
-        &mut self,
-        rt: &R,
-        log: &L,
-        alloc: Global,
-        desk: &mut Desk<'_, J>,
-        table: &mut SocketTable,
-        now: u64,
-    ) {
-        let plan = desk.exchange.plan();
-        let lasted = now.saturating_sub(self.refusals.since);
-        self.look(rt, log, alloc, desk, table, now);
-        self.tell_legs(rt, log, desk);
-        self.tell_round(table, log, alloc, plan, desk.watch, lasted);
+    /// Has the next `look` tell the rest, at the end: all that it tells is due from now on.
+    pub fn end_rounds(&mut self) {
+        self.legs.period = 0;
+        self.refusals.period = 0;
     }
 }
