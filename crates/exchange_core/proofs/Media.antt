@@ -1,6 +1,6 @@
 -- A NEW that opens a leg hands up no media.
 use Rattle.std.proofs.Common.{◌≡◌, ℕ, ◌+◌, List, refl, ap, sym, ◌∙◌}
-use Rattle.std.specs.Prelude.{◌&&◌, Result, Ok, Err, OnOk}
+use Rattle.std.specs.Prelude.{◌&&◌}
 use Rattle.std.specs.List.{AllByRecursion}
 use Rattle.std.proofs.lemmas.Bool.{cond_both}
 use Rattle.call_book.specs.declared.leg_name.LegName.{LegName}
@@ -37,14 +37,8 @@ opens_silent peer name frame now challenge =
     (λ (s : Step). IsSilent (handed_up name s.signal))
     (λ _. record { within = λ len. tt; none = refl }) (λ _. effect_silent name opening)
 
-opening_takes_none : (peer : PeerView) (name : LegName) (frame : FullFrame) (now : ℕ) (challenge : List ℕ) (len : ℕ) (old new : Credit) (signals : List (LegName × Signal))
+pub opening_takes : (peer : PeerView) (name : LegName) (frame : FullFrame) (now : ℕ) (challenge : List ℕ) (len : ℕ) (old new : Credit) (signals : List (LegName × Signal))
     → signals ≡ (opens_in peer name frame now challenge).signals → new ≡ with_step old 0 → TakesCredit len old new signals
-opening_takes_none peer name frame now challenge len old new signals are credit =
+opening_takes peer name frame now challenge len old new signals are credit =
     let silent = opens_silent peer name frame now challenge in
     rw are (record { within = silent.within len; octets = ap (λ (c : Credit). c.octets) credit ∙ ap (λ n. old.octets + n) (sym silent.none) })
-
-pub opening_takes : {A E : Type 0} (peer : PeerView) (name : LegName) (frame : FullFrame) (now : ℕ) (challenge : List ℕ) (len : ℕ) (old new : Credit)
-    (signals : List (LegName × Signal)) (result : Result A E) → OnOk result (signals ≡ (opens_in peer name frame now challenge).signals) → OnOk result (new ≡ with_step old 0)
-    → OnOk result (TakesCredit len old new signals)
-opening_takes peer name frame now challenge len old new signals (Ok step) are credit = opening_takes_none peer name frame now challenge len old new signals are credit
-opening_takes peer name frame now challenge len old new signals (Err e) are credit = are

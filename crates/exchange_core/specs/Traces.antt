@@ -76,6 +76,11 @@ abbrev pub octets_of : Option (List ℕ) → List ℕ
 octets_of None = []
 octets_of (Some media) = media
 
+-- who calls; of a call from outside nobody is known
+abbrev pub caller_of : Option (List ℕ) → List ℕ
+caller_of None = numbered None
+caller_of (Some caller) = caller
+
 -- a leg of this peer is opened for the number that is called from outside, in the lowest format of the peer; else for what is
 -- offered, in the format of that call at this peer
 abbrev pub IsCallFor : PlanView → Option (List ℕ) → Option Offer → ℕ → List ℕ → List ℕ → Format → Type 0
@@ -139,15 +144,6 @@ pub record Makes (call : Call) (offer : Option Offer) (need : Need) (reply : Rep
   pub step : Made
   pub noted : Notes step old new
   pub made : IsMade call offer need reply step
-
--- the pass has noted that a leg was opened so by a NEW of ours, for the number that is called from outside or for what is offered
-pub record OpensOut (plan : PlanView) (outside : Option (List ℕ)) (offer : Option Offer) (name : LegName) (now : ℕ)
-    (answer : Result Step OpenError) (old new : Noted) : Type 0 where
-  pub called : List ℕ
-  pub caller : List ℕ
-  pub format : Format
-  pub is_for : IsCallFor plan outside offer name.peer called caller format
-  pub noted : Notes (mades.OpenOut name.peer name called caller format now answer) old new
 
 -- ---- all steps of a call
 

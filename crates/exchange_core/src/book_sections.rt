@@ -1,33 +1,20 @@
 //! The locked sections of the book: each takes its lock alone, and makes no step of a peer.
-ghost use Rattle.std.specs.Prelude.{◌≡◌, Err, Option, IfOk, IfErr};
+ghost use Rattle.std.specs.Prelude.{◌≡◌, Err, Option};
 ghost use Rattle.call_steps.specs.declared.need.Need.TheVariants as needs;
 ghost use Rattle.call_steps.specs.declared.reply.Reply.TheVariants as replies;
 ghost use Rattle.exchange_core.specs.Traces.{Call, Makes};
-ghost use Rattle.noted_steps.specs.Notes.{note, without_lease};
+ghost use Rattle.noted_steps.specs.Notes.{note};
 ghost use Rattle.peer_accounts.specs.declared.onwards.Offer.{Offer as OfferValue};
 ghost use Rattle.noted_steps.specs.declared.made.Made.TheVariants as mades;
 
 use crate::exchange::Exchange;
 use crate::gate::Gate;
-use call_book::{BridgeError, Lease, LegName, ReserveError, Stale};
+use call_book::{BridgeError, LegName};
 use noted_steps::Pass;
 use peer_lock::Naming;
 use std::sync::Wait;
 
 impl<G: Gate, J: Naming> Exchange<G, J> {
-    // A new name of a peer.
-    pub(crate) fn reserve<R: Wait>(
-        &self,
-        rt: &R,
-        pass: &mut Pass<J>,
-        peer: u16,
-    ) -> Result<Lease, ReserveError>
-        ensures noted { pass.new ≡ note (mades.Reserve peer result) pass.old }
-        ensures peer { IfOk result (λ lease. lease.peer ≡ peer) }
-    {
-        self.book.lock(rt).reserve(pass, peer)
-    }
-
     // Makes two names partners of each other.
     pub(crate) fn bridge<R: Wait>(
         &self,
@@ -56,18 +43,5 @@ impl<G: Gate, J: Naming> Exchange<G, J> {
             Makes call offer (needs.Partner name) (replies.Partner result) pass.old pass.new }
     {
         self.book.lock(rt).partner(pass, name)
-    }
-
-    // Takes a name back, and gives its former partner.
-    pub(crate) fn release<R: Wait>(
-        &self,
-        rt: &R,
-        pass: &mut Pass<J>,
-        lease: Lease,
-    ) -> Result<Option<LegName>, (Lease, Stale)>
-        ensures noted { pass.new ≡ note (mades.Release lease (without_lease result)) pass.old }
-        ensures lease { IfErr result (λ back. back.0 ≡ lease) }
-    {
-        self.book.lock(rt).release(pass, lease)
     }
 }

@@ -1,5 +1,5 @@
 //! Why the first step of a call was refused.
-ghost use Rattle.std.specs.Prelude.{◌≡◌, Some, option_map};
+ghost use Rattle.std.specs.Prelude.{◌≡◌, ◌⊎◌, Some, option_map};
 ghost use Rattle.call_steps.specs.Beginnings.{OfDatagram, OfTick, OfCall, OfHangUp};
 ghost use Rattle.exchange_core.specs.Denial.{Denies, denial_of};
 ghost use Rattle.exchange_core.specs.Refusals.{from_call};
@@ -10,7 +10,7 @@ use call_steps::Reply;
 use peer_lock::OrderError;
 
 /// Why the first step of a call was refused.
-#[derive(Clone, Copy, Debug, PartialEq, Eq)]
+#[derive(Clone, Copy)]
 pub(crate) enum Denial {
     /// A datagram, a tick or a call from outside.
     Call(Refusal),
@@ -38,20 +38,9 @@ impl Denial {
         }
     }
 
-    // Why a datagram was refused.
-    pub(crate) fn of_datagram(self) -> Refusal
-        requires { Denies (Some OfDatagram) self }
-        ensures { self ≡ Denial.Call result }
-    {
-        match self {
-            Denial::Call(refusal) => refusal,
-            Denial::Order(_) => unreachable!(),
-        }
-    }
-
-    // Why a tick was refused.
-    pub(crate) fn of_tick(self) -> Refusal
-        requires { Denies (Some OfTick) self }
+    // Why a datagram or a tick was refused.
+    pub(crate) fn of_peer(self) -> Refusal
+        requires { Denies (Some OfDatagram) self ⊎ Denies (Some OfTick) self }
         ensures { self ≡ Denial.Call result }
     {
         match self {

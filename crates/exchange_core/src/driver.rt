@@ -1,18 +1,17 @@
 //! The steps of a call, as its table names them, from the first until nothing is left to be done.
 ghost use Rattle.std.specs.Option.{ForSome};
-ghost use Rattle.std.specs.Prelude.{◌≡◌, ◌+◌, ◌<◌, ◌≤◌, [], None, Some, length, IsSome, MatchOption};
+ghost use Rattle.std.specs.Prelude.{◌≡◌, ◌+◌, ◌<◌, ◌≤◌, [], None, Some, length, map, IsSome, MatchOption};
 ghost use Rattle.call_steps.specs.Beginnings.{OfDatagram, beginning_at};
-ghost use Rattle.call_steps.specs.Leases.{lease_in};
 ghost use Rattle.call_steps.specs.MediaLeft.{media_left};
 ghost use Rattle.exchange_core.specs.Denial.{Denies};
 ghost use Rattle.exchange_core.specs.FirstSteps.{CallIsMade, StartsInPlan};
-ghost use Rattle.exchange_core.specs.Leaving.{LeftSince, leaving_of, nobody};
+ghost use Rattle.exchange_core.specs.Leaving.{Leave, LeftSince, departure_of, leaving_of, nobody};
 ghost use Rattle.exchange_core.specs.Numbers.{IsCalled};
 ghost use Rattle.exchange_core.specs.Traces.{MakesAll, call_of};
 
 use crate::exchange::Exchange;
 use crate::gate::Gate;
-use crate::hands::{Given, Hands};
+use crate::hands::{Given, Hands, Outcome};
 use call_steps::Work;
 use call_steps::laws::{leases_are_as_named, media_is_carried_once, refused_calls_end};
 use noted_steps::Pass;
@@ -54,6 +53,34 @@ impl<G: Gate, J: Naming> Exchange<G, J> {
             };
             let reply = self.make(rt, pass, work, need, given, hands);
             hands.tell(work, reply);
+        }
+    }
+
+    // Makes the steps of a call that begins so, and tells what it came to.
+    #[inline(always)]
+    pub(crate) fn carry_out<R: Wait>(
+        &self,
+        rt: &R,
+        pass: &mut Pass<J>,
+        work: &mut Work,
+        given: &Given<'_, '_, '_>,
+    ) -> Outcome
+        requires peer { StartsInPlan (length self.now.peers) work.old.work.place }
+        requires nothing { media_left work.old.work ≡ [] }
+        requires challenge { beginning_at work.old.work.place ≡ Some OfDatagram → IsSome given.now.challenge }
+        requires called { ForSome given.now.called (λ text. IsCalled text.now) }
+        ensures all { MakesAll (call_of self.now given.entry.now) work.old pass.old pass.new }
+        ensures steps { MatchOption result.denial (pass.old.credit.steps + 1 ≤ pass.new.credit.steps) (λ why.
+            (pass.new.credit ≡ pass.old.credit) × Denies (beginning_at work.old.work.place) why) }
+        ensures retired { Leave given.entry.now.now pass.old pass.new (map departure_of result.retired.items) }
+        ensures call { CallIsMade work.old.work.place pass.old.credit pass.new.credit result.denial result.named }
+    {
+        let mut hands = Hands::empty(self.alloc);
+        self.run(rt, pass, work, given, &mut hands);
+        Outcome {
+            denial: hands.denial,
+            named: hands.named,
+            retired: hands.leavers.into_legs(),
         }
     }
 }

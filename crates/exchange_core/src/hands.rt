@@ -6,6 +6,7 @@ ghost use Rattle.exchange_core.specs.Leaving.{all_left, given_up_at, leaving_of,
 ghost use Rattle.exchange_core.specs.Traces.{told};
 ghost use Rattle.peer_lock.specs.Statuses.{IsHistory};
 
+use crate::answers::Retired;
 use crate::denial::Denial;
 use crate::leavers::Leavers;
 use call_auth::Challenge;
@@ -65,6 +66,14 @@ pub(crate) struct Hands {
     pub(crate) named: Option<LegName>,
     pub(crate) leavers: Leavers,
     pub(crate) denial: Option<Denial>,
+}
+
+// What a call came to: why it is refused, if it is, the last name that the book gave it, and the legs that it took out, in order.
+#[derive(Drop)]
+pub(crate) struct Outcome {
+    pub(crate) denial: Option<Denial>,
+    pub(crate) named: Option<LegName>,
+    pub(crate) retired: Vec<Retired>,
 }
 
 impl Hands {

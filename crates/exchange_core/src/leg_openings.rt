@@ -1,18 +1,17 @@
 //! The openings of legs: by a NEW that came, of a far leg, and of a call from outside.
 ghost use Rattle.std.specs.Option.{ForSome};
-ghost use Rattle.std.specs.Prelude.{◌≡◌, ◌≢◌, ◌+◌, ◌<◌, ◌≤◌, length, None, Option, Some, Err, option_copied, option_map};
-ghost use Rattle.std.specs.Prelude.{slice_get, IfOk, IfErr, IsSome, OnOk, OnErr};
+ghost use Rattle.std.specs.Prelude.{◌≡◌, ◌≢◌, ◌+◌, ◌<◌, ◌≤◌, ◌⊎◌, length, None, Option, Some, Err, option_copied, option_map};
+ghost use Rattle.std.specs.Prelude.{slice_get, IfNone, IfOk, IfErr, IfSome, IsSome, OnOk, OnErr, OnSome};
 ghost use Rattle.call_signals.specs.Format.{lowest_format};
 ghost use Rattle.exchange_core.specs.Covered.{TakesCredit};
 ghost use Rattle.exchange_core.specs.Newcomers.{SpellsOpening};
 ghost use Rattle.call_steps.specs.declared.need.Need.TheVariants as needs;
 ghost use Rattle.call_steps.specs.declared.reply.Reply.TheVariants as replies;
 ghost use Rattle.exchange_core.specs.Numbers.{IsCalled};
-ghost use Rattle.exchange_core.specs.Routes.{format_for};
-ghost use Rattle.exchange_core.specs.declared.hands.Given.{Given as GivenValue};
-ghost use Rattle.exchange_core.specs.Traces.{Makes, OpensOut, call_of, done_of};
+ghost use Rattle.exchange_core.specs.Traces.{IsCallFor, LacksFormat, Makes, call_of, caller_of};
 ghost use Rattle.iax_frames.specs.FullFrame.{SpellsFull};
-ghost use Rattle.noted_steps.specs.Notes.{without_lease};
+ghost use Rattle.noted_steps.specs.Notes.{Notes, without_lease};
+ghost use Rattle.noted_steps.specs.declared.made.Made.TheVariants as mades;
 ghost use Rattle.peer_accounts.specs.declared.onwards.Offer.{Offer as OfferValue};
 ghost use Rattle.peer_lock.specs.Accounts.{with_step};
 ghost use Rattle.peer_lock.specs.Openings.{IsOpening};
@@ -27,6 +26,7 @@ use iax_frames::Full;
 use leg_machine::{Caller, Format};
 use noted_steps::Pass;
 use peer_lock::{Naming, Offer, OpenError, ReadDatagram, Step};
+use peer_plan::Plan;
 use std::sync::Wait;
 
 // The NEW that a datagram is.
@@ -38,151 +38,131 @@ fn opening_in<'d, 'o>(datagram: &'d ReadDatagram<'o>) -> &'d Full<'o>
     datagram.full().unwrap()
 }
 
+// What a leg is opened with by a NEW of ours.
+#[derive(Drop)]
+struct Outgoing<'a> {
+    // The number that is called.
+    called: &'a [u8],
+    // Who calls; nobody is known of a call from outside.
+    caller: Option<&'a Caller>,
+    format: Format,
+}
+
+// The lowest format of a peer.
+fn lowest_format(plan: &Plan, peer: u16) -> Format
+    requires { peer < length plan.now.peers }
+    ensures { option_map (λ peer. lowest_format peer.rules.formats) (slice_get plan.now.peers peer) ≡ Some (Some result) }
+{
+    match plan.rules(peer).formats.lowest() {
+        Some(format) => format,
+        None => unreachable!(),
+    }
+}
+
+// How the far leg of an offered call is opened at a peer; none where the peer has no format of the call.
+fn outgoing_for<'a>(plan: &Plan, peer: u16, offer: &'a Offer) -> Option<Outgoing<'a>>
+    requires { peer < length plan.now.peers }
+    ensures called { IfSome result (λ call. length call.called.now ≤ 255) }
+    ensures is_for { IfSome result (λ call.
+        IsCallFor plan.now None (Some offer.now) peer call.called.now (caller_of (option_copied call.caller)) call.format) }
+    ensures none { IfNone result (LacksFormat plan.now (Some offer.now) peer) }
+{
+    let format = format_for(offer, plan.rules(peer).formats)?;
+    Some(Outgoing {
+        called: offer.called.as_slice(),
+        caller: Some(&offer.caller),
+        format,
+    })
+}
+
+// How a leg of a peer is opened: for the number that is called from outside, where there is one, else for what is offered.
+fn outgoing_at<'a>(
+    plan: &Plan,
+    peer: u16,
+    called: Option<&'a [u8]>,
+    offer: Option<&'a Offer>,
+) -> Option<Outgoing<'a>>
+    requires { ForSome called (λ text. IsCalled text.now) }
+    ensures peer { OnSome result (peer < length plan.now.peers) }
+    ensures called { IfSome result (λ call. length call.called.now ≤ 255) }
+    ensures is_for { IfSome result (λ call. IsCallFor plan.now (option_copied called.entry) (option_copied offer.entry) peer
+        call.called.now (caller_of (option_copied call.caller)) call.format) }
+    ensures none { IfNone result ((length plan.now.peers ≤ peer) ⊎
+        ((option_copied called.entry ≡ None) × LacksFormat plan.now (option_copied offer.entry) peer)) }
+{
+    if peer >= plan.peer_count() {
+        return None;
+    }
+    match called {
+        Some(called) => Some(Outgoing {
+            called,
+            caller: None,
+            format: lowest_format(plan, peer),
+        }),
+        None => outgoing_for(plan, peer, offer?),
+    }
+}
+
 impl<G: Gate, J: Naming> Exchange<G, J> {
-    // The lowest format of a peer.
-    fn lowest_format(&self, peer: u16) -> Format
-        requires { peer < length self.now.peers }
-        ensures { option_map (λ peer. lowest_format peer.rules.formats) (slice_get self.now.peers peer) ≡ Some (Some result) }
-    {
-        match self.plan.rules(peer).formats.lowest() {
-            Some(format) => format,
-            None => unreachable!(),
-        }
-    }
-
-    // A call from outside goes out under a lease, in the lowest format of its peer.
-    fn open_called<R: Wait>(
+    // A leg is opened under a lease by a NEW of ours.
+    fn open_out<R: Wait>(
         &self,
         rt: &R,
         pass: &mut Pass<J>,
         lease: Lease,
-        called: &[u8],
+        call: &Outgoing<'_>,
         now: u64,
     ) -> Result<Step, (Lease, OpenError)>
         requires peer { lease.peer < length self.now.peers }
-        requires called { IsCalled called.now }
-        ensures noted { (offer : Option OfferValue) →
-            OpensOut self.now (Some called.now) offer lease now (without_lease result) pass.old pass.new }
+        requires called { length call.now.called.now ≤ 255 }
+        ensures noted { Notes (mades.OpenOut lease.peer lease call.now.called.now
+            (caller_of (option_copied call.now.caller)) call.now.format now (without_lease result)) pass.old pass.new }
         ensures credit { OnOk result (pass.new.credit ≡ with_step pass.old.credit 0) }
-        ensures refused { OnErr result (pass.new.credit ≡ pass.old.credit) }
         ensures lease { IfErr result (λ back. back.0 ≡ lease) }
         ensures no_remote { IfErr result (λ back. back.1 ≢ OpenError.RemoteBusy) }
-    {
-        let format = self.lowest_format(lease.name().peer);
-        let nobody = Caller::numbered(None);
-        self.open_out(rt, pass, lease, called, &nobody, format, now)
-    }
-
-    // The far leg of an offered call is opened under a lease, with what is offered, in this format.
-    fn open_far<R: Wait>(
-        &self,
-        rt: &R,
-        pass: &mut Pass<J>,
-        lease: Lease,
-        offer: &Offer,
-        format: Format,
-        now: u64,
-    ) -> Result<Step, (Lease, OpenError)>
-        requires peer { lease.peer < length self.now.peers }
-        requires format { option_map (λ peer. format_for offer.now peer.rules.formats) (slice_get self.now.peers lease.peer) ≡
-            Some (Some format) }
-        ensures noted { OpensOut self.now None (Some offer.now) lease now (without_lease result) pass.old pass.new }
-        ensures credit { OnOk result (pass.new.credit ≡ with_step pass.old.credit 0) }
         ensures refused { OnErr result (pass.new.credit ≡ pass.old.credit) }
-        ensures lease { IfErr result (λ back. back.0 ≡ lease) }
-        ensures no_remote { IfErr result (λ back. back.1 ≢ OpenError.RemoteBusy) }
     {
-        let called = offer.called.as_slice();
-        self.open_out(rt, pass, lease, called, &offer.caller, format, now)
-    }
-
-    // The format of what is offered, if anything is, at a peer.
-    fn offered_format(&self, peer: u16, offer: &Offer) -> Option<Format>
-        requires { peer < length self.now.peers }
-        ensures { option_map (λ peer. format_for offer.now peer.rules.formats) (slice_get self.now.peers peer) ≡ Some result }
-    {
-        format_for(offer, self.plan.rules(peer).formats)
-    }
-
-    // The far leg of what is offered is opened under a lease, if anything is, and the peer has a format of it.
-    fn open_offered<R: Wait>(
-        &self,
-        rt: &R,
-        pass: &mut Pass<J>,
-        lease: Lease,
-        offer: Option<&Offer>,
-        now: u64,
-    ) -> Result<Step, (Lease, OpenError)>
-        requires peer { lease.peer < length self.now.peers }
-        ensures noted { (given : GivenValue) → option_copied given.called ≡ None → given.now ≡ now →
-            Makes (call_of self.now given) (option_copied offer.entry) (needs.OpenOut lease)
-            (replies.OpenOut (done_of (without_lease result))) pass.old pass.new }
-        ensures credit { OnOk result (pass.new.credit ≡ with_step pass.old.credit 0) }
-        ensures refused { OnErr result (pass.new.credit ≡ pass.old.credit) }
-        ensures lease { IfErr result (λ back. back.0 ≡ lease) }
-        ensures no_remote { IfErr result (λ back. back.1 ≢ OpenError.RemoteBusy) }
-    {
-        if let Some(offer) = offer {
-            if let Some(format) = self.offered_format(lease.name().peer, offer) {
-                return self.open_far(rt, pass, lease, offer, format, now);
+        let peer = lease.name().peer;
+        match call.caller {
+            Some(caller) => self
+                .locked(rt, peer)
+                .open_out(pass, lease, call.called, caller, call.format, now),
+            None => {
+                let nobody = Caller::numbered(None);
+                self.locked(rt, peer)
+                    .open_out(pass, lease, call.called, &nobody, call.format, now)
             }
         }
-        pass.note_unasked();
-        Err((lease, OpenError::NumberBusy))
     }
 
-    // A leg is opened under a lease: that of a call from outside, where there is one, else the far leg of what is offered.
-    fn open_under<R: Wait>(
-        &self,
-        rt: &R,
-        pass: &mut Pass<J>,
-        lease: Lease,
-        offer: Option<&Offer>,
-        given: &Given<'_, '_, '_>,
-    ) -> Result<Step, (Lease, OpenError)>
-        requires called { ForSome given.now.called (λ text. IsCalled text.now) }
-        ensures noted { Makes (call_of self.now given.entry.now) (option_copied offer.entry) (needs.OpenOut lease)
-            (replies.OpenOut (done_of (without_lease result))) pass.old pass.new }
-        ensures credit { OnOk result (pass.new.credit ≡ with_step pass.old.credit 0) }
-        ensures refused { OnErr result (pass.new.credit ≡ pass.old.credit) }
-        ensures lease { IfErr result (λ back. back.0 ≡ lease) }
-        ensures no_remote { IfErr result (λ back. back.1 ≢ OpenError.RemoteBusy) }
-    {
-        if lease.name().peer >= self.plan.peer_count() {
-            pass.note_unasked();
-            return Err((lease, OpenError::NumberBusy));
-        }
-        match given.called {
-            Some(called) => self.open_called(rt, pass, lease, called, given.now),
-            None => self.open_offered(rt, pass, lease, offer, given.now),
-        }
-    }
-
-    // A leg is opened under the lease that the call keeps, on this name.
+    // A leg is opened under the lease that the call keeps, on this name: that of a call from outside, where there is one, else
+    // the far leg of what is offered.
     pub(crate) fn open_from<R: Wait>(
         &self,
         rt: &R,
         pass: &mut Pass<J>,
-        _name: LegName,
+        name: LegName,
         offer: Option<&Offer>,
         given: &Given<'_, '_, '_>,
         hands: &mut Hands,
     ) -> Result<(), OpenError>
-        requires lease { hands.old.lease ≡ Some _name }
+        requires lease { hands.old.lease ≡ Some name }
         requires called { ForSome given.now.called (λ text. IsCalled text.now) }
-        ensures noted { Makes (call_of self.now given.entry.now) (option_copied offer.entry) (needs.OpenOut _name)
+        ensures noted { Makes (call_of self.now given.entry.now) (option_copied offer.entry) (needs.OpenOut name)
             (replies.OpenOut result) pass.old pass.new }
-        ensures credit { OnOk result (pass.new.credit ≡ with_step pass.old.credit 0) }
-        ensures refused { OnErr result (pass.new.credit ≡ pass.old.credit) }
-        ensures taken { OnOk result (hands.new.lease ≡ None) }
-        ensures kept { OnErr result (hands.new.lease ≡ hands.old.lease) }
+        ensures credit { OnOk result (pass.new.credit ≡ with_step pass.old.credit 0) ×
+            OnErr result (pass.new.credit ≡ pass.old.credit) }
+        ensures lease { OnOk result (hands.new.lease ≡ None) × OnErr result (hands.new.lease ≡ hands.old.lease) }
         ensures no_remote { result ≢ Err OpenError.RemoteBusy }
-        ensures denial { hands.new.denial ≡ hands.old.denial }
-        ensures leavers { hands.new.leavers ≡ hands.old.leavers }
-        ensures named { hands.new.named ≡ hands.old.named }
+        ensures rest { (hands.new.denial ≡ hands.old.denial) × (hands.new.leavers ≡ hands.old.leavers) ×
+            (hands.new.named ≡ hands.old.named) }
     {
+        let Some(call) = outgoing_at(&self.plan, name.peer, given.called, offer) else {
+            pass.note_unasked();
+            return Err(OpenError::NumberBusy);
+        };
         let lease = hands.lease.take().unwrap();
-        match self.open_under(rt, pass, lease, offer, given) {
+        match self.open_out(rt, pass, lease, &call, given.now) {
             Ok(_) => Ok(()),
             Err((lease, error)) => {
                 hands.lease = Some(lease);
@@ -196,31 +176,33 @@ impl<G: Gate, J: Naming> Exchange<G, J> {
         &self,
         rt: &R,
         pass: &mut Pass<J>,
-        _name: LegName,
+        name: LegName,
         given: &Given<'_, '_, '_>,
         hands: &mut Hands,
     ) -> Result<Heard, OpenError>
-        requires lease { hands.old.lease ≡ Some _name }
-        requires peer { _name.peer < length self.now.peers }
+        requires lease { hands.old.lease ≡ Some name }
+        requires peer { name.peer < length self.now.peers }
         requires opening { SpellsOpening given.now.datagram }
         requires challenge { IsSome given.now.challenge }
         ensures noted { (offer : Option OfferValue) →
-            Makes (call_of self.now given.entry.now) offer (needs.OpenIn _name) (replies.OpenIn result) pass.old pass.new }
-        ensures steps { OnOk result (pass.new.credit.steps ≡ pass.old.credit.steps + 1) }
+            Makes (call_of self.now given.entry.now) offer (needs.OpenIn name) (replies.OpenIn result) pass.old pass.new }
+        ensures credit { OnOk result (pass.new.credit.steps ≡ pass.old.credit.steps + 1) ×
+            OnErr result (pass.new.credit ≡ pass.old.credit) }
+        // What opens a leg has no media.
         ensures media { IfOk result (λ heard.
             TakesCredit (length given.entry.now.datagram) pass.old.credit pass.new.credit heard.onwards.signals) }
-        ensures refused { OnErr result (pass.new.credit ≡ pass.old.credit) }
-        ensures taken { OnOk result (hands.new.lease ≡ None) }
-        ensures kept { OnErr result (hands.new.lease ≡ hands.old.lease) }
-        ensures denial { hands.new.denial ≡ hands.old.denial }
-        ensures leavers { hands.new.leavers ≡ hands.old.leavers }
-        ensures named { hands.new.named ≡ hands.old.named }
+        ensures lease { OnOk result (hands.new.lease ≡ None) × OnErr result (hands.new.lease ≡ hands.old.lease) }
+        ensures rest { (hands.new.denial ≡ hands.old.denial) × (hands.new.leavers ≡ hands.old.leavers) ×
+            (hands.new.named ≡ hands.old.named) }
     {
         let challenge = given.challenge.unwrap();
         let frame = opening_in(&given.datagram);
         let lease = hands.lease.take().unwrap();
         let mut onwards = pass.lend(self.alloc);
-        match self.open_in(rt, pass, lease, frame, given.now, challenge, &mut onwards) {
+        let answer = self
+            .locked(rt, name.peer)
+            .open_in(pass, lease, frame, given.now, challenge, &mut onwards);
+        match answer {
             Ok(step) => Ok(Heard {
                 touched: step.touched,
                 onwards,

@@ -15,7 +15,6 @@ mod leg_openings;
 mod looking;
 mod making;
 mod opening;
-mod order_sections;
 mod outside;
 mod parting;
 mod peer_sections;

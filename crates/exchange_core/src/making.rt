@@ -1,7 +1,7 @@
 //! Each step that a call can need, made as it is named.
 ghost use Rattle.std.specs.Option.{ForSome};
 ghost use Rattle.std.specs.List.{AllByRecursion};
-ghost use Rattle.std.specs.Prelude.{◌≡◌, ◌≢◌, ℕ, ◌+◌, ◌<◌, ◌≤◌, length, Option, None, Some, Err, true, false, IfOk, IfErr};
+ghost use Rattle.std.specs.Prelude.{◌≡◌, ◌≢◌, ℕ, ◌+◌, ◌<◌, ◌≤◌, length, Option, None, Some, Err, true, false, IfOk};
 ghost use Rattle.std.specs.Prelude.{IsSome, OnOk, OnErr};
 ghost use Rattle.call_book.specs.declared.leg_name.LegName.{LegName as LegNameValue};
 ghost use Rattle.call_signals.specs.Order.{kind_of};
@@ -12,7 +12,7 @@ ghost use Rattle.call_steps.specs.WorkState.{offer_in};
 ghost use Rattle.call_steps.specs.MediaLeft.{media_of, media_needed, handed_by};
 ghost use Rattle.call_steps.specs.declared.need.Need.TheVariants as needs;
 ghost use Rattle.call_steps.specs.declared.reply.Reply.TheVariants as replies;
-ghost use Rattle.exchange_core.specs.Covered.{IsCovered, TakesCredit};
+ghost use Rattle.exchange_core.specs.Covered.{IsCovered};
 ghost use Rattle.exchange_core.specs.FirstSteps.{InPlan, IsOpened, IsOpenedOut, IsOpeningDue, KeepsPeer, named_after};
 ghost use Rattle.exchange_core.specs.Newcomers.{SpellsOpening};
 ghost use Rattle.exchange_core.specs.Leaving as leaving;
@@ -35,7 +35,7 @@ use call_book::{Lease, LegName, ReserveError, Stale};
 use call_steps::{Act, Heard, Need, Reply, Work};
 use leg_machine::Order;
 use noted_steps::Pass;
-use peer_lock::{Naming, OpenError, OrderError, PeerError, Status, StepsSpent};
+use peer_lock::{Naming, OpenError, OrderError, Status, StepsSpent};
 use std::sync::Wait;
 
 // The order of an act, with the octets of its media.
@@ -70,7 +70,7 @@ fn former_of(answer: Result<Option<LegName>, Stale>) -> Option<LegName>
 }
 
 impl<G: Gate, J: Naming> Exchange<G, J> {
-    // The datagram goes to its peer.
+    // The datagram goes to its peer, with room for what it hands up.
     fn hear_given<R: Wait>(
         &self,
         rt: &R,
@@ -79,47 +79,26 @@ impl<G: Gate, J: Naming> Exchange<G, J> {
         given: &Given<'_, '_, '_>,
     ) -> Reply
         requires peer { peer < length self.now.peers }
-        ensures answer { is_answer (Some (needs.Datagram peer)) result ≡ true }
+        ensures answer { (is_answer (Some (needs.Datagram peer)) result ≡ true) ×
+            (IsOpeningDue result → SpellsOpening given.entry.now.datagram) ×
+            (result ≢ replies.OpenOut (Err OpenError.RemoteBusy)) }
         ensures noted { (offer : Option OfferValue) →
             Makes (call_of self.now given.entry.now) offer (needs.Datagram peer) result pass.old pass.new }
-        ensures made { is_made result ≡ true → pass.new.credit.steps ≡ pass.old.credit.steps + 1 }
-        ensures unmade { is_made result ≡ false → pass.new.credit ≡ pass.old.credit }
-        ensures within { AllByRecursion (LiesWithin (length given.entry.now.datagram)) (handed_by result) }
-        ensures octets { pass.old.credit.octets + handed_octets (handed_by result) ≤ pass.new.credit.octets }
-        ensures opening { IsOpeningDue result → SpellsOpening given.entry.now.datagram }
+        ensures steps { (is_made result ≡ true → pass.new.credit.steps ≡ pass.old.credit.steps + 1) ×
+            (is_made result ≡ false → pass.new.credit ≡ pass.old.credit) × (IsOpenedOut result → ⊥) }
+        ensures media { AllByRecursion (LiesWithin (length given.entry.now.datagram)) (handed_by result) ×
+            (pass.old.credit.octets + handed_octets (handed_by result) ≤ pass.new.credit.octets) }
         ensures named { (named : Option LegNameValue) → named_after result named ≡ named }
-        ensures not_out { IsOpenedOut result → ⊥ }
-        ensures no_remote { result ≢ replies.OpenOut (Err OpenError.RemoteBusy) }
-    {
-        Reply::Datagram(self.heard(rt, pass, peer, given))
-    }
-
-    // The datagram goes to its peer, with room for what it hands up.
-    fn heard<R: Wait>(
-        &self,
-        rt: &R,
-        pass: &mut Pass<J>,
-        peer: u16,
-        given: &Given<'_, '_, '_>,
-    ) -> Result<Heard, PeerError>
-        requires peer { peer < length self.now.peers }
-        ensures noted { (offer : Option OfferValue) →
-            Makes (call_of self.now given.entry.now) offer (needs.Datagram peer) (replies.Datagram result) pass.old pass.new }
-        ensures steps { OnOk result (pass.new.credit.steps ≡ pass.old.credit.steps + 1) }
-        ensures media { IfOk result (λ heard.
-            TakesCredit (length given.entry.now.datagram) pass.old.credit pass.new.credit heard.onwards.signals) }
-        ensures refused { OnErr result (pass.new.credit ≡ pass.old.credit) }
-        ensures opening { IfErr result (λ error. error ≡ PeerError.NeedsNumber → SpellsOpening given.entry.now.datagram) }
     {
         let mut onwards = pass.lend(self.alloc);
         match self.hear(rt, pass, peer, &given.datagram, given.now, &mut onwards) {
-            Ok(step) => Ok(Heard {
+            Ok(step) => Reply::Datagram(Ok(Heard {
                 touched: step.touched,
                 onwards,
-            }),
+            })),
             Err(error) => {
                 pass.keep(onwards);
-                Err(error)
+                Reply::Datagram(Err(error))
             }
         }
     }
@@ -138,7 +117,11 @@ impl<G: Gate, J: Naming> Exchange<G, J> {
         ensures credit { OnOk result (pass.new.credit ≡ with_step pass.old.credit 0) }
         ensures refused { OnErr result (pass.new.credit ≡ pass.old.credit) }
     {
-        Ok(self.tick_peer(rt, pass, peer, given.now)?.is_quiet)
+        let answer = self.locked(rt, peer).tick(pass, given.now);
+        match answer {
+            Ok(report) => Ok(report.is_quiet),
+            Err(spent) => Err(spent),
+        }
     }
 
     // The leg of a name gets an order with the octets of its media, for which the pass has the credit. None has it where its peer
@@ -163,7 +146,10 @@ impl<G: Gate, J: Naming> Exchange<G, J> {
             return Err(OrderError::Gone);
         }
         let order = order_of(name, act, given.datagram.octets());
-        match self.order(rt, pass, name, &order, given.now) {
+        let answer = self
+            .locked(rt, name.peer)
+            .order(pass, name, &order, given.now);
+        match answer {
             Ok(_) => Ok(()),
             Err(error) => Err(error),
         }
@@ -179,7 +165,7 @@ impl<G: Gate, J: Naming> Exchange<G, J> {
             pass.note_unasked();
             return None;
         }
-        self.look(rt, pass, peer, number)
+        self.locked(rt, peer).look(pass, number)
     }
 
     // Takes a leg out, where there is memory for its place in the answer.
@@ -196,14 +182,14 @@ impl<G: Gate, J: Naming> Exchange<G, J> {
         ensures credit { pass.new.credit ≡ pass.old.credit }
         ensures lease { hands.new.lease ≡ lease_after (Some (needs.Retire name)) (replies.Retire result) hands.old.lease }
         ensures left { Leaves now pass.old pass.new (leaving_of hands.old.leavers) (leaving_of hands.new.leavers) }
-        ensures denial { hands.new.denial ≡ hands.old.denial }
-        ensures named { hands.new.named ≡ hands.old.named }
+        ensures rest { (hands.new.denial ≡ hands.old.denial) × (hands.new.named ≡ hands.old.named) }
     {
         if name.peer >= self.plan.peer_count() || !hands.leavers.make_room() {
             pass.note_unasked();
             return false;
         }
-        let Some((lease, leg)) = self.retire(rt, pass, name) else {
+        let retired = self.locked(rt, name.peer).retire(pass, name);
+        let Some((lease, leg)) = retired else {
             return false;
         };
         hands.take_over(name, lease, leg, now);
@@ -223,15 +209,19 @@ impl<G: Gate, J: Naming> Exchange<G, J> {
         ensures credit { pass.new.credit ≡ pass.old.credit }
         ensures peer { IfOk result (λ name. name.peer ≡ peer) }
         ensures lease { hands.new.lease ≡ lease_after (Some (needs.Reserve peer)) (replies.Reserve result) hands.old.lease }
-        ensures leavers { hands.new.leavers ≡ hands.old.leavers }
-        ensures denial { hands.new.denial ≡ hands.old.denial }
+        ensures rest { (hands.new.leavers ≡ hands.old.leavers) × (hands.new.denial ≡ hands.old.denial) }
         ensures named { hands.new.named ≡ named_after (replies.Reserve result) hands.old.named }
     {
-        let lease = self.reserve(rt, pass, peer)?;
-        let name = lease.name();
-        hands.lease = Some(lease);
-        hands.named = Some(name);
-        Ok(name)
+        let reserved = self.book.lock(rt).reserve(pass, peer);
+        match reserved {
+            Ok(lease) => {
+                let name = lease.name();
+                hands.lease = Some(lease);
+                hands.named = Some(name);
+                Ok(name)
+            }
+            Err(error) => Err(error),
+        }
     }
 
     // The lease that the call keeps, on this name, goes back, and the leg that was taken out with it has left. A lease that the
@@ -249,11 +239,11 @@ impl<G: Gate, J: Naming> Exchange<G, J> {
         ensures credit { pass.new.credit ≡ pass.old.credit }
         ensures lease { hands.new.lease ≡ None }
         ensures left { (now : ℕ) → Leaves now pass.old pass.new (leaving_of hands.old.leavers) (leaving_of hands.new.leavers) }
-        ensures denial { hands.new.denial ≡ hands.old.denial }
-        ensures named { hands.new.named ≡ hands.old.named }
+        ensures rest { (hands.new.denial ≡ hands.old.denial) × (hands.new.named ≡ hands.old.named) }
     {
         let lease = hands.lease.take().unwrap();
-        let answer = without_lease(self.release(rt, pass, lease));
+        let released = self.book.lock(rt).release(pass, lease);
+        let answer = without_lease(released);
         hands.leavers.part(former_of(answer));
         answer
     }
@@ -277,25 +267,24 @@ impl<G: Gate, J: Naming> Exchange<G, J> {
         requires called { ForSome given.now.called (λ text. IsCalled text.now) }
         requires peer { InPlan (length self.now.peers) (Some need) }
         requires opening { IsOpened (Some need) → SpellsOpening given.now.datagram × IsSome given.now.challenge }
-        ensures answer { is_answer (Some need) result ≡ true }
+        // It answers what was asked for: a name is one of the peer that was meant.
+        ensures answer { (is_answer (Some need) result ≡ true) × KeepsPeer (Some need) result ×
+            (IsOpeningDue result → SpellsOpening given.entry.now.datagram) ×
+            (result ≢ replies.OpenOut (Err OpenError.RemoteBusy)) }
         // Just this step is noted under the pass, with this answer.
         ensures noted { Makes (call_of self.now given.entry.now) (offer_in work.now.onwards) need result pass.old pass.new }
         // A step of a peer is made exactly where the answer says so.
-        ensures made { is_made result ≡ true → pass.new.credit.steps ≡ pass.old.credit.steps + 1 }
-        ensures unmade { is_made result ≡ false → pass.new.credit ≡ pass.old.credit }
-        ensures within { AllByRecursion (LiesWithin (length given.entry.now.datagram)) (handed_by result) }
-        ensures octets { pass.old.credit.octets + handed_octets (handed_by result) ≤ pass.new.credit.octets +
-            handed_octets (media_needed (Some need)) }
-        ensures lease { hands.new.lease ≡ lease_after (Some need) result hands.old.lease }
+        ensures steps { (is_made result ≡ true → pass.new.credit.steps ≡ pass.old.credit.steps + 1) ×
+            (is_made result ≡ false → pass.new.credit ≡ pass.old.credit) ×
+            (IsOpenedOut result → pass.new.credit ≡ with_step pass.old.credit 0) }
+        ensures media { AllByRecursion (LiesWithin (length given.entry.now.datagram)) (handed_by result) ×
+            (pass.old.credit.octets + handed_octets (handed_by result) ≤ pass.new.credit.octets +
+            handed_octets (media_needed (Some need))) }
+        ensures hands { (hands.new.lease ≡ lease_after (Some need) result hands.old.lease) ×
+            (hands.new.denial ≡ hands.old.denial) × (hands.new.named ≡ named_after result hands.old.named) }
         // The legs that it took out are those of this step.
         ensures left { Leaves given.entry.now.now pass.old pass.new (leaving_of hands.old.leavers)
             (leaving_of hands.new.leavers) }
-        ensures denial { hands.new.denial ≡ hands.old.denial }
-        ensures named { hands.new.named ≡ named_after result hands.old.named }
-        ensures opened { IsOpenedOut result → pass.new.credit ≡ with_step pass.old.credit 0 }
-        ensures peer { KeepsPeer (Some need) result }
-        ensures opening { IsOpeningDue result → SpellsOpening given.entry.now.datagram }
-        ensures no_remote { result ≢ replies.OpenOut (Err OpenError.RemoteBusy) }
     {
         match need {
             Need::Datagram(peer) => self.hear_given(rt, pass, peer, given),

@@ -1,5 +1,5 @@
 //! Opening an exchange.
-ghost use Rattle.std.specs.Prelude.{◌≡◌, ℕ, ◌+◌, ◌-◌, ◌*◌, ◌<◌, ◌≤◌, ◌^◌, ◌++◌, [], Some, IfOk, OnOk, All, length, map};
+ghost use Rattle.std.specs.Prelude.{◌≡◌, ℕ, ◌+◌, ◌-◌, ◌*◌, ◌<◌, ◌≤◌, ◌^◌, ◌++◌, [], Some, IfOk, OnOk, All, length};
 ghost use Rattle.std.specs.Prelude.{option_map, replicate, slice_get, vec_len};
 ghost use Rattle.exchange_core.specs.Start.{first_book, first_legs, IsStart};
 ghost use Rattle.peer_lock.specs.Accounts.{no_accounts};
@@ -44,65 +44,46 @@ impl<G: Gate, J: Naming> Exchange<G, J> {
         // It is a start of the world in which the law over many calls holds, with a caller for each pass.
         ensures start { IfOk result (λ opened. IsStart plan) }
     {
-        let (book, stock) = stock_with_book(alloc, &plan, octets, steps)?;
         let Stock {
+            book,
             peers,
             passes,
             octets,
             steps,
-        } = stock;
+        } = full_stock(alloc, &plan, octets, steps)?;
         let exchange = Exchange {
             alloc,
             gate,
             plan,
             peers,
             book: Mutex::new(NotedBook::new(book)),
-            octets,
-            steps,
+            octets: octets.supply,
+            steps: steps.supply,
         };
         Ok((exchange, passes))
     }
 }
 
-// What an exchange is opened with beside its book: the peers under their locks, the passes, and what was supplied to them.
+// What was supplied of a ledger: a first share for each peer, and an empty one for each pass.
+#[derive(Drop)]
+struct Issued<L: Ledger> {
+    supply: Supply<L>,
+    first: Vec<Share<L>>,
+    empty: Vec<Share<L>>,
+}
+
+// What an exchange is opened with: its book, the peers under their locks, the passes, and what was supplied for them.
 #[derive(Drop)]
 struct Stock<J: Naming> {
+    book: CallBook,
     peers: Vec<PeerCell<J>>,
     passes: Vec<Pass<J>>,
-    octets: Supply<J::Octets>,
-    steps: Supply<J::Steps>,
+    octets: Issued<J::Octets>,
+    steps: Issued<J::Steps>,
 }
 
-// The book of a plan and the stock of its exchange.
-fn stock_with_book<J: Naming>(
-    alloc: Global,
-    plan: &Plan,
-    octets: Blank,
-    steps: Blank,
-) -> Result<(CallBook, Stock<J>), AllocError>
-    requires octets { (octets.name ≡ J.Octets.name) × (octets.parts ≡ J.Octets.parts) ×
-        (octets.parts ≡ length plan.now.peers + plan.now.passes) }
-    requires steps { (steps.name ≡ J.Steps.name) × (steps.parts ≡ J.Steps.parts) ×
-        (steps.parts ≡ length plan.now.peers + plan.now.passes) }
-    requires first { (J.first_octets ≡ 2 ^ 48) × (J.first_steps ≡ 2 ^ 48) }
-    ensures start { OnOk result (IsStart plan.now) }
-    ensures range { OnOk result ((length plan.now.peers ≤ 32) × (plan.now.passes ≤ 64)) }
-    ensures peers { IfOk result (λ made. vec_len made.1.peers ≡ length plan.now.peers) }
-    ensures passes { IfOk result (λ made. vec_len made.1.passes ≡ plan.now.passes) }
-    ensures empty { IfOk result (λ made. All (λ pass. (pass.credit.octets ≡ 0) × (pass.credit.steps ≡ 0)) made.1.passes.items) }
-    ensures unused { IfOk result (λ made. All (λ pass. (pass.begun ≡ 0) × (pass.made ≡ [])) made.1.passes.items) }
-    ensures octets { IfOk result (λ made. (made.1.octets.shares ≡ length plan.now.peers + plan.now.passes) ×
-        (made.1.octets.amount ≡ length plan.now.peers * J.first_octets)) }
-    ensures steps { IfOk result (λ made. (made.1.steps.shares ≡ length plan.now.peers + plan.now.passes) ×
-        (made.1.steps.amount ≡ length plan.now.peers * J.first_steps)) }
-{
-    let book = book_of(alloc, plan)?;
-    let stock = stock_of(alloc, plan, octets, steps)?;
-    Ok((book, stock))
-}
-
-// The stock of a plan's exchange.
-fn stock_of<J: Naming>(
+// The stock of a plan's exchange, with all peers and passes.
+fn full_stock<J: Naming>(
     alloc: Global,
     plan: &Plan,
     octets: Blank,
@@ -113,30 +94,95 @@ fn stock_of<J: Naming>(
     requires steps { (steps.name ≡ J.Steps.name) × (steps.parts ≡ J.Steps.parts) ×
         (steps.parts ≡ length plan.now.peers + plan.now.passes) }
     requires first { (J.first_octets ≡ 2 ^ 48) × (J.first_steps ≡ 2 ^ 48) }
-    ensures range { OnOk result ((length plan.now.peers ≤ 32) × (plan.now.passes ≤ 64)) }
-    ensures peers { IfOk result (λ stock. vec_len stock.peers ≡ length plan.now.peers) }
-    ensures passes { IfOk result (λ stock. vec_len stock.passes ≡ plan.now.passes) }
-    ensures empty { IfOk result (λ stock. All (λ pass. (pass.credit.octets ≡ 0) × (pass.credit.steps ≡ 0)) stock.passes.items) }
-    ensures unused { IfOk result (λ stock. All (λ pass. (pass.begun ≡ 0) × (pass.made ≡ [])) stock.passes.items) }
-    ensures octets { IfOk result (λ stock. (stock.octets.shares ≡ length plan.now.peers + plan.now.passes) ×
-        (stock.octets.amount ≡ length plan.now.peers * J.first_octets)) }
-    ensures steps { IfOk result (λ stock. (stock.steps.shares ≡ length plan.now.peers + plan.now.passes) ×
-        (stock.steps.amount ≡ length plan.now.peers * J.first_steps)) }
+    ensures start { OnOk result (IsStart plan.now × (length plan.now.peers ≤ 32) × (plan.now.passes ≤ 64)) }
+    ensures all { IfOk result (λ stock. (vec_len stock.peers ≡ length plan.now.peers) ×
+        (vec_len stock.passes ≡ plan.now.passes)) }
+    ensures unused { IfOk result (λ stock. All (λ pass. (pass.credit.octets ≡ 0) × (pass.credit.steps ≡ 0)) stock.passes.items ×
+        All (λ pass. (pass.begun ≡ 0) × (pass.made ≡ [])) stock.passes.items) }
+    ensures supplied { IfOk result (λ stock. (stock.octets.supply.shares ≡ length plan.now.peers + plan.now.passes) ×
+        (stock.octets.supply.amount ≡ length plan.now.peers * J.first_octets) ×
+        (stock.steps.supply.shares ≡ length plan.now.peers + plan.now.passes) ×
+        (stock.steps.supply.amount ≡ length plan.now.peers * J.first_steps)) }
 {
-    let peer_count = plan.peer_count();
-    let pass_count = plan.passes();
-    let (octets, first_octets, no_octets) = issue::<J::Octets>(
-        alloc, octets, peer_count, pass_count,
-    )?;
-    let (steps, first_steps, no_steps) = issue::<J::Steps>(alloc, steps, peer_count, pass_count)?;
-    let peers = cells(alloc, plan, peer_count, first_octets, first_steps)?;
-    let passes = passes_of(alloc, pass_count, no_octets, no_steps)?;
+    let Ok(mut stock) = first_stock(alloc, plan, octets, steps) else {
+        return Err(AllocError);
+    };
+    match share_out(alloc, plan, &mut stock) {
+        Ok(()) => Ok(stock),
+        Err(error) => Err(error),
+    }
+}
+
+// The book and what was supplied, as yet without peers and passes.
+fn first_stock<J: Naming>(
+    alloc: Global,
+    plan: &Plan,
+    octets: Blank,
+    steps: Blank,
+) -> Result<Stock<J>, AllocError>
+    requires octets { (octets.name ≡ J.Octets.name) × (octets.parts ≡ J.Octets.parts) ×
+        (octets.parts ≡ length plan.now.peers + plan.now.passes) }
+    requires steps { (steps.name ≡ J.Steps.name) × (steps.parts ≡ J.Steps.parts) ×
+        (steps.parts ≡ length plan.now.peers + plan.now.passes) }
+    ensures start { OnOk result (IsStart plan.now) }
+    ensures none { IfOk result (λ stock. (vec_len stock.peers ≡ 0) × (stock.passes.items ≡ [])) }
+    ensures supplied { IfOk result (λ stock. (stock.octets.supply.shares ≡ length plan.now.peers + plan.now.passes) ×
+        (stock.octets.supply.amount ≡ length plan.now.peers * 2 ^ 48) ×
+        (stock.steps.supply.shares ≡ length plan.now.peers + plan.now.passes) ×
+        (stock.steps.supply.amount ≡ length plan.now.peers * 2 ^ 48)) }
+    ensures shares { IfOk result (λ stock. (stock.octets.first.items ≡ replicate (length plan.now.peers) (2 ^ 48)) ×
+        (stock.steps.first.items ≡ replicate (length plan.now.peers) (2 ^ 48)) ×
+        (stock.octets.empty.items ≡ replicate plan.now.passes 0) × (stock.steps.empty.items ≡ replicate plan.now.passes 0)) }
+{
+    let peers = plan.peer_count();
+    let passes = plan.passes();
+    let Ok(book) = book_of(alloc, plan) else {
+        return Err(AllocError);
+    };
+    let Ok(octets) = issue::<J::Octets>(alloc, octets, peers, passes) else {
+        return Err(AllocError);
+    };
+    let Ok(steps) = issue::<J::Steps>(alloc, steps, peers, passes) else {
+        return Err(AllocError);
+    };
     Ok(Stock {
-        peers,
-        passes,
+        book,
+        peers: Vec::new(alloc),
+        passes: Vec::new(alloc),
         octets,
         steps,
     })
+}
+
+// The peers and the passes are made, each with its shares.
+fn share_out<J: Naming>(alloc: Global, plan: &Plan, stock: &mut Stock<J>) -> Result<(), AllocError>
+    requires none { (vec_len stock.old.peers ≡ 0) × (stock.old.passes.items ≡ []) }
+    requires octets { (stock.old.octets.first.items ≡ replicate (length plan.now.peers) J.first_octets) ×
+        (stock.old.octets.empty.items ≡ replicate plan.now.passes 0) }
+    requires steps { (stock.old.steps.first.items ≡ replicate (length plan.now.peers) J.first_steps) ×
+        (stock.old.steps.empty.items ≡ replicate plan.now.passes 0) }
+    ensures range { (length plan.now.peers ≤ 32) × (plan.now.passes ≤ 64) }
+    ensures all { OnOk result ((vec_len stock.new.peers ≡ length plan.now.peers) × (vec_len stock.new.passes ≡ plan.now.passes)) }
+    ensures unused { OnOk result (All (λ pass. (pass.credit.octets ≡ 0) × (pass.credit.steps ≡ 0)) stock.new.passes.items ×
+        All (λ pass. (pass.begun ≡ 0) × (pass.made ≡ [])) stock.new.passes.items) }
+    ensures supplied { (stock.new.octets.supply ≡ stock.old.octets.supply) × (stock.new.steps.supply ≡ stock.old.steps.supply) }
+{
+    let peers = plan.peer_count();
+    let passes = plan.passes();
+    push_cells(
+        alloc,
+        plan,
+        peers,
+        &mut stock.octets.first,
+        &mut stock.steps.first,
+        &mut stock.peers,
+    )?;
+    push_passes(
+        passes,
+        &mut stock.octets.empty,
+        &mut stock.steps.empty,
+        &mut stock.passes,
+    )
 }
 
 // The book of a plan, with every number free. Its first serial is 0.
@@ -154,22 +200,26 @@ fn issue<L: Ledger>(
     blank: Blank,
     peers: u16,
     passes: u16,
-) -> Result<(Supply<L>, Vec<Share<L>>, Vec<Share<L>>), AllocError>
+) -> Result<Issued<L>, AllocError>
     requires blank { (blank.name ≡ L.name) × (blank.parts ≡ L.parts) × (blank.parts ≡ peers + passes) }
     requires peers { (1 ≤ peers) × (peers ≤ 32) }
     requires passes { passes ≤ 64 }
-    ensures supply { IfOk result (λ r. (r.0.shares ≡ peers + passes) × (r.0.amount ≡ peers * 2 ^ 48)) }
-    ensures first { IfOk result (λ r. r.1.items ≡ replicate peers (2 ^ 48)) }
-    ensures empty { IfOk result (λ r. r.2.items ≡ replicate passes 0) }
+    ensures supply { IfOk result (λ issue. (issue.supply.shares ≡ peers + passes) × (issue.supply.amount ≡ peers * 2 ^ 48)) }
+    ensures first { IfOk result (λ issue. issue.first.items ≡ replicate peers (2 ^ 48)) }
+    ensures empty { IfOk result (λ issue. issue.empty.items ≡ replicate passes 0) }
 {
     let amounts = amounts_of(alloc, peers, passes)?;
-    let (supply, mut shares) = match supply::<L>(alloc, blank, amounts.as_slice()) {
+    let (supply, mut first) = match supply::<L>(alloc, blank, amounts.as_slice()) {
         Ok(made) => made,
         Err(SupplyError::Memory) => return Err(AllocError),
         Err(SupplyError::TooMuch) => unreachable!(),
     };
-    let empty = shares.split_off(usize::from(peers))?;
-    Ok((supply, shares, empty))
+    let empty = first.split_off(usize::from(peers))?;
+    Ok(Issued {
+        supply,
+        first,
+        empty,
+    })
 }
 
 // The octets or the steps of each peer and each pass.
@@ -238,27 +288,7 @@ fn last_of<L: Ledger>(shares: &mut Vec<Share<L>>) -> Share<L>
     }
 }
 
-// The peers of the plan under their locks, in its order, each with first shares of both supplies.
-fn cells<J: Naming>(
-    alloc: Global,
-    plan: &Plan,
-    peers: u16,
-    octets: Vec<Share<J::Octets>>,
-    steps: Vec<Share<J::Steps>>,
-) -> Result<Vec<PeerCell<J>>, AllocError>
-    requires peers { peers ≡ length plan.now.peers }
-    requires octets { octets.items ≡ replicate peers J.first_octets }
-    requires steps { steps.items ≡ replicate peers J.first_steps }
-    ensures { IfOk result (λ cells. vec_len cells ≡ peers) }
-{
-    let mut octets = octets;
-    let mut steps = steps;
-    let mut cells = Vec::new(alloc);
-    push_cells(alloc, plan, peers, &mut octets, &mut steps, &mut cells)?;
-    Ok(cells)
-}
-
-// The peers of the plan go into the list, which is empty.
+// The peers of the plan go into the list, which is empty, in its order, each under its lock with first shares of both supplies.
 fn push_cells<J: Naming>(
     alloc: Global,
     plan: &Plan,
@@ -292,27 +322,7 @@ fn unused_pass<J: Naming>(octets: Share<J::Octets>, steps: Share<J::Steps>) -> P
     Pass::new(octets, steps)
 }
 
-// So many passes, without credit, and nothing made under them.
-fn passes_of<J: Naming>(
-    alloc: Global,
-    count: u16,
-    octets: Vec<Share<J::Octets>>,
-    steps: Vec<Share<J::Steps>>,
-) -> Result<Vec<Pass<J>>, AllocError>
-    requires octets { octets.items ≡ replicate count 0 }
-    requires steps { steps.items ≡ replicate count 0 }
-    ensures len { IfOk result (λ passes. vec_len passes ≡ count) }
-    ensures empty { IfOk result (λ passes. All (λ pass. (pass.credit.octets ≡ 0) × (pass.credit.steps ≡ 0)) passes.items) }
-    ensures unused { IfOk result (λ passes. All (λ pass. (pass.begun ≡ 0) × (pass.made ≡ [])) passes.items) }
-{
-    let mut octets = octets;
-    let mut steps = steps;
-    let mut passes = Vec::new(alloc);
-    push_passes(count, &mut octets, &mut steps, &mut passes)?;
-    Ok(passes)
-}
-
-// So many passes go into the list, which is empty.
+// So many passes go into the list, which is empty: without credit, and nothing made under them.
 fn push_passes<J: Naming>(
     count: u16,
     octets: &mut Vec<Share<J::Octets>>,

@@ -1,13 +1,13 @@
 //! The calls of workers and callers.
-ghost use Rattle.std.specs.Prelude.{◌≡◌, ◌≢◌, ◌+◌, ◌<◌, ◌≤◌, ◌↔◌, Err, None, IfNone, IfOk, IfErr, IfSome, IsSome, Some, IsTrue};
-ghost use Rattle.std.specs.Prelude.{OnOk, OnErr, length, map};
-ghost use Rattle.call_steps.specs.Beginnings.{OfCall, OfHangUp};
+ghost use Rattle.std.specs.Prelude.{◌≡◌, ◌≢◌, ◌+◌, ◌<◌, ◌≤◌, ◌↔◌, ◌⊎◌, Err, None, IfNone, IfOk, IfErr, IfSome, IsSome, Some};
+ghost use Rattle.std.specs.Prelude.{OnOk, OnErr, IsTrue, length, map};
+ghost use Rattle.call_steps.specs.Beginnings.{OfCall, OfDatagram, OfHangUp, OfTick};
 ghost use Rattle.call_steps.specs.Work as work;
 ghost use Rattle.call_steps.specs.WorkState.{begun};
 ghost use Rattle.exchange_core.specs.Denial.{Denies};
 ghost use Rattle.exchange_core.specs.Leaving.{Leave, departure_of};
 ghost use Rattle.exchange_core.specs.Numbers.{IsCalled};
-ghost use Rattle.exchange_core.specs.Traces.{IsHeard, MakesAll, moment};
+ghost use Rattle.exchange_core.specs.Traces.{IsHeard, MakesAll, call_of, moment};
 ghost use Rattle.peer_plan.specs.Plan.{counts_of, range_of};
 ghost use Rattle.peer_lock.specs.Accounts.{with_step};
 
@@ -15,7 +15,7 @@ use crate::answers::{Answer, CallError, Refusal, Retired};
 use crate::denial::Denial;
 use crate::exchange::Exchange;
 use crate::gate::Gate;
-use crate::hands::{Given, Hands};
+use crate::hands::Given;
 use call_auth::Challenge;
 use call_book::LegName;
 use call_steps::Work;
@@ -35,6 +35,18 @@ fn is_called(text: &[u8]) -> bool
         return false;
     }
     text.iter().all(|octet| octet.is_ascii_graphic())
+}
+
+// Why a datagram or a tick was refused, if it was.
+fn refused_by(denial: Option<Denial>) -> Option<Refusal>
+    requires { IfSome denial (λ why. Denies (Some OfDatagram) why ⊎ Denies (Some OfTick) why) }
+    ensures none { IfNone result (denial ≡ None) }
+    ensures some { IsSome result → IsSome denial }
+{
+    match denial {
+        Some(denial) => Some(denial.of_peer()),
+        None => None,
+    }
 }
 
 // The answer of a call that began when the pass had so many steps.
@@ -105,7 +117,6 @@ impl<G: Gate, J: Naming> Exchange<G, J> {
         ensures some { IfNone result.refused (1 ≤ result.steps) }
         ensures refused { IsSome result.refused → (result.steps ≡ 0) × (pass.new.credit ≡ pass.old.credit) }
     {
-        let first = pass.steps();
         let Some(peer) = self.plan.peer_of(from) else {
             return Answer {
                 steps: 0,
@@ -119,17 +130,34 @@ impl<G: Gate, J: Naming> Exchange<G, J> {
             called: None,
             now,
         };
+        self.datagram_of(rt, pass, peer, &given)
+    }
+
+    // A datagram comes from this peer of the plan.
+    #[inline(always)]
+    fn datagram_of<R: Wait>(
+        &self,
+        rt: &R,
+        pass: &mut Pass<J>,
+        peer: u16,
+        given: &Given<'_, '_, '_>,
+    ) -> Answer
+        requires peer { peer < length self.now.peers }
+        requires challenge { IsSome given.now.challenge }
+        requires called { given.now.called ≡ None }
+        ensures all { MakesAll (call_of self.now given.entry.now) (begun (work.of_datagram peer)) pass.old pass.new }
+        ensures retired { Leave given.entry.now.now pass.old pass.new (map departure_of result.retired.items) }
+        ensures steps { pass.new.credit.steps ≡ pass.old.credit.steps + result.steps }
+        ensures some { IfNone result.refused (1 ≤ result.steps) }
+        ensures refused { IsSome result.refused → (result.steps ≡ 0) × (pass.new.credit ≡ pass.old.credit) }
+    {
+        let first = pass.steps();
         let mut work = Work::of_datagram(peer);
-        let mut hands = Hands::empty(self.alloc);
-        self.run(rt, pass, &mut work, &given, &mut hands);
+        let outcome = self.carry_out(rt, pass, &mut work, given);
         if let Some(onwards) = work.into_onwards() {
             pass.keep(onwards);
         }
-        let refused = match hands.denial {
-            Some(denial) => Some(denial.of_datagram()),
-            None => None,
-        };
-        answer_since(pass, first, refused, hands.leavers.into_legs())
+        answer_since(pass, first, refused_by(outcome.denial), outcome.retired)
     }
 
     /// Time goes on at a peer of the plan, up to the moment `now`, in milliseconds: its step, then each of its legs that has
@@ -150,13 +178,8 @@ impl<G: Gate, J: Naming> Exchange<G, J> {
         let first = pass.steps();
         let range = self.plan.range(peer);
         let mut work = Work::of_tick(peer, range.first, range.count);
-        let mut hands = Hands::empty(self.alloc);
-        self.run(rt, pass, &mut work, &Given::moment(now), &mut hands);
-        let refused = match hands.denial {
-            Some(denial) => Some(denial.of_tick()),
-            None => None,
-        };
-        answer_since(pass, first, refused, hands.leavers.into_legs())
+        let outcome = self.carry_out(rt, pass, &mut work, &Given::moment(now));
+        answer_since(pass, first, refused_by(outcome.denial), outcome.retired)
     }
 
     /// A call goes out to a peer of the plan, for a number of 1 to 64 octets 0x21 ..= 0x7e, at the moment `now`, in milliseconds:
@@ -187,10 +210,11 @@ impl<G: Gate, J: Naming> Exchange<G, J> {
             return Err(CallError::BadNumber);
         }
         let mut work = Work::of_call(peer);
-        let mut hands = Hands::empty(self.alloc);
-        self.run(rt, pass, &mut work, &Given::number(called, now), &mut hands);
-        went_out(hands.denial)?;
-        Ok(hands.named.unwrap())
+        let outcome = self.carry_out(rt, pass, &mut work, &Given::number(called, now));
+        match went_out(outcome.denial) {
+            Ok(()) => Ok(outcome.named.unwrap()),
+            Err(error) => Err(error),
+        }
     }
 
     /// Hangs up the leg of a name, whose peer is of the plan, at the moment `now`, in milliseconds, and finishes it.
@@ -213,9 +237,10 @@ impl<G: Gate, J: Naming> Exchange<G, J> {
     {
         let first = pass.steps();
         let mut work = Work::of_hang_up(name);
-        let mut hands = Hands::empty(self.alloc);
-        self.run(rt, pass, &mut work, &Given::moment(now), &mut hands);
-        hung_up(hands.denial)?;
-        Ok(answer_since(pass, first, None, hands.leavers.into_legs()))
+        let outcome = self.carry_out(rt, pass, &mut work, &Given::moment(now));
+        match hung_up(outcome.denial) {
+            Ok(()) => Ok(answer_since(pass, first, None, outcome.retired)),
+            Err(error) => Err(error),
+        }
     }
 }

@@ -30,9 +30,15 @@ impl<J: Naming> Parts<J> {
         ensures octets { IfOk result (λ p. shares ≤ vec_capacity p.octets) }
         ensures steps { IfOk result (λ p. shares ≤ vec_capacity p.steps) }
     {
-        let peers = Vec::with_capacity(alloc, peers)?;
-        let octets = Vec::with_capacity(alloc, shares)?;
-        let steps = Vec::with_capacity(alloc, shares)?;
+        let Ok(peers) = Vec::with_capacity(alloc, peers) else {
+            return Err(AllocError);
+        };
+        let Ok(octets) = Vec::with_capacity(alloc, shares) else {
+            return Err(AllocError);
+        };
+        let Ok(steps) = Vec::with_capacity(alloc, shares) else {
+            return Err(AllocError);
+        };
         Ok(Parts {
             peers,
             octets,

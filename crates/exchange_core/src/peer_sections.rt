@@ -1,24 +1,19 @@
 //! The locked sections of peers: each takes one peer's lock, and makes at most one step.
-ghost use Rattle.std.specs.Prelude.{◌≡◌, ◌≢◌, ℕ, ◌+◌, ◌<◌, ◌≤◌, Some, length, IfOk, IfErr, OnOk, OnErr};
+ghost use Rattle.std.specs.Prelude.{◌≡◌, ◌+◌, ◌<◌, ◌≤◌, length, IfErr, OnOk, OnErr};
 ghost use Rattle.std.specs.Bool.{OnFalse};
 ghost use Rattle.std.specs.Sync.Mutex.{mutex_guard_value};
 ghost use Rattle.exchange_core.specs.Covered.{TakesCredit};
 ghost use Rattle.exchange_core.specs.Newcomers.{SpellsOpening};
-ghost use Rattle.noted_steps.specs.Notes.{Notes, note, without_lease};
+ghost use Rattle.noted_steps.specs.Notes.{Notes};
 ghost use Rattle.noted_steps.specs.declared.made.Made.TheVariants as mades;
-ghost use Rattle.peer_lock.specs.Accounts.{with_step};
 ghost use Rattle.peer_lock.specs.Makes.{IsNothing};
-ghost use Rattle.peer_lock.specs.Openings.{IsOpening};
 
 use crate::exchange::Exchange;
 use crate::gate::Gate;
-use call_auth::Challenge;
-use call_book::Lease;
-use iax_frames::{Full, Out};
-use leg_machine::{Caller, Format};
+use iax_frames::Out;
 use noted_steps::{NotedPeer, Pass};
 use peer_lock::laws::media_is_the_datagrams;
-use peer_lock::{Naming, Onwards, OpenError, PeerError, ReadDatagram, Status, Step};
+use peer_lock::{Naming, Onwards, PeerError, ReadDatagram, Step};
 use std::sync::{MutexGuard, Wait};
 
 // The peer that lies under a lock is that of the lock. A call that found another would never return.
@@ -65,20 +60,6 @@ impl<G: Gate, J: Naming> Exchange<G, J> {
         state.take_into(out)
     }
 
-    // Looks at the leg of a local number of a peer of the plan, as a step of a call.
-    pub(crate) fn look<R: Wait>(
-        &self,
-        rt: &R,
-        pass: &mut Pass<J>,
-        peer: u16,
-        number: u16,
-    ) -> Option<Status>
-        requires { peer < length self.now.peers }
-        ensures { pass.new ≡ note (mades.Look peer number result) pass.old }
-    {
-        self.locked(rt, peer).look(pass, number)
-    }
-
     // A datagram comes from a peer. What is handed up is written to the list, which is empty.
     pub(crate) fn hear<R: Wait>(
         &self,
@@ -102,60 +83,5 @@ impl<G: Gate, J: Naming> Exchange<G, J> {
         media_is_the_datagrams();
         self.locked(rt, from)
             .datagram_read(pass, datagram, now, onwards)
-    }
-
-    // A NEW that came from a peer opens a leg, under the lease. What is handed up is written to the list, which is empty.
-    pub(crate) fn open_in<R: Wait>(
-        &self,
-        rt: &R,
-        pass: &mut Pass<J>,
-        lease: Lease,
-        frame: &Full,
-        now: u64,
-        challenge: &Challenge,
-        onwards: &mut Onwards,
-    ) -> Result<Step, (Lease, OpenError)>
-        requires peer { lease.peer < length self.now.peers }
-        requires opening { IsOpening frame.now }
-        requires nothing { IsNothing onwards.old }
-        ensures noted { Notes
-            (mades.OpenIn lease.peer lease frame.now.head frame.now.payload now challenge.now
-            (without_lease result) onwards.new) pass.old pass.new }
-        ensures credit { OnOk result (pass.new.credit ≡ with_step pass.old.credit 0) }
-        // What opens a leg has no media.
-        ensures media { (len : ℕ) → OnOk result (TakesCredit len pass.old.credit pass.new.credit onwards.new.signals) }
-        ensures touched { IfOk result (λ step. step.touched ≡ Some lease) }
-        ensures lease { IfErr result (λ back. back.0 ≡ lease) }
-        ensures refused { OnErr result ((pass.new.credit ≡ pass.old.credit) × IsNothing onwards.new) }
-    {
-        let peer = lease.name().peer;
-        self.locked(rt, peer)
-            .open_in(pass, lease, frame, now, challenge, onwards)
-    }
-
-    // A call goes out to a peer under the lease, for a number of at most 255 octets.
-    pub(crate) fn open_out<R: Wait>(
-        &self,
-        rt: &R,
-        pass: &mut Pass<J>,
-        lease: Lease,
-        called: &[u8],
-        caller: &Caller,
-        format: Format,
-        now: u64,
-    ) -> Result<Step, (Lease, OpenError)>
-        requires peer { lease.peer < length self.now.peers }
-        requires called { length called.now ≤ 255 }
-        ensures noted { Notes
-            (mades.OpenOut lease.peer lease called.now caller.now format now (without_lease result)) pass.old pass.new }
-        ensures credit { OnOk result (pass.new.credit ≡ with_step pass.old.credit 0) }
-        ensures touched { IfOk result (λ step. step.touched ≡ Some lease) }
-        ensures lease { IfErr result (λ back. back.0 ≡ lease) }
-        ensures no_remote { IfErr result (λ back. back.1 ≢ OpenError.RemoteBusy) }
-        ensures refused { OnErr result (pass.new.credit ≡ pass.old.credit) }
-    {
-        let peer = lease.name().peer;
-        self.locked(rt, peer)
-            .open_out(pass, lease, called, caller, format, now)
     }
 }

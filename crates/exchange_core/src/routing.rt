@@ -13,6 +13,7 @@ use call_steps::Route;
 use leg_machine::{Format, Formats};
 use noted_steps::Pass;
 use peer_lock::{Naming, Offer};
+use peer_plan::Plan;
 
 // The format of an offered call at a target with these formats.
 pub(crate) fn format_for(offer: &Offer, formats: Formats) -> Option<Format>
@@ -21,18 +22,32 @@ pub(crate) fn format_for(offer: &Offer, formats: Formats) -> Option<Format>
     offer.formats.of_both(formats).among(offer.format)
 }
 
-impl<G: Gate, J: Naming> Exchange<G, J> {
-    // Where the call leads that a leg of a peer offers.
-    fn route(&self, caller: u16, offer: Option<&Offer>) -> Route
-        ensures route { IsRoute self.now caller (option_copied offer.entry) result }
-        ensures inside { LeadsInside result (length self.now.peers) }
-    {
-        match offer {
-            Some(offer) => self.route_for(caller, offer),
-            None => Route::Nowhere,
-        }
+// Where an offered call of a peer leads.
+fn route_for(plan: &Plan, caller: u16, offer: &Offer) -> Route
+    ensures route { IsRoute plan.now caller (Some offer.now) result }
+    ensures inside { LeadsInside result (length plan.now.peers) }
+{
+    let Some(peer) = plan.route(caller, offer.called.as_slice()) else {
+        return Route::Nowhere;
+    };
+    match format_for(offer, plan.rules(peer).formats) {
+        Some(format) => Route::To(peer, format),
+        None => Route::WithoutFormat,
     }
+}
 
+// Where the call leads that a leg of a peer offers.
+fn route(plan: &Plan, caller: u16, offer: Option<&Offer>) -> Route
+    ensures route { IsRoute plan.now caller (option_copied offer.entry) result }
+    ensures inside { LeadsInside result (length plan.now.peers) }
+{
+    match offer {
+        Some(offer) => route_for(plan, caller, offer),
+        None => Route::Nowhere,
+    }
+}
+
+impl<G: Gate, J: Naming> Exchange<G, J> {
     // Where the call leads that this leg offers. No locked state is asked.
     pub(crate) fn route_noted(
         &self,
@@ -47,20 +62,6 @@ impl<G: Gate, J: Naming> Exchange<G, J> {
         ensures inside { LeadsInside result (length self.now.peers) }
     {
         pass.note_unasked();
-        self.route(offered.peer, offer)
-    }
-
-    // Where an offered call of a peer leads.
-    fn route_for(&self, caller: u16, offer: &Offer) -> Route
-        ensures route { IsRoute self.now caller (Some offer.now) result }
-        ensures inside { LeadsInside result (length self.now.peers) }
-    {
-        let Some(peer) = self.plan.route(caller, offer.called.as_slice()) else {
-            return Route::Nowhere;
-        };
-        match format_for(offer, self.plan.rules(peer).formats) {
-            Some(format) => Route::To(peer, format),
-            None => Route::WithoutFormat,
-        }
+        route(&self.plan, offered.peer, offer)
     }
 }

@@ -42,43 +42,8 @@ pub enum SettleError {
     Missing,
 }
 
-fn accepted_in<J: Naming>(peers: &[ClosedPeer<J>]) -> u64
-    requires { accepted_of peers.now < 2 ^ 64 }
-    ensures { result ≡ accepted_of peers.now }
-{
-    peers.iter().map(|peer| peer.accepted()).sum()
-}
-
-fn packed_in<J: Naming>(peers: &[ClosedPeer<J>]) -> u64
-    requires { packed_of peers.now < 2 ^ 64 }
-    ensures { result ≡ packed_of peers.now }
-{
-    peers.iter().map(|peer| peer.packed()).sum()
-}
-
-fn queued_in<J: Naming>(peers: &[ClosedPeer<J>]) -> u64
-    requires { queued_of peers.now < 2 ^ 64 }
-    ensures { result ≡ queued_of peers.now }
-{
-    peers.iter().map(|peer| peer.queued()).sum()
-}
-
-fn quelched_in<J: Naming>(peers: &[ClosedPeer<J>]) -> u64
-    requires { quelched_of peers.now < 2 ^ 64 }
-    ensures { result ≡ quelched_of peers.now }
-{
-    peers.iter().map(|peer| peer.quelched()).sum()
-}
-
-fn steps_in<J: Naming>(peers: &[ClosedPeer<J>]) -> u64
-    requires { steps_of peers.now < 2 ^ 64 }
-    ensures { result ≡ steps_of peers.now }
-{
-    peers.iter().map(|peer| peer.steps()).sum()
-}
-
 // The sums over peers.
-#[derive(Clone, Copy)]
+#[derive(Drop)]
 struct Sums {
     accepted: u64,
     packed: u64,
@@ -99,13 +64,21 @@ fn sums_of<J: Naming>(peers: &[ClosedPeer<J>]) -> Sums
     ensures quelched { result.quelched ≡ quelched_of peers.now }
     ensures steps { result.steps ≡ steps_of peers.now }
 {
-    Sums {
-        accepted: accepted_in(peers),
-        packed: packed_in(peers),
-        queued: queued_in(peers),
-        quelched: quelched_in(peers),
-        steps: steps_in(peers),
+    let mut sums = Sums {
+        accepted: 0,
+        packed: 0,
+        queued: 0,
+        quelched: 0,
+        steps: 0,
+    };
+    for peer in peers {
+        sums.accepted += peer.accepted();
+        sums.packed += peer.packed();
+        sums.queued += peer.queued();
+        sums.quelched += peer.quelched();
+        sums.steps += peer.steps();
     }
+    sums
 }
 
 // The sums over peers whose accounts balance but for octets that were left with passes.
@@ -115,13 +88,10 @@ fn settled<J: Naming>(book: CallBook, peers: Vec<ClosedPeer<J>>) -> Settlement<J
     requires quelched { quelched_of peers.items ≤ dropped_of peers.items }
     requires steps { steps_of peers.items < 2 ^ 64 }
     ensures peers { result.peers.items ≡ peers.items }
-    ensures accepted { result.accepted ≡ accepted_of peers.items }
-    ensures packed { result.packed ≡ packed_of peers.items }
-    ensures queued { result.queued ≡ queued_of peers.items }
-    ensures quelched { result.quelched ≡ quelched_of peers.items }
-    ensures part { result.quelched ≤ result.dropped }
-    ensures balances { result.accepted ≡ result.packed + result.queued + result.dropped }
-    ensures steps { result.steps ≡ steps_of peers.items }
+    ensures sums { (result.accepted ≡ accepted_of peers.items) × (result.packed ≡ packed_of peers.items) ×
+        (result.queued ≡ queued_of peers.items) × (result.quelched ≡ quelched_of peers.items) ×
+        (result.steps ≡ steps_of peers.items) }
+    ensures balances { (result.accepted ≡ result.packed + result.queued + result.dropped) × (result.quelched ≤ result.dropped) }
 {
     let sums = sums_of(&peers);
     Settlement {
@@ -200,14 +170,12 @@ impl<G: Gate, J: Naming> Exchange<G, J> {
         requires octets { length self.peers + self.passes ≤ vec_capacity parts.octets }
         requires steps { length self.peers + self.passes ≤ vec_capacity parts.steps }
         ensures peers { vec_len result.peers ≡ length self.peers }
-        ensures accepted { result.accepted ≡ accepted_of result.peers.items }
-        ensures packed { result.packed ≡ packed_of result.peers.items }
-        ensures queued { result.queued ≡ queued_of result.peers.items }
+        ensures sums { (result.accepted ≡ accepted_of result.peers.items) × (result.packed ≡ packed_of result.peers.items) ×
+            (result.queued ≡ queued_of result.peers.items) × (result.quelched ≡ quelched_of result.peers.items) ×
+            (result.steps ≡ steps_of result.peers.items) }
         ensures dropped { result.dropped ≡ dropped_of result.peers.items + left_with passes.items }
-        ensures quelched { result.quelched ≡ quelched_of result.peers.items }
-        ensures part { result.quelched ≤ result.dropped }
-        ensures steps { result.steps ≡ steps_of result.peers.items }
-        ensures balances { result.accepted ≡ result.packed + result.queued + result.dropped }
+        ensures balances { (result.accepted ≡ result.packed + result.queued + result.dropped) ×
+            (result.quelched ≤ result.dropped) }
         ensures made { result.steps ≡ steps_under passes.items }
         ensures noted { result.steps ≡ begun_with passes.items + noted_under passes.items }
     {

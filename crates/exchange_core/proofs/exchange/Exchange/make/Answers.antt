@@ -10,7 +10,7 @@ returns-in-Datagram-clause-left g c = none_leave _ _ _ _ _ _ (c.hear_given.ensur
 pub returns-in-OpenIn-clause-left : goal.returns-in-OpenIn-clause-left
 returns-in-OpenIn-clause-left g c =
     let before = leaving_of c.args.hands.now.leavers in
-    subst (λ (legs : Leavers). Leaves c.args.given.now.now c.args.pass.now c.open_given.new.pass before (leaving_of legs)) (sym c.open_given.ensures.leavers)
+    subst (λ (legs : Leavers). Leaves c.args.given.now.now c.args.pass.now c.open_given.new.pass before (leaving_of legs)) (sym c.open_given.ensures.rest.1)
     (none_leave _ _ _ _ _ _ (c.open_given.ensures.noted None) refl c.args.given.now.now before)
 
 pub returns-in-Order-clause-left : goal.returns-in-Order-clause-left
@@ -26,7 +26,7 @@ returns-in-Look-clause-left g c =
 pub returns-in-Reserve-clause-left : goal.returns-in-Reserve-clause-left
 returns-in-Reserve-clause-left g c =
     let before = leaving_of c.args.hands.now.leavers in
-    subst (λ (legs : Leavers). Leaves c.args.given.now.now c.args.pass.now c.reserve_into.new.pass before (leaving_of legs)) (sym c.reserve_into.ensures.leavers)
+    subst (λ (legs : Leavers). Leaves c.args.given.now.now c.args.pass.now c.reserve_into.new.pass before (leaving_of legs)) (sym c.reserve_into.ensures.rest.0)
     (none_leave _ _ _ _ _ _ (c.reserve_into.ensures.noted c.args.given.now None) refl c.args.given.now.now before)
 
 pub returns-in-Route-clause-left : goal.returns-in-Route-clause-left

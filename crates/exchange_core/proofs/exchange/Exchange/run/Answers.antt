@@ -41,27 +41,27 @@ loop-preserved g c =
     let carried = c.media_is_carried_once.ensures in
     let begins = c.refused_calls_end.ensures in
     let need : next_of c.loop.work.work ≡ Some c.in-Some-next.need = sym c.next-in-loop.ensures ∙ c.in-Some-next.is in
-    let answers : is_answer (next_of c.loop.work.work) c.make-reply.result ≡ true = ap (λ o. is_answer o c.make-reply.result) need ∙ c.make-reply.ensures.answer in
-    let keeps : KeepsPeer (next_of c.loop.work.work) c.make-reply.result = subst (λ o. KeepsPeer o c.make-reply.result) (sym need) c.make-reply.ensures.peer in
+    let answers : is_answer (next_of c.loop.work.work) c.make-reply.result ≡ true = ap (λ o. is_answer o c.make-reply.result) need ∙ c.make-reply.ensures.answer.0 in
+    let keeps : KeepsPeer (next_of c.loop.work.work) c.make-reply.result = subst (λ o. KeepsPeer o c.make-reply.result) (sym need) c.make-reply.ensures.answer.1 in
     let work = ap (λ (state : WorkState). state.work) c.tell.ensures.work in
-    let denial = c.tell.ensures.denial ∙ ap (noted (beginning_at c.loop.work.work.place) c.make-reply.result) c.make-reply.ensures.denial in (
+    let denial = c.tell.ensures.denial ∙ ap (noted (beginning_at c.loop.work.work.place) c.make-reply.result) c.make-reply.ensures.hands.1 in (
       tt,
       tt,
       covers_rest carried.within carried.octets (length c.args.given.now.datagram) c.loop.pass.credit.octets c.make-reply.new.pass.credit.octets c.loop.work.work c.tell.new.work.work
-          c.in-Some-next.need c.make-reply.result need c.make-reply.ensures.within work c.make-reply.ensures.octets c.loop.invariant.2,
+          c.in-Some-next.need c.make-reply.result need c.make-reply.ensures.media.0 work c.make-reply.ensures.media.1 c.loop.invariant.2,
       c.tell.ensures.lease
           ∙ leaves_lease c.leases_are_as_named.ensures.after c.loop.work.work c.tell.new.work.work c.in-Some-next.need c.make-reply.result c.loop.hands.lease
-          c.make-reply.new.hands.lease need work c.loop.invariant.3 c.make-reply.ensures.lease,
+          c.make-reply.new.hands.lease need work c.loop.invariant.3 c.make-reply.ensures.hands.0,
       under_way begins.made begins.goes_on begins.past begins.refused begins.over begins.nothing c.args.work.now.work.place c.args.pass.now.credit c.loop.pass.credit
-          c.make-reply.new.pass.credit c.loop.work.work c.tell.new.work.work c.make-reply.result c.loop.hands.denial c.tell.new.self.denial answers c.make-reply.ensures.made
-          c.make-reply.ensures.unmade c.make-reply.ensures.no_remote work denial c.loop.invariant.4,
+          c.make-reply.new.pass.credit c.loop.work.work c.tell.new.work.work c.make-reply.result c.loop.hands.denial c.tell.new.self.denial answers c.make-reply.ensures.steps.0
+          c.make-reply.ensures.steps.1 c.make-reply.ensures.answer.3 work denial c.loop.invariant.4,
       stays_in_plan begins.made begins.past (length c.args.self.now.peers) c.loop.work.work c.tell.new.work.work c.make-reply.result work keeps
           c.loop.invariant.5,
       opens_after begins.made begins.past c.loop.work.work c.tell.new.work.work c.make-reply.result (SpellsOpening c.args.given.now.datagram) work
-          c.loop.invariant.6 c.make-reply.ensures.opening,
+          c.loop.invariant.6 c.make-reply.ensures.answer.2,
       stands_on c.args.work.now.work.place c.args.pass.now.credit c.loop.pass.credit c.make-reply.new.pass.credit c.loop.work.work c.tell.new.work.work c.make-reply.result
-          c.loop.hands.denial c.tell.new.self.denial c.loop.hands.named c.tell.new.self.named answers keeps c.make-reply.ensures.opened c.make-reply.ensures.unmade
-          work denial (c.tell.ensures.named ∙ c.make-reply.ensures.named) c.loop.invariant.7,
+          c.loop.hands.denial c.tell.new.self.denial c.loop.hands.named c.tell.new.self.named answers keeps c.make-reply.ensures.steps.2 c.make-reply.ensures.steps.1
+          work denial (c.tell.ensures.named ∙ c.make-reply.ensures.hands.2) c.loop.invariant.7,
       rw c.tell.ensures.work
           (traces_longer (call_of c.args.self.now c.args.given.now) c.args.work.now c.loop.work c.in-Some-next.need c.make-reply.result c.args.pass.now c.loop.pass
           c.make-reply.new.pass c.loop.invariant.8 need c.make-reply.ensures.noted),
