@@ -1,7 +1,6 @@
 """What the parts of the gate share that run the program: peers on loopback, clients of a service, and the service itself.
 
 They need the program as `rt ci` has built it. What isn't as it should be ends a part, with its name and a sentence."""
-import csv
 import itertools
 import json
 import os
@@ -18,31 +17,7 @@ PART = os.path.basename(sys.argv[0])
 PORTS = itertools.count(20000 + 2000 * ("service", "control", "call_files", "traces").index(PART))
 # IAX subclasses.
 NEW, HANGUP, ACK, ACCEPT, REJECT, AUTHREQ, AUTHREP = 1, 5, 4, 7, 6, 8, 9
-PLAN = """format = 1
-record_limit = 65536
-[[worker]]
-address = "127.0.0.1"
-port = {worker}
-[[peer]]
-name = "west"
-address = "127.0.0.1"
-port = {west}
-worker = 0
-formats = ["ulaw"]
-numbers = 4
-user = "exchange"
-secret = "a secret of the west"
-[[peer]]
-name = "east"
-address = "127.0.0.1"
-port = {east}
-worker = 0
-formats = ["ulaw"]
-numbers = 4
-[[route]]
-prefix = "3"
-peer = "east"
-"""
+LOOPBACK = "127.0.0.1"
 
 
 def same(what, found, wanted):
@@ -59,6 +34,28 @@ def within(what, seconds, look):
             return found
         time.sleep(0.02)
     raise SystemExit(f"{PART}: {what}: not within {seconds} s")
+
+
+def plan_text(workers, peers, head="format = 1"):
+    """The text of a plan: its head; workers, each an address and a port; peers, each a name, its port at loopback, the place of its worker, how
+    many numbers it has, and further lines. What begins with 3 leads to the peer `east`, where there is one."""
+    text = head + "\n" + "".join(f'[[worker]]\naddress = "{address}"\nport = {port}\n' for address, port in workers)
+    for name, port, worker, numbers, *lines in peers:
+        text += f'[[peer]]\nname = "{name}"\naddress = "{LOOPBACK}"\nport = {port}\nworker = {worker}\n'
+        text += f'formats = ["ulaw"]\nnumbers = {numbers}\n' + "".join(f"{it}\n" for it in lines)
+    return text + ('[[route]]\nprefix = "3"\npeer = "east"\n' if "east" in [it[0] for it in peers] else "")
+
+
+def write_plan(file, worker, west, east):
+    """Writes the plan of a worker with two peers, of which the west has a secret."""
+    secret = ('user = "exchange"', 'secret = "a secret of the west"')
+    with open(file, "w", encoding="utf-8") as it:
+        it.write(plan_text([(LOOPBACK, worker)], [("west", west.port, 0, 4, *secret), ("east", east.port, 0, 4)], "format = 1\nrecord_limit = 65536"))
+
+
+def source_of(frame):
+    """The call number of a full frame's sender."""
+    return struct.unpack(">H", frame[:2])[0] & 0x7FFF
 
 
 class Peer:
@@ -93,6 +90,13 @@ class Peer:
     def send(self, to, source, destination, timestamp, oseq, iseq, frame_type, subclass, data=b""):
         head = struct.pack(">HHIBBBB", 0x8000 | source, destination, timestamp, oseq, iseq, frame_type, subclass)
         self.socket.sendto(head + data, ("127.0.0.1", to))
+
+    def call_rejected(self, to, source, elements):
+        """Calls by a NEW with these elements, gets its REJECT, and acknowledges that."""
+        self.frames.clear()
+        self.send(to, source, 0, 0, 0, 0, 6, NEW, bytes.fromhex(elements))
+        reject = self.frame("REJECT", 6, REJECT)
+        self.send(to, source, source_of(reject), 9, 1, reject[8] + 1, 6, ACK)
 
 
 def spare(kind):
@@ -198,10 +202,6 @@ def metrics(port):
     return samples_of(body)
 
 
-def samples_with_labels(port):
-    return [it for it in metrics(port).items() if it[0][1]]
-
-
 def of(name, **labels):
     return name, tuple(labels.items())
 
@@ -235,38 +235,3 @@ def stages(path):
     status, calls = ask(path, "GET", "/calls")
     same("GET /calls", status, 200)
     return {it["number"]: it["stage"] for it in calls["calls"]}
-
-
-def a_short_call(path, worker, east, source):
-    """A call is placed, answered and hung up. The number and the serial of its leg."""
-    placed = ask(path, "POST", "/calls", {"peer": "east", "number": f"3{source}"})
-    same("POST /calls", placed[0], 201)
-    number = placed[1]["number"]
-    within("a NEW", 5, lambda: east.listen() or [it for it in east.frames if (it[10], it[11]) == (6, NEW)])
-    east.frames.clear()
-    east.send(worker, source, number, 3, 0, 1, 6, ACCEPT, bytes.fromhex("090400000004"))
-    east.send(worker, source, number, 13, 1, 1, 4, 4)
-    within("an answered call", 5, lambda: stages(path).get(number) == "Up")
-    same("DELETE", ask(path, "DELETE", f"/calls/{number}")[0], 200)
-    hangup = east.frame("HANGUP", 6, HANGUP)
-    east.frames.clear()
-    east.send(worker, source, number, 20, hangup[9], hangup[8] + 1, 6, ACK)
-    within("a call that is gone", 5, lambda: number not in stages(path))
-    return str(number), str(placed[1]["serial"])
-
-
-def rows_of(file):
-    """The rows of a file of records, behind its header; each is whole."""
-    if not os.path.exists(file):
-        return []
-    with open(file, encoding="utf-8", newline="") as it:
-        text = it.read()
-    same("the last row is whole", text == "" or text.endswith("\n"), True)
-    rows = [*csv.DictReader(text.splitlines())]
-    same("whole rows", [it for it in rows if None in it or None in it.values() or it["call"] == "call"], [])
-    return rows
-
-
-def warnings_of(service):
-    with open(service.log, encoding="utf-8") as it:
-        return [line.split(" ", 2)[2].rstrip("\n") for line in it if " WARN " in line]
