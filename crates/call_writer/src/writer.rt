@@ -19,7 +19,6 @@ const WAITING: usize = 65_536;
 const ROUND_MS: u64 = 100;
 
 /// The other ends of the outlets, the serials of calls, and room for the rows that wait. Whoever writes has it.
-#[derive(Drop)]
 pub struct CallRows {
     alloc: Global,
     seams: Vec<Seam>,
@@ -27,6 +26,20 @@ pub struct CallRows {
     waiting: Backlog<CallRow>,
     line_end: Vec<u8>,
     header: Vec<u8>,
+}
+
+// (Written out, so that whoever owns one proves a call where it is dropped, and not the drop of each field.)
+impl Drop for CallRows {
+    fn drop(self) {
+        let CallRows {
+            alloc: _,
+            seams: _,
+            calls: _,
+            waiting: _,
+            line_end: _,
+            header: _,
+        } = self;
+    }
 }
 
 // The rows that have come: each has the serial of its call, and waits for the file.
@@ -72,6 +85,27 @@ impl CallRows {
         };
         Ok((outlets, rows))
     }
+
+    // A writer of them to the file of this name, which isn't open.
+    fn writer_to<'a, D: Disk>(self, disk: &'a D, path: &'a str) -> Writer<'a, D> {
+        let CallRows {
+            alloc,
+            seams,
+            calls,
+            waiting,
+            line_end,
+            header,
+        } = self;
+        let appender = Appender::new(DiskFile::new(disk, path), line_end, header);
+        Writer {
+            seams,
+            ledger: Ledger {
+                calls,
+                log: RowLog::new(alloc, appender, waiting),
+            },
+            written: 0,
+        }
+    }
 }
 
 impl<'a, D: Disk> Ledger<'a, D> {
@@ -114,27 +148,6 @@ impl<'a, D: Disk> Ledger<'a, D> {
 }
 
 impl<'a, D: Disk> Writer<'a, D> {
-    // A writer to the file of this name, which isn't open.
-    fn new(disk: &'a D, path: &'a str, rows: CallRows) -> Writer<'a, D> {
-        let CallRows {
-            alloc,
-            seams,
-            calls,
-            waiting,
-            line_end,
-            header,
-        } = rows;
-        let appender = Appender::new(DiskFile::new(disk, path), line_end, header);
-        Writer {
-            seams,
-            ledger: Ledger {
-                calls,
-                log: RowLog::new(alloc, appender, waiting),
-            },
-            written: 0,
-        }
-    }
-
     // All rows that have come.
     fn take_all<R: Wait>(&mut self, rt: &R, alloc: Global, outlets: &CallOutlets, are_over: bool) {
         for seam in self.seams.iter_mut() {
@@ -207,7 +220,7 @@ fn write_calls<R: Clock + Wait, D: Disk>(
         plan,
         calendar,
     };
-    let mut writer = Writer::new(disk, path, rows);
+    let mut writer = rows.writer_to(disk, path);
     writer.write_rounds(rt, opened, outlets, &spelling);
 }
 

@@ -24,7 +24,6 @@ const INPUT: Token = Token(2);
 ///
 /// `bind` and `await_end_of_input` say what is waited for. Then come rounds: `wait`, `takes_end_of_input`; for each place below
 /// `count` `hear`, where that gives a request `answer`, and `speak`; at last `close_ended`.
-#[derive(Drop)]
 pub struct Clients {
     alloc: Global,
     poll: Poll,
@@ -33,6 +32,20 @@ pub struct Clients {
     clients: Vec<Client>,
     // Whether the end of standard input is waited for, and hasn't come yet.
     awaits_end: bool,
+}
+
+// (Written out, so that whoever owns one proves a call where it is dropped, and not the drop of each field.)
+impl Drop for Clients {
+    fn drop(self) {
+        let Clients {
+            alloc: _,
+            poll: _,
+            events: _,
+            doors: _,
+            clients: _,
+            awaits_end: _,
+        } = self;
+    }
 }
 
 impl Clients {

@@ -1,5 +1,5 @@
 //! The exchange and its locks.
-ghost use Rattle.std.specs.Prelude.{◌≡◌};
+ghost use Rattle.std.specs.Prelude.{◌≡◌, ◌+◌, ◌*◌, length, vec_len};
 
 use crate::gate::Gate;
 use media_ledger::Supply;
@@ -17,7 +17,6 @@ pub(crate) type PeerCell<J> = Mutex<NotedPeer<J>>;
 ///
 /// Any number of threads may call it at once, each with a pass of its own. No call holds two locks, or a lock while it waits.
 /// Contracts see it as its plan.
-#[derive(Drop)]
 pub struct Exchange<G: Gate, J: Naming> {
     pub(crate) alloc: Global,
     pub(crate) gate: G,
@@ -27,6 +26,21 @@ pub struct Exchange<G: Gate, J: Naming> {
     pub(crate) book: Mutex<NotedBook>,
     pub(crate) octets: Supply<J::Octets>,
     pub(crate) steps: Supply<J::Steps>,
+}
+
+// (Written out, so that whoever owns one proves a call where it is dropped, and not the drop of each field.)
+impl<G: Gate, J: Naming> Drop for Exchange<G, J> {
+    fn drop(self) {
+        let Exchange {
+            alloc: _,
+            gate: _,
+            plan: _,
+            peers: _,
+            book: _,
+            octets: _,
+            steps: _,
+        } = self;
+    }
 }
 
 impl<G: Gate, J: Naming> Model for Exchange<G, J> {
@@ -49,5 +63,30 @@ impl<G: Gate, J: Naming> Exchange<G, J> {
         ensures { result.now ≡ self.now }
     {
         &self.plan
+    }
+
+    // What is left of it at its end: the peers, the book, and the supplies of which the peers and the passes have shares.
+    pub(crate) fn into_parts(
+        self,
+    ) -> (
+        Vec<PeerCell<J>>,
+        Mutex<NotedBook>,
+        Supply<J::Octets>,
+        Supply<J::Steps>,
+    )
+        ensures peers { vec_len result.0 ≡ length self.peers }
+        ensures octets { (result.2.shares ≡ length self.peers + self.passes) × (result.2.amount ≡ length self.peers * J.first_octets) }
+        ensures steps { (result.3.shares ≡ length self.peers + self.passes) × (result.3.amount ≡ length self.peers * J.first_steps) }
+    {
+        let Self {
+            alloc: _,
+            gate: _,
+            plan: _,
+            peers,
+            book,
+            octets,
+            steps,
+        } = self;
+        (peers, book, octets, steps)
     }
 }

@@ -179,15 +179,7 @@ impl<G: Gate, J: Naming> Exchange<G, J> {
         ensures made { result.steps ≡ steps_under passes.items }
         ensures noted { result.steps ≡ begun_with passes.items + noted_under passes.items }
     {
-        let Exchange {
-            alloc: _,
-            gate: _,
-            plan: _,
-            peers: cells,
-            book,
-            octets: octet_supply,
-            steps: step_supply,
-        } = self;
+        let (cells, book, octet_supply, step_supply) = self.into_parts();
         let Parts {
             mut peers,
             mut octets,

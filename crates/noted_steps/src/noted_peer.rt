@@ -12,10 +12,19 @@ use std::marker::Model;
 
 /// The state of a peer, whose every step is noted under the pass that it is made with. Contracts see that state and the peer's
 /// place in the plan.
-#[derive(Drop)]
 pub struct NotedPeer<J: Naming> {
     pub(crate) number: u16,
     pub(crate) state: PeerState<J>,
+}
+
+// (Written out, so that whoever owns one proves a call where it is dropped, and not the drop of each field.)
+impl<J: Naming> Drop for NotedPeer<J> {
+    fn drop(self) {
+        let NotedPeer {
+            number: _,
+            state: _,
+        } = self;
+    }
 }
 
 impl<J: Naming> Model for NotedPeer<J> {

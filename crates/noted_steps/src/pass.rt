@@ -14,11 +14,21 @@ use std::marker::Model;
 /// what was made under it since: each step of a locked state, in order, with its answer.
 ///
 /// Its step credit is what it began with and one for each step of a peer among those. What was made is kept by proofs alone.
-#[derive(Drop)]
 pub struct Pass<J: Naming> {
     pub(crate) credits: Credits<J>,
     pub(crate) begun: Seen<u64>,
     pub(crate) made: Trail<Made>,
+}
+
+// (Written out, so that whoever owns one proves a call where it is dropped, and not the drop of each field.)
+impl<J: Naming> Drop for Pass<J> {
+    fn drop(self) {
+        let Pass {
+            credits: _,
+            begun: _,
+            made: _,
+        } = self;
+    }
 }
 
 impl<J: Naming> Model for Pass<J> {

@@ -17,7 +17,6 @@ use std::marker::Model;
 use trunk_packer::Packer;
 
 /// A peer that gave its shares up. Contracts see it as the peer.
-#[derive(Drop)]
 pub struct ClosedPeer<J: Naming> {
     pub(crate) alloc: Global,
     pub(crate) rules: PeerRules,
@@ -26,6 +25,21 @@ pub struct ClosedPeer<J: Naming> {
     pub(crate) queue: Packer,
     pub(crate) account: ClosedAccount<J>,
     pub(crate) replies: Box<Replies>,
+}
+
+// (Written out, so that whoever owns one proves a call where it is dropped, and not the drop of each field.)
+impl<J: Naming> Drop for ClosedPeer<J> {
+    fn drop(self) {
+        let ClosedPeer {
+            alloc: _,
+            rules: _,
+            legs: _,
+            outbox: _,
+            queue: _,
+            account: _,
+            replies: _,
+        } = self;
+    }
 }
 
 impl<J: Naming> Model for ClosedPeer<J> {

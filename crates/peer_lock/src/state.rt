@@ -30,7 +30,6 @@ use trunk_packer::Packer;
 /// step, which takes one step credit and gives it to the pass. `take_into` and `take_out` empty the outbox, `retire` gives up a
 /// leg that is over, `part` gives up the shares, and `look`, `describe` and `sums` only look. All room but that of the legs'
 /// records is made by `new`. No call waits or looks at a clock.
-#[derive(Drop)]
 pub struct PeerState<J: Naming> {
     pub(crate) alloc: Global,
     pub(crate) rules: PeerRules,
@@ -40,6 +39,21 @@ pub struct PeerState<J: Naming> {
     pub(crate) account: Account<J>,
     // What the step of a leg sends, on its way to the outbox.
     pub(crate) replies: Box<Replies>,
+}
+
+// (Written out, so that whoever owns one proves a call where it is dropped, and not the drop of each field.)
+impl<J: Naming> Drop for PeerState<J> {
+    fn drop(self) {
+        let PeerState {
+            alloc: _,
+            rules: _,
+            legs: _,
+            outbox: _,
+            queue: _,
+            account: _,
+            replies: _,
+        } = self;
+    }
 }
 
 impl<J: Naming> Model for PeerState<J> {

@@ -77,7 +77,6 @@ pub struct PeerMarksRead {
 }
 
 /// How far a service is, and what its workers tell of each peer. All threads share it.
-#[derive(Drop)]
 pub struct ServiceWatch {
     stage: AtomicU64,
     peers: Vec<PeerMarks>,
@@ -89,6 +88,21 @@ pub struct ServiceWatch {
     calls: Option<CallOutlets>,
     // Where it is noted what the exchange is given, if that is wanted.
     trace: Option<Trace>,
+}
+
+// (Written out, so that whoever owns one proves a call where it is dropped, and not the drop of each field.)
+impl Drop for ServiceWatch {
+    fn drop(self) {
+        let ServiceWatch {
+            stage: _,
+            peers: _,
+            strangers: _,
+            faults: _,
+            seen: _,
+            calls: _,
+            trace: _,
+        } = self;
+    }
 }
 
 // No datagram was refused for any reason.

@@ -19,7 +19,6 @@ const LONGEST: usize = 32 + 2049;
 ///
 /// What is noted stays with the thread until its turn or its order has ended, so that it notes without a lock and writes the
 /// octets of a datagram once. Then it is handed over.
-#[derive(Drop)]
 pub struct TraceLane<'t> {
     trace: &'t Trace,
     thread: usize,
@@ -37,6 +36,26 @@ pub struct TraceLane<'t> {
     untaken: u32,
     // How many calls had begun when it was looked whether any leg is up.
     look: Option<u64>,
+}
+
+// (Written out, so that whoever owns one proves a call where it is dropped, and not the drop of each field.)
+impl<'t> Drop for TraceLane<'t> {
+    fn drop(self) {
+        let TraceLane {
+            trace: _,
+            thread: _,
+            now: _,
+            challenge: _,
+            noted: _,
+            open: _,
+            lost: _,
+            is_in_turn: _,
+            has_received: _,
+            peers: _,
+            untaken: _,
+            look: _,
+        } = self;
+    }
 }
 
 // Whether a datagram is a full frame: only such a one needs the challenge.

@@ -25,7 +25,6 @@ pub struct TraceFolder<'a> {
 }
 
 /// A file of the folder, open, and its place among the others.
-#[derive(Drop)]
 pub struct TraceFile {
     alloc: Global,
     place: u64,
@@ -34,6 +33,19 @@ pub struct TraceFile {
     length: u64,
     // The end of these.
     tail: Vec<u8>,
+}
+
+// (Written out, so that whoever owns one proves a call where it is dropped, and not the drop of each field.)
+impl Drop for TraceFile {
+    fn drop(self) {
+        let TraceFile {
+            alloc: _,
+            place: _,
+            file: _,
+            length: _,
+            tail: _,
+        } = self;
+    }
 }
 
 fn fault_of(error: &io::Error) -> Fault {

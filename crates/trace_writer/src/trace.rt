@@ -32,7 +32,6 @@ struct Notes {
 }
 
 /// What the threads note, and what the writer tells of its files. All threads share it.
-#[derive(Drop)]
 pub struct Trace {
     pub(crate) calls: Calls,
     // How many workers are in a turn.
@@ -47,6 +46,25 @@ pub struct Trace {
     written: AtomicU64,
     lost: AtomicU64,
     fault: AtomicU64,
+}
+
+// (Written out, so that whoever owns one proves a call where it is dropped, and not the drop of each field.)
+impl Drop for Trace {
+    fn drop(self) {
+        let Trace {
+            calls: _,
+            turns: _,
+            lanes: _,
+            freed: _,
+            legs: _,
+            wants_rest: _,
+            has_ended: _,
+            are_over: _,
+            written: _,
+            lost: _,
+            fault: _,
+        } = self;
+    }
 }
 
 impl Trace {

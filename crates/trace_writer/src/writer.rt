@@ -81,10 +81,16 @@ impl Taken {
 }
 
 /// What the writer needs: room for what the threads hand over.
-#[derive(Drop)]
 pub struct TraceNotes {
     alloc: Global,
     taken: Vec<Taken>,
+}
+
+// (Written out, so that whoever owns one proves a call where it is dropped, and not the drop of each field.)
+impl Drop for TraceNotes {
+    fn drop(self) {
+        let TraceNotes { alloc: _, taken: _ } = self;
+    }
 }
 
 /// How a trace is written.

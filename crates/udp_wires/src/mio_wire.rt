@@ -23,7 +23,6 @@ const SHARED_MS: u64 = 2;
 ///
 /// `receive` asks those sockets at which the system told of a datagram, by turns, each until it has none. Of a datagram that
 /// comes meanwhile to another one it knows once `wait` was called, or once it has found none.
-#[derive(Drop)]
 pub struct MioWire {
     sockets: Sockets,
     // Whether a worker that shares its endpoint takes datagrams of these peers, too.
@@ -31,6 +30,19 @@ pub struct MioWire {
     peers: PeerCounts,
     given: u64,
     failures: u64,
+}
+
+// (Written out, so that whoever owns one proves a call where it is dropped, and not the drop of each field.)
+impl Drop for MioWire {
+    fn drop(self) {
+        let MioWire {
+            sockets: _,
+            shared: _,
+            peers: _,
+            given: _,
+            failures: _,
+        } = self;
+    }
 }
 
 // How long it waits at most: not where it may have a datagram, and where its endpoint is shared, a short time.
