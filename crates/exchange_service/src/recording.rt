@@ -1,29 +1,22 @@
 //! The files that are written while a service runs, the records of ended legs and the trace: what is made for them, and the
 //! thread that writes each beside the others.
-use crate::control::Control;
 use crate::journal::Journal;
 use crate::running::{Settings, TraceOptions};
-use crate::seating::serve_seats;
 use call_writer::{Calendar, CallOutlets, CallRows, Disk, write_calls_beside};
-use exchange_core::NoGate;
 use jiff::Timestamp;
-use peer_lock::Naming;
+use log::LevelFilter;
 use peer_plan::Plan;
-use service_desk::Desk;
 use service_log::tell_end;
 use service_watch::ServiceWatch;
 use std::alloc::{AllocError, Global};
 use std::io::ErrorKind;
-use std::net::Net;
-use std::random::RandomSource;
 use std::sync::Wait;
 use std::thread::Threads;
 use std::time::{Clock, Instant, SystemTime};
 use trace_writer::{
     Folder, Trace, TraceFile, TraceFolder, TraceNotes, TraceSettings, write_trace_beside,
 };
-use udp_workers::{Post, WatchedExchange};
-use worker_seats::{ServiceError, ServiceSeat};
+use worker_seats::ServiceError;
 
 /// What a thread needs that writes the rows of ended legs to a file.
 #[derive(Drop)]
@@ -44,10 +37,19 @@ pub(crate) struct Tracing<'s> {
 }
 
 /// What is written beside the workers.
-#[derive(Drop)]
 pub(crate) struct Written<'s> {
     pub(crate) records: Option<Records<'s>>,
     pub(crate) tracing: Option<Tracing<'s>>,
+}
+
+// (Written out, so that whoever owns one proves a call where it is dropped, and not the drop of each field.)
+impl<'s> Drop for Written<'s> {
+    fn drop(self) {
+        let Written {
+            records: _,
+            tracing: _,
+        } = self;
+    }
 }
 
 // This moment by the calendar; the beginning of 1970 where the clock can't be read.
@@ -188,31 +190,22 @@ pub(crate) fn watch_of<'s, R: Clock, D: Folder>(
     }
 }
 
-// The workers serve, beside a thread that writes the trace, where one is wanted. False if a thread was refused.
-fn serve_traced<
-    J: Naming,
-    P: Post + Send + Sync,
-    R: Clock + Eprint + Net + RandomSource + Threads + Wait + Sync,
-    D: Folder + Sync,
->(
+// Has a service serve, beside a thread that writes the trace, where one is wanted. False if a thread was refused.
+fn serve_traced<R: Clock + Threads + Wait + Sync, D: Folder + Sync, F: FnOnce() -> bool>(
     rt: &R,
     disk: &D,
-    service: &WatchedExchange<'_, ServiceWatch, NoGate, J, P>,
-    seats: &[ServiceSeat<'_, R, J, P>],
-    desk: &mut Desk<'_, J>,
-    control: &mut Control<'_>,
-    opened: Instant,
+    plan: &Plan,
+    trace: Option<&Trace>,
     tracing: &mut Option<Tracing<'_>>,
-) -> bool {
-    let trace = match tracing {
-        Some(_) => service.watch.trace(),
-        None => None,
-    };
+    serve: F,
+) -> bool
+    requires { F.pre serve }
+{
     let Some(trace) = trace else {
-        return serve_seats(rt, service, seats, desk, control, opened);
+        return serve();
     };
     let Some(tracing) = tracing.take() else {
-        return false;
+        return serve();
     };
     let Tracing {
         folder,
@@ -226,50 +219,46 @@ fn serve_traced<
         shows_digits,
         about: about.as_str(),
     };
-    let plan = service.exchange.plan();
-    write_trace_beside(rt, disk, trace, plan, settings, notes, file, || {
-        serve_seats(rt, service, seats, desk, control, opened)
-    })
+    write_trace_beside(rt, disk, trace, plan, settings, notes, file, serve)
 }
 
-/// The workers serve, beside the threads that write what is wanted: the rows of ended legs, the trace. False if a thread was
+/// Has a service serve, beside the threads that write what is wanted: the rows of ended legs, the trace. False if a thread was
 /// refused. The log tells which rows couldn't be written.
 pub(crate) fn serve_written<
-    J: Naming,
-    P: Post + Send + Sync,
-    R: Clock + Eprint + Net + RandomSource + Threads + Wait + Sync,
+    R: Clock + Eprint + Threads + Wait + Sync,
     D: Disk + Folder + Sync,
+    F: FnOnce() -> bool,
 >(
     rt: &R,
     disk: &D,
-    service: &WatchedExchange<'_, ServiceWatch, NoGate, J, P>,
-    seats: &[ServiceSeat<'_, R, J, P>],
-    desk: &mut Desk<'_, J>,
-    control: &mut Control<'_>,
+    plan: &Plan,
+    watch: &ServiceWatch,
+    level: LevelFilter,
     opened: Instant,
     written: &mut Written<'_>,
-) -> bool {
+    serve: F,
+) -> bool
+    requires { F.pre serve }
+{
     let Written { records, tracing } = written;
-    let outlets = match records {
-        Some(_) => service.watch.calls(),
-        None => None,
-    };
-    let Some(outlets) = outlets else {
-        return serve_traced(rt, disk, service, seats, desk, control, opened, tracing);
+    let trace = watch.trace();
+    let Some(outlets) = watch.calls() else {
+        return serve_traced(rt, disk, plan, trace, tracing, serve);
     };
     let Some(records) = records.take() else {
-        return false;
+        return serve_traced(rt, disk, plan, trace, tracing, serve);
     };
-    let level = control.settings.level;
     let Records {
         path,
         calendar,
         rows,
     } = records;
-    let plan = service.exchange.plan();
-    let is_served = write_calls_beside(rt, disk, path, plan, calendar, opened, outlets, rows, || {
-        serve_traced(rt, disk, service, seats, desk, control, opened, tracing)
-    });
+    let serve_on = move ||
+        requires { F.pre serve }
+    { serve_traced(rt, disk, plan, trace, tracing, serve) };
+    let is_served = write_calls_beside(
+        rt, disk, path, plan, calendar, opened, outlets, rows, serve_on,
+    );
     tell_end(&Journal { rt, level }, path, outlets.state());
     is_served
 }

@@ -71,33 +71,6 @@ fn told_seats<'r, J: Naming, P: Post, R: Clock + Eprint + Net + RandomSource + W
     )
 }
 
-// Has the seats serve, beside a control socket. False if a thread was refused.
-fn serve_desk<
-    J: Naming,
-    P: Post + Send + Sync,
-    R: Clock + Eprint + Net + RandomSource + Threads + Wait + Sync,
-    D: Disk + Folder + Sync,
->(
-    rt: &R,
-    disk: &D,
-    exchange: &Exchange<NoGate, J>,
-    watch: &ServiceWatch,
-    written: &mut Written<'_>,
-    seats: &[ServiceSeat<'_, R, J, P>],
-    desk: &mut Desk<'_, J>,
-    control: &mut Control<'_>,
-    opened: Instant,
-) -> bool
-    requires plan { exchange.now ≡ P.plan }
-{
-    let service = WatchedExchange {
-        exchange,
-        watch,
-        post: PhantomData,
-    };
-    serve_written(rt, disk, &service, seats, desk, control, opened, written)
-}
-
 // Has the seats serve, beside a control socket with a pass of its own, which goes back to the others.
 fn serve_seated<
     J: Naming,
@@ -129,9 +102,15 @@ fn serve_seated<
         watch,
         lane,
     };
-    let is_served = serve_desk::<J, P, R, D>(
-        rt, disk, exchange, watch, written, seats, &mut desk, control, opened,
-    );
+    let service = WatchedExchange {
+        exchange,
+        watch,
+        post: PhantomData,
+    };
+    let (plan, level, lent) = (exchange.plan(), control.settings.level, &mut desk);
+    let is_served = serve_written(rt, disk, plan, watch, level, opened, written, move || {
+        serve_seats::<J, P, R>(rt, &service, seats, lent, control, opened)
+    });
     let Desk { pass, .. } = desk;
     give_back(pass, passes, is_served)
 }

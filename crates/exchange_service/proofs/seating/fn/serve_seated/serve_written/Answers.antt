@@ -1,5 +1,5 @@
 use denote.Param.Send.{sendable}
-use Rattle.exchange_service.proofs.recording.fn.serve_traced.write_trace_beside.Goals as goal
+use Rattle.exchange_service.proofs.seating.fn.serve_seated.serve_written.Goals as goal
 
 -- that the parameters may go to other threads, by their own bounds alone: among all that the closure holds the search gives up
 pub serve_seats-requires-send-J : goal.serve_seats-requires-send-J
