@@ -6,9 +6,7 @@ use Rattle.std.proofs.lemmas.Bool.{cases_Bool}
 use Rattle.std.proofs.lemmas.Bool.Decides.{nat_tests}
 use Rattle.call_book.specs.Book.{Book, IsNumberOf, is_same, has_name, partner_of}
 use Rattle.call_book.specs.declared.leg_name.LegName.{LegName}
-use Rattle.call_steps.specs.Law.{times, names_in_all, is_heard, is_kept, IsIdle, IsLookedAfter, NoneIsBusy, NoneIsStale, NoneIsOutside}
-use Rattle.call_steps.specs.Law.{AllAreLookedAfter as WorldAllAreLookedAfter, AllHavePartners as WorldAllHavePartners}
-use Rattle.call_steps.specs.Law.{NamesAreHeldOnce as WorldNamesAreHeldOnce, NoneMeetsOffered as WorldNoneMeetsOffered, NamesAreTheLegs as WorldNamesAreTheLegs}
+use Rattle.call_steps.specs.Law.{times, names_in_all, is_heard, is_kept, IsIdle, IsLookedAfter, NoneIsOutside}
 use Rattle.call_steps.specs.Leases.{lease_needed}
 use Rattle.call_steps.specs.Scene.{Leg, is_leased, leg_at as world_leg_at, leg_named as world_leg_named}
 use Rattle.call_steps.specs.Work.{next_of}
@@ -18,11 +16,12 @@ use Rattle.call_steps.specs.declared.need.Need.TheVariants as needs
 use Rattle.peer_lock.specs.Legs.{PeerLegs, NamedLeg, leg_at, if_named, is_free_name}
 use Rattle.peer_lock.specs.Seen.{SeenNamed}
 use Rattle.call_runs.specs.LookedAfter.{IsKept, AllAreLookedAfter, AllHavePartners}
-use Rattle.call_runs.specs.Stored.{Stored, ArePeers, HaveRanges, IsSeenIn}
-use Rattle.call_runs.specs.StoredNames.{has_leg, opened_next, LeasesAreFree, LeasesAreInHand, OpeningsAreFree, NoneMeetsOffered, NamesAreTheLegs}
+use Rattle.call_runs.specs.Stored.{Stored, HaveRanges}
+use Rattle.call_runs.specs.StoredNames.{has_leg, opened_next, LeasesAreInHand, OpeningsAreFree, NoneMeetsOffered, NamesAreTheLegs}
 use Rattle.call_runs.proofs.Called.{one_of}
 use Rattle.call_runs.proofs.Events.{lease_held}
-use Rattle.call_runs.proofs.HeldNames.{bit, same_bits, IsWorlds, the_worlds, leg_times}
+use Rattle.call_runs.proofs.HeldNames.{bit, same_bits, IsWorlds, the_worlds, leg_times, leases_free}
+use Rattle.call_runs.proofs.InWorld.{IsInWorld}
 use Rattle.call_runs.proofs.Names.{is_same_itself, same_name}
 
 -- the leg of a name, under its number
@@ -61,45 +60,46 @@ free_there legs name peer least most none =
     let c : not (is_some (leg_at legs name.number)) ≡ true = ap (λ (o : Option NamedLeg). not (is_some o)) none in
     rw (c, p, a, b) refl
 
-module _ (called : List LegName) (stored : Stored) (world : World) (are : ArePeers stored.peers)
-    (seen : IsSeenIn called stored world) where
+module _ {within : Type 0} {called : List LegName} {stored : Stored} (in_world : IsInWorld within called stored) where
+  open in_world use {are, world, seen}
+
   -- the world has the same caller
   stands : (who : ℕ) (caller : Caller) → slice_get stored.callers who ≡ Some caller → slice_get world.callers who ≡ Some caller
   stands who caller at = ap (λ (cs : List Caller). slice_get cs who) seen.callers ∙ at
 
-  pub in_hand : NoneIsBusy world → NoneIsStale world → LeasesAreInHand stored
-  in_hand busy stale who caller name at needed = go (next_of caller.work) refl needed
+  pub in_hand : LeasesAreInHand stored
+  in_hand who caller name at needed = go (next_of caller.work) refl needed
     where
       go : (need : Option Need) → next_of caller.work ≡ need → lease_needed need ≡ Some name → is_leased caller.leases name ≡ true
       go None is e = absurd (cc)
-      go (Some need) is e = lease_held world who caller need busy stale (stands who caller at) is name e
+      go (Some need) is e = lease_held world who caller need in_world.busy in_world.stale (stands who caller at) is name e
 
-  pub openings_free : NoneIsOutside world → LeasesAreFree stored → LeasesAreInHand stored → HaveRanges stored
-      → OpeningsAreFree stored
-  openings_free outside free hand ranges who caller name peer at opens there =
-      let lease = free who caller name at (hand who caller name at (opens_leased (next_of caller.work) name opens)) in
+  pub openings_free : HaveRanges stored → OpeningsAreFree stored
+  openings_free ranges who caller name peer at opens there =
+      let lease =
+      leases_free in_world who caller name at (in_hand who caller name at (opens_leased (next_of caller.work) name opens)) in
       let inside : IsNumberOf stored.book.counts name.peer name.number =
       subst (λ (b : Book). IsNumberOf b.counts name.peer name.number) seen.book
-      (opens_inside world who caller (next_of caller.work) name outside (stands who caller at) refl opens) in
+      (opens_inside world who caller (next_of caller.work) name in_world.outside (stands who caller at) refl opens) in
       let range = ranges name.peer peer there in
       free_there peer.legs name (sym (are name.peer peer there).place_is) (omega (arith, range.first, inside.0))
       (omega (arith, range.first, range.count, inside.1))
       (lease.free name.peer peer there)
 
-  pub idle_names : WorldNamesAreHeldOnce world → WorldNamesAreTheLegs world → NamesAreTheLegs stored
-  idle_names once names idle name =
+  pub idle_names : NamesAreTheLegs stored
+  idle_names idle name =
       same_bits (has_leg stored name) (has_name stored.book name)
-      (sym (leg_times called stored world are seen once name) ∙ names (subst (AllByRecursion IsIdle) (sym seen.callers) idle) name
+      (sym (leg_times in_world name) ∙ in_world.idle_names (subst (AllByRecursion IsIdle) (sym seen.callers) idle) name
       ∙ ap (λ (b : Book). bit (has_name b name)) seen.book)
 
-  pub none_offered : WorldNamesAreHeldOnce world → WorldNoneMeetsOffered world → NoneMeetsOffered stored
-  none_offered once offered who caller name act peer named at needed talk there has stage =
+  pub none_offered : NoneMeetsOffered stored
+  none_offered who caller name act peer named at needed talk there has stage =
       let found = at_name (leg_at peer.legs name.number) name named has in
-      let worlds = the_worlds called stored world are seen once name.peer name.number peer named there found.0 in
+      let worlds = the_worlds in_world name.peer name.number peer named there found.0 in
       let name_is : worlds.leg.name ≡ name = ap (λ (n : SeenNamed). n.name) worlds.looks ∙ found.1 in
       let test : is_same worlds.leg.name name ≡ true = rw name_is (is_same_itself name) in
       let leg : world_leg_named world.legs name ≡ Some worlds.leg = rw (worlds.at, test) refl in
-      offered who caller name act worlds.leg (stands who caller at) needed talk leg
+      in_world.offered who caller name act worlds.leg (stands who caller at) needed talk leg
       (ap (λ (n : SeenNamed). n.seen.stage) worlds.looks ∙ stage)
 
   -- a stored leg that has to be looked after is one of the world's
@@ -123,22 +123,22 @@ module _ (called : List LegName) (stored : Stored) (world : World) (are : ArePee
           ∙ kept.uncalled in
           absurd (omega (arith, few, none))
 
-  pub looked_after : WorldNamesAreHeldOnce world → WorldAllAreLookedAfter world → AllAreLookedAfter called stored
-  looked_after once all place number peer named at there kept =
-      let leg = kept_leg place number named (the_worlds called stored world are seen once place number peer named at there)
+  pub looked_after : within → AllAreLookedAfter called stored
+  looked_after spares place number peer named at there kept =
+      let leg = kept_leg place number named (the_worlds in_world place number peer named at there)
       kept in
-      let is = one_of (IsLookedAfter world) world.legs place number leg.0 leg.1 all leg.3 in
+      let is = one_of (IsLookedAfter world) world.legs place number leg.0 leg.1 (in_world.looked_after spares) leg.3 in
       subst (λ (n : LegName). 1 ≤ bit (is_some (partner_of stored.book n)) + times n (names_in_all stored.callers)) leg.2
       (subst (λ (cs : List Caller). 1 ≤ bit (is_some (partner_of stored.book leg.0.name)) + times leg.0.name (names_in_all cs))
       seen.callers
       (subst (λ (b : Book). 1 ≤ bit (is_some (partner_of b leg.0.name)) + times leg.0.name (names_in_all world.callers)) seen.book
       is))
 
-  pub all_partners : WorldNamesAreHeldOnce world → WorldAllHavePartners world → AllHavePartners called stored
-  all_partners once all idle place number peer named at there kept =
-      let leg = kept_leg place number named (the_worlds called stored world are seen once place number peer named at there)
+  pub all_partners : within → AllHavePartners called stored
+  all_partners spares idle place number peer named at there kept =
+      let leg = kept_leg place number named (the_worlds in_world place number peer named at there)
       kept in
       let is = one_of (λ (l : Leg). is_kept l ≡ true → IsSome (partner_of world.book l.name)) world.legs place number leg.0 leg.1
-      (all (subst (AllByRecursion IsIdle) (sym seen.callers) idle)) leg.3 in
+      (in_world.idle_partners spares (subst (AllByRecursion IsIdle) (sym seen.callers) idle)) leg.3 in
       subst (λ (n : LegName). IsSome (partner_of stored.book n)) leg.2
       (subst (λ (b : Book). IsSome (partner_of b leg.0.name)) seen.book is)

@@ -7,16 +7,16 @@ use Rattle.std.proofs.lemmas.Bool.Decides.{nat_tests}
 use Rattle.call_book.specs.Book.{Book, has_name, is_name_in, is_same}
 use Rattle.call_book.specs.declared.leg_name.LegName.{LegName}
 use Rattle.call_steps.specs.Law.{times, names_of, leases_of}
-use Rattle.call_steps.specs.Law.{NamesAreHeldOnce as WorldNamesAreHeldOnce}
 use Rattle.call_steps.specs.Scene.{Leg, is_leased, leg_at as world_leg_at}
 use Rattle.call_steps.specs.Sees.{look_of}
 use Rattle.call_steps.specs.World.{World, Caller}
 use Rattle.peer_lock.specs.Legs.{NamedLeg, leg_at, if_named}
 use Rattle.peer_lock.specs.Peer.{PeerView}
 use Rattle.peer_lock.specs.Seen.{SeenNamed, seen_named}
-use Rattle.call_runs.specs.Stored.{Stored, ArePeers, IsSeenIn}
+use Rattle.call_runs.specs.Stored.{Stored}
 use Rattle.call_runs.specs.StoredNames.{has_leg_in, has_leg, NamesAreHeldOnce, LegsAreBooked, NumbersServeOne, LeasesAreFree}
 use Rattle.call_runs.proofs.Called.{times_append}
+use Rattle.call_runs.proofs.InWorld.{IsInWorld}
 use Rattle.call_runs.proofs.Names.{is_same_itself, same_name, found_seen}
 
 abbrev pub bit : Bool → ℕ
@@ -113,9 +113,9 @@ pub record IsWorlds (world : World) (place number : ℕ) (named : NamedLeg) : Ty
   pub number_is : named.name.number ≡ number
   pub held : 1 ≤ times named.name (names_of world.legs)
 
-module _ (called : List LegName) (stored : Stored) (world : World) (are : ArePeers stored.peers)
-    (seen : IsSeenIn called stored world)
-    (once : WorldNamesAreHeldOnce world) where
+module _ {within : Type 0} {called : List LegName} {stored : Stored} (in_world : IsInWorld within called stored) where
+  open in_world use {are, world, seen, names as once}
+
   pub the_worlds : (place number : ℕ) (peer : PeerView) (named : NamedLeg) → slice_get stored.peers place ≡ Some peer
       → leg_at peer.legs number ≡ Some named
       → IsWorlds world place number named

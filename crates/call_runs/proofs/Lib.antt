@@ -9,6 +9,7 @@ mod Events
 mod Shapes
 mod Kept
 mod InRuns
+mod InWorld
 mod HeldNames
 mod AtOnce
 mod Made

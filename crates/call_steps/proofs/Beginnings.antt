@@ -1,18 +1,14 @@
 -- How a call begins, and how it ends where its first step is refused.
-use Rattle.std.proofs.Common.{◌≡◌, ℕ, List, [], ◌∷◌, Option, Some, None, Bool, true, false, refl}
+use Rattle.std.proofs.Common.{◌≡◌, Some, None, Bool, true, false, refl}
 use Rattle.std.specs.Prelude.{Ok, Err}
 use Rattle.std.proofs.lemmas.Bool.{cond_both}
 use Rattle.call_book.specs.Book.{is_same}
 use Rattle.call_book.specs.declared.leg_name.LegName.{LegName}
 use Rattle.call_signals.specs.declared.cause.Cause.{Cause}
-use Rattle.call_signals.specs.declared.signal.Signal.{Signal}
-use Rattle.call_signals.specs.declared.signal.Signal.TheVariants as signals
 use Rattle.peer_lock.specs.declared.errors.OrderError.TheVariants as order_errors
 use Rattle.peer_lock.specs.declared.errors.PeerError.TheVariants as peer_errors
 use Rattle.call_steps.specs.declared.act.Act.{Act}
 use Rattle.call_steps.specs.declared.act.Act.TheVariants as acts
-use Rattle.call_steps.specs.declared.need.Need.{Need}
-use Rattle.call_steps.specs.declared.need.Need.TheVariants as needs
 use Rattle.call_steps.specs.declared.need.Route.TheVariants as routes
 use Rattle.call_steps.specs.declared.place.Place.{Place}
 use Rattle.call_steps.specs.declared.place.Place.TheVariants as places
@@ -20,36 +16,16 @@ use Rattle.call_steps.specs.declared.reply.Heard.{Heard}
 use Rattle.call_steps.specs.declared.reply.Reply.{Reply}
 use Rattle.call_steps.specs.declared.reply.Reply.TheVariants as replies
 use Rattle.call_steps.specs.Beginnings.{Beginning, beginning_at, is_over, is_answer, is_made, is_refusal}
-use Rattle.call_steps.specs.Work.{Work, Rest, at, next_at, next_of, next_look, finish, passed_on, place_for, go_on_from, go_on, after_heard, after_status, after_look, after_no_room, told_at, after_told}
+use Rattle.call_steps.specs.Work.{Work, Rest, next_at, next_of, go_on, after_heard, after_status, after_look, after_no_room, told_at, after_told}
+use Rattle.call_steps.proofs.Onward.{onward_holds}
 
 -- ---- what is passed on is past the beginning
 
-next_look_past : (looks : List (ℕ × ℕ)) → beginning_at (next_look looks).place ≡ None
-next_look_past [] = refl
-next_look_past (look ∷ looks) = refl
-
-finish_past : (touched : Option LegName) (looks : List (ℕ × ℕ)) → beginning_at (finish touched looks).place ≡ None
-finish_past None looks = next_look_past looks
-finish_past (Some name) looks = refl
-
-passed_past : (name : LegName) (signal : Signal) (rest : Rest) (further : Work) → beginning_at further.place ≡ None
-    → beginning_at (passed_on (place_for name signal) rest further).place ≡ None
-passed_past name signals.Hangup rest further h = h
-passed_past name signals.Offered rest further h = refl
-passed_past name (signals.Indicated indication) rest further h = refl
-passed_past name signals.Answered rest further h = refl
-passed_past name (signals.Dtmf digit) rest further h = refl
-passed_past name (signals.Media span) rest further h = refl
-
-go_on_from_past : (onward : List (LegName × Signal)) (touched : Option LegName) (looks : List (ℕ × ℕ)) → beginning_at (go_on_from onward touched looks).place ≡ None
-go_on_from_past [] touched looks = finish_past touched looks
-go_on_from_past (up ∷ onward) touched looks = passed_past up.0 up.1 _ (go_on_from onward touched looks) (go_on_from_past onward touched looks)
-
 goes : (rest : Rest) → beginning_at (go_on rest).place ≡ None
-goes rest = go_on_from_past rest.onward rest.touched rest.looks
+goes rest = onward_holds (λ place. beginning_at place ≡ None) (λ name. refl) (λ name act. refl) (λ name. refl) (λ peer number. refl) refl rest
 
 heard_past : (heard : Heard) (rest : Rest) → beginning_at (after_heard heard rest).place ≡ None
-heard_past heard rest = go_on_from_past heard.onwards.signals heard.touched rest.looks
+heard_past heard rest = goes (record rest { onward = heard.onwards.signals; touched = heard.touched })
 
 status_past : (name : LegName) (owes : Bool) (cause : Cause) (rest : Rest) → beginning_at (after_status name owes cause rest).place ≡ None
 status_past name true cause rest = refl
@@ -162,19 +138,12 @@ refused_at : (place : Place) (reply : Reply) (rest : Rest) (begun : Beginning) �
     → is_over (told_at place reply rest).place ≡ true
 refused_at (places.Datagram peer) (replies.Datagram (Err peer_errors.NeedsNumber)) rest begun answers first refusal = absurd (cc)
 refused_at (places.Datagram peer) (replies.Datagram (Err error)) rest begun answers first refusal = refl
-refused_at (places.Datagram peer) reply rest begun answers first refusal = absurd (cc)
 refused_at (places.ReserveIn peer) (replies.Reserve (Err error)) rest begun answers first refusal = refl
-refused_at (places.ReserveIn peer) reply rest begun answers first refusal = absurd (cc)
 refused_at (places.OpenIn name) (replies.OpenIn (Err error)) rest begun answers first refusal = refl
-refused_at (places.OpenIn name) reply rest begun answers first refusal = absurd (cc)
 refused_at (places.Tick peer) (replies.Tick (Err spent)) rest begun answers first refusal = refl
-refused_at (places.Tick peer) reply rest begun answers first refusal = absurd (cc)
 refused_at (places.HangUp name) (replies.Order (Err error)) rest begun answers first refusal = refl
-refused_at (places.HangUp name) reply rest begun answers first refusal = absurd (cc)
 refused_at (places.ReserveCall peer) (replies.Reserve (Err error)) rest begun answers first refusal = refl
-refused_at (places.ReserveCall peer) reply rest begun answers first refusal = absurd (cc)
 refused_at (places.OpenCall name) (replies.OpenOut (Err error)) rest begun answers first refusal = refl
-refused_at (places.OpenCall name) reply rest begun answers first refusal = absurd (cc)
 refused_at place reply rest begun answers first refusal = absurd (cc)
 
 pub refused_is_over : (work : Work) (reply : Reply) (begun : Beginning) → is_answer (next_of work) reply ≡ true → beginning_at work.place ≡ Some begun → is_refusal reply ≡ true
@@ -185,21 +154,17 @@ goes_on_at : (place : Place) (reply : Reply) (rest : Rest) (begun : Beginning) �
     → beginning_at (told_at place reply rest).place ≡ Some begun
 goes_on_at (places.Datagram peer) (replies.Datagram (Ok heard)) rest begun answers first unmade kept = absurd (cc)
 goes_on_at (places.Datagram peer) (replies.Datagram (Err peer_errors.NeedsNumber)) rest begun answers first unmade kept = first
-goes_on_at (places.Datagram peer) reply rest begun answers first unmade kept = absurd (cc)
 goes_on_at (places.ReserveIn peer) (replies.Reserve (Ok name)) rest begun answers first unmade kept = first
-goes_on_at (places.ReserveIn peer) reply rest begun answers first unmade kept = absurd (cc)
 goes_on_at (places.OpenIn name) (replies.OpenIn (Ok heard)) rest begun answers first unmade kept = absurd (cc)
-goes_on_at (places.OpenIn name) reply rest begun answers first unmade kept = absurd (cc)
 goes_on_at (places.Tick peer) (replies.Tick (Ok quiet)) rest begun answers first unmade kept = absurd (cc)
-goes_on_at (places.Tick peer) reply rest begun answers first unmade kept = absurd (cc)
 goes_on_at (places.HangUp name) (replies.Order (Ok done)) rest begun answers first unmade kept = absurd (cc)
-goes_on_at (places.HangUp name) reply rest begun answers first unmade kept = absurd (cc)
 goes_on_at (places.ReserveCall peer) (replies.Reserve (Ok name)) rest begun answers first unmade kept = first
-goes_on_at (places.ReserveCall peer) reply rest begun answers first unmade kept = absurd (cc)
 goes_on_at (places.OpenCall name) (replies.OpenOut (Ok done)) rest begun answers first unmade kept = absurd (cc)
-goes_on_at (places.OpenCall name) reply rest begun answers first unmade kept = absurd (cc)
 goes_on_at place reply rest begun answers first unmade kept = absurd (cc)
 
 pub first_goes_on : (work : Work) (reply : Reply) (begun : Beginning) → is_answer (next_of work) reply ≡ true → beginning_at work.place ≡ Some begun → is_made reply ≡ false → is_refusal reply ≡ false
     → beginning_at (after_told work reply).place ≡ Some begun
 first_goes_on work reply begun answers first unmade kept = goes_on_at work.place reply work.rest begun answers first unmade kept
+
+-- what `refused_calls_end` says, clause by clause
+pub ruleset beginnings = (made_is_past, first_goes_on, past_stays, refused_is_over, over_stays, over_makes_none)

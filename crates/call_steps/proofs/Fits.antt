@@ -14,8 +14,6 @@ use Rattle.call_signals.specs.declared.openings.Opening.{Opening}
 use Rattle.call_signals.specs.declared.openings.Opening.TheVariants.{Offers}
 use Rattle.call_signals.specs.declared.order.OrderKind.{OrderKind}
 use Rattle.call_signals.specs.declared.order.OrderKind.TheVariants as kinds
-use Rattle.call_signals.specs.declared.signal.Signal.{Signal}
-use Rattle.call_signals.specs.declared.signal.Signal.TheVariants as signals
 use Rattle.call_signals.specs.declared.stage.Stage.{Stage}
 use Rattle.call_signals.specs.declared.stage.Stage.TheVariants as stages
 use Rattle.peer_lock.specs.declared.errors.OpenError.{OpenError}
@@ -37,38 +35,19 @@ use Rattle.call_steps.specs.declared.place.Place.TheVariants as places
 use Rattle.call_steps.specs.declared.reply.Heard.{Heard}
 use Rattle.call_steps.specs.declared.reply.Reply.TheVariants as replies
 use Rattle.call_steps.specs.SeenReply.{heard}
-use Rattle.call_steps.specs.Work.{Work, Rest, next_at, next_look, finish, place_for, passed_on, go_on_from, go_on, after_heard, after_refused_datagram, after_no_room, after_status, told_at, in_hand}
+use Rattle.call_steps.specs.Work.{Rest, next_at, go_on, after_heard, after_refused_datagram, after_no_room, after_status, told_at, in_hand}
 use Rattle.call_steps.specs.Scene.{Leg, Scene, Choice, RefusesDatagram, RefusesOpening, RefusesOrder, RefusesTick, KeepsLeg, Brings, HasMedia, Lapses, Opens, LeadsTo, leg_at, leg_named, replaced, without, Answer, answer, heard_of, nothing_heard, brought, brings, all_media, at_datagram, all_lapsed, at_tick, is_leased, dropped, can_open, opened, opens_in, busy_in, at_open_in, opens_out, busy_out, at_open_out, refuses_order, carried, refused, obeys, at_leg, at_order, status_of, told_cause, is_done, retires, keeps, at_retire, reserves, bridges, releases, is_stale, at_release, answered, is_call}
 use Rattle.call_steps.specs.Law.{times, names_of}
 use Rattle.call_steps.proofs.BookNames.{bit, is_same_itself, same_name, has_name_is}
+use Rattle.call_steps.proofs.Onward.{onward_holds}
 use Rattle.call_steps.proofs.Held.{scene, IsHeld, same_names, names_replaced, names_lapsed, found_named, leased_own, dropped_own, without_times}
 
 -- no lease is in hand where what was handed up is passed on
-next_look_hand : (looks : List (ℕ × ℕ)) → in_hand (next_look looks).place ≡ []
-next_look_hand [] = refl
-next_look_hand (look ∷ looks) = refl
-
-finish_hand : (touched : Option LegName) (looks : List (ℕ × ℕ)) → in_hand (finish touched looks).place ≡ []
-finish_hand None looks = next_look_hand looks
-finish_hand (Some name) looks = refl
-
-passed_hand : (name : LegName) (signal : Signal) (rest : Rest) (further : Work) → in_hand further.place ≡ [] → in_hand (passed_on (place_for name signal) rest further).place ≡ []
-passed_hand name signals.Hangup rest further h = h
-passed_hand name signals.Offered rest further h = refl
-passed_hand name (signals.Indicated indication) rest further h = refl
-passed_hand name signals.Answered rest further h = refl
-passed_hand name (signals.Dtmf digit) rest further h = refl
-passed_hand name (signals.Media span) rest further h = refl
-
-go_on_from_hand : (onward : List (LegName × Signal)) (touched : Option LegName) (looks : List (ℕ × ℕ)) → in_hand (go_on_from onward touched looks).place ≡ []
-go_on_from_hand [] touched looks = finish_hand touched looks
-go_on_from_hand (up ∷ onward) touched looks = passed_hand up.0 up.1 _ (go_on_from onward touched looks) (go_on_from_hand onward touched looks)
-
 pub go_on_hand : (rest : Rest) → in_hand (go_on rest).place ≡ []
-go_on_hand rest = go_on_from_hand rest.onward rest.touched rest.looks
+go_on_hand rest = onward_holds (λ place. in_hand place ≡ []) (λ name. refl) (λ name act. refl) (λ name. refl) (λ peer number. refl) refl rest
 
 pub heard_hand : (heard : Heard) (rest : Rest) → in_hand (after_heard heard rest).place ≡ []
-heard_hand heard rest = go_on_from_hand heard.onwards.signals heard.touched rest.looks
+heard_hand heard rest = go_on_hand (record rest { onward = heard.onwards.signals; touched = heard.touched })
 
 refused_hand : (error : PeerError) (peer : ℕ) (rest : Rest) → in_hand (after_refused_datagram error peer rest).place ≡ []
 refused_hand peer_errors.NeedsNumber peer rest = refl

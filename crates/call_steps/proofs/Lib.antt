@@ -1,6 +1,7 @@
 mod Signals
 mod BookNames
 mod Callers
+mod Onward
 mod Held
 mod Fits
 mod Names

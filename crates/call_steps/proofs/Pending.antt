@@ -8,7 +8,7 @@ use Rattle.call_book.specs.declared.errors.BridgeError.{BridgeError}
 use Rattle.call_book.specs.declared.errors.ReserveError.{ReserveError}
 use Rattle.call_book.specs.declared.leg_name.LegName.{LegName}
 use Rattle.call_book.proofs.Changes.{IsReserved, reserved, partner_has, released_before, reserved_none, reserved_before}
-use Rattle.leg_machine.specs.Seen.{SeenFrame, AcceptsCall, RejectsCall, BreaksOff, Indicates, AnswersCall, Dials, Speaks, HangsUp, AcknowledgesAll, frame_effect, stage_after, moved, Lapse, Ends, ClosesDoomed}
+use Rattle.leg_machine.specs.Seen.{SeenFrame, HangsUp, frame_effect, stage_after, moved, Lapse, Ends, ClosesDoomed}
 use Rattle.leg_machine.specs.Stage.{is_over}
 use Rattle.call_signals.specs.declared.openings.Opening.{Opening}
 use Rattle.call_signals.specs.declared.openings.Opening.TheVariants.{Offers}
@@ -61,31 +61,12 @@ carried_not_pending (kinds.Doom cause) leg after ok not_pending = not_pending
 carried_not_pending kinds.Paid leg after ok not_pending = not_pending
 carried_not_pending kind leg after ok not_pending = pending_before kind leg.seen.stage after ok not_pending
 
+-- the frame that is named has each frame looked at by itself, at each stage
 effect_not_pending : (frame : SeenFrame) (stage : Stage) → is_pending stage ≡ false → is_pending (frame_effect frame stage).stage ≡ false
+effect_not_pending HangsUp stages.Waiting not_pending = refl
 effect_not_pending frame stages.Challenged not_pending = absurd (cc)
 effect_not_pending frame stages.Offered not_pending = absurd (cc)
-effect_not_pending AcceptsCall stages.Waiting not_pending = refl
-effect_not_pending RejectsCall stages.Waiting not_pending = refl
-effect_not_pending BreaksOff stages.Waiting not_pending = refl
-effect_not_pending HangsUp stages.Waiting not_pending = refl
-effect_not_pending frame stages.Waiting not_pending = refl
-effect_not_pending BreaksOff stages.Linked not_pending = refl
-effect_not_pending (Indicates indication) stages.Linked not_pending = refl
-effect_not_pending AnswersCall stages.Linked not_pending = refl
-effect_not_pending (Dials digit) stages.Linked not_pending = refl
-effect_not_pending (Speaks span) stages.Linked not_pending = refl
-effect_not_pending HangsUp stages.Linked not_pending = refl
-effect_not_pending frame stages.Linked not_pending = refl
-effect_not_pending BreaksOff stages.Up not_pending = refl
-effect_not_pending (Dials digit) stages.Up not_pending = refl
-effect_not_pending (Speaks span) stages.Up not_pending = refl
-effect_not_pending HangsUp stages.Up not_pending = refl
-effect_not_pending frame stages.Up not_pending = refl
-effect_not_pending HangsUp stages.Closing not_pending = refl
-effect_not_pending AcknowledgesAll stages.Closing not_pending = refl
-effect_not_pending frame stages.Closing not_pending = refl
-effect_not_pending HangsUp stages.Ended not_pending = refl
-effect_not_pending frame stages.Ended not_pending = refl
+effect_not_pending frame stage not_pending = refl
 
 lapsed_not_pending : (lapse : Lapse) (leg : Leg) → is_pending leg.seen.stage ≡ false → is_pending (let_lapse lapse leg).seen.stage ≡ false
 lapsed_not_pending Ends leg not_pending = refl

@@ -1,7 +1,6 @@
 -- What a step leads to, where the book stays and nobody loses who sees to it.
-use Rattle.std.proofs.Common.{◌≡◌, ℕ, ◌≤◌, List, [], Option, Some, None, Bool, true, false, refl, ap, arith, is_some}
+use Rattle.std.proofs.Common.{◌≡◌, ◌≤◌, List, [], Option, Some, None, Bool, true, false, refl, ap, arith, is_some}
 use Rattle.std.specs.Prelude.{Result, Ok, Err}
-use Rattle.call_book.specs.Book.{Book}
 use Rattle.call_book.specs.declared.leg_name.LegName.{LegName}
 use Rattle.call_signals.specs.declared.cause.Cause.{Cause}
 use Rattle.call_signals.specs.declared.cause.Cause.TheVariants.{NormalClearing}
@@ -15,12 +14,12 @@ use Rattle.call_steps.specs.declared.place.Place.{Place}
 use Rattle.call_steps.specs.declared.place.Place.TheVariants as places
 use Rattle.call_steps.specs.declared.reply.Reply.TheVariants as replies
 use Rattle.call_steps.specs.Work.{Work, Rest, at, ended, go_on, after_no_room, told_at, in_hand}
-use Rattle.call_steps.specs.Scene.{Leg, Scene, Choice, Answer, at_order}
+use Rattle.call_steps.specs.Scene.{Choice, at_order}
 use Rattle.call_steps.proofs.BookNames.{bit}
 use Rattle.call_steps.proofs.Held.{scene}
 use Rattle.call_steps.proofs.Weights.{care, offers, past, go_on_care}
-use Rattle.call_steps.proofs.Safe.{Moves, IsSafeStep, go_on_moves}
-use Rattle.call_steps.proofs.SafeSteps.{no_fresh, Before, stays, plain_order}
+use Rattle.call_steps.proofs.Safe.{Moves, go_on_moves}
+use Rattle.call_steps.proofs.SafeSteps.{no_fresh, Surroundings, Before, Safe, SafeAnswer, stays, plain_order}
 
 pub some_more : (o more : Option LegName) → ((p : LegName) → o ≡ Some p → more ≡ Some p) → bit (is_some o) ≤ bit (is_some more)
 some_more None more h = omega arith
@@ -84,19 +83,12 @@ pub flows_rejecting : (offered : LegName) (cause : Cause) (rest : Rest) (r : Res
 flows_rejecting offered cause rest (Ok done) = go_on_moves (places.Rejecting offered cause) rest
 flows_rejecting offered cause rest (Err error) = (quiet (places.Rejecting offered cause) rest (at (places.Dooming offered NormalClearing) rest) refl (λ x. omega arith) (λ x. omega arith)).goes
 
-module _ (others_care others_fresh beside : LegName → ℕ) (few : (x : LegName) → others_fresh x ≤ beside x) (book : Book) (legs : List Leg) where
-  abbrev Known : Place → Rest → Type 0
-  Known place rest = Before others_care others_fresh beside few book legs place rest
+module _ (around : Surroundings) where
+  open around use {book, legs}
 
-  abbrev Safe : Place → Rest → Scene → Work → Type 0
-  Safe place rest new to = IsSafeStep others_care others_fresh place rest book new to
+  pub flows_safe : (place : Place) (rest : Rest) (leases : List LegName) (to : Work) → Before around place rest → Flows place rest to → Safe around place rest (scene book legs leases) to
+  flows_safe place rest leases to b f = stays around place rest leases to b f.goes f.care
 
-  abbrev SafeAnswer : Place → Rest → Answer → Type 0
-  SafeAnswer place rest a = Safe place rest a.scene (told_at place a.reply rest)
-
-  pub flows_safe : (place : Place) (rest : Rest) (leases : List LegName) (to : Work) → Known place rest → Flows place rest to → Safe place rest (scene book legs leases) to
-  flows_safe place rest leases to b f = stays others_care others_fresh beside few book legs place rest leases to b f.goes f.care
-
-  pub order_safe : (place : Place) (rest : Rest) (name : LegName) (kind : OrderKind) (choice : Choice) → Known place rest → ((r : Result (Unit {0}) OrderError) → Flows place rest (told_at place (replies.Order r) rest))
-      → SafeAnswer place rest (at_order (scene book legs (in_hand place)) name kind choice)
-  order_safe place rest name kind choice b f = plain_order others_care others_fresh beside few book legs place rest name kind b (λ r. (f r).goes) choice (λ r. (f r).care)
+  pub order_safe : (place : Place) (rest : Rest) (name : LegName) (kind : OrderKind) (choice : Choice) → Before around place rest → ((r : Result (Unit {0}) OrderError) → Flows place rest (told_at place (replies.Order r) rest))
+      → SafeAnswer around place rest (at_order (scene book legs (in_hand place)) name kind choice)
+  order_safe place rest name kind choice b f = plain_order around place rest name kind b (λ r. (f r).goes) choice (λ r. (f r).care)

@@ -30,7 +30,19 @@ apart_turned a b h =
       | inr other ↦ other
     ]
 
-module _ (others_care others_fresh beside : LegName → ℕ) (few : (x : LegName) → others_fresh x ≤ beside x) (book : Book) (legs : List Leg) where
+-- where a caller's step is made
+pub record Surroundings : Type 0 where
+  -- of each name: how much the other callers see to it, how many fresh leases they hold for it, and how many leases at all
+  pub others_care : LegName → ℕ
+  pub others_fresh : LegName → ℕ
+  pub beside : LegName → ℕ
+  pub few : (x : LegName) → others_fresh x ≤ beside x
+  pub book : Book
+  pub legs : List Leg
+
+module _ (around : Surroundings) where
+  open around use {others_care, others_fresh, beside, book, legs}
+
   abbrev pub seen : Work → LegName → ℕ
   seen work x = care work x + others_care x
 
@@ -42,8 +54,11 @@ module _ (others_care others_fresh beside : LegName → ℕ) (few : (x : LegName
     pub covered : AllByRecursion (Covers book (seen (at place rest))) legs
     pub lone : IsLone book place (in_hand place)
 
-  abbrev Safe : Place → Rest → Scene → Work → Type 0
+  abbrev pub Safe : Place → Rest → Scene → Work → Type 0
   Safe place rest new to = IsSafeStep others_care others_fresh place rest book new to
+
+  abbrev pub SafeAnswer : Place → Rest → Answer → Type 0
+  SafeAnswer place rest a = Safe place rest a.scene (told_at place a.reply rest)
 
   abbrev Sees : Work → List Leg → Type 0
   Sees work ls = AllByRecursion (Covers book (seen work)) ls
@@ -98,35 +113,32 @@ module _ (others_care others_fresh beside : LegName → ℕ) (few : (x : LegName
     module _ (err : (error : OrderError) (x : LegName) → care (at place rest) x ≤ care (told_at place (replies.Order (Err error)) rest) x)
         (ok : (x : LegName) → is_same name x ≡ false → care (at place rest) x ≤ care done x)
         (new : (leg : Leg) (stage : Stage) → leg.name ≡ name → stage_after kind leg.seen.stage ≡ Some stage → Covers book (seen (at place rest)) leg → Covers book (seen done) (carried kind leg stage)) where
-      abbrev SafeAnswer : Answer → Type 0
-      SafeAnswer a = Safe place rest a.scene (told_at place a.reply rest)
-
-      refused_safe : (error : OrderError) → SafeAnswer (refused (scene book legs (in_hand place)) error)
+      refused_safe : (error : OrderError) → SafeAnswer place rest (refused (scene book legs (in_hand place)) error)
       refused_safe error = stays place rest (in_hand place) (told_at place (replies.Order (Err error)) rest) b (goes (Err error)) (err error)
 
       obeys_safe : (leg : Leg) (stage : Option Stage) → leg_named legs name ≡ Some leg → stage_after kind leg.seen.stage ≡ stage
-          → SafeAnswer (obeys (scene book legs (in_hand place)) kind leg stage)
+          → SafeAnswer place rest (obeys (scene book legs (in_hand place)) kind leg stage)
       obeys_safe leg None found is = refused_safe order_errors.WrongStage
       obeys_safe leg (Some stage) found is =
           unchanged place rest (replaced legs (carried kind leg stage)) (in_hand place) done b (goes (Ok tt))
           (obeyed leg stage found ok (new leg stage (found_named legs name leg found).0 is))
 
-      at_leg_safe : (o : Option Leg) (choice : Choice) → leg_named legs name ≡ o → SafeAnswer (at_leg (scene book legs (in_hand place)) kind o choice)
+      at_leg_safe : (o : Option Leg) (choice : Choice) → leg_named legs name ≡ o → SafeAnswer place rest (at_leg (scene book legs (in_hand place)) kind o choice)
       at_leg_safe None choice found = refused_safe order_errors.Gone
       at_leg_safe (Some leg) (RefusesOrder error) found =
           cond_both (refuses_order kind error && is_some (stage_after kind leg.seen.stage))
-          (refused (scene book legs (in_hand place)) error) (obeys (scene book legs (in_hand place)) kind leg (stage_after kind leg.seen.stage)) SafeAnswer
+          (refused (scene book legs (in_hand place)) error) (obeys (scene book legs (in_hand place)) kind leg (stage_after kind leg.seen.stage)) (SafeAnswer place rest)
           (λ _. refused_safe error)
           (λ _. obeys_safe leg (stage_after kind leg.seen.stage) found refl)
       at_leg_safe (Some leg) choice found = obeys_safe leg (stage_after kind leg.seen.stage) found refl
 
-      pub at_order_safe : (choice : Choice) → SafeAnswer (at_order (scene book legs (in_hand place)) name kind choice)
+      pub at_order_safe : (choice : Choice) → SafeAnswer place rest (at_order (scene book legs (in_hand place)) name kind choice)
       at_order_safe (RefusesOrder order_errors.StepsSpent) = refused_safe order_errors.StepsSpent
       at_order_safe choice = at_leg_safe (leg_named legs name) choice refl
 
     -- an order that takes care from nobody
     pub plain_order : (choice : Choice) → ((r : Result (Unit {0}) OrderError) (x : LegName) → care (at place rest) x ≤ care (told_at place (replies.Order r) rest) x)
-        → Safe place rest (at_order (scene book legs (in_hand place)) name kind choice).scene (told_at place (at_order (scene book legs (in_hand place)) name kind choice).reply rest)
+        → SafeAnswer place rest (at_order (scene book legs (in_hand place)) name kind choice)
     plain_order choice le =
         at_order_safe (λ error x. le (Err error) x) (λ x _. le (Ok tt) x)
         (λ leg stage is ok c kept. omega (arith, c (ordered_kept kind leg stage ok kept), le (Ok tt) leg.name))

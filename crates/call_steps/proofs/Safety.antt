@@ -6,7 +6,7 @@ use Rattle.call_book.specs.declared.leg_name.LegName.{LegName}
 use Rattle.call_steps.specs.declared.need.Need.{Need}
 use Rattle.call_steps.specs.declared.place.Place.{Place}
 use Rattle.call_steps.specs.declared.place.Place.TheVariants as places
-use Rattle.call_steps.specs.Work.{Work, Rest, next_at, next_of, told_at, after_told, in_hand}
+use Rattle.call_steps.specs.Work.{Work, Rest, next_at, next_of, after_told, in_hand}
 use Rattle.call_steps.specs.Scene.{Choice, Answer, answered, is_call}
 use Rattle.call_steps.specs.World.{World, Caller, Event, Starts, Steps, Start, ADatagram, ATick, ACall, AHangUp, work_of, scene_of, makes, steps, begins, starts, happens, run, after_answer}
 use Rattle.call_steps.specs.Law.{IsOpened, IsFresh, IsWithinSteps, is_spent, times, names_of, names_in, names_in_all, IsLookedAfter, AllAreLookedAfter}
@@ -15,8 +15,8 @@ use Rattle.call_steps.proofs.Callers.{total, others, total_split, total_set, at_
 use Rattle.call_steps.proofs.Held.{scene}
 use Rattle.call_steps.proofs.Names.{IsNamed, beside, acting, idle_hand, event_keeps, opened_named, steps_named}
 use Rattle.call_steps.proofs.Weights.{care, care_at, past, care_named}
-use Rattle.call_steps.proofs.Safe.{all_map, Covers, still_covers, fresh_at, fresh_none, fresh_few, IsLone, IsSafeStep, some_bit, zero_if}
-use Rattle.call_steps.proofs.SafeSteps.{Before}
+use Rattle.call_steps.proofs.Safe.{all_map, Covers, still_covers, fresh_at, fresh_none, fresh_few, IsLone, some_bit, zero_if}
+use Rattle.call_steps.proofs.SafeSteps.{Surroundings, Before, SafeAnswer}
 use Rattle.call_steps.proofs.SafeFlows.{bit_most}
 use Rattle.call_steps.proofs.SafeOrders.{IsSeenTo}
 use Rattle.call_steps.proofs.SafePlaces.{place_safe, SafeIf}
@@ -58,7 +58,10 @@ module _ (outside : ℕ) (world : World) (who : ℕ) (caller : Caller) (is : sli
   pub few : (x : LegName) → others_fresh x ≤ beside world who x
   few x = total_le (fresh_weight x) (leases_weight x) (others world.callers who) (λ c. fresh_few c.work.place c.leases x)
 
-  pub place_before : Before others_care others_fresh (beside world who) few world.book world.legs caller.work.place caller.work.rest
+  abbrev pub around : Surroundings
+  around = record { others_care = others_care; others_fresh = others_fresh; beside = beside world who; few = few; book = world.book; legs = world.legs }
+
+  pub place_before : Before around caller.work.place caller.work.rest
   place_before =
       let hand : caller.leases ≡ in_hand caller.work.place = h.named.leases who caller is in
       record {
@@ -84,7 +87,7 @@ module _ (outside : ℕ) (world : World) (who : ℕ) (caller : Caller) (is : sli
       stands_there (first ∷ callers) zero c new at_i = refl
       stands_there (first ∷ callers) (suc i) c new at_i = stands_there callers i c new at_i
 
-  after_safe : (a : Answer) → IsSafeStep others_care others_fresh caller.work.place caller.work.rest world.book a.scene (after_told caller.work a.reply)
+  after_safe : (a : Answer) → SafeAnswer around caller.work.place caller.work.rest a
       → IsNamed (after_answer world who caller.work a) → IsSafe outside (after_answer world who caller.work a)
   after_safe a safe named =
       let to : Work = after_told caller.work a.reply in
@@ -137,19 +140,18 @@ module _ (outside : ℕ) (world : World) (who : ℕ) (caller : Caller) (is : sli
       one_of zero rest old legs some f le = inl (omega arith)
       one_of (suc own) rest old legs some f le = f (omega arith)
 
-  makes_safe : (need : Option Need) (choice : Choice) → SafeIf others_care others_fresh (beside world who) few world.book world.legs caller.work.place caller.work.rest choice need
+  makes_safe : (need : Option Need) (choice : Choice) → SafeIf around caller.work.place caller.work.rest choice need
       → IsNamed (makes world who caller need choice) → IsSafe outside (makes world who caller need choice)
   makes_safe None choice safe named = h
   makes_safe (Some need) choice safe named =
       after_safe (answered (scene_of world caller) need (is_call caller.work.place) choice)
-      (subst (λ ls. let a = answered (scene world.book world.legs ls) need (is_call caller.work.place) choice in
-      IsSafeStep others_care others_fresh caller.work.place caller.work.rest world.book a.scene (told_at caller.work.place a.reply caller.work.rest))
+      (subst (λ ls. SafeAnswer around caller.work.place caller.work.rest (answered (scene world.book world.legs ls) need (is_call caller.work.place) choice))
       (sym (h.named.leases who caller is)) safe)
       named
 
   -- the step is safe, unless it is a Doom that nobody else sees to
-  pub step_safe : (choice : Choice) → IsPaid outside choice → SafeIf others_care others_fresh (beside world who) few world.book world.legs caller.work.place caller.work.rest choice (next_of caller.work)
-  step_safe choice paid = place_safe others_care others_fresh (beside world who) few world.book world.legs caller.work.place caller.work.rest choice (seen_to paid) place_before
+  pub step_safe : (choice : Choice) → IsPaid outside choice → SafeIf around caller.work.place caller.work.rest choice (next_of caller.work)
+  step_safe choice paid = place_safe around caller.work.place caller.work.rest choice (seen_to paid) place_before
     where
       seen_to : IsPaid outside choice → IsSeenTo others_care choice
       seen_to (inl within) = inl within

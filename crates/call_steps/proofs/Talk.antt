@@ -21,8 +21,9 @@ use Rattle.call_steps.proofs.Callers.{total, others, total_split, total_set, at_
 use Rattle.call_steps.proofs.Held.{scene, found_if}
 use Rattle.call_steps.proofs.Names.{beside, idle_hand}
 use Rattle.call_steps.proofs.Safe.{all_found, fresh_at, fresh_none}
+use Rattle.call_steps.proofs.SafeSteps.{Surroundings}
 use Rattle.call_steps.proofs.SafePlaces.{SafeIf}
-use Rattle.call_steps.proofs.Safety.{IsSafe, fresh_weight, others_care, others_fresh, few, place_before, own_hand, step_safe, event_safe, opened_safe}
+use Rattle.call_steps.proofs.Safety.{IsSafe, fresh_weight, around, place_before, own_hand, step_safe, event_safe, opened_safe}
 use Rattle.call_steps.proofs.Pending.{NotPending, is_pending}
 use Rattle.call_steps.proofs.TalkPlaces.{opening_at, opening_few, opening_none}
 use Rattle.call_steps.proofs.Settled.{IsSettled, Asks, asks_map, SettledAt, PartnersAt, IsTalkStep}
@@ -43,6 +44,9 @@ pub record IsTalkSafe (world : World) : Type 0 where
   pub partners : (x p : LegName) → partner_of world.book x ≡ Some p → (1 ≤ total (fresh_weight x) world.callers) ⊎ SettledIn world p
 
 module _ (world : World) (who : ℕ) (caller : Caller) (is : slice_get world.callers who ≡ Some caller) (h : IsTalkSafe world) where
+  abbrev here : Surroundings
+  here = around 1 world who caller is h.safe
+
   abbrev others_opening : LegName → ℕ
   others_opening x = total (opening_weight x) (others world.callers who)
 
@@ -57,7 +61,7 @@ module _ (world : World) (who : ℕ) (caller : Caller) (is : slice_get world.cal
       let own : opening_at caller.work.place caller.leases p ≡ opening_at caller.work.place (in_hand caller.work.place) p = ap (λ ls. opening_at caller.work.place ls p) hand in
       record { known = s.known; not_pending = s.not_pending; unopened = omega (arith, s.unopened, total_split (opening_weight p) world.callers who caller is) }
 
-  partners_here : PartnersAt others_opening (others_fresh 1 world who caller is h.safe) world.book world.legs caller.work.place
+  partners_here : PartnersAt others_opening here.others_fresh world.book world.legs caller.work.place
   partners_here x p has =
       let own : fresh_at caller.work.place caller.leases x ≡ fresh_at caller.work.place (in_hand caller.work.place) x = ap (λ ls. fresh_at caller.work.place ls x) hand in
       elim (h.partners x p has) [
@@ -65,15 +69,14 @@ module _ (world : World) (who : ℕ) (caller : Caller) (is : slice_get world.cal
         | inr settled ↦ inr (settled_here p settled)
       ]
 
-  talks : Talks (others_care 1 world who caller is h.safe) others_opening (others_fresh 1 world who caller is h.safe) (beside world who) (few 1 world who caller is h.safe) few_opening world.book world.legs
-      caller.work.place caller.work.rest
+  talks : Talks here others_opening few_opening caller.work.place caller.work.rest
   talks = record {
     safe = place_before 1 world who caller is h.safe;
     asks = asks_map (SettledIn world) (SettledAt others_opening world.book world.legs caller.work.place) caller.work.place settled_here (h.asks who caller is);
     partners = partners_here;
   }
 
-  after_talk : (a : Answer) → IsTalkStep others_opening (others_fresh 1 world who caller is h.safe) world.book world.legs caller.work.place a.scene (after_told caller.work a.reply).place
+  after_talk : (a : Answer) → IsTalkStep others_opening here.others_fresh world.book world.legs caller.work.place a.scene (after_told caller.work a.reply).place
       → IsSafe 1 (after_answer world who caller.work a) → IsTalkSafe (after_answer world who caller.work a)
   after_talk a step safe =
       let to : Place = (after_told caller.work a.reply).place in
@@ -98,16 +101,15 @@ module _ (world : World) (who : ℕ) (caller : Caller) (is : slice_get world.cal
       }
 
   makes_talk : (need : Option Need) (choice : Choice) → next_of caller.work ≡ need
-      → SafeIf (others_care 1 world who caller is h.safe) (others_fresh 1 world who caller is h.safe) (beside world who) (few 1 world who caller is h.safe) world.book world.legs caller.work.place caller.work.rest choice need
+      → SafeIf here caller.work.place caller.work.rest choice need
       → IsSafe 1 (makes world who caller need choice) → IsTalkSafe (makes world who caller need choice)
   makes_talk None choice at_end step safe = h
   makes_talk (Some need) choice at_need step safe =
       after_talk (answered (scene_of world caller) need (is_call caller.work.place) choice)
       (subst (λ ls. let a = answered (scene world.book world.legs ls) need (is_call caller.work.place) choice in
-      IsTalkStep others_opening (others_fresh 1 world who caller is h.safe) world.book world.legs caller.work.place a.scene (told_at caller.work.place a.reply caller.work.rest).place)
+      IsTalkStep others_opening here.others_fresh world.book world.legs caller.work.place a.scene (told_at caller.work.place a.reply caller.work.rest).place)
       (sym hand)
-      (place_talks (others_care 1 world who caller is h.safe) others_opening (others_fresh 1 world who caller is h.safe) (beside world who) (few 1 world who caller is h.safe) few_opening world.book world.legs
-      caller.work.place caller.work.rest need choice at_need talks step))
+      (place_talks here others_opening few_opening caller.work.place caller.work.rest need choice at_need talks step))
       safe
 
   steps_talk : (choice : Choice) → IsSafe 1 (makes world who caller (next_of caller.work) choice) → IsTalkSafe (makes world who caller (next_of caller.work) choice)

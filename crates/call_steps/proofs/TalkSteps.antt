@@ -3,7 +3,7 @@ use Rattle.std.proofs.Common.{◌≡◌, ◌≢◌, ℕ, ◌+◌, ◌<◌, ◌�
 use Rattle.std.specs.Prelude.{Result, Ok, Err}
 use Rattle.std.proofs.lemmas.Bool.{cond_both, cases_Bool, true≢false}
 use Rattle.std.specs.List.{AllByRecursion}
-use Rattle.call_book.specs.Book.{Book, has_name, is_same, bridge_answer, bridged, released, partner_of}
+use Rattle.call_book.specs.Book.{has_name, is_same, bridge_answer, bridged, released, partner_of}
 use Rattle.call_book.specs.declared.errors.BridgeError.{BridgeError}
 use Rattle.call_book.specs.declared.leg_name.LegName.{LegName}
 use Rattle.call_book.proofs.Changes.{IsBridged, bridged_by, partner_has, bridged_first, bridged_before, released_gone}
@@ -28,8 +28,8 @@ use Rattle.call_steps.proofs.BookNames.{bit, is_same_itself, same_name, has_name
 use Rattle.call_steps.proofs.Held.{scene, IsHeld, found_named, leased_own}
 use Rattle.call_steps.proofs.Fits.{in_hand_known}
 use Rattle.call_steps.proofs.Weights.{offered_of}
-use Rattle.call_steps.proofs.Safe.{all_replaced, fresh_at, some_bit, some_of, zero_if, IsSafeStep}
-use Rattle.call_steps.proofs.SafeSteps.{no_fresh, Before}
+use Rattle.call_steps.proofs.Safe.{all_replaced, fresh_at, some_bit, some_of, zero_if}
+use Rattle.call_steps.proofs.SafeSteps.{no_fresh, Surroundings, Before, SafeAnswer}
 use Rattle.call_steps.proofs.SafeFlows.{bit_most}
 use Rattle.call_steps.proofs.Pending.{NotPending, NonePending, is_pending, is_bridge, opens_name, need_keeps, need_not_pending}
 use Rattle.call_steps.proofs.TalkPlaces.{opening_at, opening_fresh, opening_there, go_on_plain, leads_on, opened_from, accept_fresh}
@@ -56,17 +56,15 @@ no_leg_not_pending p (leg ∷ legs) none = (
   no_leg_not_pending p legs (omega arith),
 )
 
-module _ (others_care others_opening others_fresh beside : LegName → ℕ) (few : (x : LegName) → others_fresh x ≤ beside x)
-    (few_opening : (x : LegName) → others_opening x ≤ beside x) (book : Book) (legs : List Leg) where
-  abbrev Known : Place → Rest → Type 0
-  Known place rest = Before others_care others_fresh beside few book legs place rest
+module _ (around : Surroundings) (others_opening : LegName → ℕ) (few_opening : (x : LegName) → others_opening x ≤ around.beside x) where
+  open around use {others_fresh, beside, book, legs}
 
   abbrev Settled : Place → LegName → Type 0
   Settled place p = SettledAt others_opening book legs place p
 
   -- before a step at a place
   pub record Talks (place : Place) (rest : Rest) : Type 0 where
-    pub safe : Known place rest
+    pub safe : Before around place rest
     pub asks : Asks (Settled place) place
     pub partners : PartnersAt others_opening others_fresh book legs place
 
@@ -80,10 +78,10 @@ module _ (others_care others_opening others_fresh beside : LegName → ℕ) (few
   SettledAfter place rest need choice p = SettledAt others_opening (made place need choice).scene.book (made place need choice).scene.legs (to place rest need choice) p
 
   abbrev SafeAfter : Place → Rest → Need → Choice → Type 0
-  SafeAfter place rest need choice = IsSafeStep others_care others_fresh place rest book (made place need choice).scene (told_at place (made place need choice).reply rest)
+  SafeAfter place rest need choice = SafeAnswer around place rest (made place need choice)
 
   -- ---- who is settled stays so
-  module _ (place : Place) (rest : Rest) (need : Need) (choice : Choice) (is : next_at place ≡ Some need) (b : Known place rest) (safe : SafeAfter place rest need choice) where
+  module _ (place : Place) (rest : Rest) (need : Need) (choice : Choice) (is : next_at place ≡ Some need) (b : Before around place rest) (safe : SafeAfter place rest need choice) where
     late_unopened : (p : LegName) → p.serial < book.next → opening_at (to place rest need choice) (in_hand (to place rest need choice)) p ≡ 0
     late_unopened p known =
         zero_if (opening_at next (in_hand next) p)

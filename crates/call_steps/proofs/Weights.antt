@@ -10,6 +10,7 @@ use Rattle.call_steps.specs.Work.{Work, Rest, finish, place_for, passed_on, go_o
 use Rattle.call_steps.specs.Law.{times, names_at, words, names_in}
 use Rattle.call_steps.proofs.BookNames.{bit}
 use Rattle.call_steps.proofs.Callers.{times-append}
+use Rattle.call_steps.proofs.Onward.{passed_holds}
 
 -- a leg that is offered is still to be seen to
 abbrev pub offer : Signal → LegName → LegName → ℕ
@@ -77,12 +78,8 @@ offered_of place = None
 
 passed_care : (name : LegName) (signal : Signal) (rest : Rest) (further : Work) (x : LegName) → offers x rest.onward ≤ care further x
     → offer signal name x + offers x rest.onward ≤ care (passed_on (place_for name signal) rest further) x
-passed_care name signals.Hangup rest further x h = omega arith
 passed_care name signals.Offered rest further x h = omega arith
-passed_care name (signals.Indicated indication) rest further x h = omega arith
-passed_care name signals.Answered rest further x h = omega arith
-passed_care name (signals.Dtmf digit) rest further x h = omega arith
-passed_care name (signals.Media span) rest further x h = omega arith
+passed_care name signal rest further x h = omega arith
 
 abbrev rest_of : List (LegName × Signal) → Option LegName → List (ℕ × ℕ) → Rest
 rest_of onward touched looks = record { onward = onward; touched = touched; looks = looks }
@@ -97,12 +94,8 @@ go_on_care rest x = go_on_from_care rest.onward rest.touched rest.looks x
 
 passed_past : (name : LegName) (signal : Signal) (rest : Rest) (further : Work) (x : LegName) → past further x ≤ times x (words rest.onward)
     → past (passed_on (place_for name signal) rest further) x ≤ bit (is_same name x) + times x (words rest.onward)
-passed_past name signals.Hangup rest further x h = omega arith
-passed_past name signals.Offered rest further x h = omega arith
-passed_past name (signals.Indicated indication) rest further x h = omega arith
-passed_past name signals.Answered rest further x h = omega arith
-passed_past name (signals.Dtmf digit) rest further x h = omega arith
-passed_past name (signals.Media span) rest further x h = omega arith
+passed_past name signal rest further x h =
+    passed_holds (λ (work : Work). past work x ≤ bit (is_same name x) + times x (words rest.onward)) name signal rest further (omega arith) (λ act. omega arith) (omega arith)
 
 finish_past : (touched : Option LegName) (looks : List (ℕ × ℕ)) (x : LegName) → past (finish touched looks) x ≤ 0
 finish_past (Some name) looks x = omega arith
@@ -124,11 +117,7 @@ offers_named x (up ∷ onward) = offered up.1 (offers_named x onward)
   where
     offered : (signal : Signal) → offers x onward ≤ times x (words onward) → offer signal up.0 x + offers x onward ≤ bit (is_same up.0 x) + times x (words onward)
     offered signals.Offered h = omega arith
-    offered signals.Hangup h = omega arith
-    offered (signals.Indicated indication) h = omega arith
-    offered signals.Answered h = omega arith
-    offered (signals.Dtmf digit) h = omega arith
-    offered (signals.Media span) h = omega arith
+    offered signal h = omega arith
 
 care_named_at : (place : Place) (rest : Rest) (x : LegName) → care_at place rest x ≤ times x (names_at place) + times x (words rest.onward)
 care_named_at (places.Routing offered) rest x = omega (arith, offers_named x rest.onward)

@@ -156,6 +156,7 @@ pub fn leases_are_as_named()
 
 /// How a call begins. Until a step of a peer is made, or any step is refused, it stands at one of the first places of its kind. A
 /// step that is refused there ends it: it makes no step of a peer any more, and at most gives a lease back.
+#[tactic(auto, using(crate::proofs::Beginnings::beginnings))]
 pub fn refused_calls_end()
     // A step of a peer that is made leads past the beginning, and nothing leads back.
     ensures made { (work : Work) (reply : Reply) → is_answer (next_of work) reply ≡ true → is_made reply ≡ true →

@@ -23,7 +23,7 @@ use Rattle.seq_window.specs.Network.{actions_in_turn, after_all, reply_actions, 
 use Rattle.seq_window.specs.Sequence.{acknowledgement_judged, byte_of, number_judged}
 use Rattle.seq_window.specs.Window.{judged_acknowledgement, judged_number}
 use Rattle.opposite_legs.specs.Ends.{End, Comes, GoesOn, Steps, TakesFrame, ObeysOrder, Ticks, OpensIn, OpensOut}
-use Rattle.opposite_legs.specs.Ends.{Ends, OneSteps, AreSteps, before_all, last, network_of, record_of, side_of, unopened}
+use Rattle.opposite_legs.specs.Ends.{Ends, OneSteps, AreSteps, AfterAllSteps, before_all, last, record_of, side_of, unopened}
 use Rattle.peer_lock.proofs.SidesEvents.{leg_after}
 use Rattle.peer_lock.proofs.SidesSent.{after_both, all_still_sent}
 use Rattle.opposite_legs.proofs.Freshness.{AreFresh, all_fresh, fresh_both, fresh_reply, fresh_turn}
@@ -264,11 +264,18 @@ module _ (end other : End) (side beyond : Side) (stands : StandsFor end side) (t
         (subst (λ (h : List Entry). OnSome datagram.frame (taken_count h ≤ datagram.number + 128)) (sym stands.history) fresh));
   }
 
+-- whatever the steps, a fresh run leads to sides that stand for the ends
+abbrev pub AreFollowed : Type 0
+AreFollowed =
+    (one two : PeerRules) (steps : List Ends) → AreSteps (before_all one two) steps
+    → IsReached one two (last (before_all one two) steps)
+
 pub each_way : (Holds : Side → Side → Type 0)
     → ((end other : End) (side beyond : Side) → StandsFor end side → StandsFor other beyond → Holds side beyond
-    → Holds (side_of end) (side_of other)) → InEveryFreshRun (EachWay Holds) → (one two : PeerRules) → one.window ≤ 127
-    → two.window ≤ 127 → (ends : Ends) → IsReached one two ends → EachWay Holds (network_of ends)
-each_way Holds carries law one two narrow small ends reached =
+    → Holds (side_of end) (side_of other)) → InEveryFreshRun (EachWay Holds) → AreFollowed → AfterAllSteps (EachWay Holds)
+each_way Holds carries law followed one two narrow small steps are =
+    let ends = last (before_all one two) steps in
+    let reached = followed one two steps are in
     let both = law (size_of one) (size_of two) narrow small reached.events reached.fresh in
     let network = run reached.events (start (size_of one) (size_of two)) in (
       carries ends.first ends.second network.first network.second reached.first reached.second both.0,

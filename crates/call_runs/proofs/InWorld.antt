@@ -1,0 +1,20 @@
+-- What is stored, seen in a world of which the law over many calls speaks.
+use Rattle.std.proofs.Common.{List}
+use Rattle.call_book.specs.declared.leg_name.LegName.{LegName}
+use Rattle.call_steps.specs.Law.{NamesAreHeldOnce, NoneIsBusy, NoneIsOutside, NoneIsStale, AllAreLookedAfter, NoneMeetsOffered, NamesAreTheLegs, AllHavePartners}
+use Rattle.call_steps.specs.World.{World}
+use Rattle.call_runs.specs.Stored.{Stored, ArePeers, IsSeenIn}
+
+-- within: no step was refused because a peer's steps are spent
+pub record IsInWorld (within : Type 0) (called : List LegName) (stored : Stored) : Type 0 where
+  pub are : ArePeers stored.peers
+  pub world : World
+  pub seen : IsSeenIn called stored world
+  pub names : NamesAreHeldOnce world
+  pub busy : NoneIsBusy world
+  pub outside : NoneIsOutside world
+  pub stale : NoneIsStale world
+  pub offered : NoneMeetsOffered world
+  pub idle_names : NamesAreTheLegs world
+  pub looked_after : within → AllAreLookedAfter world
+  pub idle_partners : within → AllHavePartners world
