@@ -1,13 +1,11 @@
 -- The legs of a peer stay sound as one comes, changes or goes.
-use Rattle.std.proofs.Common.{◌≡◌, ◌≢◌, ℕ, ◌+◌, ◌-◌, ◌<◌, ◌≤◌, ◌^◌, zero, suc, replicate, nat_le, true, get_or, List, length, Option, Some, None, Result, Ok, Err, OnOk, OnErr, is_none, unwrap_or, ◌⊎◌, inl, inr, slice_get, refl, sym, ap, subst, ◌∙◌, arith}
+use Rattle.std.proofs.Common.{◌≡◌, ◌≢◌, ℕ, ◌+◌, ◌-◌, ◌<◌, ◌≤◌, ◌^◌, zero, suc, replicate, nat_le, true, get_or, List, length, Option, Some, None, is_none, unwrap_or, ◌⊎◌, inl, inr, slice_get, refl, sym, ap, subst, ◌∙◌, arith}
 use Rattle.std.specs.Option.{ForSome}
 use Rattle.std.proofs.lemmas.Bool.{le-leb}
 use Rattle.std.proofs.lemmas.List.{length-replicate}
 use Rattle.std.proofs.lemmas.Option.{slice_get-get_or}
 use Rattle.call_book.specs.declared.leg_name.LegName.{LegName}
-use Rattle.iax_frames.specs.FullFrame.{FullFrame}
 use Rattle.leg_machine.specs.Leg.{LegState}
-use Rattle.leg_machine.specs.Tie.{SendsAtMostOne, TakesTurn}
 use Rattle.peer_legs.specs.Legs.{NamedLeg, PeerLegs, AreLegs, filled, leg_at, leg_of_remote, is_from, with_leg}
 use Rattle.peer_legs.specs.LegsInside.{HasRemote, IsIndex}
 use Rattle.peer_legs.specs.RemoteNumbers.{AreNone, noted}
@@ -179,24 +177,3 @@ still_there legs value place named leg view at is =
     ap (λ (l : LegState). placed legs place (Some (record { name = named.name; leg = l }))) is
     ∙ ap (λ (places : List (Option NamedLeg)). record legs { places = places }) (slice_set_same legs.places place (Some named) at)
     ∙ view
-
--- a step that was carried out or refused
-pub same_either : {T E : Type 0} (result : Result T E) (old new after : LegState) → IsSameCall old after → OnOk result (new ≡ after) → OnErr result (new ≡ old) → IsSameCall old new
-same_either (Ok answer) old new after same carried refused = subst (IsSameCall old) (sym carried) same
-same_either (Err refusal) old new after same carried refused = subst (IsSameCall old) (sym refused) (record { number = refl; remote = refl; ruled = record { rules = refl; width = refl; limit = refl } })
-
-pub sends_either : {T E : Type 0} (result : Result T E) (old new after : LegState) → OnOk result (new ≡ after) → OnOk result (SendsAtMostOne old new) → OnOk result (SendsAtMostOne old after)
-sends_either (Ok answer) old new after carried sends = subst (SendsAtMostOne old) carried sends
-sends_either (Err refusal) old new after carried sends = tt
-
-pub learns_either : {T E : Type 0} (result : Result T E) (source : ℕ) (old new after : LegState) → MayLearn source old after
-    → OnOk result (new ≡ after) → OnErr result (new ≡ old) → MayLearn source old new
-learns_either (Ok answer) source old new after may carried refused = subst (MayLearn source old) (sym carried) may
-learns_either (Err refusal) source old new after may carried refused =
-    subst (MayLearn source old) (sym refused)
-    (record { number = refl; remote = inl refl; ruled = record { rules = refl; width = refl; limit = refl } })
-
-pub turns_either : {T E : Type 0} (result : Result T E) (old new after : LegState) (frame : FullFrame)
-    → OnOk result (new ≡ after) → OnOk result (TakesTurn old frame new) → OnOk result (TakesTurn old frame after)
-turns_either (Ok answer) old new after frame carried turns = subst (TakesTurn old frame) carried turns
-turns_either (Err refusal) old new after frame carried turns = tt

@@ -2,6 +2,7 @@ pub mod AtRest
 pub mod LegChanges
 pub mod LegIndex
 pub mod LegSearch
+pub mod LegSteps
 pub mod LegThere
 pub mod PlaceLaws
 pub mod RuleChanges

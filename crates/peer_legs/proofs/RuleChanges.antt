@@ -1,5 +1,5 @@
 -- The legs of a peer go by its rules still, as one comes, changes or goes.
-use Rattle.std.proofs.Common.{◌≡◌, ℕ, ◌+◌, ◌-◌, ◌^◌, ◌<◌, inl, inr, replicate, length, length-set, Option, Some, None, Result, Ok, Err, OnOk, OnErr, slice_get, slice_set, refl, sym, ap, subst, ◌∙◌, arith}
+use Rattle.std.proofs.Common.{◌≡◌, ℕ, ◌+◌, ◌-◌, ◌^◌, ◌<◌, inl, inr, replicate, length, length-set, Option, Some, None, slice_get, slice_set, refl, sym, ap, subst, ◌∙◌, arith}
 use Rattle.std.proofs.lemmas.Bool.{cases_eq}
 use Rattle.std.proofs.lemmas.Option.{slice_get_within}
 use Rattle.call_signals.specs.declared.rules.PeerRules.{PeerRules}
@@ -60,12 +60,6 @@ stepped_legs_of legs value place named leg rules view at keeps all =
       numbered = keeps.numbered was.numbered;
       held = now.held;
     }))
-
--- a step that was carried out or refused
-pub numbered_either : {T E : Type 0} (result : Result T E) (old new after : LegState) → (SendsNumbered old → SendsNumbered after)
-    → OnOk result (new ≡ after) → OnErr result (new ≡ old) → SendsNumbered old → SendsNumbered new
-numbered_either (Ok answer) old new after numbered carried refused was = subst SendsNumbered (sym carried) (numbered was)
-numbered_either (Err refusal) old new after numbered carried refused was = subst SendsNumbered (sym refused) was
 
 -- the number of a leg is a call number
 pub number_fits : (legs : PeerLegs) (place : ℕ) (named : NamedLeg) → AreLegs legs → slice_get legs.places place ≡ Some (Some named)

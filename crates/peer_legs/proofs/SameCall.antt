@@ -59,7 +59,7 @@ chosen : {A : Type 0} (P : A → Type 0) (b : Bool) (x y : A) → P x → P y �
 chosen P true x y first second = first
 chosen P false x y first second = second
 
-same : (leg : LegState) → IsSameCall leg leg
+pub same : (leg : LegState) → IsSameCall leg leg
 same leg = record { number = refl; remote = refl; ruled = record { rules = refl; width = refl; limit = refl } }
 
 both_same : (old middle new : LegState) → IsSameCall old middle → IsSameCall middle new → IsSameCall old new

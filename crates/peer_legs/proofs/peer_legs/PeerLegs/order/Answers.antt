@@ -1,100 +1,52 @@
-use Rattle.std.proofs.lemmas.Result.{on_ok_weaker, on_err_weaker}
-use Rattle.std.proofs.Common.{Some, ap, ◌≡◌}
-use Rattle.std.specs.Prelude.{OnErr}
-use Rattle.leg_machine.specs.Leg.{Leg, LegState}
+use Rattle.std.proofs.Common.{Some}
+use Rattle.leg_machine.specs.Leg.{LegState}
 use Rattle.leg_machine.specs.OrderTable.{order_carried}
-use Rattle.peer_legs.specs.Legs.{NamedLeg}
+use Rattle.leg_machine.specs.Tie.{SendsAtMostOne}
+use Rattle.peer_legs.specs.Legs.{leg_at}
 use Rattle.peer_legs.specs.LegsInside.{legs_of}
-use Rattle.peer_legs.proofs.LegChanges.{AreIndexed, stepped, placed_is_with_leg, same_either, sends_either, still_there}
-use Rattle.peer_legs.proofs.LegIndex.{placed}
-use Rattle.peer_legs.proofs.LegSearch.{IsFound, found}
-use Rattle.peer_legs.proofs.RuleChanges.{IsLegStep, numbered_either, stepped_legs_of, number_fits}
-use Rattle.peer_legs.proofs.SameCall.{IsSameCall, same_order}
 use Rattle.peer_legs.proofs.AtRest.{rest_placed}
+use Rattle.peer_legs.proofs.LegSearch.{found}
+use Rattle.peer_legs.proofs.LegSteps.{IsMade, named_leg, made_at, of_said, leg_made, tied_made, none_made, ruled_made, kept_made}
+use Rattle.peer_legs.proofs.SameCall.{IsSameCall, same_order}
 use Rattle.peer_legs.proofs.peer_legs.PeerLegs.order.Goals as goal
 
--- the leg before and after
-abbrev before : goal.After-self-3-1 → NamedLeg
-before c = record { name = c.named.inside.lease; leg = c.named.inside.leg.state }
+abbrev step : goal.After-self-3-1 → LegState → LegState
+step c leg = (order_carried leg c.args.order.now c.args.now).leg
 
-abbrev after : goal.After-self-3-1 → LegState
-after c = (order_carried c.named.inside.leg.state c.args.order.now c.args.now).leg
+same : (c : goal.After-self-3-1) → IsSameCall c.named.inside.leg.state (step c c.named.inside.leg.state)
+same c = same_order c.named.inside.leg.state c.args.order.now c.args.now
 
-is_found : (c : goal.After-self-3-1) → IsFound (legs_of c.self.inside) c.args.self.now c.place_of-index.result c.args.number (before c)
-is_found c =
-    found (legs_of c.self.inside) c.args.self.now c.place_of-index.result c.args.number c.index_mut.result.now c.in-Some.named (before c) c.self.view_is
-    c.place_of-index.ensures.place c.place_of-index.ensures.within c.place_of-index.ensures.leg c.index_mut.ensures.value c.in-Some.is c.named.view_is
-
--- a refused step leaves the leg
-still : (c : goal.After-self-3-1) → OnErr c.order_into-obeyed.result (c.order_into-obeyed.new.self.state ≡ c.named.inside.leg.state)
-still c = on_err_weaker c.order_into-obeyed.result (λ same. ap (λ (l : Leg). l.state) same) c.order_into-obeyed.ensures.err
-
-same : (c : goal.After-self-3-1) → IsSameCall c.named.inside.leg.state c.order_into-obeyed.new.self.state
-same c =
-    same_either c.order_into-obeyed.result c.named.inside.leg.state c.order_into-obeyed.new.self.state (after c) (same_order c.named.inside.leg.state c.args.order.now c.args.now)
-    c.order_into-obeyed.ensures.leg (still c)
-
-is_step : (c : goal.After-self-3-1) → IsLegStep c.named.inside.leg.state c.order_into-obeyed.new.self.state
-is_step c =
-    let fits = number_fits (legs_of c.self.inside) c.place_of-index.result (before c) c.self.invariant.legs (is_found c).at in
-    record {
-      ruled = (same c).ruled;
-      numbered = numbered_either c.order_into-obeyed.result c.named.inside.leg.state c.order_into-obeyed.new.self.state (after c)
-          (λ was. (c.steps_send_as_sides.ensures.orders c.named.inside.leg.state c.args.order.now c.args.now was fits.0 fits.1).numbered)
-          c.order_into-obeyed.ensures.leg (still c);
-      recorded = λ _. record { legal = c.recorded.ensures.legal; held = c.recorded.ensures.held };
-    }
-
-all : (c : goal.After-self-3-1)
-    → AreIndexed (placed (legs_of c.self.inside) c.place_of-index.result (Some (record { name = c.named.inside.lease; leg = c.order_into-obeyed.new.self.state }))) c.self.inside.by_remote
-all c =
-    stepped (legs_of c.self.inside) c.place_of-index.result (before c) c.order_into-obeyed.new.self.state c.self.inside.by_remote
-    (record { legs_are = c.self.invariant.legs; index_is = c.self.invariant.index }) (is_found c).at
-    (same c)
+made : (c : goal.After-self-3-1) → IsMade (legs_of c.self.inside) c.args.self.now c.self.inside.by_remote c.place_of-index.result (leg_at c.args.self.now c.args.number)
+    c.named.inside.lease c.named.inside.leg c.order_into-obeyed.new.self c.order_into-obeyed.result (step c)
+made c =
+    made_at c.self.view_is c.self.invariant.legs c.self.invariant.index
+    (found (legs_of c.self.inside) c.args.self.now c.place_of-index.result c.args.number c.index_mut.result.now c.in-Some.named (named_leg c.named.inside.lease c.named.inside.leg.state)
+    c.self.view_is c.place_of-index.ensures.place c.place_of-index.ensures.within c.place_of-index.ensures.leg c.index_mut.ensures.value c.in-Some.is c.named.view_is)
+    c.order_into-obeyed.ensures.leg c.order_into-obeyed.ensures.err
+    (record {
+      rules = (same c).ruled;
+      numbered = λ more less was. (c.steps_send_as_sides.ensures.orders c.named.inside.leg.state c.args.order.now c.args.now was more less).numbered;
+      recorded = record { legal = c.recorded.ensures.legal; held = c.recorded.ensures.held };
+    })
 
 pub invariant_of-self : goal.invariant_of-self
-invariant_of-self c = let are = all c in record {
+invariant_of-self c = let are = kept_made (made c) (same c) in record {
   legs = are.legs_are;
   index = are.index_is;
   rest = rw c.min-self-inside.ensures
-      (rest_placed c.self.inside.rest_until c.rest_until.result c.self.inside.places.items c.place_of-index.result (Some (record { name = c.named.inside.lease; leg = c.order_into-obeyed.new.self.state })) c.self.invariant.rest c.rest_until.ensures);
+      (rest_placed c.self.inside.rest_until c.rest_until.result c.self.inside.places.items c.place_of-index.result (Some (named_leg c.named.inside.lease c.order_into-obeyed.new.self.state)) c.self.invariant.rest c.rest_until.ensures);
 }
 
-pub returns-clause-sound : goal.returns-clause-sound
-returns-clause-sound c = (all c).legs_are
-
-pub returns-clause-ruled : goal.returns-clause-ruled
-returns-clause-ruled c = λ rules ruled.
-    stepped_legs_of (legs_of c.self.inside) c.args.self.now c.place_of-index.result (before c) c.order_into-obeyed.new.self.state rules c.self.view_is (is_found c).at (is_step c) ruled
-
-pub returns-clause-leg : goal.returns-clause-leg
-returns-clause-leg c = λ x e.
-    let is = is_found c in
-    rw (is.only x e)
-    (on_ok_weaker c.order_into-obeyed.result
-    (placed_is_with_leg (legs_of c.self.inside) c.args.self.now c.place_of-index.result (before c) c.order_into-obeyed.new.self.state (after c) c.self.view_is c.self.invariant.legs is.at)
-    c.order_into-obeyed.ensures.leg)
-
-pub returns-clause-tied : goal.returns-clause-tied
-returns-clause-tied c = λ x e.
-    rw ((is_found c).only x e)
-    (sends_either c.order_into-obeyed.result c.named.inside.leg.state c.order_into-obeyed.new.self.state (after c) c.order_into-obeyed.ensures.leg c.order_into-obeyed.ensures.tied)
-
-pub returns-clause-replies : goal.returns-clause-replies
-returns-clause-replies c = λ x e. rw ((is_found c).only x e) c.order_into-obeyed.ensures.replies
-
-pub returns-clause-unrefused : goal.returns-clause-unrefused
-returns-clause-unrefused c = λ x e. rw ((is_found c).only x e) c.order_into-obeyed.ensures.unrefused
-
-pub returns-clause-refused : goal.returns-clause-refused
-returns-clause-refused c = λ x e. rw ((is_found c).only x e) c.order_into-obeyed.ensures.refused
-
-pub returns-clause-memory : goal.returns-clause-memory
-returns-clause-memory c = λ x e. rw ((is_found c).only x e) c.order_into-obeyed.ensures.memory
-
-pub returns-clause-err : goal.returns-clause-err
-returns-clause-err c =
-    on_err_weaker c.order_into-obeyed.result
-    (still_there (legs_of c.self.inside) c.args.self.now c.place_of-index.result (before c) c.order_into-obeyed.new.self.state
-    c.self.view_is (is_found c).at)
-    (still c)
+pub returns : goal.returns
+returns c = record {
+  leg = leg_made (made c);
+  replies = of_said (made c) _ c.order_into-obeyed.ensures.replies;
+  tied = tied_made (made c) SendsAtMostOne c.order_into-obeyed.ensures.tied;
+  unrefused = of_said (made c) _ c.order_into-obeyed.ensures.unrefused;
+  refused = of_said (made c) _ c.order_into-obeyed.ensures.refused;
+  memory = of_said (made c) _ c.order_into-obeyed.ensures.memory;
+  err = none_made (made c);
+  none_sent = c.order_into-obeyed.ensures.none_sent;
+  sound = (kept_made (made c) (same c)).legs_are;
+  ruled = ruled_made (made c);
+}
