@@ -1,6 +1,6 @@
 -- Media that a full frame hands up is that frame's.
 use Rattle.std.specs.Prelude.{◌&&◌, ◌+◌, length}
-use Rattle.std.proofs.Common.{◌≡◌, ℕ, Bool, true, false, cond, List, Option, None, Some, refl}
+use Rattle.std.proofs.Common.{◌≡◌, ℕ, Bool, true, false, List, Option, None, Some, refl}
 use Rattle.iax_frames.specs.FullFrame.{FullFrame}
 use Rattle.seq_window.specs.declared.judgements.Acknowledged.{Acknowledged as Judgement}
 use Rattle.seq_window.specs.declared.judgements.Received.{Received}
@@ -13,9 +13,9 @@ use Rattle.call_signals.specs.Format.{same_format}
 use Rattle.leg_machine.specs.LegTable.{any_stage, challenged, waiting, talking, linked, effect_at, effect_of, is_answer, element_in, auth_rep_row, auth_rep_digits, is_wanted, voice_row, is_media}
 use Rattle.leg_machine.specs.Leg.{LegState}
 use Rattle.leg_machine.specs.Media.{IsMediaOf}
-use Rattle.call_signals.specs.Message.{message_of, is_numbered, is_inval, is_vnak}
+use Rattle.call_signals.specs.Message.{message_of, is_numbered}
 use Rattle.call_signals.specs.Stage.{is_over}
-use Rattle.leg_machine.specs.Steps.{Step, full_step, inval_step, vnak_step, resend_step, nothing_sent, asking, not_asking, numbered_step, judged_step, taken, answered, no_room, prepared}
+use Rattle.leg_machine.specs.Steps.{Step, full_step, vnak_step, resend_step, nothing_sent, asking, not_asking, numbered_step, judged_step, taken, answered, no_room, prepared}
 use Rattle.leg_machine.specs.Working.{counts, wants_vnak}
 use Rattle.call_signals.specs.declared.cause.Cause.TheVariants.{CallRejected}
 use Rattle.call_signals.specs.declared.effects.Answering.TheVariants.{Acknowledged, Answered, Silent}
@@ -27,7 +27,7 @@ use Rattle.call_signals.specs.declared.reply.Reply.{Reply}
 use Rattle.call_signals.specs.declared.signal.Signal.TheVariants as signals
 use Rattle.call_signals.specs.declared.stage.Stage.{Stage}
 use Rattle.call_signals.specs.declared.stage.Stage.TheVariants as stages
-use Rattle.leg_machine.proofs.Tied.{either, either_by}
+use Rattle.leg_machine.proofs.Tied.{either, either_by, of-full-step}
 
 -- ---- the rows
 
@@ -119,10 +119,6 @@ vnak-media j leg frame now = either (HandsUpMedia frame) (counts j) (resend_step
 
 pub frame-media : (leg : LegState) (frame : FullFrame) (now : ℕ) → IsMediaOf frame (full_step leg frame now).signal
 frame-media leg frame now =
-    let message = message_of frame.head in
     let mid = prepared leg frame in
-    let judged = judged_acknowledgement leg.window.history frame.head.iseqno in
-    let vnak = vnak_step judged mid now in
-    let numbered = numbered_step mid frame message now in
-    either (HandsUpMedia frame) (is_inval message) (inval_step leg) (cond (is_vnak message) vnak numbered) (unless-row frame leg.stage)
-    (either (HandsUpMedia frame) (is_vnak message) vnak numbered (vnak-media judged mid frame now) (numbered-media mid frame message now))
+    of-full-step (HandsUpMedia frame) leg frame now (unless-row frame leg.stage)
+    (vnak-media (judged_acknowledgement leg.window.history frame.head.iseqno) mid frame now) (numbered-media mid frame (message_of frame.head) now)

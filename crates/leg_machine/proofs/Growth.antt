@@ -1,12 +1,12 @@
 -- What a tick skipped tells whether it had memory.
-use Rattle.std.specs.Prelude.{◌&&◌, nat_lt, map}
-use Rattle.std.proofs.Common.{◌≡◌, ℕ, zero, suc, ◌+◌, ◌<◌, Bool, true, false, cond, eqb, List, [], ◌∷◌, ◌++◌, length, ◌⊎◌, inl, inr, refl, sym, ap, subst, ◌∙◌, arith}
+use Rattle.std.specs.Prelude.{◌&&◌, nat_lt, map, All}
+use Rattle.std.proofs.Common.{◌≡◌, ℕ, zero, suc, ◌+◌, ◌<◌, ◌≤◌, Bool, true, false, cond, eqb, List, [], ◌∷◌, ◌++◌, length, ◌⊎◌, inl, inr, refl, sym, ap, subst, ◌∙◌, arith}
 use Rattle.iax_frames.specs.FullFrame.{spelling}
 use Rattle.std.proofs.lemmas.Bool.Decides.{nat_tests}
 use Rattle.seq_window.specs.Window.{Sending, held_count, mark_at, resent}
 use Rattle.seq_window.specs.declared.judgements.Resent.{Resent}
 use Rattle.seq_window.specs.declared.judgements.Resent.TheVariants as resents
-use Rattle.leg_machine.specs.Leg.{LegState, entered, failed, local_room, is_short_of_entries}
+use Rattle.leg_machine.specs.Leg.{Leg, LegState, capacity_of, entered, failed, local_room, is_short_of_entries}
 use Rattle.leg_machine.specs.Seen.{seen as seen_leg, IsSeenTick}
 use Rattle.call_signals.specs.Stage.{is_ended, is_talking}
 use Rattle.leg_machine.specs.Ticks.{Tick, quiet, sends_if, must_hang_up, must_ping, pinged, is_ping_time, last_step, due_frames, tick_step}
@@ -14,8 +14,9 @@ use Rattle.leg_machine.specs.Tries.{Tried, tries, one_try, after_try}
 use Rattle.call_signals.specs.declared.failure.Failure.TheVariants as failures
 use Rattle.call_signals.specs.declared.reply.Reply.TheVariants as replies
 use Rattle.call_signals.specs.declared.stage.Stage.TheVariants as stages
-use Rattle.leg_machine.specs.Tie.{SendsAtMostOne}
+use Rattle.leg_machine.specs.Tie.{SendsAtMostOne, SendsNumbered, IsSending}
 use Rattle.leg_machine.proofs.SeenTicks.{tick-seen}
+use Rattle.leg_machine.proofs.SendingSteps.{written, tick-sent}
 use Rattle.leg_machine.proofs.Tied.{either}
 use Rattle.leg_machine.proofs.TiedSends.{tick-sends}
 
@@ -80,7 +81,7 @@ tick-tells leg now =
     (refl, inl refl) (due-tells leg now))
 
 -- the step of a tick is that with memory where nothing was skipped, and that without where something was
-pub tick-told : (leg : LegState) (now : ℕ) (grown : Bool) → tick_step (eqb (tick_step grown leg now).skipped 0) leg now ≡ tick_step grown leg now
+tick-told : (leg : LegState) (now : ℕ) (grown : Bool) → tick_step (eqb (tick_step grown leg now).skipped 0) leg now ≡ tick_step grown leg now
 tick-told leg now grown = agrees (λ (g : Bool). tick_step g leg now) (tick-tells leg now) grown
 
 -- ---- where neither a HANGUP nor a PING is due
@@ -118,7 +119,7 @@ due-silent leg now stays silent =
     ∙ omega (arith, last)
 
 -- nothing is skipped where there was memory, or no need of it
-pub unskipped : (grown : Bool) (leg : LegState) (now : ℕ) → (grown ≡ false → (must_hang_up leg ≡ false) × (must_ping leg now ≡ false))
+unskipped : (grown : Bool) (leg : LegState) (now : ℕ) → (grown ≡ false → (must_hang_up leg ≡ false) × (must_ping leg now ≡ false))
     → (tick_step grown leg now).skipped ≡ 0
 unskipped true leg now needless = (tick-tells leg now).0
 unskipped false leg now needless =
@@ -126,30 +127,40 @@ unskipped false leg now needless =
     (either (λ (t : Tick). t.skipped ≡ 0) (is_short_of_entries leg) (quiet (failed leg failures.RecordFull)) (due_frames false leg now)
     refl (due-silent leg now (needless refl).0 (needless refl).1))
 
--- what the step of a tick says, by what was skipped
-pub record Told (old : LegState) (now skipped : ℕ) (new : LegState) (outs : List (List ℕ)) : Type 0 where
-  pub leg : new ≡ (tick_step (eqb skipped 0) old now).leg
-  pub replies : outs ≡ map spelling (tick_step (eqb skipped 0) old now).replies
-  pub count : skipped ≡ (tick_step (eqb skipped 0) old now).skipped
-  pub tied : SendsAtMostOne old new
-  pub seen : IsSeenTick (seen_leg old) (seen_leg new)
+-- what a tick of a leg ensures, by what it skipped
+abbrev pub Told : Leg → ℕ → ℕ → Leg → List (List ℕ) → Type 0
+Told old now missed new outs = record {
+  leg : new.state ≡ (tick_step (eqb missed 0) old.state now).leg;
+  replies : outs ≡ map spelling (tick_step (eqb missed 0) old.state now).replies;
+  skipped : missed ≡ (tick_step (eqb missed 0) old.state now).skipped;
+  spare : 2 ≤ old.spare → missed ≡ 0;
+  tied : SendsAtMostOne old.state new.state;
+  sendings : All (IsSending new.state) outs;
+  seen : IsSeenTick (seen_leg old.state) (seen_leg new.state);
+  capacity : capacity_of old ≤ capacity_of new;
+}
 
-told_by : (old new : LegState) (outs : List (List ℕ)) (now skipped : ℕ) (t : Tick) → tick_step (eqb t.skipped 0) old now ≡ t → SendsAtMostOne old t.leg
-    → IsSeenTick (seen_leg old) (seen_leg t.leg) → new ≡ t.leg → outs ≡ map spelling t.replies → skipped ≡ t.skipped → Told old now skipped new outs
-told_by old new outs now skipped t step sends seen leg replies count =
-    let same : tick_step (eqb skipped 0) old now ≡ t = ap (λ (n : ℕ). tick_step (eqb n 0) old now) count ∙ step in
+-- the step was made with memory, or without
+pub told : (old mid new : Leg) (outs : List (List ℕ)) (now skipped : ℕ) (grown : Bool) → SendsNumbered old.state
+    → (2 ≤ old.spare → grown ≡ false → (must_hang_up old.state ≡ false) × (must_ping old.state now ≡ false))
+    → mid.state ≡ old.state → capacity_of old ≤ capacity_of mid → new.state ≡ (tick_step grown mid.state now).leg
+    → outs ≡ map spelling (tick_step grown mid.state now).replies → skipped ≡ (tick_step grown mid.state now).skipped
+    → capacity_of mid ≤ capacity_of new → Told old now skipped new outs
+told old mid new outs now skipped grown numbered needless e more leg replies count kept =
+    let t = tick_step grown old.state now in
+    let moved : tick_step grown mid.state now ≡ t = ap (λ (l : LegState). tick_step grown l now) e in
+    let leg_is : new.state ≡ t.leg = leg ∙ ap (λ (u : Tick). u.leg) moved in
+    let replies_are : outs ≡ map spelling t.replies = replies ∙ ap (λ (u : Tick). map spelling u.replies) moved in
+    let count_is : skipped ≡ t.skipped = count ∙ ap (λ (u : Tick). u.skipped) moved in
+    let same : t ≡ tick_step (eqb skipped 0) old.state now =
+    sym (ap (λ (n : ℕ). tick_step (eqb n 0) old.state now) count_is ∙ tick-told old.state now grown) in
     record {
-      leg = leg ∙ ap (λ (u : Tick). u.leg) (sym same);
-      replies = replies ∙ ap (λ (u : Tick). map spelling u.replies) (sym same);
-      count = count ∙ ap (λ (u : Tick). u.skipped) (sym same);
-      tied = subst (SendsAtMostOne old) (sym leg) sends;
-      seen = subst (λ (l : LegState). IsSeenTick (seen_leg old) (seen_leg l)) (sym leg) seen;
+      leg = leg_is ∙ ap (λ (u : Tick). u.leg) same;
+      replies = replies_are ∙ ap (λ (u : Tick). map spelling u.replies) same;
+      skipped = count_is ∙ ap (λ (u : Tick). u.skipped) same;
+      spare = λ enough. count_is ∙ unskipped grown old.state now (needless enough);
+      tied = subst (SendsAtMostOne old.state) (sym leg_is) (tick-sends grown old.state now);
+      sendings = (written t.leg new.state t.replies outs (tick-sent grown old.state now numbered) leg_is replies_are).sendings;
+      seen = subst (λ (l : LegState). IsSeenTick (seen_leg old.state) (seen_leg l)) (sym leg_is) (tick-seen grown old.state now);
+      capacity = omega (arith, more, kept);
     }
-
-pub told : (old mid new : LegState) (outs : List (List ℕ)) (now skipped : ℕ) (grown : Bool) → mid ≡ old
-    → new ≡ (tick_step grown mid now).leg → outs ≡ map spelling (tick_step grown mid now).replies → skipped ≡ (tick_step grown mid now).skipped
-    → Told old now skipped new outs
-told old mid new outs now skipped grown e leg replies count =
-    let moved : tick_step grown mid now ≡ tick_step grown old now = ap (λ (l : LegState). tick_step grown l now) e in
-    told_by old new outs now skipped (tick_step grown old now) (tick-told old now grown) (tick-sends grown old now) (tick-seen grown old now)
-    (leg ∙ ap (λ (t : Tick). t.leg) moved) (replies ∙ ap (λ (t : Tick). map spelling t.replies) moved) (count ∙ ap (λ (t : Tick). t.skipped) moved)

@@ -1,6 +1,6 @@
 -- What callers at once see of a leg that a full frame reaches.
 use Rattle.std.specs.Prelude.{◌&&◌, ◌||◌, not, ◌==◌, ◌+◌, length}
-use Rattle.std.proofs.Common.{◌≡◌, ℕ, Bool, true, false, cond, List, Option, None, Some, refl, sym, ap, ◌∙◌}
+use Rattle.std.proofs.Common.{◌≡◌, ℕ, Bool, true, false, List, Option, None, Some, refl, sym, ap, ◌∙◌}
 use Rattle.iax_frames.specs.FullFrame.{FullFrame}
 use Rattle.seq_window.specs.declared.judgements.Acknowledged.{Acknowledged as Judgement}
 use Rattle.seq_window.specs.declared.judgements.Received.{Received}
@@ -12,12 +12,12 @@ use Rattle.leg_machine.specs.Effects.{row, no_effect, reply_alone, hung_up, reje
 use Rattle.call_signals.specs.Format.{same_format}
 use Rattle.leg_machine.specs.LegTable.{any_stage, challenged, waiting, talking, linked, effect_at, effect_of, is_answer, element_in, auth_rep_row, auth_rep_digits, is_wanted, voice_row, is_media}
 use Rattle.leg_machine.specs.Leg.{LegState, entered}
-use Rattle.call_signals.specs.Message.{message_of, is_numbered, is_inval, is_vnak}
+use Rattle.call_signals.specs.Message.{message_of, is_numbered}
 use Rattle.leg_machine.specs.Seen.{SeenLeg, SeenEffect, seen, moved, SeenFrame, Plain, ProvesItself, FailsToProve, AcceptsCall, RejectsCall, BreaksOff, Indicates, AnswersCall, Dials, Speaks, HangsUp, AcknowledgesAll, seen_effect, frame_effect, IsSeenFrame}
 use Rattle.call_signals.specs.Stage.{is_over, is_closing}
-use Rattle.leg_machine.specs.Steps.{Step, heard_of, full_step, inval_step, vnak_step, resend_step, nothing_sent, asking, not_asking, numbered_step, judged_step, taken_step, taken, replied, answered, no_room, prepared}
+use Rattle.leg_machine.specs.Steps.{Step, heard_of, full_step, vnak_step, resend_step, nothing_sent, asking, not_asking, numbered_step, judged_step, taken_step, taken, replied, answered, no_room, prepared}
 use Rattle.leg_machine.specs.Working.{learnt, acknowledged, counts, wants_vnak, end_noted}
-use Rattle.call_signals.specs.declared.cause.Cause.TheVariants.{CallRejected}
+use Rattle.call_signals.specs.declared.cause.Cause.TheVariants.{CallRejected, NormalClearing}
 use Rattle.call_signals.specs.declared.effects.Answering.{Answering}
 use Rattle.call_signals.specs.declared.effects.Answering.TheVariants.{Acknowledged, Answered, Silent}
 use Rattle.call_signals.specs.declared.effects.Effect.{Effect}
@@ -33,7 +33,7 @@ use Rattle.call_signals.specs.declared.signal.Signal.{Signal}
 use Rattle.call_signals.specs.declared.signal.Signal.TheVariants as signals
 use Rattle.call_signals.specs.declared.stage.Stage.{Stage}
 use Rattle.call_signals.specs.declared.stage.Stage.TheVariants as stages
-use Rattle.leg_machine.proofs.Tied.{either, either_by}
+use Rattle.leg_machine.proofs.Tied.{either, either_by, of-full-step}
 
 -- ---- the rows
 
@@ -90,29 +90,28 @@ voice-row stage leg frame voice speaks =
     either (SeenRow stage) (same_format voice leg.format && is_media (length frame.payload)) (goes_on stage (signals.Media span)) (no_effect stage)
     (speaks span) (Plain, refl, refl)
 
+talking-row : (stage : Stage) (leg : LegState) (frame : FullFrame) (message : Message) → SeenRow stage (hung_up NormalClearing)
+    → ((digit : ℕ) → SeenRow stage (goes_on stage (signals.Dtmf digit))) → ((span : MediaSpan) → SeenRow stage (goes_on stage (signals.Media span)))
+    → SeenRow stage (talking stage leg frame message)
+talking-row stage leg frame messages.ClearsCall clears dials speaks = clears
+talking-row stage leg frame (messages.Dtmf digit) clears dials speaks = dials digit
+talking-row stage leg frame (messages.Voice voice) clears dials speaks = voice-row stage leg frame voice speaks
+talking-row stage leg frame messages.Quelch clears dials speaks = (Plain, refl, refl)
+talking-row stage leg frame messages.Unquelch clears dials speaks = (Plain, refl, refl)
+talking-row stage leg frame message clears dials speaks = any-row stage frame message
+
 linked-row : (leg : LegState) (frame : FullFrame) (message : Message) → SeenRow stages.Linked (linked leg frame message)
 linked-row leg frame (messages.Indicates indication) = (Indicates indication, refl, refl)
 linked-row leg frame messages.Answer = (AnswersCall, refl, refl)
-linked-row leg frame messages.ClearsCall = (BreaksOff, refl, refl)
-linked-row leg frame (messages.Dtmf digit) = (Dials digit, refl, refl)
-linked-row leg frame (messages.Voice voice) = voice-row stages.Linked leg frame voice (λ span. (Speaks span, refl, refl))
-linked-row leg frame messages.Quelch = (Plain, refl, refl)
-linked-row leg frame messages.Unquelch = (Plain, refl, refl)
-linked-row leg frame message = any-row stages.Linked frame message
-
-up-row : (leg : LegState) (frame : FullFrame) (message : Message) → SeenRow stages.Up (talking stages.Up leg frame message)
-up-row leg frame messages.ClearsCall = (BreaksOff, refl, refl)
-up-row leg frame (messages.Dtmf digit) = (Dials digit, refl, refl)
-up-row leg frame (messages.Voice voice) = voice-row stages.Up leg frame voice (λ span. (Speaks span, refl, refl))
-up-row leg frame messages.Quelch = (Plain, refl, refl)
-up-row leg frame messages.Unquelch = (Plain, refl, refl)
-up-row leg frame message = any-row stages.Up frame message
+linked-row leg frame message =
+    talking-row stages.Linked leg frame message (BreaksOff, refl, refl) (λ digit. (Dials digit, refl, refl)) (λ span. (Speaks span, refl, refl))
 
 row-at : (stage : Stage) (leg : LegState) (frame : FullFrame) (message : Message) → SeenRow stage (effect_at stage leg frame message)
 row-at stages.Challenged leg frame message = challenged-row leg frame message
 row-at stages.Waiting leg frame message = waiting-row leg frame message
 row-at stages.Linked leg frame message = linked-row leg frame message
-row-at stages.Up leg frame message = up-row leg frame message
+row-at stages.Up leg frame message =
+    talking-row stages.Up leg frame message (BreaksOff, refl, refl) (λ digit. (Dials digit, refl, refl)) (λ span. (Speaks span, refl, refl))
 row-at stages.Offered leg frame message = any-row stages.Offered frame message
 row-at stages.Closing leg frame message = any-row stages.Closing frame message
 row-at stages.Ended leg frame message = any-row stages.Ended frame message
@@ -235,11 +234,9 @@ frame-seen leg frame now =
     let vnak = vnak_step judged mid now in
     let numbered = numbered_step mid frame message now in
     let ends = hung-up-row leg.stage in
-    either (λ (s : Step). IsSeenFrame (seen leg) (seen s.leg) s.signal) (is_inval message) (inval_step leg) (cond (is_vnak message) vnak numbered)
-    (ends.0, ap (moved (seen leg)) ends.1, ends.2)
-    (either (λ (s : Step). IsSeenFrame (seen leg) (seen s.leg) s.signal) (is_vnak message) vnak numbered
+    of-full-step (λ (s : Step). IsSeenFrame (seen leg) (seen s.leg) s.signal) leg frame now (ends.0, ap (moved (seen leg)) ends.1, ends.2)
     (prepared-seen leg frame (seen vnak.leg) vnak.signal (vnak-seen judged mid now))
-    (prepared-seen leg frame (seen numbered.leg) numbered.signal (numbered-seen mid frame message now)))
+    (prepared-seen leg frame (seen numbered.leg) numbered.signal (numbered-seen mid frame message now))
 
 -- what a call answers of it
 pub heard-seen : (old new : LegState) (frame : FullFrame) (now : ℕ) (heard : Heard) → new ≡ (full_step old frame now).leg → heard ≡ heard_of (full_step old frame now)

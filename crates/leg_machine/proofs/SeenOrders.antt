@@ -82,7 +82,7 @@ talking-seen old new talks same = (
   same ∙ moved-same (seen old),
 )
 
-media-seen : (leg : LegState) (octets : List ℕ) (now : ℕ) → media_refused leg now ≡ None
+pub media-seen : (leg : LegState) (octets : List ℕ) (now : ℕ) → media_refused leg now ≡ None
     → IsSeenOrder kinds.Media (seen leg) (seen (after_media (media_sent leg now) leg octets now))
 media-seen leg octets now =
     let new = after_media (media_sent leg now) leg octets now in
@@ -154,17 +154,11 @@ answered-wrong (Ok x) refusal there wrong unrefused refused = (λ e. cc, λ e. l
 answered-wrong (Err e) (Some due) there wrong unrefused refused = (λ h. wrong.0 cc, λ h. let w = wrong.1 h in cc)
 answered-wrong (Err e) None there wrong unrefused refused = (λ h. cc, λ h. let w = wrong.1 h in cc)
 
-pub answered-seen : {A : Type 0} (result : Result A OrderError) (old new : LegState) (order : Order) (now : ℕ) → OnOk result (new ≡ (order_carried old order now).leg)
-    → OnOk result (order_refused old order now ≡ None) → OnOk result (IsSeenOrder (kind_of order) (seen old) (seen new))
-answered-seen (Ok x) old new order now leg unrefused =
-    let s = order-seen old order now unrefused in
+-- where none is due the order was carried out
+pub answered-seen : {A : Type 0} (result : Result A OrderError) (kind : OrderKind) (old step new : LegState) (refusal : Option OrderError)
+    → (refusal ≡ None → IsSeenOrder kind (seen old) (seen step)) → OnOk result (new ≡ step) → OnOk result (refusal ≡ None)
+    → OnOk result (IsSeenOrder kind (seen old) (seen new))
+answered-seen (Ok x) kind old step new refusal law leg unrefused =
+    let s = law unrefused in
     (s.0, s.1, ap seen leg ∙ s.2)
-answered-seen (Err e) old new order now leg unrefused = tt
-
-pub answered-media-seen : {A : Type 0} (result : Result A OrderError) (old new : LegState) (octets : List ℕ) (now : ℕ)
-    → OnOk result (new ≡ after_media (media_sent old now) old octets now) → OnOk result (media_refused old now ≡ None)
-    → OnOk result (IsSeenOrder kinds.Media (seen old) (seen new))
-answered-media-seen (Ok x) old new octets now leg unrefused =
-    let s = media-seen old octets now unrefused in
-    (s.0, s.1, ap seen leg ∙ s.2)
-answered-media-seen (Err e) old new octets now leg unrefused = tt
+answered-seen (Err e) kind old step new refusal law leg unrefused = tt

@@ -1,7 +1,7 @@
 -- What each step sends.
 use Rattle.std.specs.Prelude.{◌&&◌, nat_eq, map, option_map, All}
 use Rattle.std.specs.Option.{option_to_list}
-use Rattle.std.proofs.Common.{◌≡◌, ℕ, zero, suc, Bool, true, false, cond, List, [], ◌∷◌, ◌++◌, Option, None, Some, inl, refl, sym, ap, subst, ◌∙◌}
+use Rattle.std.proofs.Common.{◌≡◌, ℕ, zero, suc, Bool, true, false, List, [], ◌∷◌, ◌++◌, Option, None, Some, inl, refl, sym, ap, subst, ◌∙◌}
 use Rattle.std.proofs.lemmas.List.Elements.{All-nil, All-cons, All-append, All-map, All-same, All-weaker}
 use Rattle.iax_frames.specs.FullFrame.{FullFrame, spelling}
 use Rattle.iax_frames.specs.declared.stored_frame.Frame.{Frame}
@@ -17,12 +17,12 @@ use Rattle.leg_machine.specs.Effects.{is_reply}
 use Rattle.leg_machine.specs.LegTable.{effect_of}
 use Rattle.leg_machine.specs.Leg.{LegState, entered, failed, is_short_of_entries}
 use Rattle.leg_machine.specs.Media.{after_media, media_frames}
-use Rattle.call_signals.specs.Message.{message_of, is_numbered, is_inval, is_vnak}
+use Rattle.call_signals.specs.Message.{message_of, is_numbered}
 use Rattle.leg_machine.specs.Openings.{leg_for_call, open_out_step}
 use Rattle.leg_machine.specs.OrderTable.{row_carried}
 use Rattle.leg_machine.specs.Replies.{reply_frame, voice_frame, new_frame, outgoing, next_byte, ack, vnak, sent_again}
 use Rattle.call_signals.specs.Stage.{is_ended}
-use Rattle.leg_machine.specs.Steps.{Step, full_step, inval_step, resend_step, nothing_sent, asking, not_asking, numbered_step, judged_step, taken_step, taken, replied, answers, answered, no_room, prepared}
+use Rattle.leg_machine.specs.Steps.{Step, full_step, inval_step, resend_step, nothing_sent, asking, not_asking, judged_step, taken_step, taken, replied, answers, answered, no_room, prepared}
 use Rattle.leg_machine.specs.Ticks.{Tick, quiet, sends_if, must_hang_up, must_ping, pinged, last_step, due_frames, tick_step}
 use Rattle.leg_machine.specs.Tie.{IsNumberedFrame, SendsNumbered, IsSendingOf, IsSending, IsSendingOrMini, HasSent, HasSentOrMini}
 use Rattle.leg_machine.specs.Tries.{Tried, tries, one_try, after_try, frames_again}
@@ -41,7 +41,7 @@ use Rattle.call_signals.specs.declared.reply.Reply.TheVariants as replies
 use Rattle.call_signals.specs.declared.rules.PeerRules.{PeerRules}
 use Rattle.call_signals.specs.declared.stage.Stage.TheVariants as stages
 use Rattle.leg_machine.proofs.Sendings.{reply-numbered, voice-numbered, new-sending, ack-sending, vnak-sending, held-all, all-at, IsHeldIn, Extends, extends-itself, extends-push, again-sending, AllSent, none-sent, one-sent}
-use Rattle.leg_machine.proofs.Tied.{either, prepared-history, taken-history}
+use Rattle.leg_machine.proofs.Tied.{either, of-full-step, prepared-history, taken-history}
 use Rattle.leg_machine.proofs.TiedSends.{kept-tries, last-none}
 
 -- ---- a full frame
@@ -122,13 +122,10 @@ full-sent leg frame now all =
     let numbered = numbered-prepared leg frame all in
     let counted = counts (judged_acknowledgement leg.window.history frame.head.iseqno) in
     let judged = judged_number mid.window.history frame.head.oseqno in
-    let vnak = cond counted (resend_step mid now) (nothing_sent mid) in
-    let other = numbered_step mid frame message now in
     let Sends : Step → Type 0 = λ s. AllSent s.leg s.replies in
-    either Sends (is_inval message) (inval_step leg) (cond (is_vnak message) vnak other) (none-sent leg (inval_step leg).leg refl all)
-    (either Sends (is_vnak message) vnak other
+    of-full-step Sends leg frame now (none-sent leg (inval_step leg).leg refl all)
     (either Sends counted (resend_step mid now) (nothing_sent mid) (resend-sent mid now numbered) (stays mid numbered))
-    (either Sends (is_numbered message) (judged_step judged mid frame message now) (nothing_sent mid) (judged-sent judged mid frame message now numbered) (stays mid numbered)))
+    (either Sends (is_numbered message) (judged_step judged mid frame message now) (nothing_sent mid) (judged-sent judged mid frame message now numbered) (stays mid numbered))
 
 -- ---- what a call answers
 

@@ -10,11 +10,13 @@ use Rattle.seq_window.specs.Entry.{Entry, Sent, Acked, Taken}
 use Rattle.seq_window.specs.History.{sent as sent_frames, taken as taken_frames, sent_count, taken_count, acked_count, held as held_of}
 use Rattle.seq_window.specs.Sequence.{byte_of}
 use Rattle.seq_window.specs.Window.{WindowState, Sending, numbered_from, held_frames}
+use Rattle.call_signals.specs.Codes.{FRAME_IAX, IAX_ACK, IAX_VNAK}
 use Rattle.call_signals.specs.Format.{format_bit}
 use Rattle.leg_machine.specs.Leg.{LegState}
 use Rattle.call_signals.specs.Message.{message_by, is_numbered, is_inval}
-use Rattle.leg_machine.specs.Replies.{reply_frame, outgoing, next_byte, ack, vnak, sent_again}
+use Rattle.leg_machine.specs.Replies.{reply_frame, outgoing, next_byte, unnumbered, ack, vnak, sent_again}
 use Rattle.leg_machine.specs.Tie.{IsNumberedFrame, SendsNumbered, IsSendingOf}
+use Rattle.leg_machine.specs.Working.{stored}
 use Rattle.call_signals.specs.declared.format.Format.{Format}
 use Rattle.call_signals.specs.declared.format.Format.TheVariants as formats
 use Rattle.call_signals.specs.declared.message.Message.{Message}
@@ -93,8 +95,9 @@ new-sending leg frame numbered =
       no_inval = no-inval (message_by frame.kind (subclass_meaning frame.subclass)) numbered;
     }
 
-pub ack-sending : (leg : LegState) (frame : FullFrame) → IsSendingOf leg.window.history (ack leg frame)
-ack-sending leg frame =
+unnumbered-sending : (leg : LegState) (subclass timestamp : ℕ) → is_numbered (message_by FRAME_IAX (subclass_meaning subclass)) ≡ false
+    → is_inval (message_by FRAME_IAX (subclass_meaning subclass)) ≡ false → IsSendingOf leg.window.history (unnumbered leg subclass timestamp)
+unnumbered-sending leg subclass timestamp bare no_inval =
     let h = leg.window.history in
     record {
       datagram = record { number = sent_count h; acknowledgement = taken_count h; frame = None };
@@ -102,22 +105,15 @@ ack-sending leg frame =
       number = (refl, refl);
       oseqno = refl;
       iseqno = refl;
-      frame = refl;
-      no_inval = refl;
+      frame = ap (λ (b : Bool). cond b (Some (stored (unnumbered leg subclass timestamp))) None) bare;
+      no_inval = no_inval;
     }
 
+pub ack-sending : (leg : LegState) (frame : FullFrame) → IsSendingOf leg.window.history (ack leg frame)
+ack-sending leg frame = unnumbered-sending leg IAX_ACK frame.head.timestamp refl refl
+
 pub vnak-sending : (leg : LegState) (frame : FullFrame) → IsSendingOf leg.window.history (vnak leg frame)
-vnak-sending leg frame =
-    let h = leg.window.history in
-    record {
-      datagram = record { number = sent_count h; acknowledgement = taken_count h; frame = None };
-      acknowledgement = refl;
-      number = (refl, refl);
-      oseqno = refl;
-      iseqno = refl;
-      frame = refl;
-      no_inval = refl;
-    }
+vnak-sending leg frame = unnumbered-sending leg IAX_VNAK frame.head.timestamp refl refl
 
 -- ---- held frames
 

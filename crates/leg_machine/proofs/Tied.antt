@@ -136,13 +136,18 @@ vnak-turn leg frame j now =
     either (λ (s : Step). TakesTurn leg frame s.leg) (counts j) (resend_step mid now) (nothing_sent mid)
     (acknowledges leg frame (resend_step mid now).leg (prepared-history leg frame)) (acknowledges leg frame mid (prepared-history leg frame))
 
+-- what holds of the step of an INVAL, of a VNAK and of any other frame holds of that of a full frame
+pub of-full-step : (P : Step → Type 0) (leg : LegState) (frame : FullFrame) (now : ℕ) → P (inval_step leg)
+    → P (vnak_step (judged_acknowledgement leg.window.history frame.head.iseqno) (prepared leg frame) now)
+    → P (numbered_step (prepared leg frame) frame (message_of frame.head) now) → P (full_step leg frame now)
+of-full-step P leg frame now inval vnak other =
+    let message = message_of frame.head in
+    let vnak_one = vnak_step (judged_acknowledgement leg.window.history frame.head.iseqno) (prepared leg frame) now in
+    let other_one = numbered_step (prepared leg frame) frame message now in
+    either P (is_inval message) (inval_step leg) (cond (is_vnak message) vnak_one other_one) inval
+    (either P (is_vnak message) vnak_one other_one vnak other)
+
 pub full-turn : (leg : LegState) (frame : FullFrame) (now : ℕ) → TakesTurn leg frame (full_step leg frame now).leg
 full-turn leg frame now =
-    let message = message_of frame.head in
-    let mid = prepared leg frame in
-    let vnak = vnak_step (judged_acknowledgement leg.window.history frame.head.iseqno) mid now in
-    let numbered = numbered_step mid frame message now in
-    either (λ (s : Step). TakesTurn leg frame s.leg) (is_inval message) (inval_step leg) (cond (is_vnak message) vnak numbered)
-    (same leg frame (inval_step leg).leg refl)
-    (either (λ (s : Step). TakesTurn leg frame s.leg) (is_vnak message) vnak numbered
-    (vnak-turn leg frame (judged_acknowledgement leg.window.history frame.head.iseqno) now) (numbered-turn leg frame now))
+    of-full-step (λ (s : Step). TakesTurn leg frame s.leg) leg frame now (same leg frame (inval_step leg).leg refl)
+    (vnak-turn leg frame (judged_acknowledgement leg.window.history frame.head.iseqno) now) (numbered-turn leg frame now)

@@ -1,6 +1,6 @@
 -- What a NEW that comes, or one that goes out, makes of a peer.
 use Rattle.std.specs.Prelude.{map}
-use Rattle.std.proofs.Common.{◌≡◌, ℕ, List, Option, Some, None, ap, ◌∙◌}
+use Rattle.std.proofs.Common.{◌≡◌, ℕ, List, Some, None, ap, ◌∙◌}
 use Rattle.call_book.specs.declared.leg_name.LegName.{LegName}
 use Rattle.call_signals.specs.declared.outcomes.Heard.{Heard}
 use Rattle.iax_frames.specs.FullFrame.{FullFrame, spelling}
@@ -9,7 +9,7 @@ use Rattle.leg_machine.specs.Openings.{open_in_step, open_out_step}
 use Rattle.call_signals.specs.declared.format.Format.{Format}
 use Rattle.leg_machine.specs.Steps.{heard_of}
 use Rattle.peer_legs.specs.Legs.{PeerLegs, leg_of_remote, with_place}
-use Rattle.peer_lock.specs.Openings.{opens_in}
+use Rattle.peer_lock.specs.Openings.{with_opened}
 use Rattle.outbox.specs.Outbox.{put}
 use Rattle.peer_lock.specs.Peer.{PeerView, counted}
 
@@ -43,18 +43,19 @@ module _ (old : PeerView) (name lease : LegName) (frame : FullFrame) (now : ℕ)
   pub opened_heard : (heard : Heard) → heard ≡ heard_of (open_in_step old.rules name.number frame now challenge) → heard ≡ heard_of (open_in_step old.rules lease.number frame now challenge)
   opened_heard heard is = is ∙ ap (λ (n : LegName). heard_of (open_in_step old.rules n.number frame now challenge)) name_is
 
-  pub opened_peer : (between new : PeerView) (leg : LegState)
-      → new ≡ record (counted between) { legs = with_place between.legs lease.number (Some (record { name = lease; leg = leg })) }
-      → between ≡ record old { outbox = put old.outbox (map spelling (open_in_step old.rules name.number frame now challenge).replies) }
-      → leg ≡ (open_in_step old.rules name.number frame now challenge).leg → new ≡ (opens_in old lease frame now challenge).peer
-  opened_peer between new leg is between_is leg_is =
-      is
-      ∙ ap (λ (v : PeerView). record (counted v) { legs = with_place v.legs lease.number (Some (record { name = lease; leg = leg })) }) between_is
-      ∙ ap (λ (l : LegState). record (counted old) {
-        legs = with_place old.legs lease.number (Some (record { name = lease; leg = l }));
-        outbox = put old.outbox (map spelling (open_in_step old.rules name.number frame now challenge).replies);
-      }) leg_is
-      ∙ ap (λ (n : LegName). record (counted old) {
-        legs = with_place old.legs lease.number (Some (record { name = lease; leg = (open_in_step old.rules n.number frame now challenge).leg }));
-        outbox = put old.outbox (map spelling (open_in_step old.rules n.number frame now challenge).replies);
-      }) name_is
+-- a leg that was opened under a name takes its place under the lease, which is of that name
+pub seated : (old between new : PeerView) (name lease : LegName) (opens : LegName → LegState) (sends : LegName → List (List ℕ)) (leg : LegState) → name ≡ lease
+    → new ≡ record (counted between) { legs = with_place between.legs lease.number (Some (record { name = lease; leg = leg })) }
+    → between ≡ record old { outbox = put old.outbox (sends name) }
+    → leg ≡ opens name → new ≡ with_opened old (record { name = lease; leg = opens lease }) (sends lease)
+seated old between new name lease opens sends leg name_is is between_is leg_is =
+    is
+    ∙ ap (λ (v : PeerView). record (counted v) { legs = with_place v.legs lease.number (Some (record { name = lease; leg = leg })) }) between_is
+    ∙ ap (λ (l : LegState). record (counted old) {
+      legs = with_place old.legs lease.number (Some (record { name = lease; leg = l }));
+      outbox = put old.outbox (sends name);
+    }) leg_is
+    ∙ ap (λ (n : LegName). record (counted old) {
+      legs = with_place old.legs lease.number (Some (record { name = lease; leg = opens n }));
+      outbox = put old.outbox (sends n);
+    }) name_is

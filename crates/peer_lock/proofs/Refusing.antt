@@ -18,29 +18,28 @@ use Rattle.peer_lock.specs.declared.errors.PeerError.{PeerError}
 use Rattle.peer_lock.specs.declared.errors.PeerError.TheVariants as errors
 use Rattle.peer_lock.specs.declared.steps.Step.{Step}
 
--- what holds of an error holds of what follows from it
-pub of_error : {A E : Type 0} (P Q : E → Type 0) → ((e : E) → P e → Q e) → (result : Result A E) → IfErr result P → IfErr result Q
-of_error P Q so (Ok value) there = there
-of_error P Q so (Err e) there = so e there
+-- At a peer that has step credit left: octets that aren't too long, and how they were read.
+pub record AreLookedAt (credit made : ℕ) (octets : List ℕ) (answer : Result Datagram FrameError) : Type 0 where
+  pub steps : made ≢ credit
+  pub short : length octets ≤ 2048
+  pub reading : IsReading octets answer
 
--- a reading, where its octets and its answer have other names
-pub reading_of : (octets other : List ℕ) (answer given : Result Datagram FrameError)
-    → IsReading octets answer → octets ≡ other → answer ≡ given → IsReading other given
-reading_of octets other answer given reading octets_are answer_is =
-    subst (IsReading other) answer_is (subst (λ o. IsReading o answer) octets_are reading)
-
--- a peer that isn't spent has step credit left, by whatever name it goes
-pub unspent : (inside peer : PeerView) (credit : ℕ) (spent : Bool) → inside ≡ peer
-    → (inside.accounts.steps ≡ credit → IsTrue spent) → spent ≡ false → peer.accounts.steps ≢ credit
-unspent inside peer credit spent same tells is all =
-    true≢false (sym (tells (ap (λ (p : PeerView). p.accounts.steps) same ∙ all)) ∙ is)
+-- by whatever names they go
+pub looked_at : (inside peer : PeerView) (credit : ℕ) (spent : Bool) (octets other : List ℕ) (answer given : Result Datagram FrameError)
+    → inside ≡ peer → (inside.accounts.steps ≡ credit → IsTrue spent) → spent ≡ false → length octets ≤ 2048 → IsReading octets answer
+    → octets ≡ other → answer ≡ given → AreLookedAt credit peer.accounts.steps other given
+looked_at inside peer credit spent octets other answer given same tells is short reading octets_are answer_is = record {
+  steps = λ all. true≢false (sym (tells (ap (λ (p : PeerView). p.accounts.steps) same ∙ all)) ∙ is);
+  short = subst (λ (o : List ℕ). length o ≤ 2048) octets_are short;
+  reading = subst (IsReading other) answer_is (subst (λ (o : List ℕ). IsReading o answer) octets_are reading);
+}
 
 -- octets that are read are refused by nothing, and spell nothing else
 module _ (octets : List ℕ) (d : Datagram) (reading : IsReading octets (Ok d)) where
-  pub unrefused : (error : FrameError) → Refuses octets error → ⊥
+  unrefused : (error : FrameError) → Refuses octets error → ⊥
   unrefused error why = subst (λ (answer : Result Datagram FrameError). OnErr answer ⊥) (reading.only_error error why) tt
 
-  pub spelled_alone : (other : Datagram) → Spells octets other → other ≡ d
+  spelled_alone : (other : Datagram) → Spells octets other → other ≡ d
   spelled_alone other spelled =
       subst (λ (answer : Result Datagram FrameError). IfOk answer (λ x. x ≡ d)) (reading.only other spelled) refl
 
@@ -61,7 +60,7 @@ module _ (credit made : ℕ) (octets : List ℕ) (steps : made ≢ credit) (shor
   read_refused (Video video) e spelled why = absurd why
   read_refused (Trunk trunk) e spelled why = absurd why
 
-  pub ok_refused : (peer : PeerView) (d : Datagram) (e : PeerError) → Spells octets d
+  ok_refused : (peer : PeerView) (d : Datagram) (e : PeerError) → Spells octets d
       → IsRefusedRead d e ⊎ (IsSound d × IsDue (datagram_refused peer d) e)
       → IsUnworked credit made octets e ⊎ ((d : Datagram) × IsWorked credit made octets d × IsDue (datagram_refused peer d) e)
   ok_refused peer d e spelled (inl why) = inl (read_refused d e spelled why)
@@ -80,7 +79,7 @@ module _ (credit made : ℕ) (octets : List ℕ) (steps : made ≢ credit) (shor
     as_read : (e : PeerError) (other : Datagram) → Spells octets other → IsRefusedRead other e → result ≡ Err e
     as_read e other spelled why = unsound e (subst (λ x. IsRefusedRead x e) (only other spelled) why)
 
-    pub ok_unworked : (e : PeerError) → IsUnworked credit made octets e → result ≡ Err e
+    ok_unworked : (e : PeerError) → IsUnworked credit made octets e → result ≡ Err e
     ok_unworked errors.StepsSpent why = absurd (steps why)
     ok_unworked errors.TooLong (spare, inl long) = absurd (too_long long)
     ok_unworked errors.TooLong (spare, inr why) = as_read errors.TooLong why.1.0 why.1.1 why.1.2
@@ -88,3 +87,15 @@ module _ (credit made : ℕ) (octets : List ℕ) (steps : made ≢ credit) (shor
     ok_unworked errors.MetaCommand why = absurd (none (unread.MetaCommand why.2.0) why.2.1)
     ok_unworked errors.EntryCut why = absurd (none (unread.EntryCut why.2.0) why.2.1)
     ok_unworked e why = as_read e why.2.0 why.2.1 why.2.2
+
+module _ (credit made : ℕ) (octets : List ℕ) (d : Datagram) (looked : AreLookedAt credit made octets (Ok d)) where
+  pub read_unworked : (result : Result Step PeerError) → ((e : PeerError) → IsRefusedRead d e → result ≡ Err e)
+      → (e : PeerError) → IsUnworked credit made octets e → result ≡ Err e
+  read_unworked result unsound =
+      ok_unworked credit made octets looked.steps looked.short result d (unrefused octets d looked.reading) (spelled_alone octets d looked.reading) unsound
+
+  pub read_due : (peer : PeerView) (result : Result Step PeerError)
+      → IfErr result (λ e. IsRefusedRead d e ⊎ (IsSound d × IsDue (datagram_refused peer d) e))
+      → IfErr result (λ e. IsUnworked credit made octets e ⊎ ((d : Datagram) × IsWorked credit made octets d × IsDue (datagram_refused peer d) e))
+  read_due peer (Ok step) due = due
+  read_due peer (Err e) due = ok_refused credit made octets looked.steps looked.short peer d e looked.reading.exact due

@@ -1,6 +1,6 @@
 -- What is seen of an opening, an order, a tick, and of a leg that is taken out.
 use Rattle.std.specs.Prelude.{◌&&◌, not, option_map, nat_lt, ◌↔◌, is_some, if◌then◌else◌}
-use Rattle.std.proofs.Common.{◌≡◌, ◌≢◌, ℕ, zero, suc, ◌+◌, ◌<◌, ◌≤◌, ◌==◌, nat_le, Bool, true, false, inl, inr, List, [], ◌∷◌, length, Option, Some, None, slice_get, refl, sym, ap, subst, ◌∙◌, ◌-◌, ◌⊎◌}
+use Rattle.std.proofs.Common.{◌≡◌, ◌≢◌, ℕ, zero, suc, ◌+◌, ◌<◌, ◌≤◌, ◌==◌, nat_le, Bool, true, false, inl, inr, List, [], ◌∷◌, length, Option, Some, None, slice_get, refl, sym, ap, subst, ◌∙◌, ◌-◌}
 use Rattle.std.proofs.lemmas.Bool.{cases_Bool, eqb-true, leb-true, ltb-true}
 use Rattle.call_book.specs.declared.leg_name.LegName.{LegName}
 use Rattle.iax_frames.specs.FullFrame.{FullFrame}
@@ -16,6 +16,8 @@ use Rattle.leg_machine.specs.declared.media.MediaSent.{MediaSent}
 use Rattle.leg_machine.specs.declared.media.MediaSent.TheVariants as sent
 use Rattle.call_signals.specs.declared.order.Order.{Order}
 use Rattle.call_signals.specs.declared.order.Order.TheVariants as orders
+use Rattle.call_signals.specs.declared.order.OrderKind.{OrderKind}
+use Rattle.call_signals.specs.declared.order.OrderKind.TheVariants as kinds
 use Rattle.call_signals.specs.declared.order.OrderError.{OrderError as LegError}
 use Rattle.call_signals.specs.declared.order.OrderError.TheVariants as leg_errors
 use Rattle.call_signals.specs.declared.rules.PeerRules.{PeerRules}
@@ -183,44 +185,25 @@ gone legs name none before = gone_at (leg_at legs name.number) name before none
         let same : seen_named named ≡ record { name = name; seen = before } = cc in
         none_named (Some named) name named none refl (ap (λ (n : SeenNamed). n.name) same)
 
--- an order that a leg may refuse for want of room
-refusable : (leg : LegState) (order : Order) (now : ℕ) (due : LegError) → order_refused leg order now ≡ Some due → (error : OrderError)
-    → (error ≡ errors.WindowFull) ⊎ ((error ≡ errors.RecordFull) ⊎ (error ≡ errors.Memory)) → refuses_order (kind_of order) error ≡ true
-refusable leg (orders.Doom cause) now due is error which = cc
-refusable leg orders.Paid now due is error which = cc
-refusable leg (orders.Accept format) now due is error (inl e) = rw e refl
-refusable leg (orders.Accept format) now due is error (inr (inl e)) = rw e refl
-refusable leg (orders.Accept format) now due is error (inr (inr e)) = rw e refl
-refusable leg (orders.Reject cause) now due is error (inl e) = rw e refl
-refusable leg (orders.Reject cause) now due is error (inr (inl e)) = rw e refl
-refusable leg (orders.Reject cause) now due is error (inr (inr e)) = rw e refl
-refusable leg (orders.Indicate indication) now due is error (inl e) = rw e refl
-refusable leg (orders.Indicate indication) now due is error (inr (inl e)) = rw e refl
-refusable leg (orders.Indicate indication) now due is error (inr (inr e)) = rw e refl
-refusable leg orders.Answer now due is error (inl e) = rw e refl
-refusable leg orders.Answer now due is error (inr (inl e)) = rw e refl
-refusable leg orders.Answer now due is error (inr (inr e)) = rw e refl
-refusable leg (orders.Dtmf digit) now due is error (inl e) = rw e refl
-refusable leg (orders.Dtmf digit) now due is error (inr (inl e)) = rw e refl
-refusable leg (orders.Dtmf digit) now due is error (inr (inr e)) = rw e refl
-refusable leg (orders.Media media) now due is error (inl e) = rw e refl
-refusable leg (orders.Media media) now due is error (inr (inl e)) = rw e refl
-refusable leg (orders.Media media) now due is error (inr (inr e)) = rw e refl
-refusable leg (orders.Hangup cause) now due is error (inl e) = rw e refl
-refusable leg (orders.Hangup cause) now due is error (inr (inl e)) = rw e refl
-refusable leg (orders.Hangup cause) now due is error (inr (inr e)) = rw e refl
+-- what a leg may refuse for want of memory it may refuse for want of room
+alike : (kind : OrderKind) → (refuses_order kind errors.WindowFull ≡ refuses_order kind errors.Memory) ×
+    (refuses_order kind errors.RecordFull ≡ refuses_order kind errors.Memory)
+alike (kinds.Doom cause) = (refl, refl)
+alike kinds.Paid = (refl, refl)
+alike kind = (refl, refl)
 
--- .. or for want of memory
+-- an order that a leg may refuse
+refusable : (leg : LegState) (order : Order) (now : ℕ) (due : LegError) → order_refused leg order now ≡ Some due
+    → refuses_order (kind_of order) errors.Memory ≡ true
+refusable leg (orders.Doom cause) now due is = cc
+refusable leg orders.Paid now due is = cc
+refusable leg order now due is = refl
+
+-- .. or for which it may want memory
 unsure : (leg : LegState) (order : Order) (now : ℕ) → wants_memory leg order now ≡ true → refuses_order (kind_of order) errors.Memory ≡ true
 unsure leg (orders.Doom cause) now wants = cc
 unsure leg orders.Paid now wants = cc
-unsure leg (orders.Accept format) now wants = refl
-unsure leg (orders.Reject cause) now wants = refl
-unsure leg (orders.Indicate indication) now wants = refl
-unsure leg orders.Answer now wants = refl
-unsure leg (orders.Dtmf digit) now wants = refl
-unsure leg (orders.Media media) now wants = refl
-unsure leg (orders.Hangup cause) now wants = refl
+unsure leg order now wants = refl
 
 right_stage : (there : Option Stage) → there ≢ None → is_some there ≡ true
 right_stage None some = absurd (some refl)
@@ -252,13 +235,13 @@ module _ (law : (leg : LegState) (order : Order) (now : ℕ) → (order_refused 
       })
   due_seen legs name named order now error (Some leg_errors.WindowFull) is due refused wants =
       rw refused (there legs name named order now errors.WindowFull is (λ wrong. let never : Some leg_errors.WindowFull ≡ Some leg_errors.WrongStage = sym due ∙ wrong in cc)
-      (refusable named.leg order now _ due errors.WindowFull (inl refl)))
+      ((alike (kind_of order)).0 ∙ refusable named.leg order now _ due))
   due_seen legs name named order now error (Some leg_errors.RecordFull) is due refused wants =
       rw refused (there legs name named order now errors.RecordFull is (λ wrong. let never : Some leg_errors.RecordFull ≡ Some leg_errors.WrongStage = sym due ∙ wrong in cc)
-      (refusable named.leg order now _ due errors.RecordFull (inr (inl refl))))
+      ((alike (kind_of order)).1 ∙ refusable named.leg order now _ due))
   due_seen legs name named order now error (Some leg_errors.Memory) is due refused wants =
       rw refused (there legs name named order now errors.Memory is (λ wrong. let never : Some leg_errors.Memory ≡ Some leg_errors.WrongStage = sym due ∙ wrong in cc)
-      (refusable named.leg order now _ due errors.Memory (inr (inr refl))))
+      (refusable named.leg order now _ due))
 
   at_leg_seen : (legs : PeerLegs) (name : LegName) (order : Order) (now : ℕ) (error : OrderError) (o : Option NamedLeg) → leg_named legs name ≡ o
       → IsOrderRefusal (refused_at o order now) error

@@ -184,7 +184,7 @@ module _ (law : (own other : Side) (which : ℕ) (datagram : Datagram) (turn : T
       turns.1
       ∙ (λ i. sym is.history i ++ entries_in_turn (sym is.history i) (bears.iseqno i) (bears.oseqno i) (bears.frame_is i) turns.0) in
       let side = turns_to rules new own other which datagram turns.0 goes is.width is.limit at grown in
-      let sends = sendings_out rules new goes (after_all actions own other) other datagrams side sendings in
+      let sends = sendings_out rules new goes other (after_all actions own other) datagrams side sendings in
       (turns.0, record { grows = side; sends = sends })
 
   pub frame_events : (old new : PeerView) (frame : FullFrame) (turn : TakesTurnAtLeg old frame new) → IsSoundPeer new → (own other : Side) → IsSideOf new.rules turn.named.leg own
@@ -211,7 +211,7 @@ module _ (law : (own other : Side) (which : ℕ) (datagram : Datagram) (turn : T
       takes.tied.1 ∙ (λ i. entries_in_turn [] (bears.iseqno i) (bears.oseqno i) (numbered i) turn) in
       let side = turns_to new.rules takes.leg own other which datagram turn goes refl refl at grown in
       let mid = after_all actions own other in
-      let sends = sendings_out new.rules takes.leg goes mid other takes.opens.datagrams side takes.opens.sendings in
+      let sends = sendings_out new.rules takes.leg goes other mid takes.opens.datagrams side takes.opens.sendings in
       (turn, record { grows = side; sends = sends })
 
 -- ---- an order, and a NEW that goes out
@@ -223,7 +223,7 @@ order_events old new name sends sound own other is =
     (leg_after old new sends.named sends.leg sends.datagrams sends.steps) in
     let one = sends_events new.rules sends.named.leg sends.leg own other sends.tied goes is in
     let mid = after_all (reply_actions one.0) own other in
-    (one.0, record { grows = one.1; sends = or_minis_out new.rules sends.leg goes mid other sends.datagrams one.1 sends.sendings })
+    (one.0, record { grows = one.1; sends = or_minis_out new.rules sends.leg goes other mid sends.datagrams one.1 sends.sendings })
 
 -- all that goes out is full frames
 sent_into : (rules : PeerRules) (leg : LegState) (own other : Side) (datagrams : List (List ℕ)) → IsLegOf rules leg
@@ -231,7 +231,7 @@ sent_into : (rules : PeerRules) (leg : LegState) (own other : Side) (datagrams :
     → SendsInto IsSentBy rules own other leg datagrams
 sent_into rules leg own other datagrams goes one sendings =
     let mid = after_all (reply_actions one.0) own other in
-    (one.0, record { grows = one.1; sends = sendings_out rules leg goes mid other datagrams one.1 sendings })
+    (one.0, record { grows = one.1; sends = sendings_out rules leg goes other mid datagrams one.1 sendings })
 
 pub call_out_events : (old new : PeerView) (name : LegName) (sends : SendsNew old name new) → IsSoundPeer new → (other : Side)
     → SendsInto IsSentBy new.rules (unused_side new.rules) other sends.leg sends.opens.datagrams

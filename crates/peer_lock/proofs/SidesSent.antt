@@ -64,9 +64,9 @@ all_still_sent [] own other one is = is
 all_still_sent (action ∷ actions) own other one is =
     all_still_sent actions (after action own other) other one (sent_still action own other one is)
 
-octets_still_sent : (actions : List Action) (own other : Side) (octets : List ℕ) → IsSentBy own octets
+octets_still_sent : (other : Side) (actions : List Action) (own : Side) (octets : List ℕ) → IsSentBy own octets
     → IsSentBy (after_all actions own other) octets
-octets_still_sent actions own other octets is = record {
+octets_still_sent other actions own octets is = record {
   frame = is.frame;
   spelt = is.spelt;
   datagram = is.datagram;
@@ -75,10 +75,10 @@ octets_still_sent actions own other octets is = record {
   no_inval = is.no_inval;
 }
 
-or_mini_still_sent : (actions : List Action) (own other : Side) (octets : List ℕ) → IsSentByOrMini own octets
+or_mini_still_sent : (other : Side) (actions : List Action) (own : Side) (octets : List ℕ) → IsSentByOrMini own octets
     → IsSentByOrMini (after_all actions own other) octets
-or_mini_still_sent actions own other octets (inl is) = inl (octets_still_sent actions own other octets is)
-or_mini_still_sent actions own other octets (inr mini) = inr mini
+or_mini_still_sent other actions own octets (inl is) = inl (octets_still_sent other actions own octets is)
+or_mini_still_sent other actions own octets (inr mini) = inr mini
 
 pub after_both : (first rest : List Action) (own other : Side)
     → after_all (first ++ rest) own other ≡ after_all rest (after_all first own other) other
@@ -186,7 +186,31 @@ module _ (rules : PeerRules) (leg : LegState) (own other : Side) (f : FullFrame)
   frame_out width limit legal true (Some frame) frames (there, beyond) =
       held_out frame frames (record { sent_there = there; beyond = beyond })
 
--- a leg of the peer
+-- ---- all datagrams of a step
+
+module _ (X : Type 0) (IsSent : Side → X → Type 0) (Sends : X → Type 0) (rules : PeerRules) (leg : LegState) (other : Side)
+    (still : (actions : List Action) (own : Side) (x : X) → IsSent own x → IsSent (after_all actions own other) x)
+    (one_out : (own : Side) (x : X) → IsSideOf rules leg own → Sends x → SendsAll X IsSent rules leg own other (x ∷ [])) where
+  all_out : (own : Side) (xs : List X) → IsSideOf rules leg own → All Sends xs → SendsAll X IsSent rules leg own other xs
+  all_out own [] side sends =
+      record { actions = []; nothing_new = All-nil SendsNothingNew; stays = side; sent = All-nil (IsSent own) }
+  all_out own (x ∷ xs) side sends =
+      let one = one_out own x side (All-head Sends x xs sends) in
+      let mid = after_all one.actions own other in
+      let rest = all_out mid xs one.stays (All-tail Sends x xs sends) in
+      let end = after_all rest.actions mid other in
+      let both : end ≡ after_all (one.actions ++ rest.actions) own other = sym (after_both one.actions rest.actions own other) in
+      record {
+        actions = one.actions ++ rest.actions;
+        nothing_new = All-append SendsNothingNew one.actions rest.actions one.nothing_new rest.nothing_new;
+        stays = subst (IsSideOf rules leg) both rest.stays;
+        sent =
+            subst (λ (side : Side). All (IsSent side) (x ∷ xs)) both
+            (All-cons (IsSent end) x xs (still rest.actions mid x (All-head (IsSent mid) x [] one.sent)) rest.sent);
+      }
+
+-- ---- what a leg of the peer sends
+
 module _ (rules : PeerRules) (leg : LegState) (goes : IsLegOf rules leg) (other : Side) where
   datagram_out : (own : Side) (datagram : Datagram) → IsSideOf rules leg own → IsSentFrom leg datagram
       → SendsAll Datagram HasDatagram rules leg own other (datagram ∷ [])
@@ -234,48 +258,15 @@ module _ (rules : PeerRules) (leg : LegState) (goes : IsLegOf rules leg) (other 
     sent = All-cons (IsSentByOrMini own) octets [] (inr mini) (All-nil (IsSentByOrMini own));
   }
 
--- ---- all datagrams of a step
+  pub datagrams_out : (own : Side) (datagrams : List Datagram) → IsSideOf rules leg own → All (IsSentFrom leg) datagrams
+      → SendsAll Datagram HasDatagram rules leg own other datagrams
+  datagrams_out =
+      all_out Datagram HasDatagram (IsSentFrom leg) rules leg other (λ actions own one is. all_still_sent actions own other one is) datagram_out
 
-module _ (X : Type 0) (IsSent : Side → X → Type 0) (Sends : X → Type 0) (rules : PeerRules) (leg : LegState) (other : Side)
-    (still : (actions : List Action) (own : Side) (x : X) → IsSent own x → IsSent (after_all actions own other) x)
-    (one_out : (own : Side) (x : X) → IsSideOf rules leg own → Sends x → SendsAll X IsSent rules leg own other (x ∷ [])) where
-  all_out : (own : Side) (xs : List X) → IsSideOf rules leg own → All Sends xs → SendsAll X IsSent rules leg own other xs
-  all_out own [] side sends =
-      record { actions = []; nothing_new = All-nil SendsNothingNew; stays = side; sent = All-nil (IsSent own) }
-  all_out own (x ∷ xs) side sends =
-      let one = one_out own x side (All-head Sends x xs sends) in
-      let mid = after_all one.actions own other in
-      let rest = all_out mid xs one.stays (All-tail Sends x xs sends) in
-      let end = after_all rest.actions mid other in
-      let both : end ≡ after_all (one.actions ++ rest.actions) own other = sym (after_both one.actions rest.actions own other) in
-      record {
-        actions = one.actions ++ rest.actions;
-        nothing_new = All-append SendsNothingNew one.actions rest.actions one.nothing_new rest.nothing_new;
-        stays = subst (IsSideOf rules leg) both rest.stays;
-        sent =
-            subst (λ (side : Side). All (IsSent side) (x ∷ xs)) both
-            (All-cons (IsSent end) x xs (still rest.actions mid x (All-head (IsSent mid) x [] one.sent)) rest.sent);
-      }
+  pub sendings_out : (own : Side) (datagrams : List (List ℕ)) → IsSideOf rules leg own → All (IsSending leg) datagrams
+      → SendsAll (List ℕ) IsSentBy rules leg own other datagrams
+  sendings_out = all_out (List ℕ) IsSentBy (IsSending leg) rules leg other (octets_still_sent other) sending_out
 
-pub datagrams_out : (rules : PeerRules) (leg : LegState) → IsLegOf rules leg → (own other : Side) (datagrams : List Datagram)
-    → IsSideOf rules leg own
-    → All (IsSentFrom leg) datagrams → SendsAll Datagram HasDatagram rules leg own other datagrams
-datagrams_out rules leg goes own other datagrams side sends =
-    all_out Datagram HasDatagram (IsSentFrom leg) rules leg other (λ actions own one is. all_still_sent actions own other one is)
-    (datagram_out rules leg goes other) own datagrams side sends
-
-pub sendings_out : (rules : PeerRules) (leg : LegState) → IsLegOf rules leg → (own other : Side) (datagrams : List (List ℕ))
-    → IsSideOf rules leg own
-    → All (IsSending leg) datagrams → SendsAll (List ℕ) IsSentBy rules leg own other datagrams
-sendings_out rules leg goes own other datagrams side sends =
-    all_out (List ℕ) IsSentBy (IsSending leg) rules leg other
-    (λ actions own octets is. octets_still_sent actions own other octets is) (sending_out rules leg goes other) own datagrams side
-    sends
-
-pub or_minis_out : (rules : PeerRules) (leg : LegState) → IsLegOf rules leg → (own other : Side) (datagrams : List (List ℕ))
-    → IsSideOf rules leg own
-    → All (IsSendingOrMini leg) datagrams → SendsAll (List ℕ) IsSentByOrMini rules leg own other datagrams
-or_minis_out rules leg goes own other datagrams side sends =
-    all_out (List ℕ) IsSentByOrMini (IsSendingOrMini leg) rules leg other
-    (λ actions own octets is. or_mini_still_sent actions own other octets is) (or_mini_out rules leg goes other) own datagrams side
-    sends
+  pub or_minis_out : (own : Side) (datagrams : List (List ℕ)) → IsSideOf rules leg own → All (IsSendingOrMini leg) datagrams
+      → SendsAll (List ℕ) IsSentByOrMini rules leg own other datagrams
+  or_minis_out = all_out (List ℕ) IsSentByOrMini (IsSendingOrMini leg) rules leg other (or_mini_still_sent other) or_mini_out

@@ -3,21 +3,14 @@ use Rattle.peer_legs.specs.Legs.{leg_at}
 use Rattle.outbox.specs.Outbox.{put}
 use Rattle.peer_lock.specs.Peer.{PeerView}
 use Rattle.peer_lock.proofs.Reached.{sent_by_leg}
+use Rattle.peer_lock.proofs.Kept.{legs_kept}
 use Rattle.peer_lock.proofs.state.PeerState.hear.Goals as goal
 
 pub invariant_of-self : goal.invariant_of-self
-invariant_of-self g c = record {
-  rules = c.self.invariant.rules;
-  ruled = c.full.ensures.ruled c.self.inside.rules c.self.invariant.ruled;
-  queued = c.self.invariant.queued;
-}
+invariant_of-self g c = legs_kept _ _ _ c.self.invariant c.full.ensures.ruled
 
 pub invariant_of-self-2 : goal.invariant_of-self-2
-invariant_of-self-2 g c = record {
-  rules = c.self.invariant.rules;
-  ruled = c.full.ensures.ruled c.self.inside.rules c.self.invariant.ruled;
-  queued = c.self.invariant.queued;
-}
+invariant_of-self-2 g c = legs_kept _ _ _ c.self.invariant c.full.ensures.ruled
 
 pub returns-clause-peer : goal.returns-clause-peer
 returns-clause-peer g c named here =
