@@ -6,26 +6,21 @@
 mod views;
 
 use crate::views::{View, view_files};
-use call_writer::Disk;
 use clap::ArgMatches;
 use clap::error::ErrorKind;
 use command_line::{VERSION, command_line};
 use control_client::{give_order, order_of};
 use exchange_commands::{check, replay_buffered, serve, turn_count};
-use exchange_service::{Settings, TraceOptions, run as run_service};
+use exchange_service::{ServiceDisk, ServiceSystem, Settings, TraceOptions, run as run_service};
 use log::LevelFilter;
 use plan_report::explain;
 use std::alloc::Global;
 use std::fs::File;
 use std::net::{Net, SocketAddr};
 use std::process::ExitCode;
-use std::random::RandomSource;
 use std::rt::Files;
 use std::sync::Wait;
-use std::thread::Threads;
-use std::time::Clock;
 use std::{env, fs, io};
-use trace_writer::Folder;
 
 const USAGE: &str =
     "usage: exchange_main check <plan> | replay <plan> <script> | serve <plan> <turns>\n       \
@@ -36,6 +31,11 @@ exchange_main records <plan> <script>\n       \
 exchange_main run <plan> [--control <socket>] [--metrics <address:port>] [--log <level>] [--drain <seconds>] \
 [--calls <file>] [--trace <folder>] [--trace-limit <mebibytes>] [--trace-digits yes|no] [--stop-at-end-of-input]\n       \
 exchange_main ctl <socket> peers | calls | accounts | call <peer> <number> | hangup <number> | stop";
+
+/// The system of the program: that of a service, with files, standard output and memory.
+trait Program: ServiceSystem + Files<File = File> + Print + Alloc {}
+
+impl<R: ServiceSystem + Files<File = File> + Print + Alloc> Program for R {}
 
 // Whether a call of the system failed for want of memory.
 fn is_memory(error: &io::Error) -> bool {
@@ -107,9 +107,7 @@ fn replay_files<R: Files + Print + Alloc + Wait>(
     }
 }
 
-fn serve_file<
-    R: Files + Print + Eprint + Alloc + Clock + Net + RandomSource + Threads + Wait + Sync,
->(rt: &R, alloc: Global, plan: &str, turns: &str) -> u8 {
+fn serve_file<R: Program>(rt: &R, alloc: Global, plan: &str, turns: &str) -> u8 {
     let Some(turns) = turn_count(turns) else {
         return refuse_usage(rt);
     };
@@ -150,19 +148,7 @@ fn command_of(words: &[String]) -> Command<'_> {
 }
 
 // One command, by the program's arguments.
-fn run<
-    R: Files<File = File>
-        + Print
-        + Eprint
-        + Alloc
-        + Clock
-        + Net
-        + RandomSource
-        + Threads
-        + Wait
-        + Sync,
-    D: Disk + Folder + Sync,
->(rt: &R, disk: &D, alloc: Global, words: &[String]) -> u8 {
+fn run<R: Program, D: ServiceDisk>(rt: &R, disk: &D, alloc: Global, words: &[String]) -> u8 {
     match command_of(words) {
         Command::Check(plan) => check_file(rt, alloc, plan),
         Command::Explain(plan) => explain_file(rt, alloc, plan),
@@ -234,19 +220,12 @@ fn settings_of<'a>(options: &'a ArgMatches<'_>) -> Option<Settings<'a>> {
 }
 
 // The service of a plan, with the options that were given.
-fn run_file<
-    R: Files<File = File>
-        + Print
-        + Eprint
-        + Alloc
-        + Clock
-        + Net
-        + RandomSource
-        + Threads
-        + Wait
-        + Sync,
-    D: Disk + Folder + Sync,
->(rt: &R, disk: &D, alloc: Global, options: &ArgMatches<'_>) -> u8 {
+fn run_file<R: Program, D: ServiceDisk>(
+    rt: &R,
+    disk: &D,
+    alloc: Global,
+    options: &ArgMatches<'_>,
+) -> u8 {
     let Some(settings) = settings_of(options) else {
         return refuse_usage(rt);
     };
@@ -274,19 +253,12 @@ fn refuse_memory<R: Print>(rt: &R) -> u8 {
 }
 
 // The command that the words named.
-fn run_matched<
-    R: Files<File = File>
-        + Print
-        + Eprint
-        + Alloc
-        + Clock
-        + Net
-        + RandomSource
-        + Threads
-        + Wait
-        + Sync,
-    D: Disk + Folder + Sync,
->(rt: &R, disk: &D, alloc: Global, matches: &ArgMatches<'_>) -> u8 {
+fn run_matched<R: Program, D: ServiceDisk>(
+    rt: &R,
+    disk: &D,
+    alloc: Global,
+    matches: &ArgMatches<'_>,
+) -> u8 {
     match matches.subcommand() {
         Some(("run", options)) => run_file(rt, disk, alloc, options),
         Some(("ladder", options)) => view_files(rt, alloc, View::Ladder, options),
@@ -297,19 +269,12 @@ fn run_matched<
 }
 
 // A command that is read by its options: `run`, and what asks for help or the version.
-fn run_by_options<
-    R: Files<File = File>
-        + Print
-        + Eprint
-        + Alloc
-        + Clock
-        + Net
-        + RandomSource
-        + Threads
-        + Wait
-        + Sync,
-    D: Disk + Folder + Sync,
->(rt: &R, disk: &D, alloc: Global, words: &[String]) -> u8 {
+fn run_by_options<R: Program, D: ServiceDisk>(
+    rt: &R,
+    disk: &D,
+    alloc: Global,
+    words: &[String],
+) -> u8 {
     let Ok(command) = command_line(alloc) else {
         return refuse_memory(rt);
     };

@@ -8,5 +8,7 @@ mod recording;
 mod running;
 mod seating;
 mod service_sockets;
+mod system;
 
 pub use running::{Settings, TraceOptions, run};
+pub use system::{ServiceDisk, ServiceSystem};

@@ -2,7 +2,8 @@
 //! thread that writes each beside the others.
 use crate::journal::Journal;
 use crate::running::{Settings, TraceOptions};
-use call_writer::{Calendar, CallOutlets, CallRows, Disk, write_calls_beside};
+use crate::system::{ServiceDisk, ServiceSystem};
+use call_writer::{Calendar, CallOutlets, CallRows, write_calls_beside};
 use jiff::Timestamp;
 use log::LevelFilter;
 use peer_plan::Plan;
@@ -224,11 +225,7 @@ fn serve_traced<R: Clock + Threads + Wait + Sync, D: Folder + Sync, F: FnOnce() 
 
 /// Has a service serve, beside the threads that write what is wanted: the rows of ended legs, the trace. False if a thread was
 /// refused. The log tells which rows couldn't be written.
-pub(crate) fn serve_written<
-    R: Clock + Eprint + Threads + Wait + Sync,
-    D: Disk + Folder + Sync,
-    F: FnOnce() -> bool,
->(
+pub(crate) fn serve_written<R: ServiceSystem, D: ServiceDisk, F: FnOnce() -> bool>(
     rt: &R,
     disk: &D,
     plan: &Plan,

@@ -4,7 +4,7 @@ ghost use Rattle.std.specs.Prelude.{◌≡◌, ◌+◌, ◌≤◌, length, vec_l
 use crate::control::Control;
 use crate::recording::watch_of;
 use crate::seating::serve_watched;
-use call_writer::Disk;
+use crate::system::{ServiceDisk, ServiceSystem};
 use control_server::bind_error_name;
 use exchange_core::{Exchange, NoGate, Pass};
 use exchange_report::{closed_accounts, settle};
@@ -17,13 +17,9 @@ use std::fs;
 use std::fs::{File, Files};
 use std::io::Write;
 use std::marker::Brand;
-use std::net::{Net, SocketAddr};
-use std::random::RandomSource;
-use std::sync::Wait;
+use std::net::SocketAddr;
 use std::sync::ledger::Ledger;
-use std::thread::Threads;
-use std::time::{Clock, Instant};
-use trace_writer::Folder;
+use std::time::Instant;
 use udp_workers::{Post, TurnReport};
 use worker_seats::{ServiceError, service_error_name, with_spare_pass, write_reports};
 
@@ -72,12 +68,7 @@ pub struct TraceOptions<'a> {
 }
 
 // Has the workers of the plan serve, with a watch that is made for it. (It has two ways out alone: each drops the watch.)
-fn serve_beside<
-    J: Naming,
-    P: Post + Send + Sync,
-    R: Clock + Eprint + Net + RandomSource + Threads + Wait + Sync,
-    D: Disk + Folder + Sync,
->(
+fn serve_beside<J: Naming, P: Post + Send + Sync, R: ServiceSystem, D: ServiceDisk>(
     rt: &R,
     disk: &D,
     alloc: Global,
@@ -110,13 +101,7 @@ fn serve_beside<
 }
 
 // The same; then their reports are written.
-fn serve_and_report<
-    J: Naming,
-    P: Post + Send + Sync,
-    R: Clock + Eprint + Net + RandomSource + Threads + Wait + Sync,
-    D: Disk + Folder + Sync,
-    W: Write,
->(
+fn serve_and_report<J: Naming, P: Post + Send + Sync, R: ServiceSystem, D: ServiceDisk, W: Write>(
     rt: &R,
     disk: &D,
     alloc: Global,
@@ -141,8 +126,8 @@ fn work<
     O: Ledger + Send + Sync,
     S: Ledger + Send + Sync,
     P: Post + Send + Sync,
-    R: Clock + Eprint + Net + RandomSource + Threads + Wait + Sync,
-    D: Disk + Folder + Sync,
+    R: ServiceSystem,
+    D: ServiceDisk,
     W: Write,
 >(
     rt: &R,
@@ -185,11 +170,7 @@ fn work<
 }
 
 // The service of a plan that is right.
-fn serve_plan<
-    R: Clock + Eprint + Net + RandomSource + Threads + Wait + Sync,
-    D: Disk + Folder + Sync,
-    W: Write,
->(
+fn serve_plan<R: ServiceSystem, D: ServiceDisk, W: Write>(
     rt: &R,
     disk: &D,
     alloc: Global,
@@ -214,11 +195,14 @@ fn refuse<W: Write>(writer: &mut W, name: &str) -> u8 {
 }
 
 // The service, once the ways in that are wanted are bound.
-fn serve_open<
-    R: Clock + Eprint + Files<File = File> + Net + RandomSource + Threads + Wait + Sync,
-    D: Disk + Folder + Sync,
-    W: Write,
->(rt: &R, disk: &D, alloc: Global, plan: Plan, control: &mut Control<'_>, writer: &mut W) -> u8 {
+fn serve_open<R: ServiceSystem + Files<File = File>, D: ServiceDisk, W: Write>(
+    rt: &R,
+    disk: &D,
+    alloc: Global,
+    plan: Plan,
+    control: &mut Control<'_>,
+    writer: &mut W,
+) -> u8 {
     match control.open(rt) {
         Ok(()) => status_of(serve_plan(rt, disk, alloc, plan, control, writer), writer),
         Err(name) => refuse(writer, name),
@@ -226,11 +210,7 @@ fn serve_open<
 }
 
 // The same, with what the ways in need of the system. The status, and whether the control socket was bound.
-fn serve_through<
-    R: Clock + Eprint + Files<File = File> + Net + RandomSource + Threads + Wait + Sync,
-    D: Disk + Folder + Sync,
-    W: Write,
->(
+fn serve_through<R: ServiceSystem + Files<File = File>, D: ServiceDisk, W: Write>(
     rt: &R,
     disk: &D,
     alloc: Global,
@@ -272,11 +252,14 @@ fn status_of<W: Write>(served: Result<(), ServiceError>, writer: &mut W) -> u8 {
 ///
 /// Where `calls` names a file, a thread appends the record of each ended leg to it (`docs/RECORDS.md`), as this disk has it.
 /// Whatever becomes of the file, calls go on.
-pub fn run<
-    R: Clock + Eprint + Files<File = File> + Net + RandomSource + Threads + Wait + Sync,
-    D: Disk + Folder + Sync,
-    W: Write,
->(rt: &R, disk: &D, alloc: Global, plan: &[u8], settings: &Settings<'_>, writer: &mut W) -> u8 {
+pub fn run<R: ServiceSystem + Files<File = File>, D: ServiceDisk, W: Write>(
+    rt: &R,
+    disk: &D,
+    alloc: Global,
+    plan: &[u8],
+    settings: &Settings<'_>,
+    writer: &mut W,
+) -> u8 {
     let (status, is_bound) = match Plan::read(alloc, plan) {
         Ok(plan) => serve_through(rt, disk, alloc, plan, settings, writer),
         Err(fault) => {

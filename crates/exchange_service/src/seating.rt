@@ -6,7 +6,7 @@ use crate::journal::Journal;
 use crate::recording::{Written, serve_written};
 use crate::running::Settings;
 use crate::service_sockets::ServiceSockets;
-use call_writer::Disk;
+use crate::system::{ServiceDisk, ServiceSystem};
 use exchange_core::{Exchange, NoGate, Pass};
 use peer_lock::Naming;
 use peer_plan::Plan;
@@ -19,18 +19,13 @@ use std::net::Net;
 use std::random::RandomSource;
 use std::sync::Wait;
 use std::thread;
-use std::thread::Threads;
 use std::time::{Clock, Instant};
-use trace_writer::{Folder, Trace};
+use trace_writer::Trace;
 use udp_workers::{Post, TurnReport, WatchedExchange, start_until};
 use worker_seats::{ServiceError, ServiceSeat, lane_of, reports_of, seats_of};
 
 /// The workers serve beside the control socket until they are told to end. False if a thread was refused: then they end at once.
-pub(crate) fn serve_seats<
-    J: Naming,
-    P: Post + Send + Sync,
-    R: Clock + Eprint + Net + RandomSource + Threads + Wait + Sync,
->(
+pub(crate) fn serve_seats<J: Naming, P: Post + Send + Sync, R: ServiceSystem>(
     rt: &R,
     service: &WatchedExchange<'_, ServiceWatch, NoGate, J, P>,
     seats: &[ServiceSeat<'_, R, J, P>],
@@ -72,12 +67,7 @@ fn told_seats<'r, J: Naming, P: Post, R: Clock + Eprint + Net + RandomSource + W
 }
 
 // Has the seats serve, beside a control socket with a pass of its own, which goes back to the others.
-fn serve_seated<
-    J: Naming,
-    P: Post + Send + Sync,
-    R: Clock + Eprint + Net + RandomSource + Threads + Wait + Sync,
-    D: Disk + Folder + Sync,
->(
+fn serve_seated<J: Naming, P: Post + Send + Sync, R: ServiceSystem, D: ServiceDisk>(
     rt: &R,
     disk: &D,
     alloc: Global,
@@ -132,12 +122,7 @@ fn give_back<J: Naming>(
 }
 
 /// Has the workers of the plan serve; their passes and that of the socket go back to the others.
-pub(crate) fn serve_watched<
-    J: Naming,
-    P: Post + Send + Sync,
-    R: Clock + Eprint + Net + RandomSource + Threads + Wait + Sync,
-    D: Disk + Folder + Sync,
->(
+pub(crate) fn serve_watched<J: Naming, P: Post + Send + Sync, R: ServiceSystem, D: ServiceDisk>(
     rt: &R,
     disk: &D,
     alloc: Global,
