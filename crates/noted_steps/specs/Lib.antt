@@ -1,2 +1,2 @@
+pub mod Looked
 pub mod Notes
-pub mod Trails

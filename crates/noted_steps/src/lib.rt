@@ -4,12 +4,14 @@
 mod made;
 mod noted_book;
 mod noted_peer;
+mod octets;
 mod pass;
 mod peer_steps;
 mod seen;
-mod trail;
+pub mod trail;
 
-pub use made::{Made, Octets};
+pub use made::Made;
 pub use noted_book::NotedBook;
 pub use noted_peer::NotedPeer;
+pub use octets::Octets;
 pub use pass::Pass;

@@ -2,6 +2,7 @@
 ghost use Rattle.std.specs.Prelude.{◌≡◌, [], ◌∷◌, ◌++◌};
 ghost use Rattle.noted_steps.specs.Notes.{without_lease};
 
+use crate::octets::Octets;
 use crate::seen::Seen;
 use crate::trail::Trail;
 use call_auth::Challenge;
@@ -11,9 +12,6 @@ use leg_machine::{Caller, Format, OrderKind};
 use peer_lock::{
     EndedLeg, Onwards, OpenError, OrderError, PeerError, Status, Step, StepsSpent, TickReport,
 };
-
-/// Octets that were looked at.
-pub type Octets = Trail<u8>;
 
 /// What was asked of a locked state, and what it answered. A peer is its place in the plan; moments are in milliseconds.
 #[derive(Drop)]
@@ -66,8 +64,9 @@ pub(crate) fn told<T: Copy, E: Copy>(answer: &Result<T, (Lease, E)>) -> Result<T
 }
 
 // Notes a step behind those before it.
-pub(crate) fn push(trail: &mut Trail<Made>, made: Made)
-    ensures { trail.new ≡ trail.old ++ made ∷ [] }
+pub(crate) fn push(trail: &mut Trail, made: Made)
+    ensures begun { trail.new.begun ≡ trail.old.begun }
+    ensures items { trail.new.items ≡ trail.old.items ++ made ∷ [] }
 {
-    trail.add(&made);
+    *trail = Trail::with(trail, &made);
 }

@@ -3,7 +3,6 @@ ghost use Rattle.std.specs.Prelude.{◌≡◌, ◌+◌, []};
 ghost use Rattle.peer_accounts.specs.HandedUp.{IsNothing};
 
 use crate::made::{Made, push};
-use crate::seen::Seen;
 use crate::trail::Trail;
 use media_ledger::Share;
 use peer_lock::{Naming, Onwards, Pass as Credits};
@@ -16,8 +15,7 @@ use std::marker::Model;
 /// Its step credit is what it began with and one for each step of a peer among those. What was made is kept by proofs alone.
 pub struct Pass<J: Naming> {
     pub(crate) credits: Credits<J>,
-    pub(crate) begun: Seen<u64>,
-    pub(crate) made: Trail<Made>,
+    pub(crate) made: Trail,
 }
 
 // (Written out, so that whoever owns one proves a call where it is dropped, and not the drop of each field.)
@@ -25,7 +23,6 @@ impl<J: Naming> Drop for Pass<J> {
     fn drop(self) {
         let Pass {
             credits: _,
-            begun: _,
             made: _,
         } = self;
     }
@@ -37,9 +34,9 @@ impl<J: Naming> Model for Pass<J> {
 
     ghost Value = { Noted };
 
-    ghost view = { λ p. record { credit = p.credits; begun = p.begun; made = p.made } };
+    ghost view = { λ p. record { credit = p.credits; begun = p.made.begun; made = p.made.items } };
 
-    ghost invariant = { λ p. p.credits.steps ≡ p.begun + steps_in p.made };
+    ghost invariant = { λ p. p.credits.steps ≡ p.made.begun + steps_in p.made.items };
 }
 
 impl<J: Naming> Pass<J> {
@@ -54,12 +51,8 @@ impl<J: Naming> Pass<J> {
         ensures made { result.made ≡ [] }
     {
         let credits = Credits::new(octets, steps);
-        let begun = Seen::of(&credits.steps());
-        Pass {
-            credits,
-            begun,
-            made: Trail::new(),
-        }
+        let made = Trail::new(&credits.steps());
+        Pass { credits, made }
     }
 
     /// The media octets for which it has credit: those that peers accepted and that aren't carried yet.
@@ -107,11 +100,7 @@ impl<J: Naming> Pass<J> {
         ensures steps { result.1 ≡ self.credit.steps }
         ensures noted { self.credit.steps ≡ self.begun + steps_in self.made }
     {
-        let Pass {
-            credits,
-            begun: _,
-            made: _,
-        } = self;
+        let Pass { credits, made: _ } = self;
         credits.part()
     }
 }

@@ -22,8 +22,9 @@ ghost use Rattle.seq_window.specs.History.{IsLegal};
 ghost use Rattle.noted_steps.specs.Notes.{Notes, given_up, media_of, note, without_lease};
 ghost use Rattle.noted_steps.specs.declared.made.Made.TheVariants as mades;
 
-use crate::made::{Made, Octets, push, told};
+use crate::made::{Made, push, told};
 use crate::noted_peer::NotedPeer;
+use crate::octets::Octets;
 use crate::pass::Pass;
 use crate::seen::Seen;
 use call_auth::Challenge;

@@ -1,68 +1,43 @@
-//! A list of what was done.
-ghost use Rattle.std.specs.Prelude.{◌≡◌, [], ◌∷◌, ◌++◌};
+//! What was made under a pass, for proofs.
+ghost use Rattle.std.specs.Prelude.{◌≡◌, ℕ, List, [], ◌∷◌, ◌++◌};
+ghost use Rattle.std.specs.Borrow.{ftrue};
+ghost use Rattle.noted_steps.specs.declared.made.Made.{Made as MadeValue};
 
+use crate::made::Made;
 use std::marker::Model;
-use std::snapshot::Snapshot;
 
-/// A list of what was done, in order. Contracts see it as its list; at run time it has no octets.
-#[cycle(trail)]
+/// The step credit that a pass began with, and what was made under it since, in order. Contracts see them as `begun` and `items`; at run
+/// time it has no octets. The list is no Rust type's, so whoever holds one isn't proved with the types of all that can be made; that
+/// costs proofs by hand.
 #[derive(Drop)]
-pub struct Trail<T> {
-    end: Snapshot<End<T>>,
+pub struct Trail {
+    pub ghost begun: { ℕ },
+    pub ghost items: { List MadeValue },
 }
 
-// How a list ends: what went before, and its last item.
-#[cycle(trail)]
-#[derive(Drop)]
-enum End<T> {
-    Start,
-    After(Snapshot<Trail<T>>, Snapshot<T>),
+impl Model for Trail {
+    ghost also_owns = { λ _. ftrue };
 }
 
-impl<T> Model for Trail<T> {
-    ghost use Rattle.std.specs.Prelude.{List, length};
+// It owns nothing.
+unsafe impl Send for Trail {}
 
-    ghost Value = { List T };
+unsafe impl Sync for Trail {}
 
-    ghost use Rattle.noted_steps.specs.Trails.{items_at};
-
-    ghost view = { λ t. items_at t.end.value };
-
-    ghost size = { length };
-
-    ghost use Rattle.std.proofs.Common.{arith, length-append};
-
-    ghost size_decreases = { λ a h. Prim.grind (arith, length-append) };
-}
-
-impl<T> Trail<T> {
-    /// A list without an item, for proofs.
-    pub fn new() -> Trail<T>
-        ensures { result ≡ [] }
+impl Trail {
+    // Nothing that was made since this credit.
+    pub(crate) fn new(_begun: &u64) -> Trail
+        ensures { (result.begun ≡ _begun.now) × (result.items ≡ []) }
     {
-        Trail {
-            end: Snapshot::of(&End::Start),
-        }
+        Trail {}
     }
 
-    /// The list of these items, for proofs.
-    pub fn of(items: &[T]) -> Trail<T>
-        ensures { result ≡ items.now }
+    // What was made, and one more.
+    pub(crate) fn with(_before: &Trail, _made: &Made) -> Trail
+        ensures { (result.begun ≡ _before.now.begun) × (result.items ≡ _before.now.items ++ _made.now ∷ []) }
     {
-        let mut trail = Trail::new();
-        for item in items {
-            trail.add(item);
-        }
-        trail
-    }
-
-    /// Adds an item, of which only proofs keep anything.
-    pub fn add(&mut self, item: &T)
-        ensures { self.new ≡ self.old ++ item.now ∷ [] }
-    {
-        let before = Snapshot::of(&*self);
-        self.end = Snapshot::of(&End::After(before, Snapshot::of(item)));
+        Trail {}
     }
 }
 
-const _: () = prove!(std::mem::size_of::<Trail<u64>>() == 0);
+const _: () = prove!(std::mem::size_of::<Trail>() == 0);

@@ -1,5 +1,5 @@
-use Rattle.std.proofs.Common.{ap, sym}
-use Rattle.noted_steps.proofs.Noting.{noted_with}
+use Rattle.std.proofs.Common.{sym}
+use Rattle.noted_steps.proofs.Noting.{noted_as}
 use Rattle.noted_steps.proofs.noted_peer.NotedPeer.retire.Goals as goal
 
 pub returns-clause-none : goal.returns-clause-none
@@ -24,4 +24,4 @@ pub returns-clause-same : goal.returns-clause-same
 returns-clause-same g c = rw (sym c.self.view_is) c.retire-answer.ensures.same
 
 pub returns-clause-noted : goal.returns-clause-noted
-returns-clause-noted g c = rw (sym c.self.view_is, sym c.pass.view_is, sym c.seen_of.ensures) (ap (noted_with c.pass.inside.credits c.pass.inside.begun) c.push.ensures)
+returns-clause-noted g c = rw (sym c.self.view_is, sym c.pass.view_is, sym c.seen_of.ensures) (noted_as c.pass.inside.credits c.push.ensures.begun c.push.ensures.items)
