@@ -1,5 +1,5 @@
 use Rattle.std.proofs.lemmas.Result.{on_ok_weaker}
-use Rattle.std.proofs.Common.{◌≡◌, ◌∙◌, Some, true, inl, ap, refl, subst}
+use Rattle.std.proofs.Common.{◌≡◌, ◌∙◌, Some, true, inl, ap, refl, subst, sym}
 use Rattle.std.specs.Prelude.{OnOk}
 use Rattle.leg_machine.specs.Leg.{LegState}
 use Rattle.leg_machine.specs.Steps.{full_step}
@@ -45,7 +45,8 @@ all : (c : goal.After-note) → AreIndexed (after c) c.note.new.self
 all c =
     let source = c.args.frame.now.head.source in
     let from : is_from (legs_of c.self.inside) c.named.inside.leg.state.remote source ≡ true =
-    rw c.self.view_is (from_reached c.args.self.now source (leg_at c.args.self.now c.args.number) (before c) c.requires.there (is_found c).leg_is) in
+    subst (λ (legs : PeerLegs). is_from legs c.named.inside.leg.state.remote source ≡ true) (sym c.self.view_is)
+    (from_reached c.args.self.now source (leg_at c.args.self.now c.args.number) (before c) c.requires.there (is_found c).leg_is) in
     let may = of_either (made c) (MayLearn source c.named.inside.leg.state) (full_learns c.named.inside.leg.state c.args.frame.now c.args.now)
     (record { number = refl; remote = inl refl; ruled = record { rules = refl; width = refl; limit = refl } }) in
     learned (legs_of c.self.inside) c.place_of-index.result (before c) c.full_into-heard.new.self.state c.self.inside.by_remote c.note.new.self source c.args.number
