@@ -1,6 +1,6 @@
 -- What a NEW that comes, or one that goes out, makes of a peer.
 use Rattle.std.specs.Prelude.{map}
-use Rattle.std.proofs.Common.{◌≡◌, ℕ, List, Some, None, ap, ◌∙◌}
+use Rattle.std.proofs.Common.{◌≡◌, ℕ, List, Some, ap, ◌∙◌}
 use Rattle.call_book.specs.declared.leg_name.LegName.{LegName}
 use Rattle.call_signals.specs.declared.outcomes.Heard.{Heard}
 use Rattle.iax_frames.specs.FullFrame.{FullFrame, spelling}
@@ -8,15 +8,10 @@ use Rattle.leg_machine.specs.Leg.{LegState}
 use Rattle.leg_machine.specs.Openings.{open_in_step, open_out_step}
 use Rattle.call_signals.specs.declared.format.Format.{Format}
 use Rattle.leg_machine.specs.Steps.{heard_of}
-use Rattle.peer_legs.specs.Legs.{PeerLegs, leg_of_remote, with_place}
+use Rattle.peer_legs.specs.Legs.{with_place}
 use Rattle.peer_lock.specs.Openings.{with_opened}
 use Rattle.outbox.specs.Outbox.{put}
 use Rattle.peer_lock.specs.Peer.{PeerView, counted}
-
--- no leg has the remote number of one that a NEW opened
-pub new_remote : (legs : PeerLegs) (leg : LegState) (source : ℕ) → leg.remote ≡ Some source → leg_of_remote legs source ≡ None
-    → (remote : ℕ) → leg.remote ≡ Some remote → leg_of_remote legs remote ≡ None
-new_remote legs leg source is none remote here = let same : source ≡ remote = cc in rw (← same) none
 
 -- what it sends goes to the outbox
 pub took_new : (view old : PeerView) (name : LegName) (number : ℕ) (frame : FullFrame) (now : ℕ) (challenge : List ℕ) (outbox replies : List (List ℕ))
