@@ -5,7 +5,7 @@ ghost use Rattle.call_files.specs.Lines.{rest_of};
 use std::marker::Model;
 
 /// Octets that go to a file, and how many of them were written.
-#[derive(Debug, Drop)]
+#[derive(Drop)]
 pub struct Line {
     octets: Vec<u8>,
     written: usize,

@@ -9,7 +9,7 @@ pub struct Fault {
 }
 
 /// What stands in a file that was just opened.
-#[derive(Clone, Copy, Debug, PartialEq, Eq)]
+#[derive(Clone, Copy)]
 pub enum Beginning {
     /// Nothing.
     Empty,
@@ -20,7 +20,7 @@ pub enum Beginning {
 }
 
 /// Where the name of a file leads that is open.
-#[derive(Clone, Copy, Debug, PartialEq, Eq)]
+#[derive(Clone, Copy)]
 pub enum Whereabouts {
     /// To the file that is open.
     Same,

@@ -13,7 +13,7 @@ use std::alloc::{AllocError, Global};
 use std::{io, mem};
 
 /// A datagram between a peer and the exchange.
-#[derive(Clone, Copy, Debug)]
+#[derive(Clone, Copy)]
 pub struct DatagramEvent<'a> {
     /// In milliseconds.
     pub moment: u64,

@@ -7,7 +7,7 @@ use std::alloc::{AllocError, Global};
 use std::marker::Model;
 
 /// Which way a datagram goes.
-#[derive(Clone, Copy, Debug, PartialEq, Eq)]
+#[derive(Clone, Copy, PartialEq, Eq)]
 pub enum Direction {
     /// From the peer to the exchange.
     In,
@@ -16,7 +16,7 @@ pub enum Direction {
 }
 
 /// How media is carried ("Mini Frames", "Meta Frames").
-#[derive(Clone, Copy, Debug, PartialEq, Eq)]
+#[derive(Clone, Copy, PartialEq, Eq)]
 pub enum MediaKind {
     Mini,
     /// An entry of a trunk frame.
@@ -25,7 +25,7 @@ pub enum MediaKind {
 }
 
 /// What the frames of a run have in common.
-#[derive(Clone, Copy, Debug, PartialEq, Eq)]
+#[derive(Clone, Copy, PartialEq, Eq)]
 pub struct RunKey {
     /// The place of the peer.
     pub peer: u16,
@@ -36,7 +36,7 @@ pub struct RunKey {
 }
 
 /// One frame with media.
-#[derive(Clone, Copy, Debug, PartialEq, Eq)]
+#[derive(Clone, Copy)]
 pub struct MediaPiece {
     pub key: RunKey,
     /// In milliseconds.
@@ -45,7 +45,7 @@ pub struct MediaPiece {
 }
 
 /// Frames of one key, and when they came.
-#[derive(Clone, Copy, Debug, PartialEq, Eq)]
+#[derive(Clone, Copy)]
 pub struct MediaRun {
     pub key: RunKey,
     /// The moments of the first and of the last frame, in milliseconds.
@@ -97,7 +97,7 @@ impl MediaRun {
 }
 
 /// Runs of media, in the order in which they began. Contracts see their list.
-#[derive(Debug, Drop)]
+#[derive(Drop)]
 pub struct MediaRuns {
     runs: Vec<MediaRun>,
 }

@@ -5,7 +5,7 @@ ghost use Rattle.call_records.specs.Rows.{how_text};
 use crate::leg_moment::LegMoment;
 
 /// Which frame ended a call ("Call Tear Down", "Call Setup").
-#[derive(Clone, Copy, Debug, PartialEq, Eq)]
+#[derive(Clone, Copy)]
 pub enum Ending {
     /// The exchange sent a HANGUP.
     HungUpHere,
@@ -32,7 +32,7 @@ impl Ending {
 }
 
 /// The end of a call.
-#[derive(Clone, Copy, Debug, PartialEq, Eq)]
+#[derive(Clone, Copy)]
 pub struct CallEnd {
     pub how: Ending,
     pub at: LegMoment,

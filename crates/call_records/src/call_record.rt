@@ -15,7 +15,7 @@ use call_signals::ElementText;
 use seq_window::Record;
 
 /// What the record of a leg says of its call.
-#[derive(Debug, Drop)]
+#[derive(Drop)]
 pub struct CallRecord {
     /// The side that opened the call; none where the record doesn't begin with a NEW.
     pub opened_by: Option<Side>,

@@ -14,7 +14,7 @@ use csv::StringRecord;
 use std::alloc::{AllocError, Global};
 
 /// What is kept of a leg that has ended. It has no memory of its own, and is at most 1,024 octets large.
-#[derive(Debug, Drop)]
+#[derive(Drop)]
 pub struct CallRow {
     /// The serial of the call, which its other leg has too.
     pub call: u64,
@@ -37,7 +37,7 @@ pub struct CallRow {
 const _: () = prove!(std::mem::size_of::<CallRow>() <= 1024);
 
 /// The texts of a row that need a plan or a calendar.
-#[derive(Clone, Copy, Debug)]
+#[derive(Clone, Copy)]
 pub struct RowTexts<'a> {
     /// The name of the leg's peer.
     pub peer: &'a str,

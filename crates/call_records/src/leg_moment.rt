@@ -5,7 +5,7 @@ ghost use Rattle.call_records.specs.Courses.{ms_between};
 use crate::side::Side;
 
 /// A moment of a leg, as the timestamp of a full frame tells it ("Full Frames").
-#[derive(Clone, Copy, Debug, PartialEq, Eq)]
+#[derive(Clone, Copy)]
 pub struct LegMoment {
     /// Milliseconds since the leg was opened, modulo 2^32.
     pub ms: u32,

@@ -4,7 +4,7 @@ ghost use Rattle.call_records.specs.Courses.{is_side, is_called};
 ghost use Rattle.call_records.specs.Rows.{side_text};
 
 /// A side of a leg.
-#[derive(Clone, Copy, Debug, PartialEq, Eq)]
+#[derive(Clone, Copy)]
 pub enum Side {
     /// The other side: the peer.
     Peer,

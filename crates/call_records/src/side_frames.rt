@@ -15,7 +15,7 @@ use seq_window::{EntryView, FrameView, Record};
 use std::marker::Model;
 
 /// A frame of a record, looked at where it lies, and the side that sent it.
-#[derive(Clone, Copy, Debug)]
+#[derive(Clone, Copy)]
 pub struct SideFrameView<'a> {
     pub by: Side,
     pub frame: FrameView<'a>,

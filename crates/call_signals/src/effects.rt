@@ -8,7 +8,7 @@ use crate::signal::Signal;
 use crate::stage::Stage;
 
 /// How a taken frame is answered.
-#[derive(Clone, Copy, Debug, PartialEq, Eq)]
+#[derive(Clone, Copy)]
 pub enum Answering {
     /// By an ACK.
     Acknowledged,
@@ -28,7 +28,7 @@ impl Answering {
 }
 
 /// What a leg notes of a taken frame.
-#[derive(Clone, Copy, Debug, PartialEq, Eq)]
+#[derive(Clone, Copy)]
 pub enum Mark {
     /// Nothing is noted.
     Nothing,

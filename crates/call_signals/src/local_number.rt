@@ -5,7 +5,7 @@ use iax_frames::CallNumber;
 use std::marker::Model;
 
 /// The number of a leg here: 1 ..= 32,767. Contracts see its number.
-#[derive(Debug, Drop)]
+#[derive(Drop)]
 pub struct LocalNumber {
     number: CallNumber,
 }

@@ -10,7 +10,7 @@ use info_elements::{
 };
 
 /// The information elements of a NEW, each by its name. Of the elements of one number the last counts.
-#[derive(Clone, Copy, Debug)]
+#[derive(Clone, Copy)]
 pub struct NewElements<'a> {
     /// CALLED NUMBER, at most 255 octets.
     pub called: Option<&'a [u8]>,

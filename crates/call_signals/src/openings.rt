@@ -14,7 +14,7 @@ use crate::stage::Stage;
 use call_auth::Challenge;
 
 /// What becomes of a NEW that came ("Call Setup").
-#[derive(Clone, Copy, Debug, PartialEq, Eq)]
+#[derive(Clone, Copy)]
 pub enum Opening {
     /// VERSION is absent or not 2, or there is no common format.
     Refused,

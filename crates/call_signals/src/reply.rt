@@ -18,7 +18,7 @@ use iax_frames::{CallNumber, FullHead, Out, full_head, mini_head};
 use std::marker::Model;
 
 /// A numbered frame that answers another, or that an order or a tick sends.
-#[derive(Clone, Copy, Debug, PartialEq, Eq)]
+#[derive(Clone, Copy)]
 pub enum Reply {
     AuthReq,
     /// With the digits of the MD5 answer.

@@ -4,7 +4,7 @@ ghost use Rattle.std.specs.Prelude.{◌≡◌, length};
 use leg_machine::{Cause, Digit, Format, Indication, MediaSpan, Order, OrderKind};
 
 /// An order to a leg, in which media is a place in the datagram that brought it.
-#[derive(Clone, Copy, Debug, PartialEq, Eq)]
+#[derive(Clone, Copy)]
 pub enum Act {
     /// Accepts the offered call, in this format.
     Accept(Format),

@@ -5,7 +5,7 @@ use call_book::LegName;
 use leg_machine::Format;
 
 /// What the route of an offered call leads to.
-#[derive(Clone, Copy, Debug, PartialEq, Eq)]
+#[derive(Clone, Copy)]
 pub enum Route {
     /// No route leads to the number that is called.
     Nowhere,
@@ -16,7 +16,7 @@ pub enum Route {
 }
 
 /// A step that a call has to make next. A peer is its place in the plan.
-#[derive(Clone, Copy, Debug, PartialEq, Eq)]
+#[derive(Clone, Copy)]
 pub enum Need {
     /// The datagram goes to this peer.
     Datagram(u16),

@@ -7,7 +7,7 @@ use call_book::LegName;
 use leg_machine::{Cause, Format, Signal};
 
 /// Where a call stands. A peer is its place in the plan.
-#[derive(Clone, Copy, Debug, PartialEq, Eq)]
+#[derive(Clone, Copy)]
 pub enum Place {
     /// A datagram of this peer came.
     Datagram(u16),

@@ -17,7 +17,7 @@ const KEPT: usize = 4096;
 const SECOND_RING: usize = 64;
 
 /// How the file of the records is.
-#[derive(Clone, Copy, Debug, Default, PartialEq, Eq)]
+#[derive(Clone, Copy, Default)]
 pub struct FileState {
     /// How many rows were written to their ends, modulo 2^64.
     pub written: u64,

@@ -6,7 +6,7 @@ use peer_plan::Plan;
 use std::alloc::{AllocError, Global};
 
 /// The date of the moment 0, at which the exchange was opened: microseconds since the beginning of 1970, in UTC.
-#[derive(Clone, Copy, Debug, PartialEq, Eq)]
+#[derive(Clone, Copy)]
 pub struct Calendar {
     pub opened_us: i64,
 }

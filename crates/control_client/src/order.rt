@@ -3,7 +3,7 @@ use serde_json::json;
 use std::alloc::{AllocError, Global};
 
 /// What a running service is asked.
-#[derive(Clone, Copy, Debug, PartialEq, Eq)]
+#[derive(Clone, Copy)]
 pub enum Order<'w> {
     /// `peers`
     Peers,

@@ -8,7 +8,7 @@ use crate::json_text::{Shown, object_text};
 use std::alloc::{AllocError, Global};
 
 /// The status of an answer.
-#[derive(Clone, Copy, Debug, PartialEq, Eq)]
+#[derive(Clone, Copy)]
 pub enum Status {
     Ok,
     Created,
@@ -84,7 +84,7 @@ fn allow_line(status: Status) -> &'static str
 }
 
 /// An answer: its status, and its body in JSON.
-#[derive(Drop, Debug)]
+#[derive(Drop)]
 pub struct Answer {
     pub status: Status,
     pub body: String,

@@ -5,7 +5,7 @@ ghost use Rattle.control_requests.specs.Command.{call_number, call_row, row_of, 
 use crate::digits::number_up_to;
 
 /// What a client asks for.
-#[derive(Clone, Copy, Debug, PartialEq, Eq)]
+#[derive(Clone, Copy)]
 pub enum Command {
     /// `GET /`: what there is.
     Table,

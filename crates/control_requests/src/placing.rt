@@ -12,7 +12,7 @@ use std::alloc::{AllocError, Global};
 const NUMBER_LIMIT: usize = 255;
 
 /// A call that is to go out.
-#[derive(Drop, Debug)]
+#[derive(Drop)]
 pub struct PlaceOrder {
     /// The name of the peer, as the plan has it.
     pub peer: String,

@@ -19,7 +19,7 @@ pub const BODY_LIMIT: usize = 4096;
 pub const FIELD_LIMIT: usize = 32;
 
 /// A whole request, in the octets that hold it.
-#[derive(Clone, Copy, Debug, PartialEq, Eq)]
+#[derive(Clone, Copy, PartialEq, Eq)]
 pub struct Request<'b> {
     pub method: &'b str,
     pub path: &'b str,
@@ -27,7 +27,7 @@ pub struct Request<'b> {
 }
 
 /// What a client's octets are so far.
-#[derive(Clone, Copy, Debug, PartialEq, Eq)]
+#[derive(Clone, Copy, PartialEq, Eq)]
 pub enum Reading<'b> {
     /// A head of at most 8,192 octets and the body, of at most 4,096, that it states. What follows isn't looked at.
     Whole(Request<'b>),

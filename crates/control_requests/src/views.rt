@@ -8,7 +8,7 @@ use std::alloc::{AllocError, Global};
 use std::marker::Model;
 
 /// A peer, as it is shown.
-#[derive(Clone, Copy, Debug, PartialEq, Eq)]
+#[derive(Clone, Copy)]
 pub struct PeerRow<'a> {
     /// The name that the plan gives it.
     pub name: &'a str,
@@ -33,7 +33,7 @@ pub struct PeerRow<'a> {
 }
 
 /// A call, as it is shown.
-#[derive(Clone, Copy, Debug, PartialEq, Eq)]
+#[derive(Clone, Copy)]
 pub struct CallRow<'a> {
     /// The local call number.
     pub number: u16,
@@ -64,7 +64,7 @@ pub struct CallRow<'a> {
 }
 
 /// The media accounts, in octets.
-#[derive(Clone, Copy, Debug, PartialEq, Eq)]
+#[derive(Clone, Copy)]
 pub struct AccountsRow {
     pub accepted: u64,
     pub packed: u64,
@@ -145,7 +145,7 @@ fn push_row(alloc: Global, rows: &mut String, row: &str) -> Result<(), AllocErro
 }
 
 /// Rows of peers or of calls as JSON, one after the other. Contracts see their text, with a comma between each two.
-#[derive(Drop, Debug)]
+#[derive(Drop)]
 pub struct Rows {
     text: String,
 }

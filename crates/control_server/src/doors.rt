@@ -11,7 +11,7 @@ use std::io::{ErrorKind, Read, Write};
 use std::net::{Net, Shutdown, SocketAddr};
 
 /// By which way a client came.
-#[derive(Clone, Copy, Debug, PartialEq, Eq)]
+#[derive(Clone, Copy)]
 pub enum Door {
     /// The control socket, which takes orders.
     Control,

@@ -10,7 +10,7 @@ use std::alloc::AllocError;
 use std::io;
 
 /// Why a replay ends before its script does.
-#[derive(Clone, Copy, Debug, PartialEq, Eq)]
+#[derive(Clone, Copy)]
 pub enum Stop {
     /// The line isn't of a known form, or names an unknown peer.
     Script,
@@ -33,7 +33,7 @@ impl From<AllocError> for Stop {
 }
 
 /// A peer of the plan, and the endpoints between which its datagrams go.
-#[derive(Clone, Copy, Debug)]
+#[derive(Clone, Copy)]
 pub struct PeerOfPlan<'a> {
     /// Its place in the plan, from 0 on.
     pub place: u16,

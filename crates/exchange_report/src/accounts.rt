@@ -8,7 +8,7 @@ use std::io;
 use std::io::Write;
 
 /// The octets of media over all peers, as the accounts have them when they are closed.
-#[derive(Clone, Copy, Debug, PartialEq, Eq)]
+#[derive(Clone, Copy)]
 pub struct MediaAccounts {
     pub accepted: u64,
     pub packed: u64,

@@ -28,7 +28,7 @@ impl From<AllocError> for CaptureError {
 }
 
 /// A capture. Contracts see the octets of its file.
-#[derive(Debug, Drop)]
+#[derive(Drop)]
 pub struct Capture {
     file: Vec<u8>,
 }

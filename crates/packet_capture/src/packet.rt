@@ -4,7 +4,7 @@
 pub const MOST_PAYLOAD: usize = 65507;
 
 /// Where a datagram comes from or goes to.
-#[derive(Clone, Copy, Debug, PartialEq, Eq)]
+#[derive(Clone, Copy)]
 pub struct UdpEndpoint {
     /// The IPv4 address, its first octet the highest.
     pub address: u32,
@@ -12,7 +12,7 @@ pub struct UdpEndpoint {
 }
 
 /// A UDP datagram over IPv4, as one side sends it to the other.
-#[derive(Clone, Copy, Debug)]
+#[derive(Clone, Copy)]
 pub struct Packet<'a> {
     /// In milliseconds since 1970 began, or since whatever moment is 0.
     pub moment: u64,

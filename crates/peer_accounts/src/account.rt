@@ -13,7 +13,7 @@ use media_ledger::{Share, pass_on};
 use std::marker::{Model, PhantomData};
 
 /// What became of media that was carried to a peer.
-#[derive(Clone, Copy, PartialEq, Eq, Debug)]
+#[derive(Clone, Copy)]
 pub enum Carried {
     /// Written into a frame.
     Packed,

@@ -15,7 +15,7 @@ use std::io::Write;
 use std::sync::Wait;
 
 /// How a ladder is written.
-#[derive(Clone, Copy, Debug, PartialEq, Eq)]
+#[derive(Clone, Copy)]
 pub enum LadderForm {
     /// A picture, in SVG.
     Svg,

@@ -4,7 +4,7 @@ use peer_lock::Naming;
 use std::sync::Wait;
 
 /// How far a drain is.
-#[derive(Clone, Copy, Debug, PartialEq, Eq)]
+#[derive(Clone, Copy)]
 pub struct Drain {
     /// How long it lasts at most, in milliseconds.
     limit: u64,

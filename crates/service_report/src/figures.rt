@@ -5,7 +5,7 @@ ghost use Rattle.service_report.specs.Figures.{name_of, kind_of, value_of};
 use crate::metrics::Kind;
 
 /// What is known of a peer. Counts begin with the service, and go on at 0 after 2^64 - 1.
-#[derive(Clone, Copy, Debug, PartialEq, Eq)]
+#[derive(Clone, Copy)]
 pub struct PeerFigures<'a> {
     /// The name that the plan gives it.
     pub name: &'a str,
@@ -38,7 +38,7 @@ pub struct PeerFigures<'a> {
 }
 
 /// A figure of each peer.
-#[derive(Clone, Copy, Debug, PartialEq, Eq)]
+#[derive(Clone, Copy)]
 pub enum Figure {
     Received,
     TurnedAway,

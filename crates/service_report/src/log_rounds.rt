@@ -3,7 +3,7 @@ ghost use Rattle.std.specs.Prelude.{◌≡◌, ◌+◌, ◌^◌, ◌⊎◌};
 ghost use Rattle.service_report.specs.LogRounds.{due, begun};
 
 /// Rounds of so many milliseconds, one after the other.
-#[derive(Clone, Copy, Debug, PartialEq, Eq)]
+#[derive(Clone, Copy)]
 pub struct Rounds {
     /// How long a round lasts at least, in milliseconds.
     pub period: u64,

@@ -7,7 +7,7 @@ use std::alloc::{AllocError, Global};
 use std::marker::Model;
 
 /// What the values of a family do.
-#[derive(Clone, Copy, Debug, PartialEq, Eq)]
+#[derive(Clone, Copy)]
 pub enum Kind {
     /// They only grow, until the service begins anew.
     Counter,
@@ -16,7 +16,7 @@ pub enum Kind {
 }
 
 /// A label of a sample.
-#[derive(Clone, Copy, Debug, PartialEq, Eq)]
+#[derive(Clone, Copy)]
 pub struct Label<'a> {
     /// Letters, digits and `_`.
     pub name: &'a str,
@@ -25,7 +25,7 @@ pub struct Label<'a> {
 }
 
 /// The labels of a sample.
-#[derive(Clone, Copy, Debug, PartialEq, Eq)]
+#[derive(Clone, Copy)]
 pub enum Labels<'a> {
     None,
     One(Label<'a>),
@@ -33,14 +33,14 @@ pub enum Labels<'a> {
 }
 
 /// One value, of what its labels name.
-#[derive(Clone, Copy, Debug, PartialEq, Eq)]
+#[derive(Clone, Copy)]
 pub struct Sample<'a> {
     pub labels: Labels<'a>,
     pub value: u64,
 }
 
 /// A metric family: what is told of it, and its samples.
-#[derive(Clone, Copy, Debug, PartialEq, Eq)]
+#[derive(Clone, Copy)]
 pub struct Family<'a> {
     /// Letters, digits and `_`.
     pub name: &'a str,
@@ -63,7 +63,7 @@ impl Kind {
 }
 
 /// Families in the text form, one after the other. Contracts see their octets.
-#[derive(Drop, Debug)]
+#[derive(Drop)]
 pub struct Metrics {
     text: Vec<u8>,
 }

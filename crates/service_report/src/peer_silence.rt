@@ -3,7 +3,7 @@ ghost use Rattle.std.specs.Prelude.{◌≡◌};
 ghost use Rattle.service_report.specs.PeerSilence.{news_by, news_of};
 
 /// How a peer is, as far as the log has told.
-#[derive(Clone, Copy, Debug, PartialEq, Eq)]
+#[derive(Clone, Copy)]
 pub enum Hearing {
     /// It was never heard.
     Never,
@@ -14,7 +14,7 @@ pub enum Hearing {
 }
 
 /// What is to be told of a peer.
-#[derive(Clone, Copy, Debug, PartialEq, Eq)]
+#[derive(Clone, Copy)]
 pub enum News {
     /// It was heard for the first time.
     FirstWord,

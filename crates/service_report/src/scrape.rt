@@ -3,7 +3,7 @@ ghost use Rattle.std.specs.Prelude.{◌≡◌};
 ghost use Rattle.service_report.specs.Scrape.{scrape_of};
 
 /// What a request to the address of the metrics asks for.
-#[derive(Clone, Copy, Debug, PartialEq, Eq)]
+#[derive(Clone, Copy)]
 pub enum Scrape {
     /// `GET /metrics`
     Metrics,

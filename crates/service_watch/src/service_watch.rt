@@ -63,7 +63,7 @@ struct PeerMarks {
 }
 
 /// What is counted of a peer since the service began, modulo 2^64: its datagrams, and its legs that have ended.
-#[derive(Clone, Copy, Debug, Default, PartialEq, Eq)]
+#[derive(Clone, Copy, Default)]
 pub struct PeerMarksRead {
     /// The moment at which it was last heard, in milliseconds since the exchange was opened.
     pub heard: Option<u64>,

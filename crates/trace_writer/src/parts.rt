@@ -17,7 +17,7 @@ const KEPT: usize = 1024;
 const END: u8 = 0;
 
 /// A folder for a trace.
-#[derive(Clone, Copy, Debug)]
+#[derive(Clone, Copy)]
 pub struct TraceFolder<'a> {
     pub path: &'a str,
     /// How many octets all files have together at most, but for a turn.

@@ -25,7 +25,7 @@ pub trait Sockets {
 }
 
 /// Each is bound alone, and nothing is done with it.
-#[derive(Clone, Copy, Debug, Drop)]
+#[derive(Clone, Copy, Drop)]
 pub struct PlainSockets;
 
 impl Sockets for PlainSockets {
