@@ -1,7 +1,7 @@
 //! The sums of a peer's accounts, for whoever looks at them.
 
 /// The media octets of a peer, and its steps, as they are at one moment.
-#[derive(Clone, Copy, Default)]
+#[derive(Clone, Copy, Debug, Default, PartialEq, Eq)]
 pub struct Sums {
     /// What it brought and was taken in.
     pub accepted: u64,

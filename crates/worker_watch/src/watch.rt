@@ -15,7 +15,7 @@ pub enum ServiceStage {
 }
 
 /// What happened in a turn. A peer is named by its place in the plan.
-#[derive(Clone, Copy)]
+#[derive(Clone, Copy, Debug, PartialEq, Eq)]
 pub enum Event {
     /// A datagram of a peer was received, at this moment, in milliseconds since the exchange was opened.
     Received { peer: u16, now: u64 },
