@@ -215,16 +215,16 @@ class Service:
         with open(self.log, "ab") as log:
             words = [PROGRAM, "run", plan, "--control", path, *options]
             self.process = subprocess.Popen(words, stdout=subprocess.PIPE, stderr=log, text=True, env={**os.environ, **(environment or {})})
-        within("the control socket", 10, self.is_there)
+        within("an answer at the control socket", 10, self.answers)
 
-    def is_there(self):
+    def answers(self):
+        """Whether it answers. (Its control socket is bound before the sockets of its workers are, and answers once they are.)"""
         if self.process.poll() is not None:
             raise SystemExit(f"{PART}: ended with {self.process.returncode}: {self.process.stdout.read()}")
         try:
-            connected(self.path).close()
-            return True
+            return ask(self.path, "GET", "/")
         except OSError:
-            return False
+            return None
 
     def ended(self):
         printed, _ = self.process.communicate(timeout=20)
