@@ -23,34 +23,6 @@ use Rattle.call_signals.specs.declared.stage.Stage.TheVariants as stages
 
 -- ---- the leg before its first frame
 
-abbrev pub leg_for_new : PeerRules → ℕ → FullFrame → ℕ → List ℕ → LegState
-leg_for_new rules number frame now challenge = record {
-  rules = rules;
-  number = number;
-  opened = now;
-  stage = stages.Offered;
-  format = unwrap_or (call_format rules.formats frame) Gsm;
-  remote = Some frame.head.source;
-  owes = false;
-  doomed = false;
-  cause = NormalClearing;
-  quelched = false;
-  challenge = challenge_sent (opening_of rules frame) challenge;
-  authenticated = false;
-  voice_taken = false;
-  voice_sent = None;
-  pinged = now;
-  vnak_sent = None;
-  failure = None;
-  resent = 0;
-  window = record { history = []; width = rules.window; limit = rules.record_limit; sendings = [] };
-}
-
--- a NEW comes
-abbrev pub open_in_step : PeerRules → ℕ → FullFrame → ℕ → List ℕ → Step
-open_in_step rules number frame now challenge =
-    taken_step (opening_effect (opening_of rules frame)) (leg_for_new rules number frame now challenge) frame New now
-
 abbrev pub leg_for_call : PeerRules → ℕ → Format → ℕ → LegState
 leg_for_call rules number format now = record {
   rules = rules;
@@ -73,6 +45,19 @@ leg_for_call rules number format now = record {
   resent = 0;
   window = record { history = []; width = rules.window; limit = rules.record_limit; sendings = [] };
 }
+
+-- The other side's number is known, and the challenge is the one that is sent.
+abbrev pub leg_for_new : PeerRules → ℕ → FullFrame → ℕ → List ℕ → LegState
+leg_for_new rules number frame now challenge = record (leg_for_call rules number (unwrap_or (call_format rules.formats frame) Gsm) now) {
+  stage = stages.Offered;
+  remote = Some frame.head.source;
+  challenge = challenge_sent (opening_of rules frame) challenge;
+}
+
+-- a NEW comes
+abbrev pub open_in_step : PeerRules → ℕ → FullFrame → ℕ → List ℕ → Step
+open_in_step rules number frame now challenge =
+    taken_step (opening_effect (opening_of rules frame)) (leg_for_new rules number frame now challenge) frame New now
 
 -- a NEW goes out
 abbrev pub open_out_step : PeerRules → ℕ → List ℕ → List ℕ → Format → ℕ → Step

@@ -20,11 +20,10 @@ use crate::media::MediaSent;
 use call_auth::Challenge;
 use call_signals::openings::{call_format, opening_of};
 use call_signals::{
-    Caller, Cause, Format, Heard, LocalNumber, Message, NewElements, Order, OrderError, PeerRules,
-    Replies, Stage, StepError,
+    Caller, Format, Heard, Message, NewElements, Order, OrderError, PeerRules, Replies, Stage,
+    StepError,
 };
 use iax_frames::{CallNumber, Full, Payload};
-use seq_window::Window;
 use std::alloc::{AllocError, Global};
 use std::marker::Model;
 
@@ -83,31 +82,13 @@ impl Leg {
         ensures seen { IfOk result (λ opened. IsSeenOpening (seen opened.0.state) opened.1.signal) }
         ensures none_sent { OnErr result (replies.new ≡ replies.old) }
     {
-        let mut window = Window::new(alloc, rules.window, rules.record_limit)?;
-        window.reserve(4)?;
         let elements = NewElements::read(frame.payload());
         let opening = opening_of(rules, &elements);
-        let mut machine = Machine {
-            rules: rules.copied(),
-            number: LocalNumber::new(number),
-            opened: now,
-            stage: Stage::Offered,
-            format: call_format(rules.formats, &elements).unwrap_or(Format::Gsm),
-            remote: Some(frame.source()),
-            owes: false,
-            doomed: false,
-            cause: Cause::NormalClearing,
-            quelched: false,
-            challenge: opening.challenge(challenge),
-            authenticated: false,
-            voice_taken: false,
-            voice_sent: None,
-            pinged: now,
-            vnak_sent: None,
-            failure: None,
-            resent: 0,
-            window,
-        };
+        let format = call_format(rules.formats, &elements).unwrap_or(Format::Gsm);
+        let mut machine = Machine::new(alloc, rules, number, format, now)?;
+        machine.stage = Stage::Offered;
+        machine.remote = Some(frame.source());
+        machine.challenge = opening.challenge(challenge);
         let effect = opening.effect();
         let heard = machine.take(&effect, frame, &Message::New, now, replies);
         Ok((Leg { machine }, heard))
@@ -139,29 +120,7 @@ impl Leg {
         ensures seen { IfOk result (λ leg. seen leg.state ≡ fresh_leg Stage.Waiting) }
         ensures none_sent { OnErr result (replies.new ≡ replies.old) }
     {
-        let mut window = Window::new(alloc, rules.window, rules.record_limit)?;
-        window.reserve(4)?;
-        let mut machine = Machine {
-            rules: rules.copied(),
-            number: LocalNumber::new(number),
-            opened: now,
-            stage: Stage::Waiting,
-            format,
-            remote: None,
-            owes: false,
-            doomed: false,
-            cause: Cause::NormalClearing,
-            quelched: false,
-            challenge: None,
-            authenticated: false,
-            voice_taken: false,
-            voice_sent: None,
-            pinged: now,
-            vnak_sent: None,
-            failure: None,
-            resent: 0,
-            window,
-        };
+        let mut machine = Machine::new(alloc, rules, number, format, now)?;
         let mut elements = Payload::empty();
         machine.write_new(called, caller, &mut elements);
         let frame = machine.new_frame(elements.as_slice(), now);

@@ -1,9 +1,11 @@
 //! A leg's own state, and the small changes of which its steps are made.
-ghost use Rattle.std.specs.Prelude.{◌≡◌, ◌+◌, ◌<◌, ◌≤◌, ◌^◌, ◌∷◌, ◌++◌, ◌↔◌, [], true, false, length, Err, OnOk, OnErr};
+ghost use Rattle.std.specs.Prelude.{◌≡◌, ◌+◌, ◌<◌, ◌≤◌, ◌^◌, ◌∷◌, ◌++◌, ◌↔◌, [], true, false, length, Err, IfOk, OnOk, OnErr};
 ghost use Rattle.iax_frames.specs.FullFrame.{spelling};
 ghost use Rattle.seq_window.specs.Record.{frame_of};
 ghost use Rattle.seq_window.specs.Window.{held_count, judged_acknowledgement};
+ghost use Rattle.call_signals.specs.PeerRules.{IsPeerRules};
 ghost use Rattle.leg_machine.specs.Leg.{local_room, is_short_of_entries};
+ghost use Rattle.leg_machine.specs.Openings.{leg_for_call};
 ghost use Rattle.leg_machine.specs.Replies as replies;
 ghost use Rattle.leg_machine.specs.Working as steps;
 
@@ -15,6 +17,7 @@ use call_signals::{
 };
 use iax_frames::{CallNumber, Full, FullHead, Payload};
 use seq_window::{Acknowledged, FrameView, Window};
+use std::alloc::{AllocError, Global};
 
 /// A leg's fields. Its steps never fail: who calls one has made room for its entries before.
 #[derive(Drop)]
@@ -54,6 +57,45 @@ pub fn stored<'a>(frame: &'a Full) -> FrameView<'a>
 
 impl Machine {
     ghost use Rattle.leg_machine.specs.Leg.{leg_of, whole_leg, capacity_of, entered, failed, HasRoom};
+
+    /// A leg that was opened at the moment `now`, in milliseconds, under this local number, 1 ..= 32,767, before its first frame. It
+    /// waits for an answer to its NEW. `Err` comes only where memory was refused.
+    pub fn new(
+        alloc: Global,
+        rules: &PeerRules,
+        number: CallNumber,
+        format: Format,
+        now: u64,
+    ) -> Result<Machine, AllocError>
+        requires rules { IsPeerRules rules.now }
+        requires number { 1 ≤ number }
+        ensures leg { IfOk result (λ machine. leg_of machine ≡ leg_for_call rules.now number format now) }
+        ensures room { IfOk result (HasRoom 4) }
+    {
+        let mut window = Window::new(alloc, rules.window, rules.record_limit)?;
+        window.reserve(4)?;
+        Ok(Machine {
+            rules: rules.copied(),
+            number: LocalNumber::new(number),
+            opened: now,
+            stage: Stage::Waiting,
+            format,
+            remote: None,
+            owes: false,
+            doomed: false,
+            cause: Cause::NormalClearing,
+            quelched: false,
+            challenge: None,
+            authenticated: false,
+            voice_taken: false,
+            voice_sent: None,
+            pinged: now,
+            vnak_sent: None,
+            failure: None,
+            resent: 0,
+            window,
+        })
+    }
 
     /// The other side's number is learnt from the first frame; once it is known it stays.
     pub fn learn(&mut self, source: CallNumber)
