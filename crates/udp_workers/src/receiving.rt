@@ -25,42 +25,6 @@ const OCTETS: usize = 2049;
 // How many datagrams are received in one turn at most.
 const DATAGRAMS: u64 = 64;
 
-// Hands a datagram of a peer to the exchange, and tells what became of it.
-fn hand_on<V: Watch, G: Gate, J: Naming, R: Wait>(
-    rt: &R,
-    exchange: &Exchange<G, J>,
-    pass: &mut Pass<J>,
-    tally: &mut Tally<'_, V>,
-    peer: u16,
-    from: Endpoint,
-    octets: &[u8],
-    now: u64,
-    challenge: &Challenge,
-)
-    requires room { HasRoom 2 tally.old.report }
-    ensures received { tally.new.report.received ≡ tally.old.report.received }
-    ensures refused { tally.new.report.refused ≤ tally.old.report.refused + 1 }
-    ensures more { tally.old.report.refused ≤ tally.new.report.refused }
-    ensures sent { tally.new.report.sent ≡ tally.old.report.sent }
-    ensures lost { tally.new.report.lost ≡ tally.old.report.lost }
-    ensures faults { tally.new.report.faults ≡ tally.old.report.faults }
-    ensures watch { tally.new.watch ≡ tally.old.watch }
-    // Where it isn't refused, it makes a step.
-    ensures steps { pass.old.credit.steps + 1 + tally.old.report.refused ≤ pass.new.credit.steps + tally.new.report.refused }
-    ensures later { IsLater pass.old pass.new }
-    ensures handed { GivesAll (V.given tally.old.watch.now) pass.old pass.new }
-    ensures heard { IsHeard exchange.now from (record (moment exchange.now now) {
-      octets = octets.now;
-      challenge = Some challenge.now;
-    }) pass.old pass.new }
-{
-    let answer = exchange.datagram(rt, pass, from, octets, now, challenge);
-    if let Some(refusal) = answer.refused {
-        tally.tell(Event::Refused { peer, refusal });
-    }
-    tally.tell_retired(&answer.retired);
-}
-
 // Takes a datagram that was received. A stranger's is refused, and so is a NEW while the service drains; else it is handed to the
 // exchange.
 fn hear<V: Watch, G: Gate, J: Naming, R: Wait>(
@@ -105,9 +69,11 @@ fn hear<V: Watch, G: Gate, J: Naming, R: Wait>(
         tally.tell(Event::TurnedAway { peer });
         return;
     }
-    hand_on(
-        rt, exchange, pass, tally, peer, from, octets, now, challenge,
-    );
+    let answer = exchange.datagram(rt, pass, from, octets, now, challenge);
+    if let Some(refusal) = answer.refused {
+        tally.tell(Event::Refused { peer, refusal });
+    }
+    tally.tell_retired(&answer.retired);
 }
 
 // Receives a datagram, if one is there, and takes it. True if there may be another.
