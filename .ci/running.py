@@ -14,7 +14,8 @@ import time
 TOP = os.path.dirname(os.path.dirname(os.path.realpath(__file__)))
 PROGRAM = os.environ.get("EXCHANGE_MAIN") or f"{TOP}/crates/exchange_main/out/exchange_main"
 PART = os.path.basename(sys.argv[0])
-PORTS = itertools.count(20000 + 2000 * ("service", "control", "call_files", "traces").index(PART))
+# (below those of endurance/, which begin at 11000)
+PORTS = itertools.count(6000 + 1000 * ("service", "control", "call_files", "traces").index(PART))
 # IAX subclasses.
 NEW, HANGUP, ACK, ACCEPT, REJECT, AUTHREQ, AUTHREP = 1, 5, 4, 7, 6, 8, 9
 LOOPBACK = "127.0.0.1"
