@@ -7,6 +7,7 @@ ghost use Rattle.leg_machine.specs.Media.{accepts_media};
 ghost use Rattle.leg_machine.specs.Onward.{onward_of};
 ghost use Rattle.leg_machine.specs.Openings.{opening_data, new_data, called_of, calling_of, caller_of, formats_of};
 ghost use Rattle.leg_machine.specs.Ticks.{is_idle};
+ghost use Rattle.leg_machine.specs.Tie.{SendsNumbered};
 ghost use Rattle.call_signals.specs.NewElements.{named, new_elements};
 ghost use Rattle.call_signals.specs.declared.signal.Signal.TheVariants.{Offered};
 
@@ -114,9 +115,11 @@ impl Leg {
         self.machine.number.get()
     }
 
-    /// The window and its record. Its held frames are those that the record has as sent and not acknowledged.
+    /// The window and its record. Its held frames are those that the record has as sent and not acknowledged; what it has as sent
+    /// is numbered.
     pub fn window(&self) -> &Window
-        ensures { result.now.state ≡ self.now.state.window }
+        ensures window { result.now.state ≡ self.now.state.window }
+        ensures numbered { SendsNumbered self.now.state }
     {
         &self.machine.window
     }

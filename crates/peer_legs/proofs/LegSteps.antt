@@ -4,13 +4,12 @@ use Rattle.std.proofs.lemmas.Result.{on_ok_weaker, on_err_weaker}
 use Rattle.call_book.specs.declared.leg_name.LegName.{LegName}
 use Rattle.call_signals.specs.declared.rules.PeerRules.{PeerRules}
 use Rattle.leg_machine.specs.Leg.{Leg, LegState}
-use Rattle.leg_machine.specs.Tie.{SendsNumbered}
 use Rattle.peer_legs.specs.Legs.{NamedLeg, PeerLegs, AreLegs, AreLegsOf, leg_at, with_leg}
-use Rattle.peer_legs.specs.LegsInside.{IsIndex}
+use Rattle.peer_legs.specs.LegsInside.{IsIndex, IsRecorded}
 use Rattle.peer_legs.proofs.LegChanges.{AreIndexed, stepped, placed_is_with_leg, still_there}
 use Rattle.peer_legs.proofs.LegIndex.{placed}
 use Rattle.peer_legs.proofs.LegSearch.{IsFound}
-use Rattle.peer_legs.proofs.RuleChanges.{IsRecorded, stepped_legs_of, number_fits}
+use Rattle.peer_legs.proofs.RuleChanges.{stepped_legs_of}
 use Rattle.peer_legs.proofs.SameCall.{KeepsRules, IsSameCall, same}
 
 -- the leg of this name, in a state
@@ -20,7 +19,6 @@ named_leg name leg = record { name = name; leg = leg }
 -- what a step keeps, and what is so of the leg's record afterwards
 pub record IsKept (old new : LegState) (step : LegState → LegState) : Type 0 where
   pub rules : KeepsRules old (step old)
-  pub numbered : 0 < old.number → old.number < 2 ^ 15 → SendsNumbered old → SendsNumbered (step old)
   pub recorded : IsRecorded new
 
 -- A step was carried out at the leg that stands at a place, or was refused and left it. The clauses speak of `said`.
@@ -85,11 +83,9 @@ module _ {T E : Type 0} {legs value : PeerLegs} {index : List (Option ℕ)} {pla
 
   pub ruled_made : (rules : PeerRules) → AreLegsOf rules value → AreLegsOf rules (placed legs place (Some (named_leg name new.state)))
   ruled_made rules =
-      let fits = number_fits legs place (named_leg name old.state) made.are.legs_are made.at in
       stepped_legs_of legs value place (named_leg name old.state) new.state rules made.view made.at (record {
         ruled = of_either (KeepsRules old.state) made.kept.rules (same old.state).ruled;
-        numbered = λ was. of_either SendsNumbered (made.kept.numbered fits.0 fits.1 was) was;
-        recorded = λ _. made.kept.recorded;
+        recorded = made.kept.recorded;
       })
 
   -- a step that leaves both numbers

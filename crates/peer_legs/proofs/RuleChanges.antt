@@ -4,10 +4,8 @@ use Rattle.std.proofs.lemmas.Bool.{cases_eq}
 use Rattle.std.proofs.lemmas.Option.{slice_get_within}
 use Rattle.call_signals.specs.declared.rules.PeerRules.{PeerRules}
 use Rattle.leg_machine.specs.Leg.{LegState}
-use Rattle.leg_machine.specs.Tie.{SendsNumbered}
-use Rattle.seq_window.specs.History.{IsLegal, acked_count, sent_count}
-use Rattle.seq_window.specs.Window.{held_count}
 use Rattle.peer_legs.specs.Legs.{NamedLeg, PeerLegs, AreLegs, IsLegOf, AreLegsOf, leg_at}
+use Rattle.peer_legs.specs.LegsInside.{IsRecorded}
 use Rattle.peer_legs.proofs.LegChanges.{none_placed}
 use Rattle.peer_legs.proofs.LegIndex.{placed}
 use Rattle.peer_legs.proofs.PlaceLaws.{StandsAt, stands_at, leg_at_place, back, slice_get-set_same, slice_get-set_other}
@@ -31,16 +29,10 @@ placed_legs_of legs value place new rules view all here number named at =
 
 -- ---- a leg changes
 
--- what a window says of its record
-pub record IsRecorded (leg : LegState) : Type 0 where
-  pub legal : IsLegal leg.window.width leg.window.limit leg.window.history
-  pub held : held_count leg.window + acked_count leg.window.history ≡ sent_count leg.window.history
-
 -- the step keeps what a peer says of each of its legs
 pub record IsLegStep (old new : LegState) : Type 0 where
   pub ruled : KeepsRules old new
-  pub numbered : SendsNumbered old → SendsNumbered new
-  pub recorded : IsRecorded old → IsRecorded new
+  pub recorded : IsRecorded new
 
 pub stepped_legs_of : (legs value : PeerLegs) (place : ℕ) (named : NamedLeg) (leg : LegState) (rules : PeerRules) → legs ≡ value
     → slice_get legs.places place ≡ Some (Some named) → IsLegStep named.leg leg → AreLegsOf rules value
@@ -49,25 +41,16 @@ stepped_legs_of legs value place named leg rules view at keeps all =
     let there : leg_at value (legs.first + place) ≡ Some named =
     ap (λ (v : PeerLegs). leg_at v (legs.first + place)) (sym view) ∙ leg_at_place legs (legs.first + place) place (Some named) refl at in
     let was : IsLegOf rules named.leg = all (legs.first + place) named there in
-    let now : IsRecorded leg = keeps.recorded (record { legal = was.legal; held = was.held }) in
     placed_legs_of legs value place (Some (record { name = named.name; leg = leg })) rules view all
     (λ other e. let is : record { name = named.name; leg = leg } ≡ other = cc in
     subst (λ (n : NamedLeg). IsLegOf rules n.leg) is (record {
       rules_are = keeps.ruled.rules ∙ was.rules_are;
       width = keeps.ruled.width ∙ was.width;
       limit = keeps.ruled.limit ∙ was.limit;
-      legal = now.legal;
-      numbered = keeps.numbered was.numbered;
-      held = now.held;
+      legal = keeps.recorded.legal;
+      numbered = keeps.recorded.numbered;
+      held = keeps.recorded.held;
     }))
-
--- the number of a leg is a call number
-pub number_fits : (legs : PeerLegs) (place : ℕ) (named : NamedLeg) → AreLegs legs → slice_get legs.places place ≡ Some (Some named)
-    → (0 < named.leg.number) × (named.leg.number < 2 ^ 15)
-number_fits legs place named are at =
-    let is : named.leg.number ≡ legs.first + place = (are.named place named at).2 in
-    let within : place < length legs.places = slice_get_within legs.places place (Some named) at in
-    (omega (arith, are.some), omega (arith, are.within))
 
 -- no leg yet
 pub fresh_legs_of : (peer first count : ℕ) (rules : PeerRules) → AreLegsOf rules (record { peer = peer; first = first; places = replicate count None })

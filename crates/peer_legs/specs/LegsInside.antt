@@ -1,5 +1,9 @@
 -- The legs that the arrays stand for.
 use Rattle.std.specs.Prelude.{◌≡◌, ℕ, ◌+◌, ◌<◌, true, List, Option, Some, slice_get, All}
+use Rattle.leg_machine.specs.Leg.{LegState}
+use Rattle.leg_machine.specs.Tie.{SendsNumbered}
+use Rattle.seq_window.specs.History.{IsLegal, acked_count, sent_count}
+use Rattle.seq_window.specs.Window.{held_count}
 use Rattle.peer_legs.specs.Legs.{NamedLeg, PeerLegs, AreLegs}
 use Rattle.peer_legs.specs.Rests.{is_resting}
 use Rattle.peer_legs.specs.declared.peer_legs.PeerLegs.TheInside.{Inside}
@@ -22,6 +26,12 @@ pub record IsIndex (legs : PeerLegs) (index : List (Option ℕ)) : Type 0 where
 -- before a moment all legs rest
 abbrev pub RestUntil : ℕ → List (Option NamedLeg) → Type 0
 RestUntil until places = (now : ℕ) → now < until → All (λ place. is_resting place now ≡ true) places
+
+-- A leg's record is legal, what it has as sent is numbered, and as many frames are held as it has as sent and not acknowledged.
+pub record IsRecorded (leg : LegState) : Type 0 where
+  pub legal : IsLegal leg.window.width leg.window.limit leg.window.history
+  pub numbered : SendsNumbered leg
+  pub held : held_count leg.window + acked_count leg.window.history ≡ sent_count leg.window.history
 
 pub record IsSound (a : Inside) : Type 0 where
   pub legs : AreLegs (legs_of a)

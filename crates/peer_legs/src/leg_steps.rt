@@ -58,7 +58,6 @@ impl PeerLegs {
         ensures sound { AreLegs self.new }
         ensures ruled { (rules : PeerRules) → AreLegsOf rules self.old → AreLegsOf rules self.new }
     {
-        leg_machine::laws::steps_send_as_sides();
         let index = self.place_of(number);
         let Some(named) = &mut self.places[index] else {
             unreachable!()
@@ -103,7 +102,6 @@ impl PeerLegs {
         ensures sound { AreLegs self.new }
         ensures ruled { (rules : PeerRules) → AreLegsOf rules self.old → AreLegsOf rules self.new }
     {
-        leg_machine::laws::steps_send_as_sides();
         let index = self.place_of(number);
         let Some(named) = &mut self.places[index] else {
             unreachable!()
@@ -148,7 +146,6 @@ impl PeerLegs {
         ensures sound { AreLegs self.new }
         ensures ruled { (rules : PeerRules) → AreLegsOf rules self.old → AreLegsOf rules self.new }
     {
-        leg_machine::laws::steps_send_as_sides();
         let index = self.place_of(number);
         let Some(named) = &mut self.places[index] else {
             unreachable!()
@@ -182,7 +179,6 @@ impl PeerLegs {
         ensures sound { AreLegs self.new }
         ensures ruled { (rules : PeerRules) → AreLegsOf rules self.old → AreLegsOf rules self.new }
     {
-        leg_machine::laws::steps_send_as_sides();
         if index >= self.places.len() {
             return 0;
         }

@@ -1,8 +1,7 @@
 //! Legs and the leases on their names.
-ghost use Rattle.std.specs.Prelude.{◌≡◌, ℕ, ◌+◌, ◌<◌, ◌≤◌, true, Some, Ok};
+ghost use Rattle.std.specs.Prelude.{◌≡◌, ℕ, ◌<◌, ◌≤◌, true, Some, Ok};
+ghost use Rattle.peer_legs.specs.LegsInside.{IsRecorded};
 ghost use Rattle.peer_legs.specs.Rests.{is_quiet, is_resting};
-ghost use Rattle.seq_window.specs.History.{IsLegal, acked_count, sent_count};
-ghost use Rattle.seq_window.specs.Window.{held_count};
 
 use call_book::{Lease, LegName};
 use leg_machine::{Leg, MediaSent, OrderError};
@@ -84,11 +83,9 @@ impl NamedLeg {
     }
 }
 
-// A leg's record is legal, and as many frames are held as it has as sent and not acknowledged: for proofs alone.
+// What a leg says of its record: for proofs alone.
 pub(crate) fn recorded(leg: &Leg)
-    ensures legal { IsLegal leg.now.state.window.width leg.now.state.window.limit leg.now.state.window.history }
-    ensures held { held_count leg.now.state.window + acked_count leg.now.state.window.history ≡
-        sent_count leg.now.state.window.history }
+    ensures { IsRecorded leg.now.state }
 {
     let window = leg.window();
     let _legal = window.record();

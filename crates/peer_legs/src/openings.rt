@@ -39,7 +39,6 @@ pub fn open_in(
     ensures heard { IfOk result (λ opened. opened.1 ≡ heard_of (open_in_step rules.now number frame.now now challenge.now)) }
     ensures none_sent { OnErr result (replies.new ≡ replies.old) }
 {
-    leg_machine::laws::steps_send_as_sides();
     match Leg::open_in_into(alloc, rules, number, frame, now, challenge, replies) {
         Ok((leg, heard)) => {
             recorded(&leg);

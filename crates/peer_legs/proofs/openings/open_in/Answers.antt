@@ -1,6 +1,5 @@
-use Rattle.std.proofs.Common.{◌∙◌, ap, rules, subst, sym}
+use Rattle.std.proofs.Common.{◌∙◌, ap, rules}
 use Rattle.leg_machine.specs.Leg.{LegState}
-use Rattle.leg_machine.specs.Tie.{SendsNumbered}
 use Rattle.peer_legs.proofs.SameCall.{open_in_is}
 use Rattle.peer_legs.proofs.openings.open_in.Goals as goal
 
@@ -26,12 +25,11 @@ returns-in-Ok-clause-remote c =
 pub returns-in-Ok-clause-ruled : goal.returns-in-Ok-clause-ruled
 returns-in-Ok-clause-ruled c =
     let is = (open_in_is c.args.rules.now c.args.number c.args.frame.now c.args.now c.args.challenge.now).ruled in
-    let sent = c.steps_send_as_sides.ensures.calls_in c.args.rules.now c.args.number c.args.frame.now c.args.now c.args.challenge.now in
     record {
       rules_are = ap (λ (leg : LegState). leg.rules) c.in-Ok.ensures.leg ∙ is.rules;
       width = ap (λ (leg : LegState). leg.window.width) c.in-Ok.ensures.leg ∙ is.width;
       limit = ap (λ (leg : LegState). leg.window.limit) c.in-Ok.ensures.leg ∙ is.limit;
       legal = c.recorded.ensures.legal;
-      numbered = subst SendsNumbered (sym c.in-Ok.ensures.leg) sent.numbered;
+      numbered = c.recorded.ensures.numbered;
       held = c.recorded.ensures.held;
     }

@@ -36,8 +36,7 @@ made c =
     made_at c.self.view_is c.self.invariant.legs c.self.invariant.index (is_found c) c.full_into-heard.ensures.leg c.full_into-heard.ensures.err
     (record {
       rules = (full_learns c.named.inside.leg.state c.args.frame.now c.args.now).ruled;
-      numbered = λ _ _ was. (c.steps_send_as_sides.ensures.frames c.named.inside.leg.state c.args.frame.now c.args.now was).numbered;
-      recorded = record { legal = c.recorded.ensures.legal; held = c.recorded.ensures.held };
+      recorded = c.recorded.ensures;
     })
 
 -- the other side's number may have been learnt

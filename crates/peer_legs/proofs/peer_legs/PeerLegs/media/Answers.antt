@@ -2,7 +2,6 @@ use Rattle.std.proofs.Common.{Some}
 use Rattle.leg_machine.specs.Leg.{LegState}
 use Rattle.leg_machine.specs.Media.{media_sent, after_media}
 use Rattle.leg_machine.specs.Tie.{SendsAtMostOne}
-use Rattle.call_signals.specs.declared.order.Order.TheVariants as orders
 use Rattle.peer_legs.specs.Legs.{leg_at}
 use Rattle.peer_legs.specs.LegsInside.{legs_of}
 use Rattle.peer_legs.proofs.AtRest.{rest_media}
@@ -26,8 +25,7 @@ made c =
     c.media_into-sent.ensures.leg c.media_into-sent.ensures.err
     (record {
       rules = (same c).ruled;
-      numbered = λ more less was. (c.steps_send_as_sides.ensures.orders c.named.inside.leg.state (orders.Media c.args.media) c.args.now was more less).numbered;
-      recorded = record { legal = c.recorded.ensures.legal; held = c.recorded.ensures.held };
+      recorded = c.recorded.ensures;
     })
 
 pub invariant_of-self : goal.invariant_of-self

@@ -25,8 +25,7 @@ made c =
     c.order_into-obeyed.ensures.leg c.order_into-obeyed.ensures.err
     (record {
       rules = (same c).ruled;
-      numbered = λ more less was. (c.steps_send_as_sides.ensures.orders c.named.inside.leg.state c.args.order.now c.args.now was more less).numbered;
-      recorded = record { legal = c.recorded.ensures.legal; held = c.recorded.ensures.held };
+      recorded = c.recorded.ensures;
     })
 
 pub invariant_of-self : goal.invariant_of-self

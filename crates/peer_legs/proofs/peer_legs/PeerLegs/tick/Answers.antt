@@ -41,8 +41,7 @@ made c = record {
   refused = tt;
   kept = record {
     rules = (same c).ruled;
-    numbered = λ _ _ was. (c.steps_send_as_sides.ensures.ticks (c.tick_into-skipped.result == 0) c.named.inside.leg.state c.args.now was).numbered;
-    recorded = record { legal = c.recorded.ensures.legal; held = c.recorded.ensures.held };
+    recorded = c.recorded.ensures;
   };
 }
 
