@@ -11,18 +11,9 @@ use Rattle.leg_machine.specs.Seen.{seen}
 use Rattle.peer_legs.specs.Legs.{NamedLeg, PeerLegs, AreLegs, filled, leg_at, leg_named, if_named, first_remote, leg_of_remote, is_remote, with_leg, with_place}
 use Rattle.peer_legs.proofs.PlaceLaws.{slice_get-set_other, stands_at, leg_at_place, placed_there}
 use Rattle.peer_lock.specs.Seen.{seen_named, seen_at, TurnsAt}
+use Rattle.peer_lock.proofs.Names.{is_same_itself, same_name}
 
 -- ---- names
-
-pub is_same_itself : (a : LegName) → is_same a a ≡ true
-is_same_itself a = grind (arith, nat_tests)
-
-pub same_name : (a b : LegName) → is_same a b ≡ true → a ≡ b
-same_name a b h =
-    let p : a.peer ≡ b.peer = grind (arith, nat_tests) in
-    let q : a.number ≡ b.number = grind (arith, nat_tests) in
-    let r : a.serial ≡ b.serial = grind (arith, nat_tests) in
-    λ i. record { peer = p i; number = q i; serial = r i }
 
 -- the leg of a name stands under its number
 pub record IsNamed (legs : PeerLegs) (name : LegName) (named : NamedLeg) : Type 0 where

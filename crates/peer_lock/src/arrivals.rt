@@ -198,31 +198,6 @@ impl<J: Naming> PeerState<J> {
         Ok(self.answer_alone(pass, &head))
     }
 
-    // A full frame comes for which a leg is looked for.
-    fn deliver(
-        &mut self,
-        pass: &mut Pass<J>,
-        frame: &Full,
-        now: u64,
-        onwards: &mut Onwards,
-    ) -> Result<Step, PeerError>
-        requires steps { self.old.accounts.steps ≢ J.first_steps }
-        requires short { length frame.now.payload ≤ 1388 }
-        requires nothing { IsNothing onwards.old }
-        ensures made { IfOk result
-            (λ step.
-            Makes (delivered_step J.first_octets self.old
-            (delivery self.old frame.now) frame.now now) self.new step pass.old pass.new onwards.new) }
-        ensures unrefused { OnOk result (full_refused self.old frame.now ≡ None) }
-        ensures refused { IfErr result (λ e. IsDue (full_refused self.old frame.now) e) }
-        ensures err { OnErr result (IsUnchanged self.old self.new pass.old pass.new onwards.new) }
-    {
-        match self.legs.find(frame) {
-            Some(number) => self.reach(pass, number, frame, now, onwards),
-            None => self.answer_unknown(pass, frame),
-        }
-    }
-
     // A full frame comes.
     fn full(
         &mut self,
@@ -253,7 +228,10 @@ impl<J: Naming> PeerState<J> {
         if is_cut(frame) {
             return Err(PeerError::Cut);
         }
-        self.deliver(pass, frame, now, onwards)
+        match self.legs.find(frame) {
+            Some(number) => self.reach(pass, number, frame, now, onwards),
+            None => self.answer_unknown(pass, frame),
+        }
     }
 
     // A datagram comes that was read.

@@ -3,9 +3,8 @@ ghost use Rattle.std.specs.Prelude.{◌≡◌, ◌≢◌, ◌+◌, ◌-◌, ◌<
 ghost use Rattle.std.specs.Prelude.{IsNone, IfSome, IfOk, IfErr, OnOk, OnErr, ℕ};
 ghost use Rattle.call_signals.specs.declared.order.Order.{Order as OrderValue};
 ghost use Rattle.std.specs.Option.{ForSome};
-ghost use Rattle.leg_machine.specs.OrderTable.{IsRefusal, IsShortMedia, is_voice, wants_memory, media_refused, order_refused};
+ghost use Rattle.leg_machine.specs.OrderTable.{IsShortMedia, is_voice, wants_memory, media_refused, order_refused};
 ghost use Rattle.leg_machine.specs.OrderTable.{order_carried};
-ghost use Rattle.peer_accounts.specs.Accounts.{with_step as with_credit};
 ghost use Rattle.leg_machine.specs.Media.{media_sent};
 ghost use Rattle.call_signals.specs.declared.outcomes.Judged.TheVariants.{Unnumbered};
 ghost use Rattle.peer_legs.specs.Legs.{NamedLeg as NamedLegValue, leg_at, leg_named};
@@ -20,7 +19,7 @@ use crate::state::PeerState;
 use crate::steps::Step;
 use call_book::LegName;
 use iax_frames::CallNumber;
-use leg_machine::{Judged, MediaSent, Order, OrderError as LegOrderError};
+use leg_machine::{Judged, MediaSent, Order};
 use peer_accounts::{Carried, Naming, Pass};
 
 impl<J: Naming> PeerState<J> {
@@ -112,18 +111,17 @@ impl<J: Naming> PeerState<J> {
     }
 
     // The leg of a name obeys another order, and what it sends goes to the outbox.
-    fn obey(&mut self, name: LegName, order: &Order, now: u64) -> Result<(), LegOrderError>
+    fn obey(&mut self, name: LegName, order: &Order, now: u64) -> Result<(), OrderError>
         requires there { IsSome (leg_at self.old.legs name.number) }
         requires media { IsShortMedia order.now }
         ensures peer { (named : NamedLegValue) → leg_at self.old.legs name.number ≡ Some named
             → OnOk result (counted self.new ≡ with_order self.old named (order_carried named.leg order.now now)) }
         ensures accounts { self.new.accounts ≡ self.old.accounts }
         ensures unrefused { (named : NamedLegValue) → leg_at self.old.legs name.number ≡ Some named →
-            OnOk result (order_refused named.leg order.now now ≡ None) }
+            OnOk result (from_leg_due (order_refused named.leg order.now now) ≡ None) }
         ensures refused { (named : NamedLegValue) → leg_at self.old.legs name.number ≡ Some named
-            → IfErr result (IsRefusal (order_refused named.leg order.now now)) }
-        ensures memory { result ≡ Err LegOrderError.Memory → (named : NamedLegValue) →
-            leg_at self.old.legs name.number ≡ Some named
+            → IfErr result (IsOrderRefusal (from_leg_due (order_refused named.leg order.now now))) }
+        ensures memory { result ≡ Err OrderError.Memory → (named : NamedLegValue) → leg_at self.old.legs name.number ≡ Some named
             → wants_memory named.leg order.now now ≡ true }
         ensures err { OnErr result (self.new ≡ self.old) }
     {
@@ -131,37 +129,6 @@ impl<J: Naming> PeerState<J> {
         self.legs.order(name.number, order, now, &mut self.replies)?;
         put_all(&mut self.outbox, &self.replies);
         Ok(())
-    }
-
-    // The leg of a name obeys another order.
-    fn order_leg(
-        &mut self,
-        pass: &mut Pass<J>,
-        name: LegName,
-        order: &Order,
-        now: u64,
-    ) -> Result<Step, OrderError>
-        requires steps { self.old.accounts.steps ≢ J.first_steps }
-        requires there { IsSome (leg_at self.old.legs name.number) }
-        requires media { IsShortMedia order.now }
-        ensures peer { (named : NamedLegValue) → leg_at self.old.legs name.number ≡ Some named
-            → OnOk result (self.new ≡ with_order self.old named (order_carried named.leg order.now now)) }
-        ensures step { IfOk result (λ step. step ≡ leg_alone name Unnumbered) }
-        ensures credit { OnOk result (pass.new ≡ with_credit pass.old 0) }
-        ensures unrefused { (named : NamedLegValue) → leg_at self.old.legs name.number ≡ Some named →
-            OnOk result (from_leg_due (order_refused named.leg order.now now) ≡ None) }
-        ensures refused { (named : NamedLegValue) → leg_at self.old.legs name.number ≡ Some named
-            → IfErr result (IsOrderRefusal (from_leg_due (order_refused named.leg order.now now))) }
-        ensures memory { result ≡ Err OrderError.Memory → (named : NamedLegValue) → leg_at self.old.legs name.number ≡ Some named
-            → wants_memory named.leg order.now now ≡ true }
-        ensures err { OnErr result ((self.new ≡ self.old) × (pass.new ≡ pass.old)) }
-    {
-        self.obey(name, order, now)?;
-        self.account.count_step(pass);
-        Ok(Step {
-            judged: Judged::Unnumbered,
-            touched: Some(name),
-        })
     }
 
     // Why no leg obeys an order under a name.
@@ -210,7 +177,14 @@ impl<J: Naming> PeerState<J> {
         }
         match order {
             Order::Media(media) => self.order_media(pass, name, media, now),
-            _ => self.order_leg(pass, name, order, now),
+            _ => {
+                self.obey(name, order, now)?;
+                self.account.count_step(pass);
+                Ok(Step {
+                    judged: Judged::Unnumbered,
+                    touched: Some(name),
+                })
+            }
         }
     }
 }
