@@ -57,42 +57,11 @@ fn seen_of(answer: &Option<(Lease, EndedLeg)>) -> Option<Seen<EndedLeg>>
 }
 
 impl<J: Naming> NotedPeer<J> {
-    /// A datagram comes from the peer, at most 2,048 octets, at the moment `now`, in milliseconds: one step, at the leg that it
-    /// concerns, if any. What is handed up is written to the list, which is empty. It is noted, with the answer.
+    /// A datagram that was read comes from the peer, at the moment `now`, in milliseconds: one step, at the leg that it concerns,
+    /// if any. What is handed up is written to the list, which is empty. It is noted, with the answer.
     ///
-    /// Refusals are looked for in this order, as `PeerError` says them: `StepsSpent`, `TooLong`, `Short`, `MetaCommand`,
-    /// `EntryCut`, `NoSource`, `Cut`, `NeedsNumber`, `NoCall`, `RecordFull`, `Memory`. `Memory` comes only where memory was
-    /// refused. Then the peer and the credit are as before.
-    pub fn datagram(
-        &mut self,
-        pass: &mut Pass<J>,
-        octets: &[u8],
-        now: u64,
-        onwards: &mut Onwards,
-    ) -> Result<Step, PeerError>
-        requires nothing { IsNothing onwards.old }
-        ensures noted { Notes (mades.Datagram self.old.number octets.now now result onwards.new) pass.old pass.new }
-        ensures number { self.new.number ≡ self.old.number }
-        ensures made { IfOk result (λ step. (d : DatagramValue) →
-            IsWorked J.first_steps self.old.state.accounts.steps octets.now d
-            → Makes (datagram_step J.first_octets self.old.state d now) self.new.state step
-            pass.old.credit pass.new.credit onwards.new) }
-        ensures worked { OnOk result ((d : DatagramValue) × IsWorked J.first_steps self.old.state.accounts.steps octets.now d) }
-        ensures unrefused { OnOk result ((d : DatagramValue) → IsWorked J.first_steps self.old.state.accounts.steps octets.now d →
-            datagram_refused self.old.state d ≡ None) }
-        ensures unworked { (e : PeerErrorValue) → IsUnworked J.first_steps self.old.state.accounts.steps octets.now e →
-            result ≡ Err e }
-        ensures refused { IfErr result (λ e. IsUnworked J.first_steps self.old.state.accounts.steps octets.now e
-            ⊎ ((d : DatagramValue) × IsWorked J.first_steps self.old.state.accounts.steps octets.now d ×
-            IsDue (datagram_refused self.old.state d) e)) }
-        ensures err { OnErr result (IsUnchanged self.old.state self.new.state pass.old.credit pass.new.credit onwards.new) }
-    {
-        self.datagram_read(pass, &ReadDatagram::of(octets), now, onwards)
-    }
-
-    /// A datagram that was read comes from the peer, at the moment `now`, in milliseconds: `datagram` without the reading.
-    ///
-    /// Refusals are looked for in the order of `PeerError`, as by `datagram`. `Memory` comes only where memory was refused.
+    /// Refusals are looked for in the order of `PeerError`. `Memory` comes only where memory was refused. Then the peer and the
+    /// credit are as before.
     #[tactic(auto, using(crate::proofs::Counted::steps_in_longer))]
     pub fn datagram_read(
         &mut self,

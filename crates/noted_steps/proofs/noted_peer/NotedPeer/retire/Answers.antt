@@ -1,27 +1,8 @@
-use Rattle.std.proofs.Common.{sym}
+use Rattle.std.proofs.Common.{refl, sym}
 use Rattle.noted_steps.proofs.Noting.{noted_as}
 use Rattle.noted_steps.proofs.noted_peer.NotedPeer.retire.Goals as goal
 
-pub returns-clause-none : goal.returns-clause-none
-returns-clause-none g c = rw (sym c.self.view_is) c.retire-answer.ensures.none
-
-pub returns-clause-lease : goal.returns-clause-lease
-returns-clause-lease g c = c.retire-answer.ensures.lease
-
-pub returns-clause-record : goal.returns-clause-record
-returns-clause-record g c = rw (sym c.self.view_is) c.retire-answer.ensures.record
-
-pub returns-clause-facts : goal.returns-clause-facts
-returns-clause-facts g c = rw (sym c.self.view_is) c.retire-answer.ensures.facts
-
-pub returns-clause-legal : goal.returns-clause-legal
-returns-clause-legal g c = c.retire-answer.ensures.legal
-
-pub returns-clause-gone : goal.returns-clause-gone
-returns-clause-gone g c = rw (sym c.self.view_is) c.retire-answer.ensures.gone
-
-pub returns-clause-same : goal.returns-clause-same
-returns-clause-same g c = rw (sym c.self.view_is) c.retire-answer.ensures.same
-
-pub returns-clause-noted : goal.returns-clause-noted
-returns-clause-noted g c = rw (sym c.self.view_is, sym c.pass.view_is, sym c.seen_of.ensures) (noted_as c.pass.inside.credits c.push.ensures.begun c.push.ensures.items)
+pub returns : goal.returns
+returns g c =
+    let made = c.retire-answer.ensures in
+    rw (sym c.self.view_is, sym c.pass.view_is, sym c.seen_of.ensures) record { noted = noted_as c.pass.inside.credits c.push.ensures.begun c.push.ensures.items; number = refl; none = made.none; lease = made.lease; «record» = made.«record»; facts = made.facts; legal = made.legal; gone = made.gone; same = made.same }

@@ -1,20 +1,7 @@
-use Rattle.std.proofs.Common.{◌∙◌, ap, sym}
+use Rattle.std.proofs.Common.{refl, sym}
 use Rattle.noted_steps.proofs.noted_peer.NotedPeer.tick.Goals as goal
 
-pub returns-clause-spent : goal.returns-clause-spent
-returns-clause-spent g c = rw (sym c.self.view_is) c.tick-answer.ensures.spent
-
-pub returns-clause-ticked : goal.returns-clause-ticked
-returns-clause-ticked g c = rw (sym c.self.view_is) c.tick-answer.ensures.ticked
-
-pub returns-clause-quiet : goal.returns-clause-quiet
-returns-clause-quiet g c = c.tick-answer.ensures.quiet
-
-pub returns-clause-credit : goal.returns-clause-credit
-returns-clause-credit g c = rw (sym c.pass.view_is) c.tick-answer.ensures.credit
-
-pub returns-clause-err : goal.returns-clause-err
-returns-clause-err g c = rw (sym c.self.view_is, sym c.pass.view_is) c.tick-answer.ensures.err
-
-pub returns-clause-noted : goal.returns-clause-noted
-returns-clause-noted g c = record { made = rw (sym c.self.view_is, sym c.pass.view_is) c.push.ensures.items; begun = c.push.ensures.begun ∙ ap (λ pass. pass.begun) c.pass.view_is }
+pub returns : goal.returns
+returns g c =
+    let made = c.tick-answer.ensures in
+    rw (sym c.self.view_is, sym c.pass.view_is) record { noted = record { made = c.push.ensures.items; begun = c.push.ensures.begun }; number = refl; spent = made.spent; ticked = made.ticked; quiet = made.quiet; credit = made.credit; err = made.err }
