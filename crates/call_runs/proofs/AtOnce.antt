@@ -20,9 +20,10 @@ use Rattle.call_runs.specs.Stored.{Stored, HaveRanges}
 use Rattle.call_runs.specs.StoredNames.{has_leg, opened_next, LeasesAreInHand, OpeningsAreFree, NoneMeetsOffered, NamesAreTheLegs}
 use Rattle.call_runs.proofs.Called.{one_of}
 use Rattle.call_runs.proofs.Events.{lease_held}
-use Rattle.call_runs.proofs.HeldNames.{bit, same_bits, IsWorlds, the_worlds, leg_times, leases_free}
+use Rattle.call_runs.proofs.HeldNames.{same_bits, IsWorlds, the_worlds, leg_times, leases_free}
 use Rattle.call_runs.proofs.InWorld.{IsInWorld}
-use Rattle.call_runs.proofs.Names.{is_same_itself, same_name}
+use Rattle.peer_lock.proofs.Names.{is_same_itself, same_name}
+use Rattle.call_steps.proofs.BookNames.{bit}
 
 -- the leg of a name, under its number
 at_name : (o : Option NamedLeg) (name : LegName) (named : NamedLeg) → if_named name o ≡ Some named → (o ≡ Some named)

@@ -17,7 +17,8 @@ use Rattle.peer_lock.specs.Seen.{SeenNamed, seen_named}
 use Rattle.peer_lock.specs.declared.errors.OpenError.{OpenError}
 use Rattle.call_runs.specs.Stored.{Stored, ArePeers, AreSeenIn}
 use Rattle.call_runs.specs.StoredSteps.{heard_of, TakesDatagram, TakesNew, SendsNew, Obeys, Disobeys, TakesOrder, TakesTick, GivesUp, AtPeer, leases_after}
-use Rattle.call_runs.proofs.Names.{found_seen, done_there}
+use Rattle.call_steps.proofs.WorldLegs.{found_seen}
+use Rattle.call_runs.proofs.Names.{done_there}
 use Rattle.call_runs.proofs.Places.{seen_set}
 use Rattle.call_runs.proofs.WorldSteps.{PeersSteps, ComesOut, IsSceneOf}
 

@@ -1,10 +1,8 @@
 -- What a world says of the names in its book, said of the stored legs and leases.
 use Rattle.std.specs.Prelude.{option_map, is_some, ◌&&◌}
-use Rattle.std.specs.FinMap.{get}
-use Rattle.std.proofs.Common.{◌≡◌, ℕ, zero, suc, ◌+◌, ◌≤◌, ◌==◌, Bool, true, false, cond, List, [], ◌∷◌, Option, Some, None, slice_get, refl, sym, ap, subst, ◌∙◌, arith, inl, inr}
+use Rattle.std.proofs.Common.{◌≡◌, ℕ, zero, suc, ◌+◌, ◌≤◌, ◌==◌, Bool, true, false, List, [], ◌∷◌, Option, Some, None, slice_get, refl, sym, ap, subst, ◌∙◌, arith, inl, inr}
 use Rattle.std.proofs.lemmas.Bool.{cases_Bool}
-use Rattle.std.proofs.lemmas.Bool.Decides.{nat_tests}
-use Rattle.call_book.specs.Book.{Book, has_name, is_name_in, is_same}
+use Rattle.call_book.specs.Book.{Book, has_name, is_same}
 use Rattle.call_book.specs.declared.leg_name.LegName.{LegName}
 use Rattle.call_steps.specs.Law.{times, names_of, leases_of}
 use Rattle.call_steps.specs.Scene.{Leg, is_leased, leg_at as world_leg_at}
@@ -13,14 +11,14 @@ use Rattle.call_steps.specs.World.{World, Caller}
 use Rattle.peer_lock.specs.Legs.{NamedLeg, leg_at, if_named}
 use Rattle.peer_lock.specs.Peer.{PeerView}
 use Rattle.peer_lock.specs.Seen.{SeenNamed, seen_named}
+use Rattle.peer_lock.proofs.Names.{is_same_itself, same_name}
+use Rattle.call_steps.proofs.BookNames.{bit, one_per_number}
+use Rattle.call_steps.proofs.Held.{found_at}
+use Rattle.call_steps.proofs.WorldLegs.{found_seen, none_seen}
 use Rattle.call_runs.specs.Stored.{Stored}
 use Rattle.call_runs.specs.StoredNames.{has_leg_in, has_leg, NamesAreHeldOnce, LegsAreBooked, NumbersServeOne, LeasesAreFree}
 use Rattle.call_runs.proofs.Called.{times_append}
 use Rattle.call_runs.proofs.InWorld.{IsInWorld}
-use Rattle.call_runs.proofs.Names.{is_same_itself, same_name, found_seen}
-
-abbrev pub bit : Bool → ℕ
-bit b = cond b 1 0
 
 -- ---- lists of names
 
@@ -49,23 +47,6 @@ held_times name (first ∷ callers) (suc who) caller at is =
 
 -- ---- legs of a world
 
-found_at : (legs : List Leg) (peer number : ℕ) (leg : Leg) → world_leg_at legs peer number ≡ Some leg
-    → (leg.name.peer ≡ peer) × (leg.name.number ≡ number) × (1 ≤ times leg.name (names_of legs))
-found_at [] peer number leg is = absurd (cc)
-found_at (first ∷ legs) peer number leg is =
-    elim (cases_Bool (first.name.peer == peer && first.name.number == number)) [
-      | inl here ↦
-          let same : first ≡ leg = let e = rw here at is in cc in
-          let p : first.name.peer ≡ peer = grind (arith, nat_tests) in
-          let q : first.name.number ≡ number = grind (arith, nat_tests) in
-          let once : bit (is_same first.name first.name) ≡ 1 = ap bit (is_same_itself first.name) in
-          subst (λ (l : Leg). (l.name.peer ≡ peer) × (l.name.number ≡ number) × (1 ≤ times l.name (names_of (first ∷ legs)))) same
-          (p, q, omega arith)
-      | inr other ↦
-          let there = found_at legs peer number leg (rw other at is) in
-          (there.0, there.1, omega (arith, there.2))
-    ]
-
 none_times : (legs : List Leg) (name : LegName) → world_leg_at legs name.peer name.number ≡ None → times name (names_of legs) ≡ 0
 none_times [] name is = refl
 none_times (leg ∷ legs) name is =
@@ -77,16 +58,7 @@ none_times (leg ∷ legs) name is =
           omega (arith, none_times legs name (rw e at is), no)
     ]
 
--- ---- names of a book
-
-name_found : (o : Option LegName) (name : LegName) → is_name_in o name ≡ true → o ≡ Some name
-name_found None name h = cc
-name_found (Some found) name h = ap (λ (n : LegName). Some n) (same_name found name h)
-
-pub one_per_number : (book : Book) (a b : LegName) → has_name book a ≡ true → has_name book b ≡ true → a.number ≡ b.number → a ≡ b
-one_per_number book a b ha hb e =
-    let same : Some a ≡ Some b = sym (name_found (get book.names a.number) a ha) ∙ ap (get book.names) e
-    ∙ name_found (get book.names b.number) b hb in cc
+-- ---- how often a name stands in a book
 
 some_bit : (b : Bool) (n : ℕ) → n ≡ bit b → 1 ≤ n → b ≡ true
 some_bit true n e le = refl
@@ -177,14 +149,10 @@ module _ {within : Type 0} {called : List LegName} {stored : Stored} (in_world :
           → leg_at peer.legs name.number ≡ o
           → times name (names_of world.legs) ≡ bit (is_some (if_named name o))
       at_number peer at None there =
-          none_times world.legs name (no_leg (world_leg_at world.legs name.peer name.number)
+          none_times world.legs name (none_seen (world_leg_at world.legs name.peer name.number)
           (ap (λ (n : ℕ). option_map look_of (world_leg_at world.legs n name.number)) (sym (are name.peer peer at).place_is)
           ∙ seen.legs.sees name.peer peer at name.number
           ∙ ap (option_map seen_named) there))
-        where
-          no_leg : (o : Option Leg) → option_map look_of o ≡ None → o ≡ None
-          no_leg None is = refl
-          no_leg (Some leg) is = cc
       at_number peer at (Some named) there = elim (cases_Bool (is_same named.name name)) [
         | inl e ↦
             let worlds = the_worlds name.peer name.number peer named at there in

@@ -13,5 +13,4 @@ mod InWorld
 mod HeldNames
 mod AtOnce
 mod Made
-mod PeerCalls
 mod Locked

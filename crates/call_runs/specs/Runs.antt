@@ -1,5 +1,5 @@
 -- Many calls at once on an exchange that is stored: one change after another, whichever comes first.
-use Rattle.std.specs.Prelude.{◌≡◌, ℕ, List, [], ◌∷◌, None, Some, slice_get, slice_set}
+use Rattle.std.specs.Prelude.{◌≡◌, ℕ, List, [], ◌∷◌, None, Some, fold, slice_get, slice_set}
 use Rattle.call_steps.specs.Work.{next_of, after_told}
 use Rattle.call_steps.specs.World.{Caller, Start, work_of}
 use Rattle.call_steps.specs.declared.need.Need.{Need}
@@ -57,5 +57,4 @@ IsRun first [] = Unit {0}
 IsRun first (next ∷ later) = Changes first next × IsRun next later
 
 abbrev pub last_of : Stored → List Stored → Stored
-last_of first [] = first
-last_of first (next ∷ later) = last_of next later
+last_of first later = fold (λ before next. next) first later

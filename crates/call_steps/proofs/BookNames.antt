@@ -1,22 +1,12 @@
--- When two names are one, and where the names of a book stand.
-use Rattle.std.proofs.Common.{◌≡◌, ℕ, Option, Some, None, Bool, true, cond, sym, ap, ◌∙◌, arith}
-use Rattle.std.proofs.lemmas.Bool.Decides.{nat_tests}
+-- Where the names of a book stand.
+use Rattle.std.proofs.Common.{◌≡◌, ℕ, Option, Some, None, Bool, true, cond, sym, ap, ◌∙◌}
 use Rattle.std.specs.FinMap.{get}
-use Rattle.call_book.specs.Book.{Book, is_name_in, is_same, has_name}
+use Rattle.call_book.specs.Book.{Book, is_name_in, has_name}
 use Rattle.call_book.specs.declared.leg_name.LegName.{LegName}
+use Rattle.peer_lock.proofs.Names.{is_same_itself, same_name}
 
 abbrev pub bit : Bool → ℕ
 bit b = cond b 1 0
-
-pub is_same_itself : (a : LegName) → is_same a a ≡ true
-is_same_itself a = grind (arith, nat_tests)
-
-pub same_name : (a b : LegName) → is_same a b ≡ true → a ≡ b
-same_name a b h =
-    let p : a.peer ≡ b.peer = grind (arith, nat_tests) in
-    let q : a.number ≡ b.number = grind (arith, nat_tests) in
-    let r : a.serial ≡ b.serial = grind (arith, nat_tests) in
-    λ i. record { peer = p i; number = q i; serial = r i }
 
 name_found : (o : Option LegName) (name : LegName) → is_name_in o name ≡ true → o ≡ Some name
 name_found None name h = cc

@@ -1,8 +1,8 @@
 mod Signals
-mod BookNames
+pub mod BookNames
 mod Callers
 mod Onward
-mod Held
+pub mod Held
 mod Fits
 mod Names
 mod Weights
@@ -21,7 +21,7 @@ mod TalkSteps
 mod Talk
 mod Idle
 mod SeenReplies
-mod WorldLegs
+pub mod WorldLegs
 mod PeerSteps
 mod PeerTicks
 mod Numbers

@@ -1,7 +1,7 @@
 //! What one leg is ordered when another hands something up.
 ghost use Rattle.std.specs.Prelude.{◌≡◌, length};
 
-use leg_machine::{Cause, Digit, Format, Indication, MediaSpan, Order, OrderKind};
+use leg_machine::{Cause, Digit, Format, Indication, MediaSpan, Order};
 
 /// An order to a leg, in which media is a place in the datagram that brought it.
 #[derive(Clone, Copy)]
@@ -29,23 +29,6 @@ pub enum Act {
 impl Act {
     ghost use Rattle.leg_machine.specs.Seen.{kind_of};
     ghost use Rattle.call_steps.specs.Act.{act_kind, act_media, order_media, LiesWithin};
-
-    /// The order's kind, without the octets of its media.
-    pub fn kind(&self) -> OrderKind
-        ensures { result ≡ act_kind self.now }
-    {
-        match self {
-            Act::Accept(format) => OrderKind::Accept(*format),
-            Act::Reject(cause) => OrderKind::Reject(*cause),
-            Act::Indicate(indication) => OrderKind::Indicate(*indication),
-            Act::Answer => OrderKind::Answer,
-            Act::Dtmf(digit) => OrderKind::Dtmf(*digit),
-            Act::Media(_) => OrderKind::Media,
-            Act::Hangup(cause) => OrderKind::Hangup(*cause),
-            Act::Doom(cause) => OrderKind::Doom(*cause),
-            Act::Paid => OrderKind::Paid,
-        }
-    }
 
     /// The order with the octets of its media, which lies within these octets of the datagram.
     pub fn order<'a>(&self, octets: &'a [u8]) -> Order<'a>

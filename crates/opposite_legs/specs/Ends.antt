@@ -1,5 +1,5 @@
 -- Two legs, each a leg of a peer, that are the opposite ends of one call ("Message Transport").
-use Rattle.std.specs.Prelude.{◌≡◌, ◌⊎◌, ℕ, ◌≤◌, true, List, [], ◌∷◌, ◌++◌, All, Option, None, Some, slice_get}
+use Rattle.std.specs.Prelude.{◌≡◌, ◌⊎◌, ℕ, ◌≤◌, true, List, [], ◌∷◌, ◌++◌, All, Option, None, Some, fold, slice_get}
 use Rattle.call_book.specs.declared.leg_name.LegName.{LegName}
 use Rattle.call_signals.specs.Message.{message_of}
 use Rattle.call_signals.specs.declared.rules.PeerRules.{PeerRules}
@@ -89,8 +89,7 @@ AreSteps ends [] = Unit {0}
 AreSteps ends (next ∷ later) = OneSteps ends next × AreSteps next later
 
 abbrev pub last : Ends → List Ends → Ends
-last ends [] = ends
-last ends (next ∷ later) = last next later
+last ends later = fold (λ before next. next) ends later
 
 -- before its leg is opened
 abbrev pub unopened : PeerRules → End

@@ -1,8 +1,21 @@
-use Rattle.call_runs.proofs.PeerCalls.{heard}
+use Rattle.std.specs.Prelude.{Ok}
+use Rattle.std.proofs.Common.{inl}
+use Rattle.call_steps.specs.declared.reply.Reply.TheVariants as replies
 use Rattle.call_runs.proofs.peer_calls.hear.Goals as goal
 
 pub returns-in-Ok : goal.returns-in-Ok
 returns-in-Ok g c =
     let worked = c.in-Ok.ensures.worked in
-    heard g.J.Naming.first_octets c.args.peer.now c.datagram.new.self worked.0 c.args.now c.in-Ok.step _ _ c.datagram.new.onwards
-    (c.in-Ok.ensures.made worked.0 worked.1)
+    let made = c.in-Ok.ensures.made worked.0 worked.1 in
+    let room = c.datagram.new.onwards.room in
+    inl (record {
+      first = g.J.Naming.first_octets;
+      datagram = worked.0;
+      now = c.args.now;
+      room = room;
+      becomes = made.peer;
+      answers = λ i. replies.Datagram (Ok (record {
+        touched = (made.answer i).touched;
+        onwards = record { signals = made.signals i; offer = made.offer i; room = room };
+      }));
+    })

@@ -1,9 +1,22 @@
-use Rattle.call_runs.proofs.PeerCalls.{heard_new}
+use Rattle.std.specs.Prelude.{Ok}
+use Rattle.std.proofs.Common.{inl}
+use Rattle.call_steps.specs.declared.reply.Reply.TheVariants as replies
 use Rattle.call_runs.proofs.peer_calls.hear_new.Goals as goal
 
 pub returns-in-Ok-clause-made : goal.returns-in-Ok-clause-made
 returns-in-Ok-clause-made g c =
-    heard_new c.args.peer.now c.open_in.new.self c.args.lease g.J.Naming.first_steps c.args.frame.now c.args.now
-    c.args.challenge.now c.in-Ok.step
-    c.open_in.new.onwards c.in-Ok.ensures.unrefused c.in-Ok.ensures.peer c.in-Ok.ensures.step c.in-Ok.ensures.signals
-    c.in-Ok.ensures.offer
+    let made = c.in-Ok.ensures in
+    let room = c.open_in.new.onwards.room in
+    inl (record {
+      credit = g.J.Naming.first_steps;
+      frame = c.args.frame.now;
+      now = c.args.now;
+      challenge = c.args.challenge.now;
+      room = room;
+      unrefused = made.unrefused;
+      becomes = made.peer;
+      answers = λ i. replies.OpenIn (Ok (record {
+        touched = (made.step i).touched;
+        onwards = record { signals = made.signals i; offer = made.offer i; room = room };
+      }));
+    })
