@@ -77,29 +77,22 @@ may_deny : (place : Place) (reply : Reply) (begun : Beginning) → is_answer (ne
 may_deny (places.Datagram peer) (replies.Datagram (Ok heard)) begun answers first no_remote = tt
 may_deny (places.Datagram peer) (replies.Datagram (Err peer_errors.NeedsNumber)) begun answers first no_remote = tt
 may_deny (places.Datagram peer) (replies.Datagram (Err error)) begun answers first no_remote = tt
-may_deny (places.Datagram peer) reply begun answers first no_remote = absurd (cc)
 may_deny (places.ReserveIn peer) (replies.Reserve (Ok name)) begun answers first no_remote = tt
 may_deny (places.ReserveIn peer) (replies.Reserve (Err error)) begun answers first no_remote = tt
-may_deny (places.ReserveIn peer) reply begun answers first no_remote = absurd (cc)
 may_deny (places.OpenIn name) (replies.OpenIn (Ok heard)) begun answers first no_remote = tt
 may_deny (places.OpenIn name) (replies.OpenIn (Err error)) begun answers first no_remote = tt
-may_deny (places.OpenIn name) reply begun answers first no_remote = absurd (cc)
 may_deny (places.Tick peer) (replies.Tick (Ok quiet)) begun answers first no_remote = tt
 may_deny (places.Tick peer) (replies.Tick (Err spent)) begun answers first no_remote = tt
-may_deny (places.Tick peer) reply begun answers first no_remote = absurd (cc)
 may_deny (places.HangUp name) (replies.Order (Ok done)) begun answers first no_remote = tt
 may_deny (places.HangUp name) (replies.Order (Err error)) begun answers first no_remote = tt
-may_deny (places.HangUp name) reply begun answers first no_remote = absurd (cc)
 may_deny (places.ReserveCall peer) (replies.Reserve (Ok name)) begun answers first no_remote = tt
 may_deny (places.ReserveCall peer) (replies.Reserve (Err reserve_errors.SerialsSpent)) begun answers first no_remote = tt
 may_deny (places.ReserveCall peer) (replies.Reserve (Err reserve_errors.NoNumber)) begun answers first no_remote = tt
-may_deny (places.ReserveCall peer) reply begun answers first no_remote = absurd (cc)
 may_deny (places.OpenCall name) (replies.OpenOut (Ok done)) begun answers first no_remote = tt
 may_deny (places.OpenCall name) (replies.OpenOut (Err open_errors.StepsSpent)) begun answers first no_remote = tt
 may_deny (places.OpenCall name) (replies.OpenOut (Err open_errors.NumberBusy)) begun answers first no_remote = tt
 may_deny (places.OpenCall name) (replies.OpenOut (Err open_errors.Memory)) begun answers first no_remote = tt
 may_deny (places.OpenCall name) (replies.OpenOut (Err open_errors.RemoteBusy)) begun answers first no_remote = absurd (no_remote refl)
-may_deny (places.OpenCall name) reply begun answers first no_remote = absurd (cc)
 may_deny place reply begun answers first no_remote = absurd (cc)
 
 -- ---- how far a call is

@@ -50,7 +50,7 @@ impl<G: Gate, J: Naming> Exchange<G, J> {
             passes,
             octets,
             steps,
-        } = full_stock(alloc, &plan, octets, steps)?;
+        } = full_stock(alloc, &plan, Blanks { octets, steps })?;
         let exchange = Exchange {
             alloc,
             gate,
@@ -62,6 +62,13 @@ impl<G: Gate, J: Naming> Exchange<G, J> {
         };
         Ok((exchange, passes))
     }
+}
+
+// What is still to be supplied of both ledgers.
+#[derive(Drop)]
+struct Blanks {
+    octets: Blank,
+    steps: Blank,
 }
 
 // What was supplied of a ledger: a first share for each peer, and an empty one for each pass.
@@ -83,16 +90,11 @@ struct Stock<J: Naming> {
 }
 
 // The stock of a plan's exchange, with all peers and passes.
-fn full_stock<J: Naming>(
-    alloc: Global,
-    plan: &Plan,
-    octets: Blank,
-    steps: Blank,
-) -> Result<Stock<J>, AllocError>
-    requires octets { (octets.name ≡ J.Octets.name) × (octets.parts ≡ J.Octets.parts) ×
-        (octets.parts ≡ length plan.now.peers + plan.now.passes) }
-    requires steps { (steps.name ≡ J.Steps.name) × (steps.parts ≡ J.Steps.parts) ×
-        (steps.parts ≡ length plan.now.peers + plan.now.passes) }
+fn full_stock<J: Naming>(alloc: Global, plan: &Plan, blanks: Blanks) -> Result<Stock<J>, AllocError>
+    requires octets { (blanks.octets.name ≡ J.Octets.name) × (blanks.octets.parts ≡ J.Octets.parts) ×
+        (blanks.octets.parts ≡ length plan.now.peers + plan.now.passes) }
+    requires steps { (blanks.steps.name ≡ J.Steps.name) × (blanks.steps.parts ≡ J.Steps.parts) ×
+        (blanks.steps.parts ≡ length plan.now.peers + plan.now.passes) }
     requires first { (J.first_octets ≡ 2 ^ 48) × (J.first_steps ≡ 2 ^ 48) }
     ensures start { OnOk result (IsStart plan.now × (length plan.now.peers ≤ 32) × (plan.now.passes ≤ 64)) }
     ensures all { IfOk result (λ stock. (vec_len stock.peers ≡ length plan.now.peers) ×
@@ -104,7 +106,7 @@ fn full_stock<J: Naming>(
         (stock.steps.supply.shares ≡ length plan.now.peers + plan.now.passes) ×
         (stock.steps.supply.amount ≡ length plan.now.peers * J.first_steps)) }
 {
-    let Ok(mut stock) = first_stock(alloc, plan, octets, steps) else {
+    let Ok(mut stock) = first_stock(alloc, plan, blanks) else {
         return Err(AllocError);
     };
     match share_out(alloc, plan, &mut stock) {
@@ -117,13 +119,12 @@ fn full_stock<J: Naming>(
 fn first_stock<J: Naming>(
     alloc: Global,
     plan: &Plan,
-    octets: Blank,
-    steps: Blank,
+    blanks: Blanks,
 ) -> Result<Stock<J>, AllocError>
-    requires octets { (octets.name ≡ J.Octets.name) × (octets.parts ≡ J.Octets.parts) ×
-        (octets.parts ≡ length plan.now.peers + plan.now.passes) }
-    requires steps { (steps.name ≡ J.Steps.name) × (steps.parts ≡ J.Steps.parts) ×
-        (steps.parts ≡ length plan.now.peers + plan.now.passes) }
+    requires octets { (blanks.octets.name ≡ J.Octets.name) × (blanks.octets.parts ≡ J.Octets.parts) ×
+        (blanks.octets.parts ≡ length plan.now.peers + plan.now.passes) }
+    requires steps { (blanks.steps.name ≡ J.Steps.name) × (blanks.steps.parts ≡ J.Steps.parts) ×
+        (blanks.steps.parts ≡ length plan.now.peers + plan.now.passes) }
     ensures start { OnOk result (IsStart plan.now) }
     ensures none { IfOk result (λ stock. (vec_len stock.peers ≡ 0) × (stock.passes.items ≡ [])) }
     ensures supplied { IfOk result (λ stock. (stock.octets.supply.shares ≡ length plan.now.peers + plan.now.passes) ×
@@ -134,6 +135,7 @@ fn first_stock<J: Naming>(
         (stock.steps.first.items ≡ replicate (length plan.now.peers) (2 ^ 48)) ×
         (stock.octets.empty.items ≡ replicate plan.now.passes 0) × (stock.steps.empty.items ≡ replicate plan.now.passes 0)) }
 {
+    let Blanks { octets, steps } = blanks;
     let peers = plan.peer_count();
     let passes = plan.passes();
     let Ok(book) = book_of(alloc, plan) else {

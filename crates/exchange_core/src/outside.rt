@@ -7,7 +7,7 @@ ghost use Rattle.call_steps.specs.WorkState.{begun};
 ghost use Rattle.exchange_core.specs.Denial.{Denies};
 ghost use Rattle.exchange_core.specs.Leaving.{Leave, departure_of};
 ghost use Rattle.exchange_core.specs.Numbers.{IsCalled};
-ghost use Rattle.exchange_core.specs.Traces.{IsHeard, MakesAll, call_of, moment};
+ghost use Rattle.exchange_core.specs.Traces.{IsHeard, MakesAll, moment};
 ghost use Rattle.peer_plan.specs.Plan.{counts_of, range_of};
 ghost use Rattle.peer_lock.specs.Accounts.{with_step};
 
@@ -130,30 +130,9 @@ impl<G: Gate, J: Naming> Exchange<G, J> {
             called: None,
             now,
         };
-        self.datagram_of(rt, pass, peer, &given)
-    }
-
-    // A datagram comes from this peer of the plan.
-    #[inline(always)]
-    fn datagram_of<R: Wait>(
-        &self,
-        rt: &R,
-        pass: &mut Pass<J>,
-        peer: u16,
-        given: &Given<'_, '_, '_>,
-    ) -> Answer
-        requires peer { peer < length self.now.peers }
-        requires challenge { IsSome given.now.challenge }
-        requires called { given.now.called ≡ None }
-        ensures all { MakesAll (call_of self.now given.entry.now) (begun (work.of_datagram peer)) pass.old pass.new }
-        ensures retired { Leave given.entry.now.now pass.old pass.new (map departure_of result.retired.items) }
-        ensures steps { pass.new.credit.steps ≡ pass.old.credit.steps + result.steps }
-        ensures some { IfNone result.refused (1 ≤ result.steps) }
-        ensures refused { IsSome result.refused → (result.steps ≡ 0) × (pass.new.credit ≡ pass.old.credit) }
-    {
         let first = pass.steps();
         let mut work = Work::of_datagram(peer);
-        let outcome = self.carry_out(rt, pass, &mut work, given);
+        let outcome = self.carry_out(rt, pass, &mut work, &given);
         if let Some(onwards) = work.into_onwards() {
             pass.keep(onwards);
         }

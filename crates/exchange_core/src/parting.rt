@@ -1,7 +1,6 @@
 //! Peers and passes are parted from their shares.
 ghost use Rattle.std.specs.Prelude.{◌≡◌, ◌+◌, ◌*◌, ◌<◌, ◌≤◌, ◌++◌, ◌∷◌, [], IfOk, sum, vec_len, vec_capacity};
-ghost use Rattle.exchange_core.specs.Sums.{accepted_of, packed_of, queued_of, dropped_of, quelched_of, steps_of, left_with};
-ghost use Rattle.exchange_core.specs.Sums.{steps_under, begun_with, noted_under};
+ghost use Rattle.exchange_core.specs.Sums.{accounts_of, left_with, steps_under, begun_with, noted_under};
 ghost use Rattle.peer_lock.specs.Accounts.{carried};
 
 use crate::exchange::PeerCell;
@@ -81,11 +80,11 @@ pub(crate) fn part_peers<J: Naming>(
         (vec_len cells ≤ vec_capacity steps.old) }
     ensures all { (vec_len peers.new ≡ vec_len cells) × (vec_len octets.new ≡ vec_len cells) ×
         (vec_len steps.new ≡ vec_len cells) }
-    ensures octets { sum octets.new.items + accepted_of peers.new.items ≡
-        vec_len cells * J.first_octets + packed_of peers.new.items + queued_of peers.new.items + dropped_of peers.new.items }
-    ensures steps { sum steps.new.items + steps_of peers.new.items ≡ vec_len cells * J.first_steps }
-    ensures within { accepted_of peers.new.items ≤ vec_len cells * J.first_octets }
-    ensures quelched { quelched_of peers.new.items ≤ dropped_of peers.new.items }
+    ensures octets { sum octets.new.items + (accounts_of peers.new.items).accepted ≡
+        vec_len cells * J.first_octets + carried (accounts_of peers.new.items) }
+    ensures steps { sum steps.new.items + (accounts_of peers.new.items).steps ≡ vec_len cells * J.first_steps }
+    ensures within { (accounts_of peers.new.items).accepted ≤ vec_len cells * J.first_octets }
+    ensures quelched { (accounts_of peers.new.items).quelched ≤ (accounts_of peers.new.items).dropped }
     ensures capacity { (vec_capacity octets.new ≡ vec_capacity octets.old) × (vec_capacity steps.new ≡ vec_capacity steps.old) }
 {
     // The last leaves first, so the order stays.

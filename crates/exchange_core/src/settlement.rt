@@ -1,7 +1,7 @@
 //! The accounts of all peers, once every pass is back.
 ghost use Rattle.std.specs.Prelude.{◌≡◌, ◌≢◌, ◌+◌, ◌<◌, ◌≤◌, ◌^◌, [], IfOk, IfErr, OnOk, length, sum, vec_len, vec_capacity};
-ghost use Rattle.exchange_core.specs.Sums.{accepted_of, packed_of, queued_of, dropped_of, quelched_of, steps_of, left_with};
-ghost use Rattle.exchange_core.specs.Sums.{steps_under, begun_with, noted_under};
+ghost use Rattle.peer_lock.specs.Accounts.{carried};
+ghost use Rattle.exchange_core.specs.Sums.{accounts_of, left_with, steps_under, begun_with, noted_under};
 
 use crate::exchange::Exchange;
 use crate::gate::Gate;
@@ -53,16 +53,16 @@ struct Sums {
 }
 
 fn sums_of<J: Naming>(peers: &[ClosedPeer<J>]) -> Sums
-    requires accepted { accepted_of peers.now < 2 ^ 64 }
-    requires packed { packed_of peers.now < 2 ^ 64 }
-    requires queued { queued_of peers.now < 2 ^ 64 }
-    requires quelched { quelched_of peers.now < 2 ^ 64 }
-    requires steps { steps_of peers.now < 2 ^ 64 }
-    ensures accepted { result.accepted ≡ accepted_of peers.now }
-    ensures packed { result.packed ≡ packed_of peers.now }
-    ensures queued { result.queued ≡ queued_of peers.now }
-    ensures quelched { result.quelched ≡ quelched_of peers.now }
-    ensures steps { result.steps ≡ steps_of peers.now }
+    requires accepted { (accounts_of peers.now).accepted < 2 ^ 64 }
+    requires packed { (accounts_of peers.now).packed < 2 ^ 64 }
+    requires queued { (accounts_of peers.now).queued < 2 ^ 64 }
+    requires quelched { (accounts_of peers.now).quelched < 2 ^ 64 }
+    requires steps { (accounts_of peers.now).steps < 2 ^ 64 }
+    ensures accepted { result.accepted ≡ (accounts_of peers.now).accepted }
+    ensures packed { result.packed ≡ (accounts_of peers.now).packed }
+    ensures queued { result.queued ≡ (accounts_of peers.now).queued }
+    ensures quelched { result.quelched ≡ (accounts_of peers.now).quelched }
+    ensures steps { result.steps ≡ (accounts_of peers.now).steps }
 {
     let mut sums = Sums {
         accepted: 0,
@@ -83,14 +83,14 @@ fn sums_of<J: Naming>(peers: &[ClosedPeer<J>]) -> Sums
 
 // The sums over peers whose accounts balance but for octets that were left with passes.
 fn settled<J: Naming>(book: CallBook, peers: Vec<ClosedPeer<J>>) -> Settlement<J>
-    requires accepted { accepted_of peers.items < 2 ^ 64 }
-    requires within { packed_of peers.items + queued_of peers.items + dropped_of peers.items ≤ accepted_of peers.items }
-    requires quelched { quelched_of peers.items ≤ dropped_of peers.items }
-    requires steps { steps_of peers.items < 2 ^ 64 }
+    requires accepted { (accounts_of peers.items).accepted < 2 ^ 64 }
+    requires within { carried (accounts_of peers.items) ≤ (accounts_of peers.items).accepted }
+    requires quelched { (accounts_of peers.items).quelched ≤ (accounts_of peers.items).dropped }
+    requires steps { (accounts_of peers.items).steps < 2 ^ 64 }
     ensures peers { result.peers.items ≡ peers.items }
-    ensures sums { (result.accepted ≡ accepted_of peers.items) × (result.packed ≡ packed_of peers.items) ×
-        (result.queued ≡ queued_of peers.items) × (result.quelched ≡ quelched_of peers.items) ×
-        (result.steps ≡ steps_of peers.items) }
+    ensures sums { (result.accepted ≡ (accounts_of peers.items).accepted) × (result.packed ≡ (accounts_of peers.items).packed) ×
+        (result.queued ≡ (accounts_of peers.items).queued) × (result.quelched ≡ (accounts_of peers.items).quelched) ×
+        (result.steps ≡ (accounts_of peers.items).steps) }
     ensures balances { (result.accepted ≡ result.packed + result.queued + result.dropped) × (result.quelched ≤ result.dropped) }
 {
     let sums = sums_of(&peers);
@@ -134,13 +134,13 @@ impl<G: Gate, J: Naming> Exchange<G, J> {
 
         // The accounts of all peers.
         ensures peers { IfOk result (λ s. vec_len s.peers ≡ length self.peers) }
-        ensures accepted { IfOk result (λ s. s.accepted ≡ accepted_of s.peers.items) }
-        ensures packed { IfOk result (λ s. s.packed ≡ packed_of s.peers.items) }
-        ensures queued { IfOk result (λ s. s.queued ≡ queued_of s.peers.items) }
-        ensures dropped { IfOk result (λ s. s.dropped ≡ dropped_of s.peers.items + left_with passes.items) }
-        ensures quelched { IfOk result (λ s. s.quelched ≡ quelched_of s.peers.items) }
+        ensures accepted { IfOk result (λ s. s.accepted ≡ (accounts_of s.peers.items).accepted) }
+        ensures packed { IfOk result (λ s. s.packed ≡ (accounts_of s.peers.items).packed) }
+        ensures queued { IfOk result (λ s. s.queued ≡ (accounts_of s.peers.items).queued) }
+        ensures dropped { IfOk result (λ s. s.dropped ≡ (accounts_of s.peers.items).dropped + left_with passes.items) }
+        ensures quelched { IfOk result (λ s. s.quelched ≡ (accounts_of s.peers.items).quelched) }
         ensures part { IfOk result (λ s. s.quelched ≤ s.dropped) }
-        ensures steps { IfOk result (λ s. s.steps ≡ steps_of s.peers.items) }
+        ensures steps { IfOk result (λ s. s.steps ≡ (accounts_of s.peers.items).steps) }
 
         // What was accepted is what became of it, and the steps are those under the passes.
         ensures balances { IfOk result (λ s. s.accepted ≡ s.packed + s.queued + s.dropped) }
@@ -170,10 +170,12 @@ impl<G: Gate, J: Naming> Exchange<G, J> {
         requires octets { length self.peers + self.passes ≤ vec_capacity parts.octets }
         requires steps { length self.peers + self.passes ≤ vec_capacity parts.steps }
         ensures peers { vec_len result.peers ≡ length self.peers }
-        ensures sums { (result.accepted ≡ accepted_of result.peers.items) × (result.packed ≡ packed_of result.peers.items) ×
-            (result.queued ≡ queued_of result.peers.items) × (result.quelched ≡ quelched_of result.peers.items) ×
-            (result.steps ≡ steps_of result.peers.items) }
-        ensures dropped { result.dropped ≡ dropped_of result.peers.items + left_with passes.items }
+        ensures sums { (result.accepted ≡ (accounts_of result.peers.items).accepted) ×
+            (result.packed ≡ (accounts_of result.peers.items).packed) ×
+            (result.queued ≡ (accounts_of result.peers.items).queued) ×
+            (result.quelched ≡ (accounts_of result.peers.items).quelched) ×
+            (result.steps ≡ (accounts_of result.peers.items).steps) }
+        ensures dropped { result.dropped ≡ (accounts_of result.peers.items).dropped + left_with passes.items }
         ensures balances { (result.accepted ≡ result.packed + result.queued + result.dropped) ×
             (result.quelched ≤ result.dropped) }
         ensures made { result.steps ≡ steps_under passes.items }

@@ -1,8 +1,12 @@
-use Rattle.std.proofs.Common.{◌*◌, ap, ◌∙◌, sum, arith}
+use Rattle.std.proofs.Common.{◌≡◌, ℕ, ◌+◌, ◌*◌, List, [], ◌∷◌, ◌++◌, ap, ◌∙◌, sum, arith}
+use Rattle.std.specs.Prelude.{sum_by}
 use Rattle.std.proofs.lemmas.List.Sums.{sum_by_push}
 use Rattle.peer_lock.specs.Peer.{PeerView}
-use Rattle.exchange_core.specs.Sums.{accepted_of, packed_of, queued_of, dropped_of, quelched_of, steps_of}
 use Rattle.exchange_core.proofs.parting.part_peers.Goals as goal
+
+-- one peer more
+adds : (f : PeerView → ℕ) (peers more : List PeerView) (peer : PeerView) → more ≡ peers ++ peer ∷ [] → sum_by f more ≡ sum_by f peers + f peer
+adds f peers more peer pushed = ap (sum_by f) pushed ∙ sum_by_push f peers peer
 
 pub loop-cell-preserved : goal.loop-cell-preserved
 loop-cell-preserved g c =
@@ -10,12 +14,12 @@ loop-cell-preserved g c =
     let peers = c.loop-cell.peers.items in
     let peer = c.part_peer-peer.result.0 in
     let pushed = c.put.ensures.items in
-    let accepted = ap accepted_of pushed ∙ sum_by_push (λ (p : PeerView). p.accounts.accepted) peers peer in
-    let packed = ap packed_of pushed ∙ sum_by_push (λ (p : PeerView). p.accounts.packed) peers peer in
-    let queued = ap queued_of pushed ∙ sum_by_push (λ (p : PeerView). p.accounts.queued) peers peer in
-    let dropped = ap dropped_of pushed ∙ sum_by_push (λ (p : PeerView). p.accounts.dropped) peers peer in
-    let quelched = ap quelched_of pushed ∙ sum_by_push (λ (p : PeerView). p.accounts.quelched) peers peer in
-    let made = ap steps_of pushed ∙ sum_by_push (λ (p : PeerView). p.accounts.steps) peers peer in
+    let accepted = adds (λ (p : PeerView). p.accounts.accepted) peers _ peer pushed in
+    let packed = adds (λ (p : PeerView). p.accounts.packed) peers _ peer pushed in
+    let queued = adds (λ (p : PeerView). p.accounts.queued) peers _ peer pushed in
+    let dropped = adds (λ (p : PeerView). p.accounts.dropped) peers _ peer pushed in
+    let quelched = adds (λ (p : PeerView). p.accounts.quelched) peers _ peer pushed in
+    let made = adds (λ (p : PeerView). p.accounts.steps) peers _ peer pushed in
     let octets = ap sum c.push_reserved.ensures.items ∙ sum_by_push (λ n. n) c.loop-cell.octets.items c.part_peer-peer.result.1 in
     let steps = ap sum c.push_reserved-in-Some.ensures.items ∙ sum_by_push (λ n. n) c.loop-cell.steps.items c.part_peer-peer.result.2 in
     let one_more = c.put.ensures.len in

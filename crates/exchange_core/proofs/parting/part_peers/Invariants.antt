@@ -1,6 +1,7 @@
 use Rattle.std.proofs.Common.{◌≡◌, ◌+◌, ◌*◌, ◌≤◌, sum, vec_len}
 use Rattle.std.specs.Vec.{vec_capacity}
-use Rattle.exchange_core.specs.Sums.{accepted_of, packed_of, queued_of, dropped_of, quelched_of, steps_of}
+use Rattle.peer_lock.specs.Accounts.{carried}
+use Rattle.exchange_core.specs.Sums.{accounts_of}
 use Rattle.exchange_core.proofs.parting.part_peers.Given as goal
 
 abbrev pub invariant-loop-cell : goal.invariant-loop-cell
@@ -11,10 +12,10 @@ invariant-loop-cell g l = record {
   peers_room : vec_capacity l.peers ≡ vec_capacity l.initial.peers;
   octets_room : vec_capacity l.octets ≡ vec_capacity l.initial.octets;
   steps_room : vec_capacity l.steps ≡ vec_capacity l.initial.steps;
-  octets : sum l.octets.items + accepted_of l.peers.items ≡ vec_len l.peers * g.J.Naming.first_octets + packed_of l.peers.items + queued_of l.peers.items + dropped_of l.peers.items;
-  steps : sum l.steps.items + steps_of l.peers.items ≡ vec_len l.peers * g.J.Naming.first_steps;
-  within : accepted_of l.peers.items ≤ vec_len l.peers * g.J.Naming.first_octets;
-  quelched : quelched_of l.peers.items ≤ dropped_of l.peers.items;
+  octets : sum l.octets.items + (accounts_of l.peers.items).accepted ≡ vec_len l.peers * g.J.Naming.first_octets + carried (accounts_of l.peers.items);
+  steps : sum l.steps.items + (accounts_of l.peers.items).steps ≡ vec_len l.peers * g.J.Naming.first_steps;
+  within : (accounts_of l.peers.items).accepted ≤ vec_len l.peers * g.J.Naming.first_octets;
+  quelched : (accounts_of l.peers.items).quelched ≤ (accounts_of l.peers.items).dropped;
 }
 
 abbrev pub decreases-loop-cell : goal.decreases-loop-cell

@@ -1,4 +1,4 @@
-use Rattle.std.proofs.Common.{◌≡◌, ℕ, ◌+◌, ◌<◌, ◌^◌, List, length, get_or, take, ap, arith}
+use Rattle.std.proofs.Common.{◌≡◌, ℕ, ◌+◌, ◌<◌, List, length, get_or, take, ap, arith}
 use Rattle.std.specs.Prelude.{sum_by}
 use Rattle.std.proofs.lemmas.List.Sums.{sum_by_more, sum_by_more_le}
 use Rattle.peer_lock.specs.Peer.{PeerView}
@@ -17,34 +17,19 @@ fits f peers i before here most peer within is sum value less =
     let more = sum_by_more_le f peers i peer within in let same = ap f is in omega (arith, more, same)
 
 pub overflow_add-sums : goal.overflow_add-sums
-overflow_add-sums g c =
-    let less : c.loop-peer.sums.accepted + c.accepted.result < 2 ^ 64 =
-    fits (λ p. p.accounts.accepted) c.args.peers.now c.loop-peer.peer-index _ _ _ c.peer-item.result c.loop-peer-test.true c.peer-item.is c.loop-peer.invariant.accepted c.accepted.ensures c.requires.accepted in
-    omega (arith, less)
+overflow_add-sums g c = omega (arith, fits (λ p. p.accounts.accepted) c.args.peers.now c.loop-peer.peer-index _ _ _ c.peer-item.result c.loop-peer-test.true c.peer-item.is c.loop-peer.invariant.accepted c.accepted.ensures c.requires.accepted)
 
 pub overflow_add-sums-in-loop-peer : goal.overflow_add-sums-in-loop-peer
-overflow_add-sums-in-loop-peer g c =
-    let less : c.loop-peer.sums.packed + c.packed.result < 2 ^ 64 =
-    fits (λ p. p.accounts.packed) c.args.peers.now c.loop-peer.peer-index _ _ _ c.peer-item.result c.loop-peer-test.true c.peer-item.is c.loop-peer.invariant.packed c.packed.ensures c.requires.packed in
-    omega (arith, less)
+overflow_add-sums-in-loop-peer g c = omega (arith, fits (λ p. p.accounts.packed) c.args.peers.now c.loop-peer.peer-index _ _ _ c.peer-item.result c.loop-peer-test.true c.peer-item.is c.loop-peer.invariant.packed c.packed.ensures c.requires.packed)
 
 pub overflow_add-sums-in-loop-peer-2 : goal.overflow_add-sums-in-loop-peer-2
-overflow_add-sums-in-loop-peer-2 g c =
-    let less : c.loop-peer.sums.queued + c.queued.result < 2 ^ 64 =
-    fits (λ p. p.accounts.queued) c.args.peers.now c.loop-peer.peer-index _ _ _ c.peer-item.result c.loop-peer-test.true c.peer-item.is c.loop-peer.invariant.queued c.queued.ensures c.requires.queued in
-    omega (arith, less)
+overflow_add-sums-in-loop-peer-2 g c = omega (arith, fits (λ p. p.accounts.queued) c.args.peers.now c.loop-peer.peer-index _ _ _ c.peer-item.result c.loop-peer-test.true c.peer-item.is c.loop-peer.invariant.queued c.queued.ensures c.requires.queued)
 
 pub overflow_add-sums-in-loop-peer-3 : goal.overflow_add-sums-in-loop-peer-3
-overflow_add-sums-in-loop-peer-3 g c =
-    let less : c.loop-peer.sums.quelched + c.quelched.result < 2 ^ 64 =
-    fits (λ p. p.accounts.quelched) c.args.peers.now c.loop-peer.peer-index _ _ _ c.peer-item.result c.loop-peer-test.true c.peer-item.is c.loop-peer.invariant.quelched c.quelched.ensures.value c.requires.quelched in
-    omega (arith, less)
+overflow_add-sums-in-loop-peer-3 g c = omega (arith, fits (λ p. p.accounts.quelched) c.args.peers.now c.loop-peer.peer-index _ _ _ c.peer-item.result c.loop-peer-test.true c.peer-item.is c.loop-peer.invariant.quelched c.quelched.ensures.value c.requires.quelched)
 
 pub overflow_add-sums-in-loop-peer-4 : goal.overflow_add-sums-in-loop-peer-4
-overflow_add-sums-in-loop-peer-4 g c =
-    let less : c.loop-peer.sums.steps + c.steps.result < 2 ^ 64 =
-    fits (λ p. p.accounts.steps) c.args.peers.now c.loop-peer.peer-index _ _ _ c.peer-item.result c.loop-peer-test.true c.peer-item.is c.loop-peer.invariant.steps c.steps.ensures c.requires.steps in
-    omega (arith, less)
+overflow_add-sums-in-loop-peer-4 g c = omega (arith, fits (λ p. p.accounts.steps) c.args.peers.now c.loop-peer.peer-index _ _ _ c.peer-item.result c.loop-peer-test.true c.peer-item.is c.loop-peer.invariant.steps c.steps.ensures c.requires.steps)
 
 pub loop-peer-preserved : goal.loop-peer-preserved
 loop-peer-preserved g c =
