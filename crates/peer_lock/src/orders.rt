@@ -9,8 +9,7 @@ ghost use Rattle.leg_machine.specs.Media.{media_sent};
 ghost use Rattle.call_signals.specs.declared.outcomes.Judged.TheVariants.{Unnumbered};
 ghost use Rattle.peer_legs.specs.Legs.{NamedLeg as NamedLegValue, leg_at, leg_named};
 ghost use Rattle.peer_lock.specs.Peer.{counted, leg_alone};
-ghost use Rattle.peer_lock.specs.Orders as spec;
-ghost use Rattle.peer_lock.specs.Orders.{queued_media, counted_media, carries_media, with_order, from_leg_due, IsOrderRefusal};
+ghost use Rattle.peer_lock.specs.Orders.{counted_media, carries_media, with_order, from_leg_due, IsOrderRefusal};
 ghost use Rattle.peer_lock.specs.Orders.{order_refused_by, ordered_step, order_octets};
 
 use crate::errors::OrderError;
@@ -23,40 +22,8 @@ use leg_machine::{Judged, MediaSent, Order};
 use peer_accounts::{Carried, Naming, Pass};
 
 impl<J: Naming> PeerState<J> {
-    // Media waits for a trunk frame, or is dropped where the queue is full.
-    fn queue_media(&mut self, pass: &mut Pass<J>, number: CallNumber, timestamp: u16, media: &[u8])
-        requires short { length media.now ≤ 1380 }
-        requires credit { length media.now ≤ pass.old.octets }
-        ensures peer { self.new ≡ queued_media self.old (record { number = number; timestamp = timestamp; media = media.now }) }
-        ensures credit { pass.new.octets + length media.now ≡ pass.old.octets }
-        ensures steps { pass.new.steps ≡ pass.old.steps }
-    {
-        let outcome = match self.queue.queue(number, timestamp, media) {
-            Ok(()) => Carried::Queued,
-            Err(_) => Carried::Dropped,
-        };
-        self.account.carry(pass, media.len() as u64, outcome);
-    }
-
-    // Media that goes out without a full frame: into the trunk queue, or as a mini frame.
-    fn short_media(&mut self, pass: &mut Pass<J>, number: CallNumber, timestamp: u16, media: &[u8])
-        requires number { 1 ≤ number }
-        requires short { length media.now ≤ 1380 }
-        requires credit { length media.now ≤ pass.old.octets }
-        ensures peer { self.new ≡ spec.short_media self.old number timestamp media.now }
-        ensures credit { pass.new.octets + length media.now ≡ pass.old.octets }
-        ensures steps { pass.new.steps ≡ pass.old.steps }
-    {
-        if self.rules.trunk {
-            self.queue_media(pass, number, timestamp, media);
-            return;
-        }
-        self.outbox.put_mini(number, timestamp, media);
-        self.account
-            .carry(pass, media.len() as u64, Carried::Packed);
-    }
-
-    // What is counted of media that goes out so, and what goes out without a full frame.
+    // What is counted of media that goes out so. What goes out without a full frame waits for a trunk frame, if the queue has room
+    // for it, or is a mini frame.
     fn count_media(&mut self, pass: &mut Pass<J>, number: CallNumber, sent: MediaSent, media: &[u8])
         requires number { 1 ≤ number }
         requires short { length media.now ≤ 1380 }
@@ -65,12 +32,21 @@ impl<J: Naming> PeerState<J> {
         ensures credit { pass.new.octets + length media.now ≡ pass.old.octets }
         ensures steps { pass.new.steps ≡ pass.old.steps }
     {
-        let octets = media.len() as u64;
-        match sent {
-            MediaSent::Quelched => self.account.carry(pass, octets, Carried::Quelched),
-            MediaSent::Voice => self.account.carry(pass, octets, Carried::Packed),
-            MediaSent::Mini(timestamp) => self.short_media(pass, number, timestamp, media),
-        }
+        let outcome = match sent {
+            MediaSent::Quelched => Carried::Quelched,
+            MediaSent::Voice => Carried::Packed,
+            MediaSent::Mini(timestamp) if self.rules.trunk => {
+                match self.queue.queue(number, timestamp, media) {
+                    Ok(()) => Carried::Queued,
+                    Err(_) => Carried::Dropped,
+                }
+            }
+            MediaSent::Mini(timestamp) => {
+                self.outbox.put_mini(number, timestamp, media);
+                Carried::Packed
+            }
+        };
+        self.account.carry(pass, media.len() as u64, outcome);
     }
 
     // Media goes out at the leg of a name.
