@@ -10,17 +10,19 @@ use std::marker::Model;
 /// A mini frame in the octets of a datagram.
 #[derive(Debug, Drop)]
 pub struct Mini<'a> {
-    source: CallNumber,
-    timestamp: u16,
-    media: &'a [u8],
+    octets: &'a [u8],
 }
 
 impl<'a> Model for Mini<'a> {
-    ghost use Rattle.iax_frames.specs.MiniFrame.{MiniFrame};
+    ghost use Rattle.std.specs.Prelude.{◌≤◌, ◌<◌, ◌^◌, length};
+    ghost use Rattle.iax_frames.specs.MiniFrame.{MiniFrame, mini_at};
+    ghost use Rattle.iax_frames.specs.Octets.{u16_at as word};
 
     ghost Value = { MiniFrame };
 
-    ghost view = { λ m. record { source = m.source; timestamp = m.timestamp; media = m.media.now } };
+    ghost view = { λ m. mini_at m.octets.now };
+
+    ghost invariant = { λ m. (4 ≤ length m.octets.now) × (word m.octets.now 0 < 2 ^ 15) };
 }
 
 impl<'a> Mini<'a> {
@@ -30,31 +32,27 @@ impl<'a> Mini<'a> {
         requires number { word octets.now 0 < 2 ^ 15 }
         ensures { result ≡ mini_at octets.now }
     {
-        Mini {
-            source: CallNumber::new(u16_at(octets, 0)),
-            timestamp: u16_at(octets, 2),
-            media: octets.split_at(4).1,
-        }
+        Mini { octets }
     }
 
     /// The sender's number of the call, 1 ..= 32,767.
     pub fn source(&self) -> CallNumber
         ensures { result ≡ self.now.source }
     {
-        self.source
+        CallNumber::new(u16_at(self.octets, 0))
     }
 
     /// The low 16 bits of the timestamp, in milliseconds.
     pub fn timestamp(&self) -> u16
         ensures { result ≡ self.now.timestamp }
     {
-        self.timestamp
+        u16_at(self.octets, 2)
     }
 
     /// The media, which may be no octets.
     pub fn media(&self) -> &'a [u8]
         ensures { result.now ≡ self.now.media }
     {
-        self.media
+        self.octets.split_at(4).1
     }
 }

@@ -1,5 +1,5 @@
 //! Trunk meta frames ("Meta Frames").
-ghost use Rattle.std.specs.Prelude.{◌≡◌, ◌≤◌, ◌<◌, true, false, List, [], ◌∷◌, drop, length, map, slice_index, IfSome, IfNone};
+ghost use Rattle.std.specs.Prelude.{◌≡◌, ◌+◌, ◌≤◌, ◌<◌, List, [], ◌∷◌, take, drop, length, map, slice_index, IfSome, IfNone};
 ghost use Rattle.std.specs.Prelude.{Some, None};
 ghost use Rattle.iax_frames.specs.TrunkFrame.{TrunkEntry, TrunkFrame, is_timed, first_entry, entries_of, entry, entry_item};
 ghost use Rattle.iax_frames.specs.TrunkFrame.{IsEntry, trunk_at};
@@ -30,27 +30,21 @@ impl<'a> Model for Entry<'a> {
 /// A trunk frame in the octets of a datagram.
 #[derive(Debug, Drop)]
 pub struct Trunk<'a> {
-    command_data: u8,
-    timestamp: u32,
-    entries: &'a [u8],
+    octets: &'a [u8],
 }
 
 impl<'a> Model for Trunk<'a> {
-    ghost use Rattle.iax_frames.specs.TrunkFrame.{TrunkFrame, is_timed, entry, IsEntry, entries_of};
+    ghost use Rattle.std.specs.Prelude.{◌≤◌, length, drop, slice_index};
+    ghost use Rattle.iax_frames.specs.TrunkFrame.{TrunkFrame, trunk_at, is_timed, entry, IsEntry, entries_of};
     ghost use Rattle.iax_frames.specs.Items.{SpellsItems};
 
     ghost Value = { TrunkFrame };
 
-    ghost view = { λ t.
-        record {
-          command_data = t.command_data;
-          timestamp = t.timestamp;
-          entries =
-              entries_of (is_timed t.command_data) t.entries.now;
-        } };
+    ghost view = { λ t. trunk_at t.octets.now };
 
-    ghost invariant = { λ t. SpellsItems entry (IsEntry (is_timed t.command_data)) t.entries.now
-        (entries_of (is_timed t.command_data) t.entries.now) };
+    ghost invariant = { λ t. (8 ≤ length t.octets.now)
+        × SpellsItems entry (IsEntry (is_timed (slice_index t.octets.now 3))) (drop 8 t.octets.now)
+        (entries_of (is_timed (slice_index t.octets.now 3)) (drop 8 t.octets.now)) };
 }
 
 impl<'a> Trunk<'a> {
@@ -61,25 +55,21 @@ impl<'a> Trunk<'a> {
             (entries_of (is_timed (slice_index octets.now 3)) (drop 8 octets.now)) }
         ensures { result ≡ trunk_at octets.now }
     {
-        Trunk {
-            command_data: octets[3],
-            timestamp: u32_at(octets, 4),
-            entries: octets.split_at(8).1,
-        }
+        Trunk { octets }
     }
 
     /// The octet whose lowest bit says that the entries have timestamps.
     pub fn command_data(&self) -> u8
         ensures { result ≡ self.now.command_data }
     {
-        self.command_data
+        self.octets[3]
     }
 
     /// The timestamp of the whole frame, in milliseconds modulo 2^32.
     pub fn timestamp(&self) -> u32
         ensures { result ≡ self.now.timestamp }
     {
-        self.timestamp
+        u32_at(self.octets, 4)
     }
 
     /// The entries in order, each with its number, its timestamp where it has one, and its media.
@@ -87,8 +77,8 @@ impl<'a> Trunk<'a> {
         ensures { result ≡ self.now.entries }
     {
         Entries {
-            timed: self.command_data % 2 == 1,
-            octets: self.entries,
+            timed: self.octets[3] % 2 == 1,
+            octets: self.octets.split_at(8).1,
         }
     }
 }
@@ -136,57 +126,57 @@ fn split_entry(timed: bool, octets: &[u8]) -> Option<(Entry<'_>, &[u8])>
     ensures some { IfSome result (λ found. first_entry timed octets.now ≡ Some (found.0, found.1.now)) }
 {
     if timed {
-        split_timed(octets)
+        if octets.len() < 6 {
+            return None;
+        }
+        let len = u16_at(octets, 0) as usize;
+        entry_behind(
+            octets,
+            6,
+            len,
+            flagged_at(octets, 2),
+            Some(u16_at(octets, 4)),
+        )
     } else {
-        split_untimed(octets)
+        if octets.len() < 4 {
+            return None;
+        }
+        let len = u16_at(octets, 2) as usize;
+        entry_behind(octets, 4, len, flagged_at(octets, 0), None)
     }
 }
 
-fn split_timed(octets: &[u8]) -> Option<(Entry<'_>, &[u8])>
-    ensures none { IfNone result (first_entry true octets.now ≡ None) }
-    ensures some { IfSome result (λ found. first_entry true octets.now ≡ Some (found.0, found.1.now)) }
+// The entry behind a head of so many octets, with this call number field, so many octets of media and this timestamp, and what
+// follows it.
+fn entry_behind(
+    octets: &[u8],
+    head: usize,
+    len: usize,
+    field: (bool, CallNumber),
+    timestamp: Option<u16>,
+) -> Option<(Entry<'_>, &[u8])>
+    requires { head ≤ length octets.now }
+    ensures none { IfNone result (length octets.now < head + len) }
+    ensures whole { IfSome result (λ found. head + len ≤ length octets.now) }
+    ensures entry { IfSome result (λ found. found.0 ≡ record {
+      high_bit = field.0;
+      number = field.1;
+      timestamp = timestamp;
+      media = take len (drop head octets.now);
+    }) }
+    ensures rest { IfSome result (λ found. found.1.now ≡ drop len (drop head octets.now)) }
 {
-    if octets.len() < 6 {
-        return None;
-    }
-    let len = u16_at(octets, 0) as usize;
-    let (high_bit, number) = flagged_at(octets, 2);
-    let timestamp = u16_at(octets, 4);
-    let (_, rest) = octets.split_at(6);
+    let (_, rest) = octets.split_at(head);
     if rest.len() < len {
         return None;
     }
+    let (high_bit, number) = field;
     let (media, rest) = rest.split_at(len);
     Some((
         Entry {
             high_bit,
             number,
-            timestamp: Some(timestamp),
-            media,
-        },
-        rest,
-    ))
-}
-
-fn split_untimed(octets: &[u8]) -> Option<(Entry<'_>, &[u8])>
-    ensures none { IfNone result (first_entry false octets.now ≡ None) }
-    ensures some { IfSome result (λ found. first_entry false octets.now ≡ Some (found.0, found.1.now)) }
-{
-    if octets.len() < 4 {
-        return None;
-    }
-    let (high_bit, number) = flagged_at(octets, 0);
-    let len = u16_at(octets, 2) as usize;
-    let (_, rest) = octets.split_at(4);
-    if rest.len() < len {
-        return None;
-    }
-    let (media, rest) = rest.split_at(len);
-    Some((
-        Entry {
-            high_bit,
-            number,
-            timestamp: None,
+            timestamp,
             media,
         },
         rest,

@@ -9,17 +9,18 @@ use std::marker::Model;
 /// A video frame in the octets of a datagram.
 #[derive(Debug, Drop)]
 pub struct Video<'a> {
-    source: CallNumber,
-    timestamp: u16,
-    payload: &'a [u8],
+    octets: &'a [u8],
 }
 
 impl<'a> Model for Video<'a> {
-    ghost use Rattle.iax_frames.specs.VideoFrame.{VideoFrame};
+    ghost use Rattle.std.specs.Prelude.{◌≤◌, length};
+    ghost use Rattle.iax_frames.specs.VideoFrame.{VideoFrame, video_at};
 
     ghost Value = { VideoFrame };
 
-    ghost view = { λ v. record { source = v.source; timestamp = v.timestamp; payload = v.payload.now } };
+    ghost view = { λ v. video_at v.octets.now };
+
+    ghost invariant = { λ v. 6 ≤ length v.octets.now };
 }
 
 impl<'a> Video<'a> {
@@ -28,31 +29,27 @@ impl<'a> Video<'a> {
         requires { 6 ≤ length octets.now }
         ensures { result ≡ video_at octets.now }
     {
-        Video {
-            source: flagged_at(octets, 2).1,
-            timestamp: u16_at(octets, 4),
-            payload: octets.split_at(6).1,
-        }
+        Video { octets }
     }
 
     /// The sender's number of the call, 0 ..= 32,767.
     pub fn source(&self) -> CallNumber
         ensures { result ≡ self.now.source }
     {
-        self.source
+        flagged_at(self.octets, 2).1
     }
 
     /// The timestamp with its flag, 16 bits.
     pub fn timestamp(&self) -> u16
         ensures { result ≡ self.now.timestamp }
     {
-        self.timestamp
+        u16_at(self.octets, 4)
     }
 
     /// The video data, which may be no octets.
     pub fn payload(&self) -> &'a [u8]
         ensures { result.now ≡ self.now.payload }
     {
-        self.payload
+        self.octets.split_at(6).1
     }
 }
