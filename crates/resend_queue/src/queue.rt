@@ -100,28 +100,21 @@ impl<F: Drop> Resend<F> {
 
     /// The frame at a place, 0 for the oldest, is sent again at the moment `now`, in milliseconds. That counts as a try, up to
     /// 2^32 - 1 tries.
-    #[tactic(auto, using(crate::proofs::Changes::changed_none))]
     pub fn mark(&mut self, place: usize, now: u64)
         requires { place < length self.old.held }
         ensures { self.new ≡ record { held = changed_at (marked now) place self.old.held; width = self.old.width } }
     {
-        let Some(held) = self.ring.get_mut(place) else {
-            return;
-        };
+        let held = self.ring.get_mut(place).unwrap();
         held.last = now;
         held.tries = held.tries.saturating_add(1);
     }
 
     /// The frame at a place, 0 for the oldest, is sent again at the moment `now`, in milliseconds, which is no try.
-    #[tactic(auto, using(crate::proofs::Changes::changed_none))]
     pub fn touch(&mut self, place: usize, now: u64)
         requires { place < length self.old.held }
         ensures { self.new ≡ record { held = changed_at (touched now) place self.old.held; width = self.old.width } }
     {
-        let Some(waiting) = self.ring.get_mut(place) else {
-            return;
-        };
-        waiting.last = now;
+        self.ring.get_mut(place).unwrap().last = now;
     }
 
     /// Each frame is sent again at the moment `now`, in milliseconds, which is no try.

@@ -1,13 +1,10 @@
-use Rattle.std.proofs.Common.{◌≡◌, Some, slice_get, ap, sym, refl}
-use Rattle.resend_queue.specs.Queue.{Queue}
+use Rattle.std.proofs.Common.{ap, sym, refl, ◌∙◌}
+use Rattle.std.specs.Option.{option_copied_mut}
 use Rattle.resend_queue.specs.Timing.{touched}
-use Rattle.resend_queue.proofs.Changes.{changed_set}
+use Rattle.resend_queue.proofs.Changes.{noted}
 use Rattle.resend_queue.proofs.queue.Resend.touch.Goals as goal
 
 pub returns : goal.returns
 returns g c =
-    let at : slice_get c.self.inside.ring.items c.args.place ≡ Some c.in-Some.waiting.now = sym c.in-Some.ensures.value in
-    rw (← c.self.view_is)
-    (ap (λ hs. let q : Queue _ = record { held = hs; width = c.self.inside.ring.capacity } in q)
-    (changed_set (touched c.args.now) c.args.place c.self.inside.ring.items c.in-Some.waiting.now _ at
-    (refl)))
+    noted (touched c.args.now) c.args.place c.self.inside.ring.items c.self.inside.ring.capacity c.args.self.now _ _ c.self.view_is
+    (sym c.get_mut.ensures.value ∙ ap option_copied_mut c.unwrap.ensures) refl
