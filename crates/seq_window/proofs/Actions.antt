@@ -35,20 +35,20 @@ module _ (own other : Side) where
   acknowledgement_is : (which : ℕ) (datagram : Datagram) → IsInStep own other → slice_get other.datagrams which ≡ Some datagram → IsFreshAcknowledgement own datagram
       → judged_acknowledgement own.history (byte_of datagram.acknowledgement) ≡ acknowledgement_judged (acked_count own.history) (sent_count own.history) datagram.acknowledgement
   acknowledgement_is which datagram s at fresh =
-      let within : IsWithinWindow own.width own.history = legal_now own.width own.limit own.history s.own_sound.legal in
-      let is_own : IsOwn other.history datagram = s.other_sound.datagrams which datagram at in
-      let known : taken_count other.history ≤ sent_count own.history = prefix_length _ _ s.other_takes in
+      let within : IsWithinWindow own.width own.history = legal_now own.width own.limit own.history s.forth.sound.legal in
+      let is_own : IsOwn other.history datagram = s.back.sound.datagrams which datagram at in
+      let known : taken_count other.history ≤ sent_count own.history = prefix_length _ _ s.forth.takes in
       acknowledgement_byte_is (acked_count own.history) (sent_count own.history) datagram.acknowledgement
-      (omega (arith, within.held, s.own_sound.width)) (omega (arith, is_own.acknowledgement)) fresh
+      (omega (arith, within.held, s.forth.sound.width)) (omega (arith, is_own.acknowledgement)) fresh
 
   number_is : (which : ℕ) (datagram : Datagram) (frame : Frame) → IsInStep own other → slice_get other.datagrams which ≡ Some datagram → datagram.frame ≡ Some frame
       → taken_count own.history ≤ datagram.number + 128
       → judged_number own.history (byte_of datagram.number) ≡ number_judged (taken_count own.history) (pos datagram.number)
   number_is which datagram frame s at is fresh =
-      let within : IsWithinWindow other.width other.history = legal_now other.width other.limit other.history s.other_sound.legal in
-      let is_own : IsOwn other.history datagram = s.other_sound.datagrams which datagram at in
+      let within : IsWithinWindow other.width other.history = legal_now other.width other.limit other.history s.back.sound.legal in
+      let is_own : IsOwn other.history datagram = s.back.sound.datagrams which datagram at in
       let sent : datagram.number < sent_count other.history = slice_get_within _ _ frame (is_own.frame frame is) in
-      number_byte_is (taken_count own.history) datagram.number fresh (omega (arith, within.held, s.other_sound.width, s.other_acks))
+      number_byte_is (taken_count own.history) datagram.number fresh (omega (arith, within.held, s.back.sound.width, s.back.acks))
 
   send_keeps : (frame : Frame) → IsInStep own other → IsInStep (after_send own frame) other
   send_keeps frame s =
@@ -90,7 +90,7 @@ module _ (own other : Side) where
       go Ignored is = unchanged_keeps s
       go (Acked count) is =
           let (number, in_sent) = acknowledged_within (acked_count own.history) (sent_count own.history) datagram.acknowledgement count (sym is) in
-          let is_own : IsOwn other.history datagram = s.other_sound.datagrams which datagram at in
+          let is_own : IsOwn other.history datagram = s.back.sound.datagrams which datagram at in
           cond_both (nat_eq count 0) [] (EntryAcked count ∷ []) (λ more. IsInStep (record own { history = extended own.limit own.history more }) other)
           (λ _. unchanged_keeps s)
           (λ some. extended_keeps (λ entries. IsInStep (record own { history = entries }) other) own.limit own.history (EntryAcked count ∷ []) s
@@ -105,7 +105,7 @@ module _ (own other : Side) where
           → IsInStep (record own { history = extended own.limit own.history (entries_for_number judged frame) }) other
       judged_so frame is_frame Taken is =
           let expected : datagram.number ≡ taken_count own.history = taken_expected (taken_count own.history) datagram.number (sym is) in
-          let is_own : IsOwn other.history datagram = s.other_sound.datagrams which datagram at in
+          let is_own : IsOwn other.history datagram = s.back.sound.datagrams which datagram at in
           let next : slice_get (sent other.history) (taken_count own.history) ≡ Some frame = sym (ap (slice_get (sent other.history)) expected) ∙ is_own.frame frame is_frame in
           extended_keeps (λ entries. IsInStep (record own { history = entries }) other) own.limit own.history (EntryTaken frame ∷ []) s
           (λ fits. taken_in_step own other frame s next (omega arith))
@@ -156,12 +156,12 @@ pub in_step : (first second : Size) → first.width ≤ 127 → second.width ≤
 in_step first second first_width second_width events fresh =
     run_keeps events (start first second) fresh
     (record {
-      own_sound = empty_sound first first_width;
-      other_sound = empty_sound second second_width;
-      other_takes = ([], refl);
-      own_takes = ([], refl);
-      own_acks = omega arith;
-      other_acks = omega arith;
+      forth = record {
+        sound = empty_sound first first_width;
+        takes = ([], refl);
+        acks = omega arith;
+      };
+      back = record { sound = empty_sound second second_width; takes = ([], refl); acks = omega arith };
     })
 
 pub bytes_say_numbers : (own other : Side) → IsInStep own other → BytesSayNumbers own other

@@ -3,31 +3,34 @@ use Rattle.std.proofs.Common.{◌≡◌, ℕ, ◌+◌, ◌-◌, ◌≤◌, suc, 
 use Rattle.std.proofs.lemmas.List.{take-append-le, drop-append-le, map-append}
 use Rattle.std.proofs.lemmas.List.Sums.{sum_by-cons}
 use Rattle.std.specs.Prelude.{slice_range, sum_by, All, max}
+use Rattle.seq_window.specs.declared.history.Count.TheVariants as counts
 use Rattle.seq_window.specs.declared.history.Head.{Head}
 use Rattle.seq_window.specs.declared.history.Head.TheVariants as head
 use Rattle.seq_window.specs.declared.history.FrameHead.{FrameHead}
 use Rattle.seq_window.specs.Entry.{Entry, Sent, Taken}
 use Rattle.seq_window.specs.History.{sent_count, acked_count, taken_count}
 use Rattle.seq_window.specs.Record.{RecordState}
-use Rattle.seq_window.specs.RecordFields.{frame_at, entry_at, entries_in, EndsBelow, sent_by, acked_by, taken_by}
+use Rattle.seq_window.specs.RecordFields.{frame_at, entry_at, entries_in, EndsBelow, counted_by}
 
-pub sent_count-heads : (octets : List ℕ) (heads : List Head) → sum_by sent_by heads ≡ sent_count (entries_in octets heads)
-sent_count-heads octets [] = refl
-sent_count-heads octets (head.Sent h ∷ heads) = let rest : sum_by sent_by heads ≡ sent_count (entries_in octets heads) = sent_count-heads octets heads in omega (arith, sum_by-cons sent_by (head.Sent h) heads)
-sent_count-heads octets (head.Acked count ∷ heads) = let rest : sum_by sent_by heads ≡ sent_count (entries_in octets heads) = sent_count-heads octets heads in omega (arith, sum_by-cons sent_by (head.Acked count) heads)
-sent_count-heads octets (head.Taken h ∷ heads) = let rest : sum_by sent_by heads ≡ sent_count (entries_in octets heads) = sent_count-heads octets heads in omega (arith, sum_by-cons sent_by (head.Taken h) heads)
+-- what the heads count is what the entries do
+module _ (octets : List ℕ) where
+  pub sent_count-heads : (heads : List Head) → sum_by (counted_by counts.Sent) heads ≡ sent_count (entries_in octets heads)
+  sent_count-heads [] = refl
+  sent_count-heads (head.Sent h ∷ heads) = omega (arith, sent_count-heads heads, sum_by-cons (counted_by counts.Sent) (head.Sent h) heads)
+  sent_count-heads (head.Acked count ∷ heads) = omega (arith, sent_count-heads heads, sum_by-cons (counted_by counts.Sent) (head.Acked count) heads)
+  sent_count-heads (head.Taken h ∷ heads) = omega (arith, sent_count-heads heads, sum_by-cons (counted_by counts.Sent) (head.Taken h) heads)
 
-pub acked_count-heads : (octets : List ℕ) (heads : List Head) → sum_by acked_by heads ≡ acked_count (entries_in octets heads)
-acked_count-heads octets [] = refl
-acked_count-heads octets (head.Sent h ∷ heads) = let rest : sum_by acked_by heads ≡ acked_count (entries_in octets heads) = acked_count-heads octets heads in omega (arith, sum_by-cons acked_by (head.Sent h) heads)
-acked_count-heads octets (head.Acked count ∷ heads) = let rest : sum_by acked_by heads ≡ acked_count (entries_in octets heads) = acked_count-heads octets heads in omega (arith, sum_by-cons acked_by (head.Acked count) heads)
-acked_count-heads octets (head.Taken h ∷ heads) = let rest : sum_by acked_by heads ≡ acked_count (entries_in octets heads) = acked_count-heads octets heads in omega (arith, sum_by-cons acked_by (head.Taken h) heads)
+  pub acked_count-heads : (heads : List Head) → sum_by (counted_by counts.Acked) heads ≡ acked_count (entries_in octets heads)
+  acked_count-heads [] = refl
+  acked_count-heads (head.Sent h ∷ heads) = omega (arith, acked_count-heads heads, sum_by-cons (counted_by counts.Acked) (head.Sent h) heads)
+  acked_count-heads (head.Acked count ∷ heads) = omega (arith, acked_count-heads heads, sum_by-cons (counted_by counts.Acked) (head.Acked count) heads)
+  acked_count-heads (head.Taken h ∷ heads) = omega (arith, acked_count-heads heads, sum_by-cons (counted_by counts.Acked) (head.Taken h) heads)
 
-pub taken_count-heads : (octets : List ℕ) (heads : List Head) → sum_by taken_by heads ≡ taken_count (entries_in octets heads)
-taken_count-heads octets [] = refl
-taken_count-heads octets (head.Sent h ∷ heads) = let rest : sum_by taken_by heads ≡ taken_count (entries_in octets heads) = taken_count-heads octets heads in omega (arith, sum_by-cons taken_by (head.Sent h) heads)
-taken_count-heads octets (head.Acked count ∷ heads) = let rest : sum_by taken_by heads ≡ taken_count (entries_in octets heads) = taken_count-heads octets heads in omega (arith, sum_by-cons taken_by (head.Acked count) heads)
-taken_count-heads octets (head.Taken h ∷ heads) = let rest : sum_by taken_by heads ≡ taken_count (entries_in octets heads) = taken_count-heads octets heads in omega (arith, sum_by-cons taken_by (head.Taken h) heads)
+  pub taken_count-heads : (heads : List Head) → sum_by (counted_by counts.Taken) heads ≡ taken_count (entries_in octets heads)
+  taken_count-heads [] = refl
+  taken_count-heads (head.Sent h ∷ heads) = omega (arith, taken_count-heads heads, sum_by-cons (counted_by counts.Taken) (head.Sent h) heads)
+  taken_count-heads (head.Acked count ∷ heads) = omega (arith, taken_count-heads heads, sum_by-cons (counted_by counts.Taken) (head.Acked count) heads)
+  taken_count-heads (head.Taken h ∷ heads) = omega (arith, taken_count-heads heads, sum_by-cons (counted_by counts.Taken) (head.Taken h) heads)
 
 -- a frame stays where it lies, whatever comes after
 frame_at-more : (octets more : List ℕ) (h : FrameHead) → h.start + h.len ≤ length octets → frame_at (octets ++ more) h ≡ frame_at octets h

@@ -17,23 +17,18 @@ pub record IsSound (own : Side) : Type 0 where
   pub legal : IsLegal own.width own.limit own.history
   pub datagrams : (which : ℕ) (datagram : Datagram) → slice_get own.datagrams which ≡ Some datagram → IsOwn own.history datagram
 
+-- one of two sides that are in step: it is sound, and the other takes what it sent, in order, and had what counts as acknowledged
+pub record IsFollowed (own other : Side) : Type 0 where
+  pub sound : IsSound own
+  pub takes : TakesInOrder own other
+  pub acks : AcksTaken own other
+
 pub record IsInStep (own other : Side) : Type 0 where
-  pub own_sound : IsSound own
-  pub other_sound : IsSound other
-  pub other_takes : TakesInOrder own other
-  pub own_takes : TakesInOrder other own
-  pub own_acks : AcksTaken own other
-  pub other_acks : AcksTaken other own
+  pub forth : IsFollowed own other
+  pub back : IsFollowed other own
 
 pub in_step_turned : {own other : Side} → IsInStep own other → IsInStep other own
-in_step_turned s = record {
-  own_sound = s.other_sound;
-  other_sound = s.own_sound;
-  other_takes = s.own_takes;
-  own_takes = s.other_takes;
-  own_acks = s.other_acks;
-  other_acks = s.own_acks;
-}
+in_step_turned s = record { forth = s.back; back = s.forth }
 
 -- a datagram that was sent stays one that the side may have sent
 pub own_stays : (entries more : List Entry) (datagram : Datagram) → IsOwn entries datagram → IsOwn (entries ++ more) datagram
@@ -87,15 +82,15 @@ module _ (own other : Side) where
   pub sent_in_step : (frame : Frame) → IsInStep own other → length (held own.history) < own.width → length own.history < own.limit
       → IsInStep (with_entry own (Sent frame)) other
   sent_in_step frame s room_to_hold room =
-      let within : IsWithinWindow own.width own.history = legal_now own.width own.limit own.history s.own_sound.legal in
+      let within : IsWithinWindow own.width own.history = legal_now own.width own.limit own.history s.forth.sound.legal in
       record {
-        own_sound = sound_with_entry own (Sent frame) s.own_sound
-            (legal_sent own.width own.limit own.history frame s.own_sound.legal (omega (arith, within.acked, length-held own.history)) room);
-        other_sound = s.other_sound;
-        other_takes = rw (sent-append own.history (Sent frame ∷ [])) (prefix_stays (taken other.history) (sent own.history) (frame ∷ []) s.other_takes);
-        own_takes = rw (taken-append own.history (Sent frame ∷ []), append-nil) s.own_takes;
-        own_acks = omega (arith, s.own_acks, acked_count-append own.history (Sent frame ∷ []));
-        other_acks = omega (arith, s.other_acks, taken_count-append own.history (Sent frame ∷ []));
+        forth = record {
+          sound = sound_with_entry own (Sent frame) s.forth.sound
+              (legal_sent own.width own.limit own.history frame s.forth.sound.legal (omega (arith, within.acked, length-held own.history)) room);
+          takes = rw (sent-append own.history (Sent frame ∷ [])) (prefix_stays (taken other.history) (sent own.history) (frame ∷ []) s.forth.takes);
+          acks = omega (arith, s.forth.acks, acked_count-append own.history (Sent frame ∷ []));
+        };
+        back = record { sound = s.back.sound; takes = rw (taken-append own.history (Sent frame ∷ []), append-nil) s.back.takes; acks = omega (arith, s.back.acks, taken_count-append own.history (Sent frame ∷ [])) };
       }
 
   -- an acknowledgement counts
@@ -104,13 +99,13 @@ module _ (own other : Side) where
       → length own.history < own.limit → IsInStep (with_entry own (EntryAcked count)) other
   acked_in_step count s some in_sent in_taken room =
       record {
-        own_sound = sound_with_entry own (EntryAcked count) s.own_sound
-            (legal_acked own.width own.limit own.history count s.own_sound.legal some in_sent room);
-        other_sound = s.other_sound;
-        other_takes = rw (sent-append own.history (EntryAcked count ∷ []), append-nil) s.other_takes;
-        own_takes = rw (taken-append own.history (EntryAcked count ∷ []), append-nil) s.own_takes;
-        own_acks = omega (arith, in_taken, acked_count-append own.history (EntryAcked count ∷ []));
-        other_acks = omega (arith, s.other_acks, taken_count-append own.history (EntryAcked count ∷ []));
+        forth = record {
+          sound = sound_with_entry own (EntryAcked count) s.forth.sound
+              (legal_acked own.width own.limit own.history count s.forth.sound.legal some in_sent room);
+          takes = rw (sent-append own.history (EntryAcked count ∷ []), append-nil) s.forth.takes;
+          acks = omega (arith, in_taken, acked_count-append own.history (EntryAcked count ∷ []));
+        };
+        back = record { sound = s.back.sound; takes = rw (taken-append own.history (EntryAcked count ∷ []), append-nil) s.back.takes; acks = omega (arith, s.back.acks, taken_count-append own.history (EntryAcked count ∷ [])) };
       }
 
   -- a frame of the other side is taken
@@ -118,22 +113,22 @@ module _ (own other : Side) where
       → length own.history < own.limit → IsInStep (with_entry own (EntryTaken frame)) other
   taken_in_step frame s next room =
       record {
-        own_sound = sound_with_entry own (EntryTaken frame) s.own_sound
-            (legal_taken own.width own.limit own.history frame s.own_sound.legal room);
-        other_sound = s.other_sound;
-        other_takes = rw (sent-append own.history (EntryTaken frame ∷ []), append-nil) s.other_takes;
-        own_takes = rw (taken-append own.history (EntryTaken frame ∷ [])) (prefix_more (taken own.history) (sent other.history) frame s.own_takes next);
-        own_acks = omega (arith, s.own_acks, acked_count-append own.history (EntryTaken frame ∷ []));
-        other_acks = omega (arith, s.other_acks, taken_count-append own.history (EntryTaken frame ∷ []));
+        forth = record {
+          sound = sound_with_entry own (EntryTaken frame) s.forth.sound
+              (legal_taken own.width own.limit own.history frame s.forth.sound.legal room);
+          takes = rw (sent-append own.history (EntryTaken frame ∷ []), append-nil) s.forth.takes;
+          acks = omega (arith, s.forth.acks, acked_count-append own.history (EntryTaken frame ∷ []));
+        };
+        back = record { sound = s.back.sound; takes = rw (taken-append own.history (EntryTaken frame ∷ [])) (prefix_more (taken own.history) (sent other.history) frame s.back.takes next); acks = omega (arith, s.back.acks, taken_count-append own.history (EntryTaken frame ∷ [])) };
       }
 
   -- the side sends a datagram of its own
   pub datagram_in_step : (sent : Datagram) → IsInStep own other → IsOwn own.history sent → IsInStep (with_datagram own sent) other
   datagram_in_step sent s is_own = record {
-    own_sound = sound_with_datagram own sent s.own_sound is_own;
-    other_sound = s.other_sound;
-    other_takes = s.other_takes;
-    own_takes = s.own_takes;
-    own_acks = s.own_acks;
-    other_acks = s.other_acks;
+    forth = record {
+      sound = sound_with_datagram own sent s.forth.sound is_own;
+      takes = s.forth.takes;
+      acks = s.forth.acks;
+    };
+    back = record { sound = s.back.sound; takes = s.back.takes; acks = s.back.acks };
   }

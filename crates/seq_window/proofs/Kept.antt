@@ -10,7 +10,7 @@ use Rattle.resend_queue.specs.Timing as queue
 use Rattle.seq_window.specs.Entry.{Entry, Sent, Acked, Taken}
 use Rattle.seq_window.specs.History.{sent, acked_count, sent_count, held}
 use Rattle.seq_window.specs.Sequence.{byte_of}
-use Rattle.seq_window.specs.Window.{Sending, numbered_from, touch_at, touched, mark_at, tries_at, is_due, first_due}
+use Rattle.seq_window.specs.Window.{Sending, numbered_from, change_at, tries_at, is_due, first_due}
 use Rattle.seq_window.specs.WindowFields.{AreHeld, sending_of}
 use Rattle.seq_window.proofs.Places.{slice_get-append, slice_get-push}
 use Rattle.seq_window.proofs.Records.{sent-append, acked_count-append}
@@ -132,24 +132,21 @@ kept-taken history hs frame are =
 
 -- ---- the sendings of what is kept
 
-pub sendings-touched : (place now : ℕ) (hs : List (Held ℕ)) → map sending_of (changed_at (queue.touched now) place hs) ≡ touch_at place now (map sending_of hs)
-sendings-touched place now [] = refl
-sendings-touched zero now (h ∷ hs) = refl
-sendings-touched (suc place) now (h ∷ hs) = ap (λ xs. sending_of h ∷ xs) (sendings-touched place now hs)
+-- a change of what is kept that is this change of its sending
+module _ (change : Held ℕ → Held ℕ) (noted : Sending → Sending) (same : (h : Held ℕ) → sending_of (change h) ≡ noted (sending_of h)) where
+  pub sendings-changed : (place : ℕ) (hs : List (Held ℕ)) → map sending_of (changed_at change place hs) ≡ change_at noted place (map sending_of hs)
+  sendings-changed place [] = refl
+  sendings-changed zero (h ∷ hs) = ap (λ x. x ∷ map sending_of hs) (same h)
+  sendings-changed (suc place) (h ∷ hs) = ap (λ xs. sending_of h ∷ xs) (sendings-changed place hs)
 
-pub sendings-marked : (place now : ℕ) (hs : List (Held ℕ)) → map sending_of (changed_at (queue.marked now) place hs) ≡ mark_at place now (map sending_of hs)
-sendings-marked place now [] = refl
-sendings-marked zero now (h ∷ hs) = refl
-sendings-marked (suc place) now (h ∷ hs) = ap (λ xs. sending_of h ∷ xs) (sendings-marked place now hs)
+  pub sendings-all_changed : (hs : List (Held ℕ)) → map sending_of (map change hs) ≡ map noted (map sending_of hs)
+  sendings-all_changed [] = refl
+  sendings-all_changed (h ∷ hs) = rw (same h, sendings-all_changed hs) refl
 
-pub sendings-all_touched : (now : ℕ) (hs : List (Held ℕ)) → map sending_of (map (queue.touched now) hs) ≡ map (touched now) (map sending_of hs)
-sendings-all_touched now [] = refl
-sendings-all_touched now (h ∷ hs) = ap (λ xs. touched now (sending_of h) ∷ xs) (sendings-all_touched now hs)
-
-pub length-mark_at : (place now : ℕ) (s : List Sending) → length (mark_at place now s) ≡ length s
-length-mark_at place now [] = refl
-length-mark_at zero now (x ∷ xs) = refl
-length-mark_at (suc place) now (x ∷ xs) = ap suc (length-mark_at place now xs)
+pub length-change_at : (change : Sending → Sending) (place : ℕ) (s : List Sending) → length (change_at change place s) ≡ length s
+length-change_at change place [] = refl
+length-change_at change zero (x ∷ xs) = refl
+length-change_at change (suc place) (x ∷ xs) = ap suc (length-change_at change place xs)
 
 pub tries_at-held : (first : ℕ) (fs : List Frame) (ss : List Sending) (place : ℕ) (h : Held Frame) → slice_get (numbered_from first fs ss) place ≡ Some h → tries_at place ss ≡ h.tries
 tries_at-held first [] ss place h at = cc

@@ -5,6 +5,7 @@ use Rattle.std.proofs.lemmas.Bool.{leb-true, leb-false}
 use Rattle.std.proofs.lemmas.Grind.{common_steps}
 use Rattle.std.specs.Prelude.{nat_le, nat_eq, true, false}
 use Rattle.resend_queue.specs.Queue.{Queue}
+use Rattle.resend_queue.specs.Timing.{changed_at}
 use Rattle.resend_queue.specs.declared.held_frame.Held.{Held}
 use Rattle.iax_frames.specs.declared.stored_frame.Frame.{Frame}
 use Rattle.seq_window.specs.declared.judgements.Acknowledged.TheVariants.{Acked as Counted, Ignored}
@@ -17,7 +18,7 @@ use Rattle.seq_window.specs.Window.{WindowState, judged_acknowledgement, count_o
 use Rattle.seq_window.specs.WindowFields.{AreHeld, IsSound, sending_of, window_of}
 use Rattle.seq_window.proofs.Numbers.{from_reads, acknowledged_near, acknowledged_far, acknowledged_within}
 use Rattle.seq_window.proofs.Records.{legal_now, legal_sent, legal_acked, legal_taken, sent_count-append, acked_count-append, taken_count-append, length-held}
-use Rattle.seq_window.proofs.Kept.{LiesAt, length-kept, kept-lies, length-numbered, kept-sent, kept-acked, kept-taken}
+use Rattle.seq_window.proofs.Kept.{LiesAt, Keeps, length-kept, kept-lies, kept-changed, kept-map, length-numbered, kept-sent, kept-acked, kept-taken}
 
 module _ (w : Inside) (sound : IsSound w) where
   acked_below : acked_count w.history.entries ≤ sent_count w.history.entries
@@ -78,10 +79,7 @@ module _ (w : Inside) (sound : IsSound w) where
         next = rw (is, sent_count-append, add-zero) sound.next;
         oldest = rw (is, acked_count-append, add-zero) (sym written);
         expected = rw (is, taken_count-append, add-zero) sound.expected;
-        some = sound.some;
-        narrow = sound.narrow;
-        least = sound.least;
-        most = sound.most;
+        bounds = sound.bounds;
         room = capacity ∙ sound.room;
       }
 
@@ -93,10 +91,7 @@ module _ (w : Inside) (sound : IsSound w) where
     next = rw (is, sent_count-append, add-zero) sound.next;
     oldest = rw (is, acked_count-append, add-zero) sound.oldest;
     expected = rw is (omega (arith, sound.expected, taken_count-append w.history.entries (Taken frame ∷ [])));
-    some = sound.some;
-    narrow = sound.narrow;
-    least = sound.least;
-    most = sound.most;
+    bounds = sound.bounds;
     room = sound.room;
   }
 
@@ -110,15 +105,12 @@ module _ (w : Inside) (sound : IsSound w) where
     next = rw is (omega (arith, sound.next, sent_count-append w.history.entries (Sent frame ∷ [])));
     oldest = rw (is, acked_count-append, add-zero) sound.oldest;
     expected = rw (is, taken_count-append, add-zero) sound.expected;
-    some = sound.some;
-    narrow = sound.narrow;
-    least = sound.least;
-    most = sound.most;
+    bounds = sound.bounds;
     room = capacity ∙ sound.room;
   }
 
   -- the held frames stay, whatever is noted beside them
-  pub noted_sound : (kept : Queue ℕ) → AreHeld w.history.entries (acked_count w.history.entries) kept.held (held w.history.entries) → kept.width ≡ w.held.width
+  noted_sound : (kept : Queue ℕ) → AreHeld w.history.entries (acked_count w.history.entries) kept.held (held w.history.entries) → kept.width ≡ w.held.width
       → IsSound (record w { held = kept })
   noted_sound kept are capacity = record {
     legal = sound.legal;
@@ -126,12 +118,22 @@ module _ (w : Inside) (sound : IsSound w) where
     next = sound.next;
     oldest = sound.oldest;
     expected = sound.expected;
-    some = sound.some;
-    narrow = sound.narrow;
-    least = sound.least;
-    most = sound.most;
+    bounds = sound.bounds;
     room = capacity ∙ sound.room;
   }
+
+  -- one of the held frames is changed, or all are, and each keeps its number and its place
+  module _ (change : Held ℕ → Held ℕ) (keeps : Keeps change) (kept : Queue ℕ) where
+    pub changed_sound : (place : ℕ) → kept ≡ record { held = changed_at change place w.held.held; width = w.held.width }
+        → IsSound (record w { held = kept })
+    changed_sound place is =
+        noted_sound kept (rw is (kept-changed w.history.entries change (acked_count w.history.entries) place w.held.held (held w.history.entries) keeps sound.kept))
+        (ap (λ (q : Queue ℕ). q.width) is)
+
+    pub all_changed_sound : kept ≡ record { held = map change w.held.held; width = w.held.width } → IsSound (record w { held = kept })
+    all_changed_sound is =
+        noted_sound kept (rw is (kept-map w.history.entries change (acked_count w.history.entries) w.held.held (held w.history.entries) keeps sound.kept))
+        (ap (λ (q : Queue ℕ). q.width) is)
 
   -- as many sendings as held frames
   sendings_count : length (map sending_of w.held.held) ≡ length w.held.held

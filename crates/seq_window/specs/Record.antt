@@ -1,5 +1,5 @@
 -- What a contract sees of a record.
-use Rattle.std.specs.Prelude.{ℕ, List, Option, None, Some}
+use Rattle.std.specs.Prelude.{ℕ, List, [], Option, Some}
 use Rattle.iax_frames.specs.declared.stored_frame.Frame.{Frame}
 use Rattle.seq_window.specs.declared.history.FrameView.{FrameView}
 use Rattle.seq_window.specs.declared.history.EntryView.{EntryView}
@@ -18,13 +18,17 @@ frame_of v = record { ts = v.ts; kind = v.kind; subclass = v.subclass; payload =
 
 -- it is the entry of a frame that was sent
 abbrev pub IsSent : Option Entry → Type 0
-IsSent None = ⊥
 IsSent (Some (Sent frame)) = Unit {0}
-IsSent (Some (Acked count)) = ⊥
-IsSent (Some (Taken frame)) = ⊥
+IsSent _ = ⊥
 
 -- the entry that is looked at
 abbrev pub entry_of : EntryView → Entry
 entry_of (view.Sent v) = Sent (frame_of v)
 entry_of (view.Acked count) = Acked count
 entry_of (view.Taken v) = Taken (frame_of v)
+
+-- the octets of the frame that is looked at, where there is one
+abbrev pub octets_of : EntryView → List ℕ
+octets_of (view.Sent v) = v.payload.now
+octets_of (view.Acked count) = []
+octets_of (view.Taken v) = v.payload.now

@@ -2,6 +2,8 @@
 use Rattle.std.specs.Prelude.{ℕ, ◌+◌, ◌*◌, ◌≤◌, List, length, map, All, slice_range}
 use Rattle.std.specs.Vec.{vec_capacity}
 use Rattle.iax_frames.specs.declared.stored_frame.Frame.{Frame}
+use Rattle.seq_window.specs.declared.history.Count.{Count}
+use Rattle.seq_window.specs.declared.history.Count.TheVariants as counts
 use Rattle.seq_window.specs.declared.history.Head.{Head}
 use Rattle.seq_window.specs.declared.history.Head.TheVariants as head
 use Rattle.seq_window.specs.declared.history.FrameHead.{FrameHead}
@@ -22,21 +24,12 @@ entry_at octets (head.Taken h) = Taken (frame_at octets h)
 abbrev pub entries_in : List ℕ → List Head → List Entry
 entries_in octets heads = map (entry_at octets) heads
 
--- what a head counts as sent, as acknowledged and as taken
-abbrev pub sent_by : Head → ℕ
-sent_by (head.Sent h) = 1
-sent_by (head.Acked count) = 0
-sent_by (head.Taken h) = 0
-
-abbrev pub acked_by : Head → ℕ
-acked_by (head.Sent h) = 0
-acked_by (head.Acked count) = count
-acked_by (head.Taken h) = 0
-
-abbrev pub taken_by : Head → ℕ
-taken_by (head.Sent h) = 0
-taken_by (head.Acked count) = 0
-taken_by (head.Taken h) = 1
+-- what a head counts as sent, as acknowledged or as taken
+abbrev pub counted_by : Count → Head → ℕ
+counted_by counts.Sent (head.Sent h) = 1
+counted_by counts.Acked (head.Acked count) = count
+counted_by counts.Taken (head.Taken h) = 1
+counted_by _ _ = 0
 
 abbrev pub record_of : Inside → RecordState
 record_of r = record { entries = entries_in r.octets.items r.heads.items; spare = r.spare }

@@ -43,10 +43,8 @@ is_full w = nat_le w.width (held_count w)
 -- ---- sending
 
 abbrev pub after_sending : WindowState → Frame → ℕ → WindowState
-after_sending w frame now = record {
+after_sending w frame now = record w {
   history = w.history ++ Sent frame ∷ [];
-  width = w.width;
-  limit = w.limit;
   sendings = w.sendings ++ record { last = now; tries = 0 } ∷ [];
 }
 
@@ -66,12 +64,7 @@ abbrev pub entries_for_count : ℕ → List Entry
 entries_for_count count = if nat_eq count 0 then [] else Acked count ∷ []
 
 abbrev pub after_count : WindowState → ℕ → WindowState
-after_count w count = record {
-  history = w.history ++ entries_for_count count;
-  width = w.width;
-  limit = w.limit;
-  sendings = drop count w.sendings;
-}
+after_count w count = record w { history = w.history ++ entries_for_count count; sendings = drop count w.sendings }
 
 abbrev pub after_acknowledgement : WindowState → ℕ → WindowState
 after_acknowledgement w byte = after_count w (count_of (judged_acknowledgement w.history byte))
@@ -89,12 +82,7 @@ entries_for_number received.Repeat frame = []
 entries_for_number received.Gap frame = []
 
 abbrev pub after_receiving : WindowState → ℕ → Frame → WindowState
-after_receiving w byte frame = record {
-  history = w.history ++ entries_for_number (judged_number w.history byte) frame;
-  width = w.width;
-  limit = w.limit;
-  sendings = w.sendings;
-}
+after_receiving w byte frame = record w { history = w.history ++ entries_for_number (judged_number w.history byte) frame }
 
 -- ---- sending again
 
@@ -116,26 +104,17 @@ held_at w place = slice_get (held_frames w) place
 abbrev pub touched : ℕ → Sending → Sending
 touched now s = record { last = now; tries = s.tries }
 
-abbrev pub touch_at : ℕ → ℕ → List Sending → List Sending
-touch_at place now [] = []
-touch_at zero now (s ∷ sendings) = touched now s ∷ sendings
-touch_at (suc place) now (s ∷ sendings) = s ∷ touch_at place now sendings
+-- the one at a place changed
+abbrev pub change_at : (Sending → Sending) → ℕ → List Sending → List Sending
+change_at change place [] = []
+change_at change zero (s ∷ sendings) = change s ∷ sendings
+change_at change (suc place) (s ∷ sendings) = s ∷ change_at change place sendings
 
 abbrev pub after_touching : WindowState → ℕ → ℕ → WindowState
-after_touching w place now = record {
-  history = w.history;
-  width = w.width;
-  limit = w.limit;
-  sendings = touch_at place now w.sendings;
-}
+after_touching w place now = record w { sendings = change_at (touched now) place w.sendings }
 
 abbrev pub after_touching_all : WindowState → ℕ → WindowState
-after_touching_all w now = record {
-  history = w.history;
-  width = w.width;
-  limit = w.limit;
-  sendings = map (touched now) w.sendings;
-}
+after_touching_all w now = record w { sendings = map (touched now) w.sendings }
 
 -- ---- tries
 
@@ -156,17 +135,10 @@ abbrev pub marked : ℕ → Sending → Sending
 marked now s = record { last = now; tries = min (s.tries + 1) (2 ^ 32 - 1) }
 
 abbrev pub mark_at : ℕ → ℕ → List Sending → List Sending
-mark_at place now [] = []
-mark_at zero now (s ∷ sendings) = marked now s ∷ sendings
-mark_at (suc place) now (s ∷ sendings) = s ∷ mark_at place now sendings
+mark_at place now sendings = change_at (marked now) place sendings
 
 abbrev pub after_marking : WindowState → ℕ → ℕ → WindowState
-after_marking w place now = record {
-  history = w.history;
-  width = w.width;
-  limit = w.limit;
-  sendings = mark_at place now w.sendings;
-}
+after_marking w place now = record w { sendings = mark_at place now w.sendings }
 
 -- the first due frame goes out again, where it has tries left
 abbrev pub resent_if : Option ℕ → WindowState → ℕ → Resent

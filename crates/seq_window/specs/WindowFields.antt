@@ -30,14 +30,18 @@ window_of w = record {
   spare = w.history.spare;
 }
 
+-- the widths and limits that a window may have
+pub record IsWithinBounds (width limit : ℕ) : Type 0 where
+  pub some : 1 ≤ width
+  pub narrow : width ≤ 127
+  pub least : 64 ≤ limit
+  pub most : limit ≤ 65536
+
 pub record IsSound (w : Inside) : Type 0 where
   pub legal : IsLegal w.width w.limit w.history.entries
   pub kept : AreHeld w.history.entries (acked_count w.history.entries) w.held.held (held w.history.entries)
   pub next : w.next ≡ byte_of (sent_count w.history.entries)
   pub oldest : w.oldest ≡ byte_of (acked_count w.history.entries)
   pub expected : w.expected ≡ byte_of (taken_count w.history.entries)
-  pub some : 1 ≤ w.width
-  pub narrow : w.width ≤ 127
-  pub least : 64 ≤ w.limit
-  pub most : w.limit ≤ 65536
+  pub bounds : IsWithinBounds w.width w.limit
   pub room : w.held.width ≡ w.width

@@ -3,10 +3,10 @@
 ghost use Rattle.std.specs.Prelude.{◌≡◌, ◌+◌, ◌-◌, ◌*◌, ◌<◌, ◌≤◌, ◌==◌, [], ◌∷◌, ◌++◌, length, slice_get, Some, IsOk, OnOk, OnErr, max};
 ghost use Rattle.std.specs.Prelude.{sum_by};
 ghost use Rattle.std.specs.Option.{option_map};
-ghost use Rattle.seq_window.specs.Entry.{Sent as EntrySent, Acked as EntryAcked, Taken as EntryTaken};
+ghost use Rattle.seq_window.specs.Entry.{Sent as EntrySent};
 ghost use Rattle.seq_window.specs.History.{sent_count, acked_count, taken_count};
-ghost use Rattle.seq_window.specs.Record.{entry_of, frame_of, IsSent};
-ghost use Rattle.seq_window.specs.RecordFields.{frame_at, sent_by, acked_by, taken_by};
+ghost use Rattle.seq_window.specs.Record.{entry_of, frame_of, octets_of, IsSent};
+ghost use Rattle.seq_window.specs.RecordFields.{frame_at, entry_at, counted_by, EndsBelow};
 ghost use Rattle.std.specs.Vec.{vec_capacity};
 
 use std::alloc::{AllocError, Global};
@@ -54,33 +54,23 @@ struct FrameHead {
     len: u16,
 }
 
+// What the entries of a record count.
+#[derive(Clone, Copy)]
+enum Count {
+    Sent,
+    Acked,
+    Taken,
+}
+
 impl Head {
-    // The frames that the entry counts as sent.
-    fn sent(&self) -> usize
-        ensures { result ≡ sent_by self.now }
+    // The frames that the entry counts so.
+    fn counts(&self, count: Count) -> u32
+        ensures { result ≡ counted_by count self.now }
     {
-        match self {
-            Head::Sent(_) => 1,
-            _ => 0,
-        }
-    }
-
-    // The frames that the entry counts as acknowledged.
-    fn acked(&self) -> u32
-        ensures { result ≡ acked_by self.now }
-    {
-        match self {
-            Head::Acked(count) => *count,
-            _ => 0,
-        }
-    }
-
-    // The frames that the entry counts as taken.
-    fn taken(&self) -> usize
-        ensures { result ≡ taken_by self.now }
-    {
-        match self {
-            Head::Taken(_) => 1,
+        match (count, self) {
+            (Count::Sent, Head::Sent(_)) => 1,
+            (Count::Acked, Head::Acked(frames)) => *frames,
+            (Count::Taken, Head::Taken(_)) => 1,
             _ => 0,
         }
     }
@@ -164,48 +154,18 @@ impl Record {
         Ok(())
     }
 
-    /// Adds the entry of a frame that is sent, of at most 1,388 octets. Only where nothing is spare it may ask for memory.
-    pub(crate) fn push_sent(&mut self, frame: FrameView<'_>) -> Result<(), AllocError>
+    /// Adds an entry, whose frame has at most 1,388 octets. Only where nothing is spare it may ask for memory.
+    pub(crate) fn push(&mut self, added: EntryView<'_>) -> Result<(), AllocError>
         requires few { length self.old.entries < 65536 }
-        requires short { length frame.payload.now ≤ 1388 }
+        requires short { length (octets_of added) ≤ 1388 }
         ensures ok { OnOk result (self.new ≡
-            record { entries = self.old.entries ++ EntrySent (frame_of frame.entry) ∷ []; spare = self.old.spare - 1 }) }
+            record { entries = self.old.entries ++ entry_of added.entry ∷ []; spare = self.old.spare - 1 }) }
         ensures memory { OnErr result (self.old.spare ≡ 0) }
         ensures err { OnErr result (self.new ≡ self.old) }
     {
         self.reserve(1)?;
-        let head = push_octets(&mut self.octets, frame);
-        self.heads.push_reserved(Head::Sent(head));
-        self.spare -= 1;
-        Ok(())
-    }
-
-    /// Adds the entry of an acknowledgement. Only where nothing is spare it may ask for memory.
-    pub(crate) fn push_acked(&mut self, count: u32) -> Result<(), AllocError>
-        requires { length self.old.entries < 65536 }
-        ensures ok { OnOk result (self.new ≡
-            record { entries = self.old.entries ++ EntryAcked count ∷ []; spare = self.old.spare - 1 }) }
-        ensures memory { OnErr result (self.old.spare ≡ 0) }
-        ensures err { OnErr result (self.new ≡ self.old) }
-    {
-        self.reserve(1)?;
-        self.heads.push_reserved(Head::Acked(count));
-        self.spare -= 1;
-        Ok(())
-    }
-
-    /// Adds the entry of a frame that is taken, of at most 1,388 octets. Only where nothing is spare it may ask for memory.
-    pub(crate) fn push_taken(&mut self, frame: FrameView<'_>) -> Result<(), AllocError>
-        requires few { length self.old.entries < 65536 }
-        requires short { length frame.payload.now ≤ 1388 }
-        ensures ok { OnOk result (self.new ≡
-            record { entries = self.old.entries ++ EntryTaken (frame_of frame.entry) ∷ []; spare = self.old.spare - 1 }) }
-        ensures memory { OnErr result (self.old.spare ≡ 0) }
-        ensures err { OnErr result (self.new ≡ self.old) }
-    {
-        self.reserve(1)?;
-        let head = push_octets(&mut self.octets, frame);
-        self.heads.push_reserved(Head::Taken(head));
+        let head = push_head(&mut self.octets, added);
+        self.heads.push_reserved(head);
         self.spare -= 1;
         Ok(())
     }
@@ -237,21 +197,21 @@ impl Record {
     pub fn sent_count(&self) -> usize
         ensures { result ≡ sent_count self.now.entries }
     {
-        sent_in(self.heads.as_slice())
+        count_in(self.heads.as_slice(), Count::Sent)
     }
 
     /// How many of the sent frames were acknowledged: the sum over the entries.
     pub fn acked_count(&self) -> usize
         ensures { result ≡ acked_count self.now.entries }
     {
-        acked_in(self.heads.as_slice())
+        count_in(self.heads.as_slice(), Count::Acked)
     }
 
     /// How many frames of the other side were taken.
     pub fn taken_count(&self) -> usize
         ensures { result ≡ taken_count self.now.entries }
     {
-        taken_in(self.heads.as_slice())
+        count_in(self.heads.as_slice(), Count::Taken)
     }
 }
 
@@ -271,35 +231,14 @@ fn reserve_octets(octets: &mut Vec<u8>, count: usize) -> Result<(), AllocError>
     Ok(())
 }
 
-fn sent_in(heads: &[Head]) -> usize
+// The frames that entries count so, together.
+fn count_in(heads: &[Head], counted: Count) -> usize
     requires { length heads.now ≤ 65536 }
-    ensures { result ≡ sum_by sent_by heads.now }
+    ensures { result ≡ sum_by (counted_by counted) heads.now }
 {
     let mut count = 0;
     for head in heads {
-        count += head.sent();
-    }
-    count
-}
-
-fn acked_in(heads: &[Head]) -> usize
-    requires { length heads.now ≤ 65536 }
-    ensures { result ≡ sum_by acked_by heads.now }
-{
-    let mut count = 0;
-    for head in heads {
-        count += head.acked() as usize;
-    }
-    count
-}
-
-fn taken_in(heads: &[Head]) -> usize
-    requires { length heads.now ≤ 65536 }
-    ensures { result ≡ sum_by taken_by heads.now }
-{
-    let mut count = 0;
-    for head in heads {
-        count += head.taken();
+        count += head.counts(counted) as usize;
     }
     count
 }
@@ -316,6 +255,23 @@ fn frame_in(octets: &[u8], head: FrameHead) -> FrameView<'_>
         kind: head.kind,
         subclass: head.subclass,
         payload: &octets[start..start + head.len as usize],
+    }
+}
+
+// The head of an entry, the octets of whose frame, at most 1,388, are appended. There is room for them.
+fn push_head(octets: &mut Vec<u8>, added: EntryView<'_>) -> Head
+    requires room { length octets.old.items + 1388 ≤ vec_capacity octets.old }
+    requires few { length octets.old.items ≤ 1388 * 65536 }
+    requires short { length (octets_of added) ≤ 1388 }
+    ensures octets { octets.new.items ≡ octets.old.items ++ octets_of added.entry }
+    ensures entry { entry_at octets.new.items result ≡ entry_of added.entry }
+    ensures within { EndsBelow (length octets.new.items) result }
+    ensures capacity { vec_capacity octets.old ≤ vec_capacity octets.new }
+{
+    match added {
+        EntryView::Sent(frame) => Head::Sent(push_octets(octets, frame)),
+        EntryView::Acked(count) => Head::Acked(count),
+        EntryView::Taken(frame) => Head::Taken(push_octets(octets, frame)),
     }
 }
 

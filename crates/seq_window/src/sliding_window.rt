@@ -12,7 +12,7 @@ ghost use Rattle.seq_window.specs.Window.{after_touching_all, first_due, tries_a
 ghost use Rattle.seq_window.specs.Window.{IsPlaceBelow};
 
 use crate::errors::{RecordError, SendError};
-use crate::history::{FrameView, Record};
+use crate::history::{EntryView, FrameView, Record};
 use crate::judgements::{Acknowledged, Received, Resent};
 use resend_queue::{Held, Resend};
 use std::alloc::{AllocError, Global};
@@ -101,7 +101,9 @@ impl Window {
             return Err(SendError::RecordFull);
         }
         let place = self.history.len() as u32;
-        self.history.push_sent(frame)?;
+        let Ok(()) = self.history.push(EntryView::Sent(frame)) else {
+            return Err(SendError::Memory);
+        };
         let number = self.next;
         let pushed = self.held.push(Held {
             number,
@@ -144,7 +146,9 @@ impl Window {
         if self.free_entries() == 0 {
             return Err(RecordError::RecordFull);
         }
-        self.history.push_acked(count)?;
+        let Ok(()) = self.history.push(EntryView::Acked(count)) else {
+            return Err(RecordError::Memory);
+        };
         self.held.drop_front(count as usize);
         self.oldest = iseq;
         Ok(judged)
@@ -200,7 +204,9 @@ impl Window {
         if self.free_entries() == 0 {
             return Err(RecordError::RecordFull);
         }
-        self.history.push_taken(frame)?;
+        let Ok(()) = self.history.push(EntryView::Taken(frame)) else {
+            return Err(RecordError::Memory);
+        };
         self.expected = self.expected.wrapping_add(1);
         Ok(Received::Taken)
     }

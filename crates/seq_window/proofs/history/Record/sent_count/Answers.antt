@@ -2,11 +2,12 @@ use Rattle.std.proofs.Common.{◌∙◌, ap}
 use Rattle.std.specs.Prelude.{sum_by}
 use Rattle.seq_window.specs.History.{sent_count}
 use Rattle.seq_window.specs.Record.{RecordState}
-use Rattle.seq_window.specs.RecordFields.{sent_by}
+use Rattle.seq_window.specs.declared.history.Count.TheVariants as counts
+use Rattle.seq_window.specs.RecordFields.{counted_by}
 use Rattle.seq_window.proofs.Heads.{sent_count-heads}
 use Rattle.seq_window.proofs.history.Record.sent_count.Goals as goal
 
 pub returns : goal.returns
 returns c =
-    c.sent_in.ensures ∙ ap (sum_by sent_by) c.as_slice.ensures.value ∙ sent_count-heads c.self.inside.octets.items c.self.inside.heads.items
+    c.count_in.ensures ∙ ap (sum_by (counted_by counts.Sent)) c.as_slice.ensures.value ∙ sent_count-heads c.self.inside.octets.items c.self.inside.heads.items
     ∙ ap (λ (r : RecordState). sent_count r.entries) c.self.view_is

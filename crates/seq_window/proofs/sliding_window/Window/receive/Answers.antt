@@ -8,5 +8,5 @@ pub invariant_of-self-2 : goal.invariant_of-self-2
 invariant_of-self-2 c =
     let free : c.free_entries.result + length c.self.inside.history.entries ≡ c.self.inside.limit
     = subst (λ (w : Window). c.free_entries.result + entry_count w.state ≡ w.state.limit) (sym c.self.view_is) c.free_entries.ensures in
-    taken_sound c.self.inside c.self.invariant c.push_taken.new.self (frame_of c.args.frame)
-    (ap (λ (r : RecordState). r.entries) c.in_ok-push_taken.ensures.ok) (omega arith)
+    taken_sound c.self.inside c.self.invariant c.push.new.self (frame_of c.args.frame)
+    (ap (λ (r : RecordState). r.entries) c.in-Ok.ensures.ok) (omega arith)

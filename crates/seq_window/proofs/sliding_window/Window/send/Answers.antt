@@ -20,8 +20,8 @@ invariant_of-self-2 c =
     let room : nat_le c.self.inside.width (length (map sending_of c.self.inside.held.held)) ≡ false
     = ap (λ (w : Window). is_full w.state) c.self.view_is ∙ sym c.is_full.ensures ∙ c.if-is_full.false in
     let pushed = on_ok _ _ (sym c.is_ok-fits.ensures.value ∙ c.if-prove.false) c.push-pushed.ensures.ok in
-    sent_sound c.self.inside c.self.invariant c.push_sent.new.self c.push-pushed.new.self (frame_of c.args.frame) one
-    (ap (λ (r : RecordState). r.entries) c.in_ok-push_sent.ensures.ok)
+    sent_sound c.self.inside c.self.invariant c.push.new.self c.push-pushed.new.self (frame_of c.args.frame) one
+    (ap (λ (r : RecordState). r.entries) c.in-Ok.ensures.ok)
     (ap (λ (q : Queue ℕ). q.held) pushed) (ap (λ (q : Queue ℕ). q.width) pushed) refl c.len-place.ensures.len
     (not_full_is c.self.inside c.self.invariant room) (omega arith)
 

@@ -1,7 +1,0 @@
-use Rattle.std.proofs.Common.{◌≡◌, ◌-◌, ◌*◌, ◌^◌, ◌≤◌, take}
-use Rattle.std.specs.Prelude.{sum_by}
-use Rattle.seq_window.specs.RecordFields.{acked_by}
-use Rattle.seq_window.proofs.history.acked_in.Given as goal
-
-abbrev pub invariant-loop-head : goal.invariant-loop-head
-invariant-loop-head l = (l.count ≡ sum_by acked_by (take l.head-index l.heads)) × (l.count ≤ (2 ^ 32 - 1) * l.head-index)
