@@ -52,18 +52,6 @@ fn append_octet(payload: &mut Payload, number: u8, value: Option<u8>)
     }
 }
 
-// An element of two octets that is left out where there is no value.
-fn append_two_octets(payload: &mut Payload, number: u8, value: Option<u16>)
-    requires { length payload.old ≤ 1000 }
-    ensures appended { payload.new ≡ payload.old ++ caller.two_octets_if number value }
-    ensures short { length payload.new ≤ length payload.old + 4 }
-{
-    match value {
-        Some(value) => append_to(payload, number, &value.to_be_bytes()),
-        None => {}
-    }
-}
-
 // What is carried on beside the number.
 fn append_rest(payload: &mut Payload, elements: &NewElements)
     requires room { length payload.old ≤ 257 }
@@ -74,7 +62,10 @@ fn append_rest(payload: &mut Payload, elements: &NewElements)
     append_text(payload, CALLING_NAME, elements.name);
     append_octet(payload, CALLINGPRES, elements.presentation);
     append_octet(payload, CALLINGTON, elements.number_type);
-    append_two_octets(payload, CALLINGTNS, elements.network);
+    match elements.network {
+        Some(network) => append_to(payload, CALLINGTNS, &network.to_be_bytes()),
+        None => {}
+    }
 }
 
 impl Caller {

@@ -1,5 +1,6 @@
 //! What a leg hands up, and what it is ordered to tell the other side.
 ghost use Rattle.std.specs.Prelude.{◌≡◌, ◌<◌, ◌≤◌, ◌==◌, length};
+ghost use Rattle.std.specs.Option.{ForSome, option_copied};
 
 use crate::format::Format;
 use arrayvec::ArrayVec;
@@ -126,6 +127,17 @@ impl ElementText {
         let mut copy = ArrayVec::new();
         copy.try_extend_from_slice(octets).unwrap();
         ElementText { octets: copy }
+    }
+
+    /// A copy of a text of at most 255 octets, where there is one.
+    pub fn of(text: Option<&[u8]>) -> Option<ElementText>
+        requires { ForSome text (λ octets. length octets.now ≤ 255) }
+        ensures { result ≡ option_copied text.entry }
+    {
+        match text {
+            Some(text) => Some(ElementText::new(text)),
+            None => None,
+        }
     }
 
     /// The octets, at most 255.
