@@ -6,93 +6,72 @@ use Rattle.call_signals.specs.declared.message.Message.{Message}
 use Rattle.call_signals.specs.declared.message.Message.TheVariants as messages
 use Rattle.call_records.specs.SideFrames.{SideFrame, meaning_of}
 use Rattle.call_records.specs.Courses.{accepts, answers, peer_rejection, ending_by, ending_of, moment_of, accepted_of, answered_from, answered_of, end_by, end_or, end_from}
-use Rattle.call_records.specs.CourseFacts.{GoesOn, HasEnding, HasAccept, HasAnswer, HasAcceptAndAnswer, HasNoHangup, IsHangup}
+use Rattle.call_records.specs.CourseFacts.{GoesOn, Placed, HasFrame, HasEnding, HasAccept, HasAnswer, HasAcceptAndAnswer, HasNoHangup, IsHangup}
 use Rattle.call_records.specs.declared.side.Side.{Side}
 use Rattle.call_records.specs.declared.side.Side.TheVariants.{Peer, Exchange}
 use Rattle.call_records.specs.declared.leg_moment.LegMoment.{LegMoment}
 use Rattle.call_records.specs.declared.call_end.Ending.{Ending}
 use Rattle.call_records.specs.declared.call_end.CallEnd.{CallEnd}
 
--- ---- ACCEPT
+-- a frame at the front of others, and one behind it
+abbrev at_front : (f : SideFrame) (frames : List SideFrame) → Placed (f ∷ frames)
+at_front f frames = record { before = []; frame = f; later = frames; all = refl }
 
-accepted-step : (opener : Option Side) (f : SideFrame) (frames : List SideFrame) (ending : Option Ending) (accepting : Bool)
-    → ending_of opener false f ≡ ending → accepts opener f ≡ accepting
-    → (IsSome (accepted_of opener frames) → HasAccept opener frames)
-    → IsSome (cond (is_some ending) None (cond accepting (Some (moment_of f)) (accepted_of opener frames)))
-    → HasAccept opener (f ∷ frames)
-accepted-step opener f frames (Some ending) accepting e a rest h = absurd cc
-accepted-step opener f frames None true e a rest h =
-    record { before = []; accept = f; later = frames; all = refl; is_accept = a; go_on = (e, tt) }
-accepted-step opener f frames None false e a rest h =
-    let found = rest h in record {
-      before = f ∷ found.before;
-      accept = found.accept;
-      later = found.later;
-      all = ap (λ fs. f ∷ fs) found.all;
-      is_accept = found.is_accept;
-      go_on = (e, found.go_on);
-    }
+abbrev behind : (f : SideFrame) {frames : List SideFrame} → Placed frames → Placed (f ∷ frames)
+behind f p = record { before = f ∷ p.before; frame = p.frame; later = p.later; all = ap (λ fs. f ∷ fs) p.all }
 
-pub accept-found : (opener : Option Side) (frames : List SideFrame) → IsSome (accepted_of opener frames) → HasAccept opener frames
-accept-found opener [] h = absurd cc
-accept-found opener (f ∷ frames) h =
-    accepted-step opener f frames (ending_of opener false f) (accepts opener f) refl refl (accept-found opener frames) h
+-- ---- the first frame of a kind, where none ends the call before
+
+not_some : (moment : Option LegMoment) → moment ≡ None → IsSome moment → ⊥
+not_some None none h = cc
+not_some (Some moment) none h = cc
 
 some_if : (b : Bool) (moment : LegMoment) (later : Option LegMoment) → IsSome later → IsSome (cond b (Some moment) later)
 some_if true moment later h = refl
 some_if false moment later h = h
 
-accept-counts : (opener : Option Side) (before : List SideFrame) (accept : SideFrame) (later : List SideFrame)
-    → accepts opener accept ≡ true → AllByRecursion (GoesOn opener false) (before ++ accept ∷ [])
-    → IsSome (accepted_of opener (before ++ accept ∷ later))
-accept-counts opener [] accept later a go_on = rw (go_on.0, a) refl
-accept-counts opener (f ∷ before) accept later a go_on =
-    rw go_on.0 (some_if (accepts opener f) (moment_of f) _ (accept-counts opener before accept later a go_on.1))
+module _ (opener : Option Side) (accepted : Bool) (is_one : SideFrame → Bool) (first : List SideFrame → Option LegMoment)
+    (none : first [] ≡ None)
+    (step : (f : SideFrame) (frames : List SideFrame)
+    → first (f ∷ frames) ≡ cond (is_some (ending_of opener accepted f)) None (cond (is_one f) (Some (moment_of f)) (first frames))) where
+  found-step : (f : SideFrame) (frames : List SideFrame) (ending : Option Ending) (is : Bool)
+      → ending_of opener accepted f ≡ ending → is_one f ≡ is
+      → (IsSome (first frames) → HasFrame opener accepted is_one frames)
+      → IsSome (cond (is_some ending) None (cond is (Some (moment_of f)) (first frames)))
+      → HasFrame opener accepted is_one (f ∷ frames)
+  found-step f frames (Some ending) is e a rest h = absurd cc
+  found-step f frames None true e a rest h = record { placed = at_front f frames; is = a; go_on = (e, tt) }
+  found-step f frames None false e a rest h =
+      let found = rest h in record { placed = behind f found.placed; is = found.is; go_on = (e, found.go_on) }
 
-pub accepted-where : (opener : Option Side) (frames : List SideFrame)
-    → HasAccept opener frames → IsSome (accepted_of opener frames)
-accepted-where opener frames has =
-    subst (λ (fs : List SideFrame). IsSome (accepted_of opener fs)) (sym has.all)
-    (accept-counts opener has.before has.accept has.later has.is_accept has.go_on)
+  found : (frames : List SideFrame) → IsSome (first frames) → HasFrame opener accepted is_one frames
+  found [] h = absurd (not_some (first []) none h)
+  found (f ∷ frames) h =
+      found-step f frames (ending_of opener accepted f) (is_one f) refl refl (found frames) (subst IsSome (step f frames) h)
 
--- ---- ANSWER, behind an ACCEPT
+  counts : (before : List SideFrame) (one : SideFrame) (later : List SideFrame)
+      → is_one one ≡ true → AllByRecursion (GoesOn opener accepted) (before ++ one ∷ []) → IsSome (first (before ++ one ∷ later))
+  counts [] one later a go_on = rw (step one later, go_on.0, a) refl
+  counts (f ∷ before) one later a go_on =
+      rw (step f (before ++ one ∷ later), go_on.0) (some_if (is_one f) (moment_of f) _ (counts before one later a go_on.1))
 
-answered-step : (opener : Option Side) (f : SideFrame) (frames : List SideFrame) (ending : Option Ending) (answering : Bool)
-    → ending_of opener true f ≡ ending → answers opener f ≡ answering
-    → (IsSome (answered_from opener true frames) → HasAnswer opener frames)
-    → IsSome (cond (is_some ending) None (cond answering (Some (moment_of f)) (answered_from opener true frames)))
-    → HasAnswer opener (f ∷ frames)
-answered-step opener f frames (Some ending) answering e a rest h = absurd cc
-answered-step opener f frames None true e a rest h =
-    record { before = []; answer = f; later = frames; all = refl; is_answer = a; go_on = (e, tt) }
-answered-step opener f frames None false e a rest h =
-    let found = rest h in record {
-      before = f ∷ found.before;
-      answer = found.answer;
-      later = found.later;
-      all = ap (λ fs. f ∷ fs) found.all;
-      is_answer = found.is_answer;
-      go_on = (e, found.go_on);
-    }
+  where_found : (frames : List SideFrame) → HasFrame opener accepted is_one frames → IsSome (first frames)
+  where_found frames has =
+      subst (λ (fs : List SideFrame). IsSome (first fs)) (sym has.placed.all)
+      (counts has.placed.before has.placed.frame has.placed.later has.is has.go_on)
 
-answer-found : (opener : Option Side) (frames : List SideFrame)
-    → IsSome (answered_from opener true frames) → HasAnswer opener frames
-answer-found opener [] h = absurd cc
-answer-found opener (f ∷ frames) h =
-    answered-step opener f frames (ending_of opener true f) (answers opener f) refl refl (answer-found opener frames) h
+module _ (opener : Option Side) where
+  pub accept-found : (frames : List SideFrame) → IsSome (accepted_of opener frames) → HasAccept opener frames
+  accept-found = found opener false (accepts opener) (accepted_of opener) refl (λ f frames. refl)
 
-answer-counts : (opener : Option Side) (before : List SideFrame) (answer : SideFrame) (later : List SideFrame)
-    → answers opener answer ≡ true → AllByRecursion (GoesOn opener true) (before ++ answer ∷ [])
-    → IsSome (answered_from opener true (before ++ answer ∷ later))
-answer-counts opener [] answer later a go_on = rw (go_on.0, a) refl
-answer-counts opener (f ∷ before) answer later a go_on =
-    rw go_on.0 (some_if (answers opener f) (moment_of f) _ (answer-counts opener before answer later a go_on.1))
+  pub accepted-where : (frames : List SideFrame) → HasAccept opener frames → IsSome (accepted_of opener frames)
+  accepted-where = where_found opener false (accepts opener) (accepted_of opener) refl (λ f frames. refl)
 
-answered-where : (opener : Option Side) (frames : List SideFrame)
-    → HasAnswer opener frames → IsSome (answered_from opener true frames)
-answered-where opener frames has =
-    subst (λ (fs : List SideFrame). IsSome (answered_from opener true fs)) (sym has.all)
-    (answer-counts opener has.before has.answer has.later has.is_answer has.go_on)
+  answer-found : (frames : List SideFrame) → IsSome (answered_from opener true frames) → HasAnswer opener frames
+  answer-found = found opener true (answers opener) (answered_from opener true) refl (λ f frames. refl)
+
+  answered-where : (frames : List SideFrame) → HasAnswer opener frames → IsSome (answered_from opener true frames)
+  answered-where = where_found opener true (answers opener) (answered_from opener true) refl (λ f frames. refl)
 
 -- ---- both
 
@@ -102,25 +81,12 @@ both-step : (opener : Option Side) (f : SideFrame) (frames : List SideFrame) (en
     → IsSome (cond (is_some ending) None (answered_from opener accepting frames))
     → HasAcceptAndAnswer opener (f ∷ frames)
 both-step opener f frames (Some ending) accepting e a rest h = absurd cc
-both-step opener f frames None true e a rest h = record {
-  before = [];
-  accept = f;
-  later = frames;
-  all = refl;
-  is_accept = a;
-  go_on = (e, tt);
-  answered = answer-found opener frames h;
-}
+both-step opener f frames None true e a rest h =
+    record { accepted = record { placed = at_front f frames; is = a; go_on = (e, tt) }; answered = answer-found opener frames h }
 both-step opener f frames None false e a rest h =
-    let found = rest h in record {
-      before = f ∷ found.before;
-      accept = found.accept;
-      later = found.later;
-      all = ap (λ fs. f ∷ fs) found.all;
-      is_accept = found.is_accept;
-      go_on = (e, found.go_on);
-      answered = found.answered;
-    }
+    let found = rest h in
+    let accept = found.accepted in
+    record { accepted = record { placed = behind f accept.placed; is = accept.is; go_on = (e, accept.go_on) }; answered = found.answered }
 
 pub both-found : (opener : Option Side) (frames : List SideFrame)
     → IsSome (answered_of opener frames) → HasAcceptAndAnswer opener frames
@@ -172,18 +138,10 @@ both-counts opener (f ∷ before) accept later a go_on h =
 pub both-where : (opener : Option Side) (frames : List SideFrame)
     → HasAcceptAndAnswer opener frames → IsSome (answered_of opener frames)
 both-where opener frames has =
-    subst (λ (fs : List SideFrame). IsSome (answered_of opener fs)) (sym has.all)
-    (both-counts opener has.before has.accept has.later has.is_accept has.go_on (answered-where opener has.later has.answered))
-
-pub accept_of : (opener : Option Side) (frames : List SideFrame) → HasAcceptAndAnswer opener frames → HasAccept opener frames
-accept_of opener frames has = record {
-  before = has.before;
-  accept = has.accept;
-  later = has.later;
-  all = has.all;
-  is_accept = has.is_accept;
-  go_on = has.go_on;
-}
+    let accept = has.accepted in
+    subst (λ (fs : List SideFrame). IsSome (answered_of opener fs)) (sym accept.placed.all)
+    (both-counts opener accept.placed.before accept.placed.frame accept.placed.later accept.is accept.go_on
+    (answered-where opener accept.placed.later has.answered))
 
 -- ---- HANGUP
 
@@ -230,20 +188,14 @@ end-step : (opener : Option Side) (accepted : Bool) (f : SideFrame) (frames : Li
     → end_or ending f later ≡ Some end → HasEnding (f ∷ frames) end
 end-step opener accepted f frames end (Some how) later e rest h =
     let is : end_by f how ≡ end = same_end (end_by f how) end h in record {
-      before = [];
-      ending = f;
-      later = frames;
-      all = refl;
+      placed = at_front f frames;
       is_ending = ending_is opener accepted f.by (meaning_of f) how e;
       end_is = sym is ∙ ap (λ (x : CallEnd). end_by f x.how) is;
       first = tt;
     }
 end-step opener accepted f frames end None later e rest h =
     let found = rest h in record {
-      before = f ∷ found.before;
-      ending = found.ending;
-      later = found.later;
-      all = ap (λ fs. f ∷ fs) found.all;
+      placed = behind f found.placed;
       is_ending = found.is_ending;
       end_is = found.end_is;
       first = (no_hangup opener accepted f e, found.first);

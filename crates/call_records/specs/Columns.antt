@@ -7,9 +7,9 @@ use Rattle.call_records.specs.declared.call_row.CallRow.{CallRow}
 use Rattle.call_records.specs.declared.call_row.RowTexts.{RowTexts}
 
 -- which call, and which leg of it
-abbrev pub name_columns : CallRow → RowTexts → List (List ℕ)
-name_columns row texts =
-    number_text (Some row.call) ∷ texts.peer.now ∷ number_text (Some row.name.number) ∷ number_text (Some row.name.serial)
+abbrev pub name_columns : CallRow → List ℕ → List (List ℕ)
+name_columns row peer =
+    number_text (Some row.call) ∷ peer ∷ number_text (Some row.name.number) ∷ number_text (Some row.name.serial)
     ∷ number_text (option_map (λ p. p.number) row.partner) ∷ number_text (option_map (λ p. p.serial) row.partner) ∷ []
 
 -- who called whom
@@ -19,9 +19,8 @@ party_columns row =
     ∷ format_text row.format ∷ []
 
 -- when the leg was there
-abbrev pub time_columns : CallRow → RowTexts → List (List ℕ)
-time_columns row texts =
-    texts.opened.now ∷ number_text (Some row.opened) ∷ texts.ended.now ∷ number_text (Some row.ended) ∷ []
+abbrev pub time_columns : CallRow → List ℕ → List ℕ → List (List ℕ)
+time_columns row opened ended = opened ∷ number_text (Some row.opened) ∷ ended ∷ number_text (Some row.ended) ∷ []
 
 -- when its call was accepted, was answered and ended
 abbrev pub moments_columns : CallRow → List (List ℕ)
@@ -33,7 +32,7 @@ moments_columns row =
 abbrev pub ending_columns : CallRow → List (List ℕ)
 ending_columns row =
     ending_text row.leg.end row.failure ∷ number_text (end_cause row.leg.end)
-    ∷ or_nothing (option_map failure_text row.failure) ∷ []
+    ∷ failure_text row.failure ∷ []
 
 -- what went over it
 abbrev pub count_columns : CallRow → List (List ℕ)
@@ -43,8 +42,8 @@ count_columns row =
 
 abbrev pub row_columns : CallRow → RowTexts → List (List ℕ)
 row_columns row texts =
-    name_columns row texts ++ (party_columns row ++ (time_columns row texts ++ (moments_columns row
-    ++ (ending_columns row ++ count_columns row))))
+    name_columns row texts.peer.now ++ (party_columns row ++ (time_columns row texts.opened.now texts.ended.now
+    ++ (moments_columns row ++ (ending_columns row ++ count_columns row))))
 
 -- their names
 abbrev pub column_names : List (List ℕ)

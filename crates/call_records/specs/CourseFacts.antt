@@ -11,33 +11,31 @@ use Rattle.call_records.specs.declared.side.Side.{Side}
 abbrev pub GoesOn : Option Side → Bool → SideFrame → Type 0
 GoesOn opener accepted f = ending_of opener accepted f ≡ None
 
--- Among these frames is an ACCEPT of the called side, and neither it nor a frame before it ends the call.
-pub record HasAccept (opener : Option Side) (frames : List SideFrame) : Type 0 where
+-- a frame among others
+pub record Placed (frames : List SideFrame) : Type 0 where
   pub before : List SideFrame
-  pub accept : SideFrame
+  pub frame : SideFrame
   pub later : List SideFrame
-  pub all : frames ≡ before ++ accept ∷ later
-  pub is_accept : accepts opener accept ≡ true
-  pub go_on : AllByRecursion (GoesOn opener false) (before ++ accept ∷ [])
+  pub all : frames ≡ before ++ frame ∷ later
 
--- Among these frames is an ANSWER of the called side, and neither it nor a frame before it ends the call.
-pub record HasAnswer (opener : Option Side) (frames : List SideFrame) : Type 0 where
-  pub before : List SideFrame
-  pub answer : SideFrame
-  pub later : List SideFrame
-  pub all : frames ≡ before ++ answer ∷ later
-  pub is_answer : answers opener answer ≡ true
-  pub go_on : AllByRecursion (GoesOn opener true) (before ++ answer ∷ [])
+-- Among these frames is one of a kind, and neither it nor a frame before it ends the call, be that accepted already or not.
+pub record HasFrame (opener : Option Side) (accepted : Bool) (is_one : SideFrame → Bool) (frames : List SideFrame) : Type 0 where
+  pub placed : Placed frames
+  pub is : is_one placed.frame ≡ true
+  pub go_on : AllByRecursion (GoesOn opener accepted) (placed.before ++ placed.frame ∷ [])
+
+-- an ACCEPT of the called side
+abbrev pub HasAccept : Option Side → List SideFrame → Type 0
+HasAccept opener frames = HasFrame opener false (accepts opener) frames
+
+-- an ANSWER of the called side
+abbrev pub HasAnswer : Option Side → List SideFrame → Type 0
+HasAnswer opener frames = HasFrame opener true (answers opener) frames
 
 -- Behind an ACCEPT of the called side is an ANSWER of it, and no frame up to there ends the call.
 pub record HasAcceptAndAnswer (opener : Option Side) (frames : List SideFrame) : Type 0 where
-  pub before : List SideFrame
-  pub accept : SideFrame
-  pub later : List SideFrame
-  pub all : frames ≡ before ++ accept ∷ later
-  pub is_accept : accepts opener accept ≡ true
-  pub go_on : AllByRecursion (GoesOn opener false) (before ++ accept ∷ [])
-  pub answered : HasAnswer opener later
+  pub accepted : HasAccept opener frames
+  pub answered : HasAnswer opener accepted.placed.later
 
 -- a HANGUP, whichever side sent it
 abbrev pub IsHangup : SideFrame → Type 0
@@ -49,10 +47,7 @@ HasNoHangup frames = AllByRecursion (λ f. ¬ IsHangup f) frames
 
 -- The end of the call is that of a HANGUP or a REJECT among these frames, and no HANGUP stands before it.
 pub record HasEnding (frames : List SideFrame) (end : CallEnd) : Type 0 where
-  pub before : List SideFrame
-  pub ending : SideFrame
-  pub later : List SideFrame
-  pub all : frames ≡ before ++ ending ∷ later
-  pub is_ending : (meaning_of ending ≡ messages.Hangup) ⊎ (meaning_of ending ≡ messages.Reject)
-  pub end_is : end ≡ end_by ending end.how
-  pub first : HasNoHangup before
+  pub placed : Placed frames
+  pub is_ending : (meaning_of placed.frame ≡ messages.Hangup) ⊎ (meaning_of placed.frame ≡ messages.Reject)
+  pub end_is : end ≡ end_by placed.frame end.how
+  pub first : HasNoHangup placed.before

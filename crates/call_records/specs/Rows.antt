@@ -1,5 +1,5 @@
 -- The text of a row: its columns, which stand as a record of CSV (RFC 4180).
-use Rattle.std.specs.Prelude.{ℕ, List, [], ◌∷◌, Option, None, Some, codes, decimal, option_map}
+use Rattle.std.specs.Prelude.{ℕ, List, [], ◌∷◌, Option, None, Some, codes, decimal, option_map, unwrap_or}
 use Rattle.std.specs.Str.Lossy.{utf8_lossy}
 use Rattle.call_signals.specs.declared.failure.Failure.{Failure}
 use Rattle.call_signals.specs.declared.failure.Failure.TheVariants.{RetriesSpent, RecordFull, Inval}
@@ -29,15 +29,16 @@ how_text HungUpByPeer = codes "hung_up_by_peer"
 how_text RejectedHere = codes "rejected_here"
 how_text RejectedByPeer = codes "rejected_by_peer"
 
-abbrev pub failure_text : Failure → List ℕ
-failure_text RetriesSpent = codes "retries_spent"
-failure_text RecordFull = codes "record_full"
-failure_text Inval = codes "inval"
+-- nothing where none ended the leg
+abbrev pub failure_text : Option Failure → List ℕ
+failure_text None = []
+failure_text (Some RetriesSpent) = codes "retries_spent"
+failure_text (Some RecordFull) = codes "record_full"
+failure_text (Some Inval) = codes "inval"
 
 -- a text, and nothing where there is none
 abbrev pub or_nothing : Option (List ℕ) → List ℕ
-or_nothing None = []
-or_nothing (Some text) = text
+or_nothing text = unwrap_or text []
 
 -- a number in decimal digits, and nothing where there is none
 abbrev pub number_text : Option ℕ → List ℕ
@@ -55,12 +56,11 @@ moment_columns (Some moment) = decimal moment.ms ∷ side_text moment.clock ∷ 
 -- why the leg ended: by the frame that ended the call, else by what ended the leg
 abbrev pub ending_text : Option CallEnd → Option Failure → List ℕ
 ending_text (Some end) failure = how_text end.how
-ending_text None (Some failure) = failure_text failure
 ending_text None None = codes "unknown"
+ending_text None failure = failure_text failure
 
 abbrev pub end_moment : Option CallEnd → Option LegMoment
-end_moment None = None
-end_moment (Some end) = Some end.at
+end_moment end = option_map (λ e. e.at) end
 
 abbrev pub end_cause : Option CallEnd → Option ℕ
 end_cause None = None

@@ -1,6 +1,4 @@
 //! How a call ends.
-ghost use Rattle.std.specs.Prelude.{◌≡◌};
-ghost use Rattle.call_records.specs.Rows.{how_text};
 
 use crate::leg_moment::LegMoment;
 
@@ -15,20 +13,6 @@ pub enum Ending {
     RejectedHere,
     /// The peer, which was called, sent a REJECT before an ACCEPT.
     RejectedByPeer,
-}
-
-impl Ending {
-    /// Its name: `hung_up_here`, `hung_up_by_peer`, `rejected_here` or `rejected_by_peer`.
-    pub fn name(self) -> &'static str
-        ensures { result.now ≡ how_text self }
-    {
-        match self {
-            Ending::HungUpHere => "hung_up_here",
-            Ending::HungUpByPeer => "hung_up_by_peer",
-            Ending::RejectedHere => "rejected_here",
-            Ending::RejectedByPeer => "rejected_by_peer",
-        }
-    }
 }
 
 /// The end of a call.

@@ -1,6 +1,5 @@
 //! What the record of a leg says of its call.
-ghost use Rattle.std.specs.Prelude.{◌≡◌, ◌≤◌, IsSome, count_by, length};
-ghost use Rattle.std.specs.Option.{ForSome, option_copied};
+ghost use Rattle.std.specs.Prelude.{◌≡◌, count_by};
 ghost use Rattle.seq_window.specs.History.{sent_count, acked_count, taken_count};
 ghost use Rattle.call_signals.specs.NewElements.{new_elements};
 ghost use Rattle.call_records.specs.SideFrames.{frames_of};
@@ -40,16 +39,6 @@ pub struct CallRecord {
     pub digits_sent: usize,
 }
 
-fn text_of(text: Option<&[u8]>) -> Option<ElementText>
-    requires { ForSome text (λ octets. length octets.now ≤ 255) }
-    ensures { result ≡ option_copied text.entry }
-{
-    match text {
-        Some(text) => Some(ElementText::new(text)),
-        None => None,
-    }
-}
-
 impl CallRecord {
     /// What the record says, by the frames that both sides sent each other and by nothing else ("Call Setup", "Call Tear
     /// Down"). Moments are in milliseconds since the leg was opened.
@@ -73,8 +62,8 @@ impl CallRecord {
         let elements = courses::elements_of_new(history);
         CallRecord {
             opened_by,
-            called: text_of(elements.called),
-            calling: text_of(elements.calling),
+            called: ElementText::of(elements.called),
+            calling: ElementText::of(elements.calling),
             accepted: courses::accepted(history, opened_by),
             answered: courses::answered(history, opened_by),
             end: courses::end(history, opened_by),

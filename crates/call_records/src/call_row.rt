@@ -7,6 +7,7 @@ ghost use Rattle.call_records.specs.Columns as columns;
 use crate::call_record::CallRecord;
 use crate::columns::{
     ending_name, failure_name, format_name, push_moment, push_number, push_record, push_telephone,
+    side_name,
 };
 use call_book::LegName;
 use call_signals::{Failure, Format};
@@ -87,12 +88,12 @@ impl CallRow {
         &self,
         alloc: Global,
         fields: &mut StringRecord,
-        texts: &RowTexts<'_>,
+        peer: &str,
     ) -> Result<(), AllocError>
-        ensures { OnOk result (fields_of fields.new ≡ fields_of fields.old ++ columns.name_columns self.now texts.now) }
+        ensures { OnOk result (fields_of fields.new ≡ fields_of fields.old ++ columns.name_columns self.now peer.now) }
     {
         push_number(alloc, fields, Some(self.call))?;
-        fields.push_field(texts.peer)?;
+        fields.push_field(peer)?;
         push_number(alloc, fields, Some(u64::from(self.name.number)))?;
         push_number(alloc, fields, Some(self.name.serial))?;
         push_number(
@@ -108,7 +109,7 @@ impl CallRow {
         ensures { OnOk result (fields_of fields.new ≡ fields_of fields.old ++ columns.party_columns self.now) }
     {
         match self.leg.opened_by {
-            Some(side) => fields.push_field(side.name())?,
+            Some(side) => fields.push_field(side_name(side))?,
             None => fields.push_field("")?,
         }
         push_telephone(alloc, fields, self.leg.calling.as_ref())?;
@@ -121,13 +122,14 @@ impl CallRow {
         &self,
         alloc: Global,
         fields: &mut StringRecord,
-        texts: &RowTexts<'_>,
+        opened: &str,
+        ended: &str,
     ) -> Result<(), AllocError>
-        ensures { OnOk result (fields_of fields.new ≡ fields_of fields.old ++ columns.time_columns self.now texts.now) }
+        ensures { OnOk result (fields_of fields.new ≡ fields_of fields.old ++ columns.time_columns self.now opened.now ended.now) }
     {
-        fields.push_field(texts.opened)?;
+        fields.push_field(opened)?;
         push_number(alloc, fields, Some(self.opened))?;
-        fields.push_field(texts.ended)?;
+        fields.push_field(ended)?;
         push_number(alloc, fields, Some(self.ended))
     }
 
@@ -175,9 +177,9 @@ impl CallRow {
     ) -> Result<(), AllocError>
         ensures { OnOk result (fields_of fields.new ≡ fields_of fields.old ++ columns.row_columns self.now texts.now) }
     {
-        self.push_names(alloc, fields, texts)?;
+        self.push_names(alloc, fields, texts.peer)?;
         self.push_parties(alloc, fields)?;
-        self.push_times(alloc, fields, texts)?;
+        self.push_times(alloc, fields, texts.opened, texts.ended)?;
         self.push_moments(alloc, fields)?;
         self.push_ending(alloc, fields)?;
         self.push_counts(alloc, fields)

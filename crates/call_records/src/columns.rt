@@ -1,11 +1,12 @@
 //! The columns of a row, one after another, and a row's text.
-ghost use Rattle.std.specs.Prelude.{◌≡◌, [], ◌∷◌, ◌++◌, OnOk, OnErr, IfOk, option_copied, option_map};
+ghost use Rattle.std.specs.Prelude.{◌≡◌, [], ◌∷◌, ◌++◌, OnOk, OnErr, IfOk, option_copied};
 ghost use Rattle.csv.specs.Records.{fields_of};
 ghost use Rattle.csv.specs.Writing.{default_writer, row_text};
 ghost use Rattle.call_records.specs.Rows as rows;
 
-use crate::call_end::CallEnd;
+use crate::call_end::{CallEnd, Ending};
 use crate::leg_moment::LegMoment;
+use crate::side::Side;
 use call_signals::{ElementText, Failure, Format};
 use csv::{StringRecord, WriterBuilder};
 use std::alloc::{AllocError, Global};
@@ -55,12 +56,22 @@ pub(crate) fn push_moment(
     match moment {
         Some(moment) => {
             push_number(alloc, fields, Some(u64::from(moment.ms)))?;
-            fields.push_field(moment.clock.name())
+            fields.push_field(side_name(moment.clock))
         }
         None => {
             fields.push_field("")?;
             fields.push_field("")
         }
+    }
+}
+
+// The name of a side.
+pub(crate) fn side_name(side: Side) -> &'static str
+    ensures { result.now ≡ rows.side_text side }
+{
+    match side {
+        Side::Peer => "peer",
+        Side::Exchange => "exchange",
     }
 }
 
@@ -77,7 +88,7 @@ pub(crate) fn format_name(format: Format) -> &'static str
 
 // The name of a failure, or nothing.
 pub(crate) fn failure_name(failure: Option<Failure>) -> &'static str
-    ensures { result.now ≡ rows.or_nothing (option_map rows.failure_text failure) }
+    ensures { result.now ≡ rows.failure_text failure }
 {
     match failure {
         Some(Failure::RetriesSpent) => "retries_spent",
@@ -92,9 +103,14 @@ pub(crate) fn ending_name(end: Option<CallEnd>, failure: Option<Failure>) -> &'s
     ensures { result.now ≡ rows.ending_text end failure }
 {
     match (end, failure) {
-        (Some(end), _) => end.how.name(),
-        (None, Some(failure)) => failure_name(Some(failure)),
+        (Some(end), _) => match end.how {
+            Ending::HungUpHere => "hung_up_here",
+            Ending::HungUpByPeer => "hung_up_by_peer",
+            Ending::RejectedHere => "rejected_here",
+            Ending::RejectedByPeer => "rejected_by_peer",
+        },
         (None, None) => "unknown",
+        (None, failure) => failure_name(failure),
     }
 }
 

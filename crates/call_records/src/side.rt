@@ -1,7 +1,6 @@
 //! The two sides of a leg.
 ghost use Rattle.std.specs.Prelude.{◌≡◌};
-ghost use Rattle.call_records.specs.Courses.{is_side, is_called};
-ghost use Rattle.call_records.specs.Rows.{side_text};
+ghost use Rattle.call_records.specs.Courses as course;
 
 /// A side of a leg.
 #[derive(Clone, Copy)]
@@ -13,19 +12,9 @@ pub enum Side {
 }
 
 impl Side {
-    /// Its name: `peer` or `exchange`.
-    pub fn name(self) -> &'static str
-        ensures { result.now ≡ side_text self }
-    {
-        match self {
-            Side::Peer => "peer",
-            Side::Exchange => "exchange",
-        }
-    }
-
     // Whether both are one.
     pub(crate) fn is(self, other: Side) -> bool
-        ensures { result ≡ is_side self other }
+        ensures { result ≡ course.is_side self other }
     {
         matches!(
             (self, other),
@@ -35,7 +24,7 @@ impl Side {
 
     // Whether this side is called where that one opened the call.
     pub(crate) fn is_called(self, opener: Option<Side>) -> bool
-        ensures { result ≡ is_called opener self }
+        ensures { result ≡ course.is_called opener self }
     {
         match opener {
             Some(Side::Peer) => self.is(Side::Exchange),

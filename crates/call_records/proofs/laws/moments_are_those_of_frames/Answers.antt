@@ -1,4 +1,4 @@
-use Rattle.call_records.proofs.Moments.{accept-found, accepted-where, both-found, both-where, accept_of, end-found, not_hung_up}
+use Rattle.call_records.proofs.Moments.{accept-found, accepted-where, both-found, both-where, end-found, not_hung_up}
 use Rattle.std.proofs.Common.{false}
 use Rattle.call_records.proofs.laws.moments_are_those_of_frames.Goals as goal
 
@@ -10,7 +10,7 @@ returns-clause-answered c opener frames = (both-found opener frames, both-where 
 
 pub returns-clause-accepted_first : goal.returns-clause-accepted_first
 returns-clause-accepted_first c opener frames answered =
-    accepted-where opener frames (accept_of opener frames (both-found opener frames answered))
+    accepted-where opener frames (both-found opener frames answered).accepted
 
 pub returns-clause-not_hung_up : goal.returns-clause-not_hung_up
 returns-clause-not_hung_up c opener frames ended = not_hung_up opener false frames ended
