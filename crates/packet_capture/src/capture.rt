@@ -16,17 +16,6 @@ pub enum CaptureError {
     Memory,
 }
 
-impl From<AllocError> for CaptureError {
-    ghost use Rattle.std.specs.Prelude.{◌≡◌};
-    ghost use Rattle.packet_capture.specs.declared.capture.CaptureError.TheVariants.{Memory};
-
-    ghost from_gives = { λ _ e. e ≡ Memory };
-
-    fn from(_error: AllocError) -> CaptureError {
-        CaptureError::Memory
-    }
-}
-
 /// A capture. Contracts see the octets of its file.
 #[derive(Drop)]
 pub struct Capture {
@@ -69,8 +58,13 @@ impl Capture {
         if packet.payload.len() > MOST_PAYLOAD {
             return Err(CaptureError::TooLong);
         }
-        let octets = packet_octets(alloc, packet)?;
-        Ok(self.file.extend_from_slice(&octets)?)
+        let Ok(octets) = packet_octets(alloc, packet) else {
+            return Err(CaptureError::Memory);
+        };
+        match self.file.extend_from_slice(&octets) {
+            Ok(()) => Ok(()),
+            Err(_) => Err(CaptureError::Memory),
+        }
     }
 
     /// The octets of the file: its header, and the packets in their order.

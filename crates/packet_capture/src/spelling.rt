@@ -41,18 +41,14 @@ fn push_ipv4_front(octets: &mut Vec<u8>, count: u16) -> Result<(), AllocError>
     push_pieces(octets, &[&[0x45, 0], &count, &[0, 0, 0x40, 0, 64, 17]])
 }
 
-// The IPv4 header of a datagram of so many octets, with this checksum.
-fn push_ipv4_with(
-    octets: &mut Vec<u8>,
-    sum: u16,
-    source: u32,
-    destination: u32,
-    count: u16,
-) -> Result<(), AllocError>
-    requires { 20 + count < 2 ^ 16 }
-    ensures { OnOk result (octets.new.items ≡ octets.old.items ++ ipv4_header_with sum source destination count) }
+// The IPv4 header of a packet, with this checksum.
+fn push_ipv4_with(octets: &mut Vec<u8>, sum: u16, packet: &Packet<'_>) -> Result<(), AllocError>
+    requires { length packet.now.payload.now ≤ 65507 }
+    ensures { OnOk result (octets.new.items ≡ octets.old.items
+        ++ ipv4_header_with sum packet.now.from.address packet.now.to.address (8 + length packet.now.payload.now)) }
 {
-    push_ipv4_front(octets, count)?;
+    push_ipv4_front(octets, 8 + packet.payload.len() as u16)?;
+    let (source, destination) = (packet.from.address, packet.to.address);
     let (sum, source, destination) = (
         sum.to_be_bytes(),
         source.to_be_bytes(),
@@ -62,17 +58,14 @@ fn push_ipv4_with(
 }
 
 // The checksum of that header.
-fn ipv4_checksum(
-    alloc: Global,
-    source: u32,
-    destination: u32,
-    count: u16,
-) -> Result<u16, AllocError>
-    requires { 20 + count < 2 ^ 16 }
-    ensures { IfOk result (λ sum. ipv4_header_with sum source destination count ≡ ipv4_header source destination count) }
+fn ipv4_checksum(alloc: Global, packet: &Packet<'_>) -> Result<u16, AllocError>
+    requires { length packet.now.payload.now ≤ 65507 }
+    ensures { IfOk result (λ sum.
+        ipv4_header_with sum packet.now.from.address packet.now.to.address (8 + length packet.now.payload.now)
+        ≡ ipv4_header packet.now.from.address packet.now.to.address (8 + length packet.now.payload.now)) }
 {
     let mut header = Vec::new(alloc);
-    push_ipv4_with(&mut header, 0, source, destination, count)?;
+    push_ipv4_with(&mut header, 0, packet)?;
     Ok(checksum(header.as_slice()))
 }
 
@@ -88,15 +81,14 @@ fn push_udp_with(octets: &mut Vec<u8>, sum: u16, packet: &Packet<'_>) -> Result<
     push_pieces(octets, &[&from, &to, &count, &sum, packet.payload])
 }
 
-// What is summed before the UDP header of a datagram of so many octets.
-fn push_pseudo_header(
-    octets: &mut Vec<u8>,
-    source: u32,
-    destination: u32,
-    count: u16,
-) -> Result<(), AllocError>
-    ensures { OnOk result (octets.new.items ≡ octets.old.items ++ pseudo_header source destination count) }
+// What is summed before the UDP header of a packet.
+fn push_pseudo_header(octets: &mut Vec<u8>, packet: &Packet<'_>) -> Result<(), AllocError>
+    requires { length packet.now.payload.now ≤ 65507 }
+    ensures { OnOk result (octets.new.items ≡ octets.old.items
+        ++ pseudo_header packet.now.from.address packet.now.to.address (8 + length packet.now.payload.now)) }
 {
+    let count = 8 + packet.payload.len() as u16;
+    let (source, destination) = (packet.from.address, packet.to.address);
     let (source, destination) = (source.to_be_bytes(), destination.to_be_bytes());
     push_pieces(
         octets,
@@ -110,8 +102,7 @@ fn summed(alloc: Global, packet: &Packet<'_>) -> Result<Vec<u8>, AllocError>
     ensures { IfOk result (λ octets. octets.items ≡ udp_summed 0 packet.now) }
 {
     let mut octets = Vec::new(alloc);
-    let count = 8 + packet.payload.len() as u16;
-    push_pseudo_header(&mut octets, packet.from.address, packet.to.address, count)?;
+    push_pseudo_header(&mut octets, packet)?;
     push_udp_with(&mut octets, 0, packet)?;
     Ok(octets)
 }
@@ -133,18 +124,13 @@ fn udp_checksum(alloc: Global, packet: &Packet<'_>) -> Result<u16, AllocError>
 }
 
 // The IPv4 header of a packet.
-fn push_ipv4(
-    octets: &mut Vec<u8>,
-    alloc: Global,
-    source: u32,
-    destination: u32,
-    count: u16,
-) -> Result<(), AllocError>
-    requires { 20 + count < 2 ^ 16 }
-    ensures { OnOk result (octets.new.items ≡ octets.old.items ++ ipv4_header source destination count) }
+fn push_ipv4(octets: &mut Vec<u8>, alloc: Global, packet: &Packet<'_>) -> Result<(), AllocError>
+    requires { length packet.now.payload.now ≤ 65507 }
+    ensures { OnOk result (octets.new.items ≡ octets.old.items
+        ++ ipv4_header packet.now.from.address packet.now.to.address (8 + length packet.now.payload.now)) }
 {
-    let sum = ipv4_checksum(alloc, source, destination, count)?;
-    push_ipv4_with(octets, sum, source, destination, count)
+    let sum = ipv4_checksum(alloc, packet)?;
+    push_ipv4_with(octets, sum, packet)
 }
 
 // The UDP header of a packet, and its data.
@@ -164,13 +150,7 @@ pub(crate) fn packet_octets(alloc: Global, packet: &Packet<'_>) -> Result<Vec<u8
     let mut octets = Vec::new(alloc);
     let count = packet.payload.len() as u16;
     push_record_header(&mut octets, packet.moment, 28 + u32::from(count))?;
-    push_ipv4(
-        &mut octets,
-        alloc,
-        packet.from.address,
-        packet.to.address,
-        8 + count,
-    )?;
+    push_ipv4(&mut octets, alloc, packet)?;
     push_udp(&mut octets, alloc, packet)?;
     Ok(octets)
 }
