@@ -4,40 +4,18 @@ use Rattle.peer_accounts.specs.declared.account.Carried.{Carried}
 use Rattle.peer_accounts.specs.declared.account.Carried.TheVariants.{Packed, Queued, Dropped, Quelched}
 use Rattle.peer_accounts.specs.declared.sums.Sums.{Sums}
 
--- The media octets of a peer: those that it brought and were accepted; of those that were carried to it, those written into
--- frames, those in its trunk queue, and those dropped, of which some were quelched; and the steps that it made.
-pub record Accounts : Type 0 where
-  pub accepted : ℕ
-  pub packed : ℕ
-  pub queued : ℕ
-  pub dropped : ℕ
-  pub quelched : ℕ
-  pub steps : ℕ
+-- The accounts of a peer are their sums. The media octets of a peer: those that it brought and were accepted; of those that were
+-- carried to it, those written into frames, those in its trunk queue, and those dropped, of which some were quelched; and the
+-- steps that it made.
+abbrev pub Accounts : Type 0
+Accounts = Sums
 
 abbrev pub no_accounts : Accounts
 no_accounts = record { accepted = 0; packed = 0; queued = 0; dropped = 0; quelched = 0; steps = 0 }
 
 -- the accounts, as they are shown
 abbrev pub shown : Accounts → Sums
-shown a = record {
-  accepted = a.accepted;
-  packed = a.packed;
-  queued = a.queued;
-  dropped = a.dropped;
-  quelched = a.quelched;
-  steps = a.steps;
-}
-
--- the accounts that are kept so
-abbrev pub summed : Sums → Accounts
-summed s = record {
-  accepted = s.accepted;
-  packed = s.packed;
-  queued = s.queued;
-  dropped = s.dropped;
-  quelched = s.quelched;
-  steps = s.steps;
-}
+shown a = a
 
 -- the media octets that were carried to the peer
 abbrev pub carried : Accounts → ℕ

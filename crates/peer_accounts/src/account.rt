@@ -38,11 +38,11 @@ pub struct Account<J: Naming> {
 
 impl<J: Naming> Model for Account<J> {
     ghost use Rattle.std.specs.Prelude.{◌≡◌, ◌+◌, ◌<◌, ◌≤◌, ◌^◌};
-    ghost use Rattle.peer_accounts.specs.Accounts.{Accounts, summed};
+    ghost use Rattle.peer_accounts.specs.Accounts.{Accounts};
 
     ghost Value = { Accounts };
 
-    ghost view = { λ s. summed s.sums };
+    ghost view = { λ s. s.sums };
 
     ghost invariant = { λ s.
         (s.octets + s.sums.accepted ≡ J.first_octets + s.sums.packed + s.sums.queued + s.sums.dropped)

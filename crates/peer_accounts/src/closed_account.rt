@@ -18,11 +18,11 @@ pub struct ClosedAccount<J: Naming> {
 
 impl<J: Naming> Model for ClosedAccount<J> {
     ghost use Rattle.std.specs.Prelude.{◌≡◌, ◌+◌, ◌<◌, ◌≤◌, ◌^◌};
-    ghost use Rattle.peer_accounts.specs.Accounts.{Accounts, summed};
+    ghost use Rattle.peer_accounts.specs.Accounts.{Accounts};
 
     ghost Value = { Accounts };
 
-    ghost view = { λ s. summed s.sums };
+    ghost view = { λ s. s.sums };
 
     ghost invariant = { λ s. (s.sums.quelched ≤ s.sums.dropped) × (s.unspent + s.sums.accepted ≡ J.first_octets)
         × (s.sums.steps ≤ J.first_steps) × (J.first_octets < 2 ^ 64) × (J.first_steps < 2 ^ 64) };
