@@ -1,6 +1,5 @@
 //! What a leg tells without a change.
 ghost use Rattle.std.specs.Prelude.{◌≡◌, ℕ, ◌+◌, ◌^◌, ◌<◌, ◌≤◌, true, false, length, option_copied, if◌then◌else◌, IfSome};
-ghost use Rattle.std.specs.Option.{ForSome};
 ghost use Rattle.seq_window.specs.History.{IsLegal};
 ghost use Rattle.leg_machine.specs.Leg.{is_short_of_entries};
 ghost use Rattle.leg_machine.specs.Media.{accepts_media};
@@ -257,7 +256,7 @@ impl Leg {
         };
         Onward::Offered {
             called: ElementText::new(called),
-            calling: text_of(elements.calling),
+            calling: ElementText::of(elements.calling),
             format: self.machine.format,
         }
     }
@@ -276,15 +275,5 @@ impl Leg {
             Signal::Media(span) => Onward::Media(*span),
             Signal::Hangup => Onward::Hangup,
         }
-    }
-}
-
-fn text_of(text: Option<&[u8]>) -> Option<ElementText>
-    requires { ForSome text (λ octets. length octets.now ≤ 255) }
-    ensures { result ≡ option_copied text.entry }
-{
-    match text {
-        Some(text) => Some(ElementText::new(text)),
-        None => None,
     }
 }

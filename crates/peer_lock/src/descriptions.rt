@@ -1,6 +1,5 @@
 //! A leg and the accounts of a peer, for whoever looks at them from outside.
-ghost use Rattle.std.specs.Prelude.{◌≡◌, ◌≤◌, length, option_copied, option_map};
-ghost use Rattle.std.specs.Option.{ForSome};
+ghost use Rattle.std.specs.Prelude.{◌≡◌, ◌≤◌, option_map};
 ghost use Rattle.peer_accounts.specs.Accounts.{shown};
 ghost use Rattle.peer_legs.specs.Legs.{leg_at};
 ghost use Rattle.peer_lock.specs.Descriptions.{description_of};
@@ -29,17 +28,6 @@ pub struct Description {
     pub calling: Option<ElementText>,
 }
 
-// A copy of a text of at most 255 octets.
-fn text_of(text: Option<&[u8]>) -> Option<ElementText>
-    requires { ForSome text (λ octets. length octets.now ≤ 255) }
-    ensures { result ≡ option_copied text.entry }
-{
-    match text {
-        Some(text) => Some(ElementText::new(text)),
-        None => None,
-    }
-}
-
 // What there is to say of a leg.
 fn description_of(named: &NamedLeg) -> Description
     ensures { result ≡ description_of named.now }
@@ -51,8 +39,8 @@ fn description_of(named: &NamedLeg) -> Description
         format: leg.format(),
         remote: leg.remote(),
         opened: leg.opened(),
-        called: text_of(elements.called),
-        calling: text_of(elements.calling),
+        called: ElementText::of(elements.called),
+        calling: ElementText::of(elements.calling),
     }
 }
 
