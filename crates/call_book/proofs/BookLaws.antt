@@ -1,5 +1,5 @@
 -- What a change of the book keeps.
-use Rattle.std.proofs.Common.{◌≡◌, ◌≢◌, ℕ, zero, suc, ◌+◌, ◌<◌, List, [], ◌∷◌, length, get_or, Option, Some, None, IsSome, Bool, true, false, nat_cmp, refl, sym, ap, subst, ◌∙◌, arith, inl, inr, ◌⊎◌, is_some, ◌==◌, ◌^◌, ◌-◌, map, ◌++◌, option_to_list, length-set, ◌&&◌}
+use Rattle.std.proofs.Common.{◌≡◌, ◌≢◌, ℕ, zero, suc, ◌+◌, ◌<◌, List, [], ◌∷◌, length, get_or, Option, Some, None, IsSome, Bool, true, false, nat_cmp, refl, sym, ap, subst, ◌∙◌, arith, inl, inr, ◌⊎◌, is_some, ◌==◌, ◌^◌, ◌-◌, map, ◌++◌, option_to_list, length-set}
 use Rattle.std.proofs.Math.ListN.{set}
 use Rattle.std.proofs.lemmas.Bool.{cases_Bool, true≢false}
 use Rattle.std.proofs.lemmas.List.{get_or-set_same, get_or-set_other}
@@ -163,36 +163,6 @@ numbers_apart book a b ne has_a has_b = λ e.
 pub none_from : {A : Type 0} (o : Option A) → is_some o ≡ false → o ≡ None
 none_from None h = refl
 none_from (Some x) h = cc
-
-differ : (a b : LegName) → false ≡ (a.peer == b.peer && (a.number == b.number && a.serial == b.serial)) → a ≡ b → ⊥
-differ a b test = λ e.
-    let p : a.peer ≡ b.peer = ap (λ n. n.peer) e in
-    let q : a.number ≡ b.number = ap (λ n. n.number) e in
-    let r : a.serial ≡ b.serial = ap (λ n. n.serial) e in
-    grind (arith, nat_tests)
-
--- two names that the tests of a bridge let through
-pub record AreFit (book : Book) (a b : LegName) : Type 0 where
-  pub apart : a.number ≢ b.number
-  pub has_a : get book.names a.number ≡ Some a
-  pub has_b : get book.names b.number ≡ Some b
-  pub free_a : get book.partners a.number ≡ None
-  pub free_b : get book.partners b.number ≡ None
-
-pub are_fit : (book : Book) (a b : LegName) (in_a in_b some_a some_b : Bool) (partner_a partner_b : Option LegName) → false ≡ (a.peer == b.peer && (a.number == b.number && a.serial == b.serial))
-    → in_a ≡ has_name book a → in_a ≡ true → in_b ≡ has_name book b → in_b ≡ true
-    → partner_a ≡ get book.partners a.number → some_a ≡ is_some partner_a → some_a ≡ false
-    → partner_b ≡ get book.partners b.number → some_b ≡ is_some partner_b → some_b ≡ false → AreFit book a b
-are_fit book a b in_a in_b some_a some_b partner_a partner_b test has_a yes_a has_b yes_b at_a is_a no_a at_b is_b no_b =
-    let there_a = name_found (get book.names a.number) a (sym has_a ∙ yes_a) in
-    let there_b = name_found (get book.names b.number) b (sym has_b ∙ yes_b) in
-    record {
-      apart = numbers_apart book a b (differ a b test) there_a there_b;
-      has_a = there_a;
-      has_b = there_b;
-      free_a = sym at_a ∙ none_from partner_a (sym is_a ∙ no_a);
-      free_b = sym at_b ∙ none_from partner_b (sym is_b ∙ no_b);
-    }
 
 pub place_within : (book : Book) (a : LegName) → IsBook book → get book.names a.number ≡ Some a → a.number < total_of book.counts + 1
 place_within book a h at = number_within book.counts a.peer a.number (h.placed a.number a at).1

@@ -12,6 +12,7 @@ use Rattle.call_book.specs.declared.leg_name.LegName.{LegName}
 use Rattle.call_book.specs.Ranges.{IsNumberOf, first_number, ranges_from, total_of}
 use Rattle.call_book.specs.Book.{Book, IsBook, AreFree, free_of, fresh_book}
 use Rattle.call_book.proofs.BookLaws.{named_apart, get_or-map_read}
+use Rattle.call_book.proofs.RangeLaws.{total-push}
 
 -- numbers less the first of their range
 abbrev below : ℕ → List ℕ → List ℕ
@@ -149,10 +150,6 @@ ranges-push first (c ∷ cs) count =
     let same : first + c + total_of cs ≡ first + (c + total_of cs) = omega arith in
     ap (λ rs. range_with_len first c ∷ rs) (ranges-push (first + c) cs count ∙ ap (λ n. ranges_from (first + c) cs ++ range_with_len n count ∷ []) same)
 
-pub total-push : (counts : List ℕ) (count : ℕ) → total_of (counts ++ count ∷ []) ≡ total_of counts + count
-total-push [] count = omega arith
-total-push (c ∷ cs) count = let rest = total-push cs count in omega (arith, rest)
-
 -- one more peer
 pub one_more_range : {Q : Type 0} (items : Q → List ℕ) (capacity : Q → ℕ) (before after : List Q) (queue : Q) (counts : List ℕ) (i first count : ℕ)
     → after ≡ before ++ queue ∷ [] → i < length counts → count ≡ get_or counts i 0 → items queue ≡ range_with_len first count → capacity queue ≡ count
@@ -165,12 +162,3 @@ one_more_range items capacity before after queue counts i first count grown lt a
     rw (grown, map-append items before (queue ∷ []), listed, ranged, so_far, ranges-push 1 (take i counts) count) refl in
     let rooms : map capacity after ≡ take i counts ++ count ∷ [] = rw (grown, map-append capacity before (queue ∷ []), roomy, fits) refl in
     rw more (ranges, rooms, total)
-
--- what so many peers with at most so many numbers each add up to
-pub total_within : (counts : List ℕ) (most : ℕ) → ((i : ℕ) → i < length counts → get_or counts i 0 ≤ most) → total_of counts ≤ most * length counts
-total_within [] most h = omega arith
-total_within (c ∷ cs) most h =
-    let rest : total_of cs ≤ most * length cs = total_within cs most (λ i lt. h (suc i) (omega arith)) in
-    let here : c ≤ most = h 0 (omega arith) in
-    let sum : most * length (c ∷ cs) ≡ most + most * length cs = omega arith in
-    omega (arith, rest, here, sum)

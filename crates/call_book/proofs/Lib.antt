@@ -1,5 +1,5 @@
 mod TableLaws
-mod RangeLaws
+pub mod RangeLaws
 mod BookLaws
 mod FreeLaws
 mod NameLaws

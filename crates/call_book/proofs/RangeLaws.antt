@@ -1,5 +1,5 @@
 -- The ranges of the peers follow one another.
-use Rattle.std.proofs.Common.{◌≢◌, ℕ, zero, suc, ◌+◌, ◌<◌, ◌≤◌, List, [], ◌∷◌, get_or, length, ◌-◌, arith}
+use Rattle.std.proofs.Common.{◌≡◌, ◌≢◌, ℕ, zero, suc, ◌+◌, ◌<◌, ◌≤◌, ◌*◌, List, [], ◌∷◌, ◌++◌, get_or, length, ◌-◌, arith}
 use Rattle.call_book.specs.Ranges.{IsNumberOf, first_number, total_of}
 
 first_above : (counts : List ℕ) (p : ℕ) → 1 ≤ first_number counts p
@@ -40,3 +40,18 @@ ranges_apart counts p q m n ne h k =
     let up : p < q → m < n = λ lt. ranges_rise counts p q m n lt h k in
     let down : q < p → n < m = λ lt. ranges_rise counts q p n m lt k h in
     λ same. grind (arith, up, down)
+
+-- ---- what they add up to
+
+pub total-push : (counts : List ℕ) (count : ℕ) → total_of (counts ++ count ∷ []) ≡ total_of counts + count
+total-push [] count = omega arith
+total-push (c ∷ cs) count = let rest = total-push cs count in omega (arith, rest)
+
+-- what so many peers with at most so many numbers each add up to
+pub total_within : (counts : List ℕ) (most : ℕ) → ((i : ℕ) → i < length counts → get_or counts i 0 ≤ most) → total_of counts ≤ most * length counts
+total_within [] most h = omega arith
+total_within (c ∷ cs) most h =
+    let rest : total_of cs ≤ most * length cs = total_within cs most (λ i lt. h (suc i) (omega arith)) in
+    let here : c ≤ most = h 0 (omega arith) in
+    let sum : most * length (c ∷ cs) ≡ most + most * length cs = omega arith in
+    omega (arith, rest, here, sum)

@@ -6,4 +6,5 @@ mod FormatLaws
 mod RouteLaws
 mod ReadingLaws
 mod PlanLaws
+pub mod EndpointLaws
 mod PeerLaws

@@ -1,34 +1,19 @@
 -- The peer at an endpoint.
-use Rattle.std.proofs.Common.{◌≡◌, ◌≢◌, ℕ, zero, suc, ◌+◌, ◌<◌, ◌≤◌, Bool, true, false, cond, List, [], ◌∷◌, length, get_or, map, Some, None, refl, sym, ap, ◌∙◌, arith, nat_lt, ◌&&◌, ◌==◌, not}
+use Rattle.std.proofs.Common.{◌≡◌, ◌≢◌, ℕ, zero, suc, ◌+◌, ◌<◌, ◌≤◌, Bool, true, false, cond, List, [], ◌∷◌, length, get_or, map, Some, None, refl, sym, ap, ◌∙◌, arith, nat_lt, not}
 use Rattle.std.specs.List.{prefix_len}
 use Rattle.std.specs.Prelude.{All, option_map, slice_get, position}
-use Rattle.std.specs.Str.{bytes_eq}
 use Rattle.std.proofs.lemmas.Bool.{true≢false}
 use Rattle.std.proofs.lemmas.Bool.Decides.{nat_tests}
 use Rattle.std.proofs.lemmas.List.{length-map}
 use Rattle.std.proofs.lemmas.List.Quantifiers.{position-Some}
-use Rattle.std.proofs.lemmas.Slice.Eq.{bytes_eq-Decides}
 use Rattle.peer_plan.specs.declared.endpoint.Endpoint.{Endpoint}
 use Rattle.peer_plan.specs.Reading.{is_endpoint}
+use Rattle.peer_plan.proofs.EndpointLaws.{same_endpoint, other_endpoint}
 
 get_or-map_same : {A B : Type 0} (f : A → B) (xs : List A) (i : ℕ) (d : A) → get_or (map f xs) i (f d) ≡ f (get_or xs i d)
 get_or-map_same f [] i d = refl
 get_or-map_same f (x ∷ xs) zero d = refl
 get_or-map_same f (x ∷ xs) (suc i) d = get_or-map_same f xs i d
-
-parts : (a b : Bool) → (a && b) ≡ true → (a ≡ true) × (b ≡ true)
-parts true b h = (refl, h)
-parts false b h = absurd (true≢false (sym h))
-
-pub same_endpoint : (a b : Endpoint) → is_endpoint a b ≡ true → a ≡ b
-same_endpoint a b h =
-    let both = parts (bytes_eq a.address b.address) (a.port == b.port) h in
-    let address : a.address ≡ b.address = grind (arith, both.0, bytes_eq-Decides) in
-    let port : a.port ≡ b.port = grind (arith, nat_tests, both.1) in
-    λ i. record { address = address i; port = port i }
-
-other_endpoint : (a b : Endpoint) → is_endpoint a b ≡ false → a ≢ b
-other_endpoint a b h = λ same. grind (arith, nat_tests, bytes_eq-Decides)
 
 map_at : {A B : Type 0} (f : A → B) (xs : List A) (i : ℕ) (d : B) → i < length xs → option_map f (slice_get xs i) ≡ Some (get_or (map f xs) i d)
 map_at f [] i d lt = absurd (omega arith)

@@ -27,7 +27,7 @@ use Rattle.peer_plan.specs.Keys.{key_name}
 use Rattle.peer_plan.specs.Fields.{number_of, text_of, value, value_at, each, list_in}
 use Rattle.peer_plan.specs.Plan.{IsPlan, IsPeer, IsRoute, AreApart, is_name, is_prefix, counts_of}
 use Rattle.peer_plan.specs.Reading.{default_record_limit, vnak_ms_in, limits_in, address_in, endpoint_in, workers_in, passes_in, is_credential, credential_in, credentials_in, formats_in, media_in, window_in, poke_in, rules_from, peer_in, has_double, is_named, is_endpoint, has_same_name, has_same_endpoint, told_apart, peers_in, peer_named, source_at, source_in, has_way, new_route, route_in, routes_in}
-use Rattle.peer_plan.proofs.Ranges.{ranges_apart, total_within}
+use Rattle.call_book.proofs.RangeLaws.{ranges_apart, total_within}
 use Rattle.peer_plan.proofs.FormatLaws.{formats_some}
 use Rattle.peer_plan.proofs.ReadingLaws.{bound, found_in, value_is, number_within, text_fits, default_within, missing, each_keeps, each_len, list_within}
 
@@ -336,7 +336,7 @@ plan_sound workers passes peers routes some enough are lead =
       names = are.names;
       endpoints = are.endpoints;
       ways = lead.ways;
-      apart = λ peer other number ne h k. ranges_apart (counts_of peers) peer other number ne h k;
+      apart = λ peer other number ne h k. ranges_apart (counts_of peers) peer other number number ne h k refl;
       total = let most = total_within (counts_of peers) 512 (λ i lt. (numbers_at (length workers) peers are.each i lt).1) in omega (arith, simp length-map at most, are.count.1);
     }
 

@@ -4,6 +4,7 @@ use Rattle.std.specs.Prelude.{nat_le, nat_lt, nat_eq, Option, Some, None, is_som
 use Rattle.std.specs.Prelude.{Contains, IfSome}
 use Rattle.std.specs.Char.{is_ascii_alphanumeric}
 use Rattle.std.specs.List.{list_all, starts_with, AllPairs}
+pub use Rattle.call_book.specs.Ranges.{first_number, total_of}
 use Rattle.call_signals.specs.PeerRules.{IsPeerRules, IsWithin}
 use Rattle.peer_plan.specs.declared.endpoint.Endpoint.{Endpoint}
 use Rattle.peer_plan.specs.declared.peer.Peer.{Peer}
@@ -39,17 +40,7 @@ is_prefix text = nat_le (length text) 32 && list_all is_visible text
 abbrev pub counts_of : List Peer → List ℕ
 counts_of peers = map (λ peer. peer.numbers) peers
 
--- the first number of a peer: its numbers follow those of the peers before it, from 1 on
-abbrev pub first_number : List ℕ → ℕ → ℕ
-first_number [] peer = 1
-first_number (count ∷ counts) zero = 1
-first_number (count ∷ counts) (suc peer) = count + first_number counts peer
-
--- how many numbers there are
-abbrev pub total_of : List ℕ → ℕ
-total_of [] = 0
-total_of (count ∷ counts) = count + total_of counts
-
+-- The numbers of a peer: those that the book of names gives out for it.
 abbrev pub range_of : List ℕ → ℕ → NumberRange
 range_of counts peer = record { first = first_number counts peer; count = slice_index counts peer }
 

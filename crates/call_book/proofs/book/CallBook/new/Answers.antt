@@ -2,7 +2,8 @@ use Rattle.std.proofs.Common.{◌≡◌, ◌<◌, ◌≤◌, ◌+◌, ◌*◌, l
 use Rattle.std.proofs.lemmas.List.{take_all}
 use Rattle.std.specs.VecDeque.{deque_capacity}
 use Rattle.call_book.specs.Ranges.{total_of}
-use Rattle.call_book.proofs.FreeLaws.{one_more_range, fresh_is_book, total_within}
+use Rattle.call_book.proofs.FreeLaws.{one_more_range, fresh_is_book}
+use Rattle.call_book.proofs.RangeLaws.{total_within}
 use Rattle.call_book.proofs.book.CallBook.new.Goals as goal
 
 pub loop-count-preserved : goal.loop-count-preserved
