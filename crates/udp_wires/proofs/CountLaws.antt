@@ -9,7 +9,7 @@ use Rattle.std.specs.Prelude.{Contains, option_map, position, slice_index, unwra
 use Rattle.peer_plan.specs.Reading.{is_endpoint}
 use Rattle.peer_plan.specs.declared.endpoint.Endpoint.{Endpoint}
 use Rattle.udp_wires.specs.PeerCounts.{count_for}
-use Rattle.udp_wires.proofs.EndpointLaws.{other_endpoint, same_endpoint}
+use Rattle.peer_plan.proofs.EndpointLaws.{other_endpoint, same_endpoint}
 
 -- what the peers have is found
 pub found_there : (peers : List Endpoint) (to : Endpoint) → Contains peers to → position (λ peer. is_endpoint peer to) peers ≡ None → ⊥
