@@ -6,36 +6,21 @@ use Rattle.service_report.specs.declared.figures.PeerFigures.{PeerFigures}
 use Rattle.service_report.specs.declared.metrics.Kind.{Kind}
 use Rattle.service_report.specs.declared.metrics.Kind.TheVariants.{Counter, Gauge}
 
--- the name of a figure's family; that of a counter ends in _total
-abbrev pub name_of : Figure → List ℕ
-name_of figure.Received = codes "iax_datagrams_received_total"
-name_of figure.TurnedAway = codes "iax_datagrams_turned_away_total"
-name_of figure.Sent = codes "iax_datagrams_sent_total"
-name_of figure.Lost = codes "iax_datagrams_lost_total"
-name_of figure.Legs = codes "iax_legs"
-name_of figure.Numbers = codes "iax_numbers"
-name_of figure.LegsEnded = codes "iax_legs_ended_total"
-name_of figure.Silence = codes "iax_peer_silence_seconds"
-name_of figure.Accepted = codes "iax_media_octets_accepted_total"
-name_of figure.Packed = codes "iax_media_octets_packed_total"
-name_of figure.Queued = codes "iax_media_octets_queued"
-name_of figure.Dropped = codes "iax_media_octets_dropped_total"
-name_of figure.Quelched = codes "iax_media_octets_quelched_total"
-
-abbrev pub kind_of : Figure → Kind
-kind_of figure.Received = Counter
-kind_of figure.TurnedAway = Counter
-kind_of figure.Sent = Counter
-kind_of figure.Lost = Counter
-kind_of figure.Legs = Gauge
-kind_of figure.Numbers = Gauge
-kind_of figure.LegsEnded = Counter
-kind_of figure.Silence = Gauge
-kind_of figure.Accepted = Counter
-kind_of figure.Packed = Counter
-kind_of figure.Queued = Gauge
-kind_of figure.Dropped = Counter
-kind_of figure.Quelched = Counter
+-- the family of a figure: what its values do, and its name; that of a counter ends in _total
+abbrev pub family_of : Figure → Kind × List ℕ
+family_of figure.Received = (Counter, codes "iax_datagrams_received_total")
+family_of figure.TurnedAway = (Counter, codes "iax_datagrams_turned_away_total")
+family_of figure.Sent = (Counter, codes "iax_datagrams_sent_total")
+family_of figure.Lost = (Counter, codes "iax_datagrams_lost_total")
+family_of figure.Legs = (Gauge, codes "iax_legs")
+family_of figure.Numbers = (Gauge, codes "iax_numbers")
+family_of figure.LegsEnded = (Counter, codes "iax_legs_ended_total")
+family_of figure.Silence = (Gauge, codes "iax_peer_silence_seconds")
+family_of figure.Accepted = (Counter, codes "iax_media_octets_accepted_total")
+family_of figure.Packed = (Counter, codes "iax_media_octets_packed_total")
+family_of figure.Queued = (Gauge, codes "iax_media_octets_queued")
+family_of figure.Dropped = (Counter, codes "iax_media_octets_dropped_total")
+family_of figure.Quelched = (Counter, codes "iax_media_octets_quelched_total")
 
 -- a figure's value; a silence is in whole seconds, and there is none where the peer was never heard
 abbrev pub value_of : Figure → PeerFigures → Option ℕ

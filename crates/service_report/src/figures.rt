@@ -1,8 +1,8 @@
 //! The figures of a peer, as metrics.
 ghost use Rattle.std.specs.Prelude.{◌≡◌};
-ghost use Rattle.service_report.specs.Figures.{name_of, kind_of, value_of};
+ghost use Rattle.service_report.specs.Figures.{family_of, value_of};
 
-use crate::metrics::Kind;
+use crate::metrics::{Family, Kind, Sample};
 
 /// What is known of a peer. Counts begin with the service, and go on at 0 after 2^64 - 1.
 #[derive(Clone, Copy)]
@@ -56,54 +56,88 @@ pub enum Figure {
 }
 
 impl Figure {
-    /// The name of its family: ASCII letters in lower case and `_`.
-    pub fn name(self) -> &'static str
-        ensures { result.now ≡ name_of self }
+    // What its values do, the name of its family (ASCII letters in lower case and `_`), and what they mean, in a sentence of ASCII.
+    fn told(self) -> (Kind, &'static str, &'static str)
+        ensures kind { result.0 ≡ (family_of self).0 }
+        ensures name { result.1.now ≡ (family_of self).1 }
     {
         match self {
-            Figure::Received => "iax_datagrams_received_total",
-            Figure::TurnedAway => "iax_datagrams_turned_away_total",
-            Figure::Sent => "iax_datagrams_sent_total",
-            Figure::Lost => "iax_datagrams_lost_total",
-            Figure::Legs => "iax_legs",
-            Figure::Numbers => "iax_numbers",
-            Figure::LegsEnded => "iax_legs_ended_total",
-            Figure::Silence => "iax_peer_silence_seconds",
-            Figure::Accepted => "iax_media_octets_accepted_total",
-            Figure::Packed => "iax_media_octets_packed_total",
-            Figure::Queued => "iax_media_octets_queued",
-            Figure::Dropped => "iax_media_octets_dropped_total",
-            Figure::Quelched => "iax_media_octets_quelched_total",
-        }
-    }
-
-    /// Whether its values only grow, or grow and shrink.
-    pub fn kind(self) -> Kind
-        ensures { result ≡ kind_of self }
-    {
-        match self {
-            Figure::Legs | Figure::Numbers | Figure::Silence | Figure::Queued => Kind::Gauge,
-            _ => Kind::Counter,
-        }
-    }
-
-    /// What its values mean, in a sentence of ASCII.
-    pub fn help(self) -> &'static str {
-        match self {
-            Figure::Received => "Datagrams that came from the peer.",
-            Figure::TurnedAway =>
+            Figure::Received => (
+                Kind::Counter,
+                "iax_datagrams_received_total",
+                "Datagrams that came from the peer.",
+            ),
+            Figure::TurnedAway => (
+                Kind::Counter,
+                "iax_datagrams_turned_away_total",
                 "Datagrams that would have opened a call while the exchange was stopping.",
-            Figure::Sent => "Datagrams that went to the peer.",
-            Figure::Lost => "Datagrams to the peer that the socket did not take.",
-            Figure::Legs => "Call legs that the peer has.",
-            Figure::Numbers => "Call legs that the peer can have at once.",
-            Figure::LegsEnded => "Call legs of the peer that have ended.",
-            Figure::Silence => "Seconds since the last datagram of the peer.",
-            Figure::Accepted => "Octets of media that came from the peer and were accepted.",
-            Figure::Packed => "Octets of media to the peer that were written into frames.",
-            Figure::Queued => "Octets of media to the peer that wait for a trunk frame.",
-            Figure::Dropped => "Octets of media to the peer that were dropped.",
-            Figure::Quelched => "Octets of media that were dropped since the peer wanted none.",
+            ),
+            Figure::Sent => (
+                Kind::Counter,
+                "iax_datagrams_sent_total",
+                "Datagrams that went to the peer.",
+            ),
+            Figure::Lost => (
+                Kind::Counter,
+                "iax_datagrams_lost_total",
+                "Datagrams to the peer that the socket did not take.",
+            ),
+            Figure::Legs => (Kind::Gauge, "iax_legs", "Call legs that the peer has."),
+            Figure::Numbers => (
+                Kind::Gauge,
+                "iax_numbers",
+                "Call legs that the peer can have at once.",
+            ),
+            Figure::LegsEnded => (
+                Kind::Counter,
+                "iax_legs_ended_total",
+                "Call legs of the peer that have ended.",
+            ),
+            Figure::Silence => (
+                Kind::Gauge,
+                "iax_peer_silence_seconds",
+                "Seconds since the last datagram of the peer.",
+            ),
+            Figure::Accepted => (
+                Kind::Counter,
+                "iax_media_octets_accepted_total",
+                "Octets of media that came from the peer and were accepted.",
+            ),
+            Figure::Packed => (
+                Kind::Counter,
+                "iax_media_octets_packed_total",
+                "Octets of media to the peer that were written into frames.",
+            ),
+            Figure::Queued => (
+                Kind::Gauge,
+                "iax_media_octets_queued",
+                "Octets of media to the peer that wait for a trunk frame.",
+            ),
+            Figure::Dropped => (
+                Kind::Counter,
+                "iax_media_octets_dropped_total",
+                "Octets of media to the peer that were dropped.",
+            ),
+            Figure::Quelched => (
+                Kind::Counter,
+                "iax_media_octets_quelched_total",
+                "Octets of media that were dropped since the peer wanted none.",
+            ),
+        }
+    }
+
+    /// Its family: whether its values only grow, or grow and shrink, its name, what its values mean, and these samples of it.
+    pub fn family<'a>(self, samples: &'a [Sample<'a>]) -> Family<'a>
+        ensures kind { result.kind ≡ (family_of self).0 }
+        ensures name { result.name.now ≡ (family_of self).1 }
+        ensures samples { result.samples.now ≡ samples.now }
+    {
+        let (kind, name, help) = self.told();
+        Family {
+            name,
+            help,
+            kind,
+            samples,
         }
     }
 

@@ -1,6 +1,6 @@
 //! Metrics, as values and in Prometheus' text form, version 0.0.4.
 ghost use Rattle.std.specs.Prelude.{◌≡◌, ◌++◌, [], IfOk, OnOk, OnErr};
-ghost use Rattle.service_report.specs.Metrics.{kind_text, family_text, scrape_text};
+ghost use Rattle.service_report.specs.Metrics.{family_text, scrape_text};
 
 use crate::spelling::{family_octets, head_octets};
 use std::alloc::{AllocError, Global};
@@ -48,18 +48,6 @@ pub struct Family<'a> {
     pub help: &'a str,
     pub kind: Kind,
     pub samples: &'a [Sample<'a>],
-}
-
-impl Kind {
-    /// Its name in the text form: `counter` or `gauge`.
-    pub fn as_str(self) -> &'static str
-        ensures { result.now ≡ kind_text self }
-    {
-        match self {
-            Kind::Counter => "counter",
-            Kind::Gauge => "gauge",
-        }
-    }
 }
 
 /// Families in the text form, one after the other. Contracts see their octets.

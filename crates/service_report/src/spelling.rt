@@ -1,5 +1,5 @@
 //! The octets of metrics.
-ghost use Rattle.std.specs.Prelude.{◌≡◌, ◌++◌, IfOk, OnOk};
+ghost use Rattle.std.specs.Prelude.{◌≡◌, ◌++◌, IfOk, OnOk, codes};
 ghost use Rattle.std.specs.List.{flat_map};
 ghost use Rattle.service_report.specs.Metrics.{text_octet, label_text, labels_text, sample_text};
 ghost use Rattle.service_report.specs.Metrics.{help_line, type_line, family_text, scrape_head};
@@ -128,36 +128,37 @@ fn push_samples(
     Ok(())
 }
 
+// A line of comment: a word, the name of a family, and what is told of it.
+fn push_comment<'x>(
+    octets: &mut Vec<u8>,
+    word: &'x str,
+    name: &'x str,
+    told: Piece<'x>,
+) -> Result<(), AllocError>
+    ensures { OnOk result (octets.new.items ≡ octets.old.items ++
+        (word.now ++ (name.now ++ (codes " " ++ (piece_text told.entry ++ codes "\n"))))) }
+{
+    let (word, name) = (Piece::Plain(word), Piece::Plain(name));
+    push_pieces(
+        octets,
+        &[word, name, Piece::Plain(" "), told, Piece::Plain("\n")],
+    )
+}
+
 fn push_help_line<'x>(octets: &mut Vec<u8>, name: &'x str, help: &'x str) -> Result<(), AllocError>
     ensures { OnOk result (octets.new.items ≡ octets.old.items ++ help_line name.now help.now) }
 {
-    let (name, help) = (Piece::Plain(name), Piece::Help(help));
-    push_pieces(
-        octets,
-        &[
-            Piece::Plain("# HELP "),
-            name,
-            Piece::Plain(" "),
-            help,
-            Piece::Plain("\n"),
-        ],
-    )
+    push_comment(octets, "# HELP ", name, Piece::Help(help))
 }
 
 fn push_type_line(octets: &mut Vec<u8>, name: &str, kind: Kind) -> Result<(), AllocError>
     ensures { OnOk result (octets.new.items ≡ octets.old.items ++ type_line name.now kind) }
 {
-    let (name, kind) = (Piece::Plain(name), Piece::Plain(kind.as_str()));
-    push_pieces(
-        octets,
-        &[
-            Piece::Plain("# TYPE "),
-            name,
-            Piece::Plain(" "),
-            kind,
-            Piece::Plain("\n"),
-        ],
-    )
+    let kind = match kind {
+        Kind::Counter => "counter",
+        Kind::Gauge => "gauge",
+    };
+    push_comment(octets, "# TYPE ", name, Piece::Plain(kind))
 }
 
 /// A family in the text form.
