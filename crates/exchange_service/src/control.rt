@@ -4,9 +4,10 @@ use crate::journal::Journal;
 use crate::running::Settings;
 use control_requests::Request;
 use control_server::{Clients, Door};
+use exchange_report::count_legs;
 use log::{Log, warn};
 use peer_lock::Naming;
-use service_desk::{Desk, Drain, answer_scrape, count_legs};
+use service_desk::{Desk, Drain, answer_scrape};
 use service_log::Told;
 use service_watch::SocketTable;
 use std::alloc::{AllocError, Global};
@@ -23,7 +24,7 @@ const WAIT_MS: u64 = 100;
 #[derive(Drop)]
 pub(crate) struct Control<'s> {
     pub(crate) settings: &'s Settings<'s>,
-    alloc: Global,
+    pub(crate) alloc: Global,
     clients: Clients,
     table: SocketTable,
 }

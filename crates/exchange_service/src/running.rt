@@ -71,7 +71,6 @@ pub struct TraceOptions<'a> {
 fn serve_beside<J: Naming, P: Post + Send + Sync, R: ServiceSystem, D: ServiceDisk>(
     rt: &R,
     disk: &D,
-    alloc: Global,
     exchange: &Exchange<NoGate, J>,
     passes: &mut Vec<Pass<J>>,
     control: &mut Control<'_>,
@@ -80,14 +79,13 @@ fn serve_beside<J: Naming, P: Post + Send + Sync, R: ServiceSystem, D: ServiceDi
     requires plan { exchange.now ≡ P.plan }
     requires enough { length exchange.now.workers + 1 ≤ vec_len passes.old }
 {
-    match watch_of(rt, disk, alloc, exchange.plan(), control.settings) {
+    match watch_of(rt, disk, control.alloc, exchange.plan(), control.settings) {
         Ok(both) => {
             let mut both = both;
             let lent = &mut both;
             serve_watched::<J, P, R, D>(
                 rt,
                 disk,
-                alloc,
                 exchange,
                 &lent.0,
                 &mut lent.1,
@@ -100,28 +98,16 @@ fn serve_beside<J: Naming, P: Post + Send + Sync, R: ServiceSystem, D: ServiceDi
     }
 }
 
-// The same; then their reports are written.
-fn serve_and_report<J: Naming, P: Post + Send + Sync, R: ServiceSystem, D: ServiceDisk, W: Write>(
-    rt: &R,
-    disk: &D,
-    alloc: Global,
-    exchange: &Exchange<NoGate, J>,
-    passes: &mut Vec<Pass<J>>,
-    control: &mut Control<'_>,
-    opened: Instant,
+// The reports are written, where there are any.
+fn tell_reports<W: Write>(
+    reports: Result<Vec<TurnReport>, ServiceError>,
     writer: &mut W,
-) -> Result<(), ServiceError>
-    requires plan { exchange.now ≡ P.plan }
-    requires enough { length exchange.now.workers + 1 ≤ vec_len passes.old }
-{
-    let reports = serve_beside::<J, P, R, D>(rt, disk, alloc, exchange, passes, control, opened)?;
-    match write_reports(&reports, writer) {
-        Ok(()) => Ok(()),
-        Err(_) => Err(ServiceError::Writer),
-    }
+) -> Result<(), ServiceError> {
+    Ok(write_reports(&reports?, writer)?)
 }
 
-// The same, on an exchange that is opened for it, by the ledgers and the plan that the caller names; then its accounts are written.
+// The workers of the plan serve on an exchange that is opened for it, by the ledgers and the plan that the caller names; then their
+// reports are written, and its accounts.
 fn work<
     O: Ledger + Send + Sync,
     S: Ledger + Send + Sync,
@@ -132,7 +118,6 @@ fn work<
 >(
     rt: &R,
     disk: &D,
-    alloc: Global,
     plan: Plan,
     control: &mut Control<'_>,
     opened: Instant,
@@ -146,20 +131,18 @@ fn work<
     requires steps { (steps.name ≡ S.name) × (steps.parts ≡ S.parts) × (steps.parts ≡ length plan.peers + plan.passes) }
 {
     let _passes = plan.passes();
-    let exchange = Exchange::<NoGate, Service<O, S>>::open(alloc, plan, NoGate, octets, steps);
+    let exchange = Exchange::<NoGate, Service<O, S>>::open(
+        control.alloc,
+        plan,
+        NoGate,
+        octets,
+        steps,
+    );
     let Ok((exchange, mut passes)) = exchange else {
         return Err(ServiceError::Memory);
     };
-    match serve_and_report::<_, P, R, D, W>(
-        rt,
-        disk,
-        alloc,
-        &exchange,
-        &mut passes,
-        control,
-        opened,
-        writer,
-    ) {
+    let reports = serve_beside::<_, P, R, D>(rt, disk, &exchange, &mut passes, control, opened);
+    match tell_reports(reports, writer) {
         Ok(()) => settle(exchange, passes, writer),
         // (Closed and not dropped, since that would have to be proved here anew, field by field.)
         Err(error) => {
@@ -173,7 +156,6 @@ fn work<
 fn serve_plan<R: ServiceSystem, D: ServiceDisk, W: Write>(
     rt: &R,
     disk: &D,
-    alloc: Global,
     plan: Plan,
     control: &mut Control<'_>,
     writer: &mut W,
@@ -184,9 +166,7 @@ fn serve_plan<R: ServiceSystem, D: ServiceDisk, W: Write>(
     let plan = with_spare_pass(plan);
     let parts = u64::from(plan.peer_count()) + u64::from(plan.passes());
     let (octets, steps) = (Blank::new(parts), Blank::new(parts));
-    work::<Brand, Brand, Brand, R, D, W>(
-        rt, disk, alloc, plan, control, opened, writer, octets, steps,
-    )
+    work::<Brand, Brand, Brand, R, D, W>(rt, disk, plan, control, opened, writer, octets, steps)
 }
 
 fn refuse<W: Write>(writer: &mut W, name: &str) -> u8 {
@@ -198,13 +178,12 @@ fn refuse<W: Write>(writer: &mut W, name: &str) -> u8 {
 fn serve_open<R: ServiceSystem + Files<File = File>, D: ServiceDisk, W: Write>(
     rt: &R,
     disk: &D,
-    alloc: Global,
     plan: Plan,
     control: &mut Control<'_>,
     writer: &mut W,
 ) -> u8 {
     match control.open(rt) {
-        Ok(()) => status_of(serve_plan(rt, disk, alloc, plan, control, writer), writer),
+        Ok(()) => status_of(serve_plan(rt, disk, plan, control, writer), writer),
         Err(name) => refuse(writer, name),
     }
 }
@@ -220,7 +199,7 @@ fn serve_through<R: ServiceSystem + Files<File = File>, D: ServiceDisk, W: Write
 ) -> (u8, bool) {
     match Control::new(rt, alloc, settings) {
         Ok(mut control) => {
-            let status = serve_open(rt, disk, alloc, plan, &mut control, writer);
+            let status = serve_open(rt, disk, plan, &mut control, writer);
             (status, control.is_bound())
         }
         Err(error) => (refuse(writer, bind_error_name(&error, "Control")), false),

@@ -70,7 +70,6 @@ fn told_seats<'r, J: Naming, P: Post, R: Clock + Eprint + Net + RandomSource + W
 fn serve_seated<J: Naming, P: Post + Send + Sync, R: ServiceSystem, D: ServiceDisk>(
     rt: &R,
     disk: &D,
-    alloc: Global,
     exchange: &Exchange<NoGate, J>,
     watch: &ServiceWatch,
     written: &mut Written<'_>,
@@ -82,7 +81,11 @@ fn serve_seated<J: Naming, P: Post + Send + Sync, R: ServiceSystem, D: ServiceDi
     requires plan { exchange.now ≡ P.plan }
     requires left { 1 ≤ vec_len passes.old }
 {
-    let lane = match lane_of(alloc, watch.trace(), exchange.plan().workers().len()) {
+    let lane = match lane_of(
+        control.alloc,
+        watch.trace(),
+        exchange.plan().workers().len(),
+    ) {
         Ok(lane) => lane,
         Err(error) => return Err(error),
     };
@@ -125,7 +128,6 @@ fn give_back<J: Naming>(
 pub(crate) fn serve_watched<J: Naming, P: Post + Send + Sync, R: ServiceSystem, D: ServiceDisk>(
     rt: &R,
     disk: &D,
-    alloc: Global,
     exchange: &Exchange<NoGate, J>,
     watch: &ServiceWatch,
     written: &mut Written<'_>,
@@ -136,14 +138,14 @@ pub(crate) fn serve_watched<J: Naming, P: Post + Send + Sync, R: ServiceSystem, 
     requires plan { exchange.now ≡ P.plan }
     requires enough { length exchange.now.workers + 1 ≤ vec_len passes.old }
 {
-    let (plan, settings) = (exchange.plan(), control.settings);
+    let (alloc, plan, settings) = (control.alloc, exchange.plan(), control.settings);
     let seats = told_seats::<J, P, R>(rt, alloc, plan, passes, settings, opened, watch.trace());
     let seats = match seats {
         Ok(seats) => seats,
         Err(error) => return Err(error),
     };
     let served = serve_seated::<J, P, R, D>(
-        rt, disk, alloc, exchange, watch, written, &seats, passes, control, opened,
+        rt, disk, exchange, watch, written, &seats, passes, control, opened,
     );
     let reports = reports_of(alloc, seats, passes);
     match served {

@@ -1,7 +1,7 @@
 //! What clients ask of the exchange, and its answers.
 ghost use Rattle.std.specs.Prelude.{◌≡◌, ◌<◌, IfOk, length, string_bytes};
 
-use crate::legs::{count_legs, find_leg, hang_up, hang_up_peer, is_at_rest};
+use crate::legs::{find_leg, is_at_rest};
 use crate::showing::{ShownLeg, push_calls};
 use call_book::LegName;
 use control_requests::{
@@ -9,7 +9,7 @@ use control_requests::{
     Status, accounts_body, call_body, command_of, place_of,
 };
 use exchange_core::{CallError, Exchange, NoGate, Pass};
-use exchange_report::{call_error_name, peer_named};
+use exchange_report::{call_error_name, count_legs, peer_named};
 use peer_lock::Naming;
 use peer_plan::{Endpoint, Plan};
 use service_watch::ServiceWatch;
@@ -36,11 +36,9 @@ impl<'x, J: Naming> Desk<'x, J> {
     /// Hangs up all legs that are still up, at a moment in milliseconds since the exchange was opened ("Call Tear Down"). Gives
     /// how many legs there are, those that end already among them.
     pub fn hang_up_all<R: Wait>(&mut self, rt: &R, now: u64) -> u32 {
-        let (exchange, watch) = (self.exchange, self.watch);
-        let (pass, lane) = (&mut self.pass, &mut self.lane);
         let mut legs: u32 = 0;
-        for peer in 0..exchange.plan().peer_count() {
-            legs = legs.saturating_add(hang_up_peer(rt, exchange, pass, watch, lane, peer, now));
+        for peer in 0..self.exchange.plan().peer_count() {
+            legs = legs.saturating_add(self.hang_up_peer(rt, peer, now));
         }
         legs
     }
@@ -74,7 +72,15 @@ impl<'x, J: Naming> Desk<'x, J> {
             Ok(Command::Call(number)) => self.call(rt, alloc, number, now),
             Ok(Command::Accounts) => self.accounts(rt, alloc),
             Ok(Command::Place) => self.place(rt, alloc, request.body, now),
-            Ok(Command::HangUp(number)) => self.drop_call(rt, alloc, number, now),
+            Ok(Command::HangUp(number)) => match find_leg(
+                rt,
+                self.exchange,
+                &mut self.pass,
+                number,
+            ) {
+                Some((_, name)) => self.drop_call(rt, alloc, name, now),
+                None => Answer::error(alloc, Status::NotFound, "NoLeg"),
+            },
             Ok(Command::Stop) => {
                 self.watch.stop();
                 answered(alloc, Status::Accepted, "{}")
@@ -111,8 +117,11 @@ impl<'x, J: Naming> Desk<'x, J> {
 
     // `GET /calls`
     fn calls<R: Wait>(&mut self, rt: &R, alloc: Global, now: u64) -> Result<Answer, AllocError> {
+        let exchange = self.exchange;
         let mut rows = Rows::new(alloc);
-        push_calls(rt, alloc, self.exchange, &mut self.pass, &mut rows, now)?;
+        for peer in 0..exchange.plan().peer_count() {
+            push_calls(rt, alloc, exchange, &mut self.pass, &mut rows, peer, now)?;
+        }
         shown(rows.into_calls(alloc))
     }
 
@@ -155,27 +164,15 @@ impl<'x, J: Naming> Desk<'x, J> {
         shown(accounts_body(alloc, row))
     }
 
-    // `DELETE /calls/<number>`
+    // `DELETE /calls/<number>`, of a leg that was found
     fn drop_call<R: Wait>(
         &mut self,
         rt: &R,
         alloc: Global,
-        number: u16,
+        name: LegName,
         now: u64,
     ) -> Result<Answer, AllocError> {
-        let Some((_, name)) = find_leg(rt, self.exchange, &mut self.pass, number) else {
-            return Answer::error(alloc, Status::NotFound, "NoLeg");
-        };
-        let (exchange, watch) = (self.exchange, self.watch);
-        match hang_up(
-            rt,
-            exchange,
-            &mut self.pass,
-            watch,
-            &mut self.lane,
-            name,
-            now,
-        ) {
+        match self.hang_up(rt, name, now) {
             Ok(()) => named(alloc, Status::Ok, name),
             Err(why) => Answer::error(alloc, Status::Conflict, why),
         }

@@ -1,14 +1,14 @@
 //! The legs of an exchange, found and hung up by their local numbers.
 ghost use Rattle.std.specs.Prelude.{◌<◌, IfSome, length};
 
+use crate::desk::Desk;
 use call_book::LegName;
 use exchange_core::{Exchange, NoGate, Pass, Retired};
-use exchange_report::order_error_name;
+use exchange_report::{count_legs, order_error_name};
 use leg_machine::Stage;
 use peer_lock::Naming;
 use service_watch::ServiceWatch;
 use std::sync::Wait;
-use trace_writer::TraceLane;
 use worker_watch::{Event, Watch};
 
 // Whether a leg of this stage has still to be hung up.
@@ -30,78 +30,52 @@ fn tell_retired(watch: &ServiceWatch, workers: usize, legs: &[Retired]) {
     }
 }
 
-/// Hangs up a leg. `Err` is the name of what refuses it.
-pub(crate) fn hang_up<J: Naming, R: Wait>(
-    rt: &R,
-    exchange: &Exchange<NoGate, J>,
-    pass: &mut Pass<J>,
-    watch: &ServiceWatch,
-    lane: &mut Option<TraceLane<'_>>,
-    name: LegName,
-    now: u64,
-) -> Result<(), &'static str> {
-    if name.peer >= exchange.plan().peer_count() {
-        return Err("NoLeg");
-    }
-    if let Some(lane) = lane {
-        lane.begin_hang_up(rt, now, name.number);
-    }
-    let answer = exchange.hang_up(rt, pass, name, now);
-    if let Some(lane) = lane {
-        lane.end_order(rt);
-    }
-    match answer {
-        Ok(answer) => {
-            tell_retired(watch, exchange.plan().workers().len(), &answer.retired);
-            Ok(())
+impl<'x, J: Naming> Desk<'x, J> {
+    /// Hangs up a leg. `Err` is the name of what refuses it.
+    pub(crate) fn hang_up<R: Wait>(
+        &mut self,
+        rt: &R,
+        name: LegName,
+        now: u64,
+    ) -> Result<(), &'static str> {
+        let exchange = self.exchange;
+        if name.peer >= exchange.plan().peer_count() {
+            return Err("NoLeg");
         }
-        Err(error) => Err(order_error_name(error)),
+        if let Some(lane) = &mut self.lane {
+            lane.begin_hang_up(rt, now, name.number);
+        }
+        let answer = exchange.hang_up(rt, &mut self.pass, name, now);
+        if let Some(lane) = &mut self.lane {
+            lane.end_order(rt);
+        }
+        match answer {
+            Ok(answer) => {
+                tell_retired(self.watch, exchange.plan().workers().len(), &answer.retired);
+                Ok(())
+            }
+            Err(error) => Err(order_error_name(error)),
+        }
     }
-}
 
-/// Hangs up the legs of a peer that are still up. Gives how many legs it has.
-pub(crate) fn hang_up_peer<J: Naming, R: Wait>(
-    rt: &R,
-    exchange: &Exchange<NoGate, J>,
-    pass: &mut Pass<J>,
-    watch: &ServiceWatch,
-    lane: &mut Option<TraceLane<'_>>,
-    peer: u16,
-    now: u64,
-) -> u32
-    requires { peer < length exchange.now.peers }
-{
-    let range = exchange.plan().range(peer);
-    let mut legs: u32 = 0;
-    for place in 0..range.count {
-        if let Some(leg) = exchange.status(rt, pass, peer, range.first + place) {
-            legs = legs.saturating_add(1);
-            if is_open(leg.stage) {
-                let _ = hang_up(rt, exchange, pass, watch, lane, leg.name, now);
+    /// Hangs up the legs of the peer at this place of the plan that are still up. Gives how many legs it has.
+    pub(crate) fn hang_up_peer<R: Wait>(&mut self, rt: &R, peer: u16, now: u64) -> u32 {
+        let exchange = self.exchange;
+        if peer >= exchange.plan().peer_count() {
+            return 0;
+        }
+        let range = exchange.plan().range(peer);
+        let mut legs: u32 = 0;
+        for place in 0..range.count {
+            if let Some(leg) = exchange.status(rt, &mut self.pass, peer, range.first + place) {
+                legs = legs.saturating_add(1);
+                if is_open(leg.stage) {
+                    let _ = self.hang_up(rt, leg.name, now);
+                }
             }
         }
+        legs
     }
-    legs
-}
-
-/// How many legs the peer at this place of the plan has, 0 ..= 512. Takes the time of a look at each of its numbers.
-pub fn count_legs<J: Naming, R: Wait>(
-    rt: &R,
-    exchange: &Exchange<NoGate, J>,
-    pass: &mut Pass<J>,
-    peer: u16,
-) -> u16
-    requires { peer < length exchange.now.peers }
-{
-    let range = exchange.plan().range(peer);
-    let mut legs: u16 = 0;
-    for place in 0..range.count {
-        let leg = exchange.status(rt, pass, peer, range.first + place);
-        if leg.is_some() {
-            legs = legs.saturating_add(1);
-        }
-    }
-    legs
 }
 
 /// Whether no peer has a leg, and no media waits for a trunk frame.

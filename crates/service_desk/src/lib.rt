@@ -9,5 +9,4 @@ mod showing;
 
 pub use desk::Desk;
 pub use drain::Drain;
-pub use legs::count_legs;
 pub use scraping::answer_scrape;

@@ -2,10 +2,9 @@
 ghost use Rattle.std.specs.Prelude.{◌<◌, length};
 
 use crate::desk::Desk;
-use crate::legs::count_legs;
 use control_requests::{Answer, Methods, Request, Status};
 use exchange_core::{Exchange, NoGate, Pass};
-use exchange_report::refusal_name;
+use exchange_report::{count_legs, refusal_name};
 use peer_lock::Naming;
 use peer_plan::Plan;
 use service_report::{
@@ -39,57 +38,69 @@ const GET: Methods = Methods {
     delete: false,
 };
 
-// A value of the whole service, as it is told.
-struct Total {
+// What is told of a family.
+struct Told {
     kind: Kind,
     name: &'static str,
     help: &'static str,
 }
 
-const OF_SERVICE: [Total; 2] = [
-    Total {
+const OF_SERVICE: [Told; 2] = [
+    Told {
         kind: Kind::Counter,
         name: "iax_strangers_total",
         help: "Datagrams that came from no peer of the plan.",
     },
-    Total {
+    Told {
         kind: Kind::Counter,
         name: "iax_socket_faults_total",
         help: "Calls of the workers' sockets that failed.",
     },
 ];
 
+const REFUSED: Told = Told {
+    kind: Kind::Counter,
+    name: "iax_datagrams_refused_total",
+    help: "Datagrams of the peer that did nothing, by the name of the refusal.",
+};
+
+const DROPPED: Told = Told {
+    kind: Kind::Counter,
+    name: "iax_socket_drops_total",
+    help: "Datagrams that the system dropped at the worker's socket.",
+};
+
 // Of the file of call records.
-const OF_CALLS: [Total; 3] = [
-    Total {
+const OF_CALLS: [Told; 3] = [
+    Told {
         kind: Kind::Counter,
         name: "iax_call_records_written_total",
         help: "Records of ended call legs that were written to the file.",
     },
-    Total {
+    Told {
         kind: Kind::Counter,
         name: "iax_call_records_lost_total",
         help: "Records of ended call legs that were lost, since too many waited.",
     },
-    Total {
+    Told {
         kind: Kind::Gauge,
         name: "iax_call_records_waiting",
         help: "Records of ended call legs that wait for the file.",
     },
 ];
 
-const OF_TRACE: [Total; 3] = [
-    Total {
+const OF_TRACE: [Told; 3] = [
+    Told {
         kind: Kind::Counter,
         name: "iax_trace_octets_written_total",
         help: "Octets that were written to the files of the trace.",
     },
-    Total {
+    Told {
         kind: Kind::Counter,
         name: "iax_trace_calls_lost_total",
         help: "Datagrams, ticks and orders that the trace lacks.",
     },
-    Total {
+    Told {
         kind: Kind::Gauge,
         name: "iax_trace_up",
         help: "Whether the trace is written: 0 once it can't be written to.",
@@ -129,6 +140,22 @@ fn figures_of<'x, J: Naming, R: Wait>(
     }
 }
 
+// A family of which this is told.
+fn push_family(
+    alloc: Global,
+    metrics: &mut Metrics,
+    told: &Told,
+    samples: &[Sample<'_>],
+) -> Result<(), AllocError> {
+    let family = Family {
+        name: told.name,
+        help: told.help,
+        kind: told.kind,
+        samples,
+    };
+    metrics.push(alloc, &family)
+}
+
 // A figure of each peer that has it.
 fn push_figure(
     alloc: Global,
@@ -146,13 +173,7 @@ fn push_figure(
             samples.push(Sample { labels, value })?;
         }
     }
-    let family = Family {
-        name: figure.name(),
-        help: figure.help(),
-        kind: figure.kind(),
-        samples: &samples,
-    };
-    metrics.push(alloc, &family)
+    metrics.push(alloc, &figure.family(&samples))
 }
 
 // The figures of all peers.
@@ -217,13 +238,7 @@ fn push_refusals(
     for peer in 0..plan.peer_count() {
         push_refusals_of(&mut samples, watch, peer, plan.name(peer))?;
     }
-    let family = Family {
-        name: "iax_datagrams_refused_total",
-        help: "Datagrams of the peer that did nothing, by the name of the refusal.",
-        kind: Kind::Counter,
-        samples: &samples,
-    };
-    metrics.push(alloc, &family)
+    push_family(alloc, metrics, &REFUSED, &samples)
 }
 
 // The drops at the sockets of these workers, where they are known.
@@ -242,13 +257,7 @@ fn push_counts(
             samples.push(Sample { labels, value })?;
         }
     }
-    let family = Family {
-        name: "iax_socket_drops_total",
-        help: "Datagrams that the system dropped at the worker's socket.",
-        kind: Kind::Counter,
-        samples: &samples,
-    };
-    metrics.push(alloc, &family)
+    push_family(alloc, metrics, &DROPPED, &samples)
 }
 
 // What the system dropped at the sockets of the workers, as far as it tells.
@@ -266,7 +275,7 @@ fn push_drops(
 fn push_totals(
     alloc: Global,
     metrics: &mut Metrics,
-    totals: &[Total],
+    totals: &[Told],
     values: &[u64],
 ) -> Result<(), AllocError> {
     for (total, value) in iter::zip(totals, values) {
@@ -274,13 +283,7 @@ fn push_totals(
             labels: Labels::None,
             value: *value,
         };
-        let family = Family {
-            name: total.name,
-            help: total.help,
-            kind: total.kind,
-            samples: &[sample],
-        };
-        metrics.push(alloc, &family)?;
+        push_family(alloc, metrics, total, &[sample])?;
     }
     Ok(())
 }

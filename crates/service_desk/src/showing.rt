@@ -95,27 +95,8 @@ impl ShownLeg {
     }
 }
 
-// A leg as it is shown, behind the others, where there is one of this local number of a peer.
-fn push_call<J: Naming, R: Wait>(
-    rt: &R,
-    alloc: Global,
-    exchange: &Exchange<NoGate, J>,
-    pass: &mut Pass<J>,
-    rows: &mut Rows,
-    peer: u16,
-    number: u16,
-    now: u64,
-) -> Result<(), AllocError>
-    requires { peer < length exchange.now.peers }
-{
-    match ShownLeg::of(rt, alloc, exchange, pass, peer, number)? {
-        Some(leg) => rows.push_call(alloc, leg.row(exchange.plan(), peer, now)),
-        None => Ok(()),
-    }
-}
-
-// The legs of a peer as they are shown, behind the others.
-fn push_calls_of<J: Naming, R: Wait>(
+/// The legs of a peer as they are shown, behind the others.
+pub(crate) fn push_calls<J: Naming, R: Wait>(
     rt: &R,
     alloc: Global,
     exchange: &Exchange<NoGate, J>,
@@ -129,22 +110,9 @@ fn push_calls_of<J: Naming, R: Wait>(
     let range = exchange.plan().range(peer);
     for place in 0..range.count {
         let number = range.first + place;
-        push_call(rt, alloc, exchange, pass, rows, peer, number, now)?;
-    }
-    Ok(())
-}
-
-/// The legs of all peers as they are shown.
-pub(crate) fn push_calls<J: Naming, R: Wait>(
-    rt: &R,
-    alloc: Global,
-    exchange: &Exchange<NoGate, J>,
-    pass: &mut Pass<J>,
-    rows: &mut Rows,
-    now: u64,
-) -> Result<(), AllocError> {
-    for peer in 0..exchange.plan().peer_count() {
-        push_calls_of(rt, alloc, exchange, pass, rows, peer, now)?;
+        if let Some(leg) = ShownLeg::of(rt, alloc, exchange, pass, peer, number)? {
+            rows.push_call(alloc, leg.row(exchange.plan(), peer, now))?;
+        }
     }
     Ok(())
 }
