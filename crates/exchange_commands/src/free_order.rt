@@ -6,6 +6,7 @@ use crate::viewer::Stop;
 use crate::words::peer_of;
 use call_auth::Challenge;
 use exchange_core::{CallError, Exchange, NoGate, Pass};
+use exchange_report::count_legs;
 use peer_lock::Naming;
 use peer_plan::NumberRange;
 use script_lines::decimal;
@@ -79,24 +80,6 @@ fn is_order_of(numbers: &[u16], range: NumberRange) -> bool {
     true
 }
 
-// Whether one of these numbers has a leg.
-fn has_leg<J: Naming, R: Wait>(
-    rt: &R,
-    exchange: &Exchange<NoGate, J>,
-    pass: &mut Pass<J>,
-    peer: u16,
-    numbers: &[u16],
-) -> bool
-    requires { peer < length exchange.now.peers }
-{
-    for number in numbers {
-        if exchange.status(rt, pass, peer, *number).is_some() {
-            return true;
-        }
-    }
-    false
-}
-
 // A full frame from call number 1 that says that there is no call of this number there: "INVAL" (RFC 5456, section 6.9.3).
 fn inval(number: u16) -> [u8; 12] {
     let [high, low] = number.to_be_bytes();
@@ -130,34 +113,6 @@ fn take_and_free<J: Naming, R: Wait>(
     Ok(())
 }
 
-// The numbers of a peer are given out in this order, if it is one. What waits in the peer's outbox is dropped.
-fn order_listed<J: Naming, R: Wait>(
-    rt: &R,
-    exchange: &Exchange<NoGate, J>,
-    pass: &mut Pass<J>,
-    peer: u16,
-    numbers: &[u16],
-    now: u64,
-    challenge: &Challenge,
-) -> Result<(), Stop>
-    requires { peer < length exchange.now.peers }
-{
-    if !is_order_of(numbers, exchange.plan().range(peer))
-        || has_leg(rt, exchange, pass, peer, numbers)
-    {
-        return Err(Stop::Script);
-    }
-    if let Err(stop) = take_and_free(rt, exchange, pass, peer, numbers, now, challenge) {
-        return Err(stop);
-    }
-    for _ in 0..u64::MAX {
-        if exchange.take_out(rt, pass, peer).is_none() {
-            break;
-        }
-    }
-    Ok(())
-}
-
 /// Has the numbers of a peer be given out in the order of this text from now on, unseen by anybody: calls take all of them, and
 /// end in that order. What waits in the peer's outbox is dropped.
 ///
@@ -174,8 +129,21 @@ pub(crate) fn order_free<J: Naming, R: Wait, V>(
         Ok(peer) => peer,
         Err(stop) => return Err(stop),
     };
-    match listed(desk.alloc, text) {
-        Ok(numbers) => order_listed(desk.rt, exchange, desk.pass, peer, &numbers, now, challenge),
-        Err(stop) => Err(stop),
+    let numbers = match listed(desk.alloc, text) {
+        Ok(numbers) => numbers,
+        Err(stop) => return Err(stop),
+    };
+    let (rt, range) = (desk.rt, exchange.plan().range(peer));
+    if !is_order_of(&numbers, range) || count_legs(rt, exchange, desk.pass, peer) > 0 {
+        return Err(Stop::Script);
     }
+    if let Err(stop) = take_and_free(rt, exchange, desk.pass, peer, &numbers, now, challenge) {
+        return Err(stop);
+    }
+    for _ in 0..u64::MAX {
+        if exchange.take_out(rt, desk.pass, peer).is_none() {
+            break;
+        }
+    }
+    Ok(())
 }

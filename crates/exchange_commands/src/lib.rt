@@ -16,6 +16,6 @@ mod words;
 
 pub use arguments::turn_count;
 pub use checking::check;
-pub use replaying::{ReplayError, replay, replay_buffered, replay_with, tell_outcome};
+pub use replaying::{ReplayError, ReplayFiles, replay, replay_buffered, replay_with, tell_outcome};
 pub use serving::serve;
-pub use viewer::{PeerOfPlan, Stop, Viewer};
+pub use viewer::{PeerOfPlan, Received, Stop, Viewer};

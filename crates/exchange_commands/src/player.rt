@@ -3,7 +3,7 @@ use crate::desk::Desk;
 use crate::free_order::order_free;
 use crate::outboxes::empty_outbox;
 use crate::stages::Stages;
-use crate::viewer::{PeerOfPlan, Stop, Viewer};
+use crate::viewer::{PeerOfPlan, Received, Stop, Viewer};
 use crate::words::{Sender, octets_of, peer_of, places_of, sender_of};
 use call_auth::Challenge;
 use exchange_core::{Answer, Refusal, Retired};
@@ -167,7 +167,15 @@ impl Player {
         viewer: &mut V,
     ) -> Result<(), Stop> {
         match peer {
-            Some(peer) => viewer.received(self.now, peer, octets, refused?),
+            Some(peer) => {
+                let refusal = refused?;
+                viewer.received(Received {
+                    moment: self.now,
+                    peer,
+                    octets,
+                    refusal,
+                })
+            }
             None => self.tell_refusal(refused, viewer),
         }
     }

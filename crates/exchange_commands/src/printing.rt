@@ -1,6 +1,6 @@
 //! What a replay prints.
-use crate::viewer::{PeerOfPlan, Stop, Viewer};
-use exchange_core::{Refusal, Retired};
+use crate::viewer::{PeerOfPlan, Received, Stop, Viewer};
+use exchange_core::Retired;
 use exchange_report::{MediaAccounts, refusal_name, stage_name, write_accounts};
 use leg_machine::Stage;
 use std::io;
@@ -51,14 +51,8 @@ fn write_retired<W: Write>(retired: &Retired, writer: &mut W) -> io::Result<()> 
 }
 
 impl<W: Write> Viewer for Printer<'_, W> {
-    fn received(
-        &mut self,
-        _moment: u64,
-        _peer: PeerOfPlan<'_>,
-        _octets: &[u8],
-        refusal: Option<Refusal>,
-    ) -> Result<(), Stop> {
-        match refusal {
+    fn received(&mut self, datagram: Received<'_>) -> Result<(), Stop> {
+        match datagram.refusal {
             Some(refusal) => told(writeln!(self.writer, "refused {}", refusal_name(refusal))),
             None => Ok(()),
         }

@@ -18,6 +18,13 @@ use std::marker::Brand;
 use std::sync::Wait;
 use std::sync::ledger::Ledger;
 
+/// What is replayed, as the octets of two files: a script, on an exchange of this plan.
+#[derive(Clone, Copy)]
+pub struct ReplayFiles<'a> {
+    pub plan: &'a [u8],
+    pub script: &'a [u8],
+}
+
 /// Why a replay ends before its script does.
 #[derive(Debug, Drop, PartialEq, Eq)]
 pub enum ReplayError {
@@ -178,19 +185,18 @@ fn play<O: Ledger + Send + Sync, S: Ledger + Send + Sync, R: Wait, V: Viewer>(
 /// Replays a script on an exchange of its plan, and tells the viewer what each line makes, up to the end of the script or to
 /// the first line that is refused.
 ///
-/// Plan and script are the octets of the files. `tell_outcome` tells what comes of it as `replay` does.
+/// `tell_outcome` tells what comes of it as `replay` does.
 ///
 /// `Plan`: the plan is refused, with its first fault. `Memory`: a request for memory was refused. `Script`: the line of this
 /// number is refused, from 1 on; 0 where the viewer answers so when the exchange is opened. `Writer`: the viewer answers so.
 pub fn replay_with<R: Wait, V: Viewer>(
     rt: &R,
     alloc: Global,
-    plan: &[u8],
-    script: &[u8],
+    files: ReplayFiles<'_>,
     viewer: &mut V,
 ) -> Result<(), ReplayError> {
-    match Plan::read(alloc, plan) {
-        Ok(plan) => play_plan(rt, alloc, plan, script, viewer),
+    match Plan::read(alloc, files.plan) {
+        Ok(plan) => play_plan(rt, alloc, plan, files.script, viewer),
         Err(fault) => Err(ReplayError::Plan(fault)),
     }
 }
@@ -215,15 +221,14 @@ fn play_plan<R: Wait, V: Viewer>(
 /// Replays a script on an exchange of its plan, prints what each line makes, and answers the status: 0 at the end of the script,
 /// else 1.
 ///
-/// Both arguments are the octets of the files. A refused plan is told as `check` tells it.
+/// A refused plan is told as `check` tells it.
 pub fn replay<R: Wait, W: Write>(
     rt: &R,
     alloc: Global,
-    plan: &[u8],
-    script: &[u8],
+    files: ReplayFiles<'_>,
     writer: &mut W,
 ) -> u8 {
-    let outcome = replay_with(rt, alloc, plan, script, &mut Printer { writer });
+    let outcome = replay_with(rt, alloc, files, &mut Printer { writer });
     tell_outcome(outcome, writer)
 }
 
@@ -239,12 +244,11 @@ fn flushed<W: Write>(status: u8, writer: &mut W) -> u8 {
 pub fn replay_buffered<R: Wait, W: Write>(
     rt: &R,
     alloc: Global,
-    plan: &[u8],
-    script: &[u8],
+    files: ReplayFiles<'_>,
     writer: &mut W,
 ) -> u8 {
     if let Ok(mut buffered) = BufWriter::new(alloc, &mut *writer) {
-        let status = replay(rt, alloc, plan, script, &mut buffered);
+        let status = replay(rt, alloc, files, &mut buffered);
         return flushed(status, &mut buffered);
     }
     tell_outcome(Err(ReplayError::Memory), writer)

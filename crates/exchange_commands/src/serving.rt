@@ -52,32 +52,16 @@ fn turns_of<
     }
 }
 
-// The same; then their reports are written.
-fn report_turns<
-    J: Naming,
-    P: Post + Send + Sync,
-    R: Clock + Net + RandomSource + Threads + Wait + Sync,
-    W: Write,
->(
-    rt: &R,
-    alloc: Global,
-    exchange: &Exchange<NoGate, J>,
-    passes: &mut Vec<Pass<J>>,
-    turns: u32,
-    opened: Instant,
+// The reports are written, where there are any.
+fn tell_reports<W: Write>(
+    reports: Result<Vec<TurnReport>, ServiceError>,
     writer: &mut W,
-) -> Result<(), ServiceError>
-    requires plan { exchange.now ≡ P.plan }
-    requires enough { length exchange.now.workers ≤ vec_len passes.old }
-{
-    let reports = turns_of::<J, P, R>(rt, alloc, exchange, passes, turns, opened)?;
-    match write_reports(&reports, writer) {
-        Ok(()) => Ok(()),
-        Err(_) => Err(ServiceError::Writer),
-    }
+) -> Result<(), ServiceError> {
+    Ok(write_reports(&reports?, writer)?)
 }
 
-// The same, on an exchange that is opened for it, by the ledgers and the plan that the caller names; then its accounts are written.
+// The turns on an exchange that is opened for them, by the ledgers and the plan that the caller names; then the workers' reports are
+// written, and the accounts.
 fn work<
     O: Ledger + Send + Sync,
     S: Ledger + Send + Sync,
@@ -103,7 +87,8 @@ fn work<
     let Ok((exchange, mut passes)) = exchange else {
         return Err(ServiceError::Memory);
     };
-    match report_turns::<_, P, R, W>(rt, alloc, &exchange, &mut passes, turns, opened, writer) {
+    let reports = turns_of::<_, P, R>(rt, alloc, &exchange, &mut passes, turns, opened);
+    match tell_reports(reports, writer) {
         Ok(()) => settle(exchange, passes, writer),
         // (Closed and not dropped, since that would have to be proved here anew, field by field.)
         Err(error) => {

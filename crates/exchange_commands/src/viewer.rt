@@ -64,6 +64,16 @@ impl<'a> PeerOfPlan<'a> {
     }
 }
 
+/// A datagram that came from a peer at a moment, and why it was refused, if it was.
+#[derive(Clone, Copy)]
+pub struct Received<'a> {
+    /// In milliseconds.
+    pub moment: u64,
+    pub peer: PeerOfPlan<'a>,
+    pub octets: &'a [u8],
+    pub refusal: Option<Refusal>,
+}
+
 /// Who looks on while a script is replayed.
 ///
 /// First `opened`. Then each line is told as it is begun (`asked`), with what it makes: datagrams that come and refusals, then
@@ -80,14 +90,8 @@ pub trait Viewer {
         Ok(())
     }
 
-    /// A datagram came from a peer, and was refused or not.
-    fn received(
-        &mut self,
-        _moment: u64,
-        _peer: PeerOfPlan<'_>,
-        _octets: &[u8],
-        _refusal: Option<Refusal>,
-    ) -> Result<(), Stop> {
+    /// A datagram came from a peer.
+    fn received(&mut self, _datagram: Received<'_>) -> Result<(), Stop> {
         Ok(())
     }
 

@@ -10,7 +10,7 @@ use clap::ArgMatches;
 use clap::error::ErrorKind;
 use command_line::{VERSION, command_line};
 use control_client::{give_order, order_of};
-use exchange_commands::{check, replay_buffered, serve, turn_count};
+use exchange_commands::{ReplayFiles, check, replay_buffered, serve, turn_count};
 use exchange_service::{ServiceDisk, ServiceSystem, Settings, TraceOptions, run as run_service};
 use log::LevelFilter;
 use plan_report::explain;
@@ -102,7 +102,13 @@ fn replay_files<R: Files + Print + Alloc + Wait>(
     script: &str,
 ) -> u8 {
     match both_of(rt, plan, script) {
-        Some((plan, script)) => { replay_buffered(rt, alloc, &plan, &script, &mut io::writer(rt)) }
+        Some((plan, script)) => {
+            let files = ReplayFiles {
+                plan: &plan,
+                script: &script,
+            };
+            replay_buffered(rt, alloc, files, &mut io::writer(rt))
+        }
         None => 1,
     }
 }
@@ -219,22 +225,6 @@ fn settings_of<'a>(options: &'a ArgMatches<'_>) -> Option<Settings<'a>> {
     })
 }
 
-// The service of a plan, with the options that were given.
-fn run_file<R: Program, D: ServiceDisk>(
-    rt: &R,
-    disk: &D,
-    alloc: Global,
-    options: &ArgMatches<'_>,
-) -> u8 {
-    let Some(settings) = settings_of(options) else {
-        return refuse_usage(rt);
-    };
-    match octets_of(rt, settings.plan_path) {
-        Some(plan) => run_service(rt, disk, alloc, &plan, &settings, &mut io::writer(rt)),
-        None => 1,
-    }
-}
-
 // What `clap` refuses: help and the version are printed, anything else is told by the usage.
 fn refuse_words<R: Print + Eprint>(rt: &R, error: &clap::Error) -> u8 {
     match error.kind() {
@@ -260,7 +250,13 @@ fn run_matched<R: Program, D: ServiceDisk>(
     matches: &ArgMatches<'_>,
 ) -> u8 {
     match matches.subcommand() {
-        Some(("run", options)) => run_file(rt, disk, alloc, options),
+        Some(("run", options)) => match settings_of(options) {
+            Some(settings) => match octets_of(rt, settings.plan_path) {
+                Some(plan) => run_service(rt, disk, alloc, &plan, &settings, &mut io::writer(rt)),
+                None => 1,
+            },
+            None => refuse_usage(rt),
+        },
         Some(("ladder", options)) => view_files(rt, alloc, View::Ladder, options),
         Some(("pcap", options)) => view_files(rt, alloc, View::Capture, options),
         Some(("records", options)) => view_files(rt, alloc, View::Records, options),

@@ -1,6 +1,7 @@
 //! The views of a replay, as commands ask for them.
 use crate::both_of;
 use clap::ArgMatches;
+use exchange_commands::ReplayFiles;
 use replay_views::{LadderForm, write_capture, write_ladder, write_records};
 use std::alloc::Global;
 use std::io;
@@ -40,7 +41,13 @@ pub(crate) fn view_files<R: Files + Print + Eprint + Alloc + Wait>(
         return 1;
     };
     match both_of(rt, plan, script) {
-        Some((plan, script)) => write_view(rt, alloc, view, options, &plan, &script),
+        Some((plan, script)) => {
+            let files = ReplayFiles {
+                plan: &plan,
+                script: &script,
+            };
+            write_view(rt, alloc, view, options, files)
+        }
         None => 1,
     }
 }
@@ -50,16 +57,15 @@ fn write_view<R: Print + Eprint + Wait>(
     alloc: Global,
     view: View,
     options: &ArgMatches<'_>,
-    plan: &[u8],
-    script: &[u8],
+    files: ReplayFiles<'_>,
 ) -> u8 {
     let writer = &mut io::writer(rt);
     match view {
         View::Ladder => {
             let (leg, form) = (ladder_leg(options), ladder_form(options));
-            write_ladder(rt, alloc, plan, script, leg, form, writer)
+            write_ladder(rt, alloc, files, leg, form, writer)
         }
-        View::Capture => write_capture(rt, alloc, plan, script, writer),
-        View::Records => write_records(rt, alloc, plan, script, writer),
+        View::Capture => write_capture(rt, alloc, files, writer),
+        View::Records => write_records(rt, alloc, files, writer),
     }
 }

@@ -3,8 +3,9 @@ ghost use Rattle.std.specs.Prelude.{◌≡◌};
 ghost use Rattle.std.specs.Int.{w32, from_be_bytes};
 
 use crate::outcomes::write_view;
-use exchange_commands::{PeerOfPlan, ReplayError, Stop, Viewer, replay_with, tell_outcome};
-use exchange_core::Refusal;
+use exchange_commands::{
+    PeerOfPlan, Received, ReplayError, ReplayFiles, Stop, Viewer, replay_with, tell_outcome,
+};
 use packet_capture::{Capture, CaptureError, Packet, UdpEndpoint};
 use peer_plan::Endpoint;
 use std::alloc::Global;
@@ -58,13 +59,13 @@ impl CaptureViewer {
 }
 
 impl Viewer for CaptureViewer {
-    fn received(
-        &mut self,
-        moment: u64,
-        peer: PeerOfPlan<'_>,
-        octets: &[u8],
-        _refusal: Option<Refusal>,
-    ) -> Result<(), Stop> {
+    fn received(&mut self, datagram: Received<'_>) -> Result<(), Stop> {
+        let Received {
+            moment,
+            peer,
+            octets,
+            ..
+        } = datagram;
         self.push(moment, peer.endpoint, peer.worker, octets)
     }
 
@@ -77,15 +78,14 @@ impl Viewer for CaptureViewer {
 fn captured<R: Wait>(
     rt: &R,
     alloc: Global,
-    plan: &[u8],
-    script: &[u8],
+    files: ReplayFiles<'_>,
 ) -> Result<CaptureViewer, ReplayError> {
     let mut viewer = CaptureViewer {
         alloc,
         capture: Capture::new(alloc)?,
         left_out: 0,
     };
-    replay_with(rt, alloc, plan, script, &mut viewer)?;
+    replay_with(rt, alloc, files, &mut viewer)?;
     Ok(viewer)
 }
 
@@ -98,11 +98,10 @@ fn captured<R: Wait>(
 pub fn write_capture<R: Wait + Eprint, W: Write>(
     rt: &R,
     alloc: Global,
-    plan: &[u8],
-    script: &[u8],
+    files: ReplayFiles<'_>,
     writer: &mut W,
 ) -> u8 {
-    let viewer = match captured(rt, alloc, plan, script) {
+    let viewer = match captured(rt, alloc, files) {
         Ok(viewer) => viewer,
         Err(error) => return tell_outcome(Err(error), writer),
     };

@@ -3,8 +3,9 @@ ghost use Rattle.std.specs.Prelude.{◌≡◌, ◌<◌, length};
 
 use crate::outcomes::{kept, write_view};
 use call_ladder::{DatagramEvent, Direction, Ladder};
-use exchange_commands::{PeerOfPlan, ReplayError, Stop, Viewer, replay_with, tell_outcome};
-use exchange_core::Refusal;
+use exchange_commands::{
+    PeerOfPlan, Received, ReplayError, ReplayFiles, Stop, Viewer, replay_with, tell_outcome,
+};
 use exchange_report::{refusal_name, stage_name};
 use leg_machine::Stage;
 use peer_plan::Plan;
@@ -71,13 +72,13 @@ impl Viewer for LadderViewer {
         kept(self.order(moment, line))
     }
 
-    fn received(
-        &mut self,
-        moment: u64,
-        peer: PeerOfPlan<'_>,
-        octets: &[u8],
-        refusal: Option<Refusal>,
-    ) -> Result<(), Stop> {
+    fn received(&mut self, datagram: Received<'_>) -> Result<(), Stop> {
+        let Received {
+            moment,
+            peer,
+            octets,
+            refusal,
+        } = datagram;
         kept(
             self.ladder.datagram(&DatagramEvent {
                 moment,
@@ -115,12 +116,12 @@ impl Viewer for LadderViewer {
 }
 
 // The ladder of a replay.
-fn draw<R: Wait>(rt: &R, alloc: Global, plan: &[u8], script: &[u8]) -> Result<Ladder, ReplayError> {
+fn draw<R: Wait>(rt: &R, alloc: Global, files: ReplayFiles<'_>) -> Result<Ladder, ReplayError> {
     let mut viewer = LadderViewer {
         alloc,
         ladder: Ladder::new(alloc),
     };
-    replay_with(rt, alloc, plan, script, &mut viewer)?;
+    replay_with(rt, alloc, files, &mut viewer)?;
     Ok(viewer.ladder)
 }
 
@@ -131,13 +132,12 @@ fn draw<R: Wait>(rt: &R, alloc: Global, plan: &[u8], script: &[u8]) -> Result<La
 pub fn write_ladder<R: Wait, W: Write>(
     rt: &R,
     alloc: Global,
-    plan: &[u8],
-    script: &[u8],
+    files: ReplayFiles<'_>,
     leg: Option<u16>,
     form: LadderForm,
     writer: &mut W,
 ) -> u8 {
-    let ladder = match draw(rt, alloc, plan, script) {
+    let ladder = match draw(rt, alloc, files) {
         Ok(ladder) => ladder,
         Err(error) => return tell_outcome(Err(error), writer),
     };

@@ -1,7 +1,7 @@
 //! A replay as the records of its call legs.
 use crate::outcomes::write_view;
 use call_records::{CallNumbering, RowTexts, push_header, push_row};
-use exchange_commands::{ReplayError, Stop, Viewer, replay_with, tell_outcome};
+use exchange_commands::{ReplayError, ReplayFiles, Stop, Viewer, replay_with, tell_outcome};
 use exchange_core::Retired;
 use exchange_report::call_row;
 use peer_plan::Plan;
@@ -69,11 +69,10 @@ impl Viewer for RecordViewer {
 fn recorded<R: Wait>(
     rt: &R,
     alloc: Global,
-    plan: &[u8],
-    script: &[u8],
+    files: ReplayFiles<'_>,
 ) -> Result<RecordViewer, ReplayError> {
     let mut viewer = RecordViewer::new(alloc)?;
-    replay_with(rt, alloc, plan, script, &mut viewer)?;
+    replay_with(rt, alloc, files, &mut viewer)?;
     Ok(viewer)
 }
 
@@ -85,11 +84,10 @@ fn recorded<R: Wait>(
 pub fn write_records<R: Wait, W: Write>(
     rt: &R,
     alloc: Global,
-    plan: &[u8],
-    script: &[u8],
+    files: ReplayFiles<'_>,
     writer: &mut W,
 ) -> u8 {
-    match recorded(rt, alloc, plan, script) {
+    match recorded(rt, alloc, files) {
         Ok(viewer) => write_view(viewer.rows.as_slice(), writer),
         Err(error) => tell_outcome(Err(error), writer),
     }
