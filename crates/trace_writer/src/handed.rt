@@ -59,21 +59,6 @@ impl Handed {
         }
     }
 
-    // What a thread noted is handed over as a batch of its own, where there is room for one more.
-    fn put(&mut self, noted: &mut Batch)
-        ensures marks { marks_of self.new.batches.items ++ noted.new.marks.items
-            ≡ marks_of self.old.batches.items ++ noted.old.marks.items }
-        ensures octets { octets_of self.new.batches.items ++ noted.new.octets.items
-            ≡ octets_of self.old.batches.items ++ noted.old.octets.items }
-        ensures handed { vec_len self.old.batches < vec_capacity self.old.batches
-            → (noted.new.marks.items ≡ []) × (noted.new.octets.items ≡ []) }
-    {
-        if self.batches.reserve(1).is_ok() {
-            let next = self.next();
-            self.batches.push_reserved(mem::replace(noted, next));
-        }
-    }
-
     /// Hands over what a thread noted: it stands behind all that was handed over before, and the thread goes on with a batch that
     /// holds nothing. Where none is spare that batch has no room, either. Nothing is lost, in any case: what isn't handed over
     /// the thread has as before.
@@ -86,7 +71,11 @@ impl Handed {
             → (noted.new.marks.items ≡ []) × (noted.new.octets.items ≡ []) }
     {
         if !noted.is_empty() {
-            self.put(noted);
+            // (where there is room for one batch more)
+            if self.batches.reserve(1).is_ok() {
+                let next = self.next();
+                self.batches.push_reserved(mem::replace(noted, next));
+            }
         } else if !noted.has_room(1, 0) {
             *noted = self.next();
         }

@@ -141,6 +141,34 @@ struct Writer<'a, D: Folder> {
 }
 
 impl<'a, D: Folder> Writer<'a, D> {
+    // Nothing is written.
+    fn new(
+        disk: &'a D,
+        trace: &'a Trace,
+        plan: &'a Plan,
+        settings: TraceSettings<'a>,
+        alloc: Global,
+        file: TraceFile,
+    ) -> Result<Writer<'a, D>, Fault> {
+        let manner = Manner {
+            shows_digits: settings.shows_digits,
+        };
+        match Script::new(alloc, plan, manner) {
+            Ok(script) => Ok(Writer {
+                disk,
+                alloc,
+                trace,
+                settings,
+                script,
+                file,
+                part: 0,
+                next: 0,
+                written: 0,
+            }),
+            Err(_) => Err(NO_MEMORY),
+        }
+    }
+
     // The first lines of the next part: of one that begins where no call is up, with the order of free numbers there, or of
     // another.
     fn begin_part(&mut self, orders: Option<&[u8]>) -> Result<(), Fault> {
@@ -262,7 +290,7 @@ fn write_noted<R: Wait, D: Folder>(
     Ok(())
 }
 
-// Writes what the threads of a service note, until they are over.
+// Writes what the threads of a service note to the files of a folder, until they are over.
 fn write_rounds<R: Clock + Wait, D: Folder>(
     rt: &R,
     notes: &mut TraceNotes,
@@ -282,39 +310,6 @@ fn write_rounds<R: Clock + Wait, D: Folder>(
         thread::sleep(rt, Duration::from_millis(rest_ms));
     }
     Ok(())
-}
-
-// The same, to the files of a folder. Where that fails the writer gives up.
-fn write_trace<R: Clock + Wait, D: Folder>(
-    rt: &R,
-    disk: &D,
-    trace: &Trace,
-    plan: &Plan,
-    settings: TraceSettings<'_>,
-    notes: TraceNotes,
-    file: TraceFile,
-) {
-    let mut notes = notes;
-    let manner = Manner {
-        shows_digits: settings.shows_digits,
-    };
-    let Ok(script) = Script::new(notes.alloc, plan, manner) else {
-        return trace.give_up(NO_MEMORY);
-    };
-    let mut writer = Writer {
-        disk,
-        alloc: notes.alloc,
-        trace,
-        settings,
-        script,
-        file,
-        part: 0,
-        next: 0,
-        written: 0,
-    };
-    if let Err(fault) = write_rounds(rt, &mut notes, &mut writer) {
-        trace.give_up(fault);
-    }
 }
 
 /// Has a service serve, and writes meanwhile, on a thread of its own, what the service's threads note, to the files of a folder;
@@ -337,7 +332,16 @@ pub fn write_trace_beside<R: Clock + Threads + Wait + Sync, D: Folder + Sync, F:
 {
     thread::scope(thread::scope_env(), rt, move |scope| {
         let is_written = scope
-            .spawn(move || write_trace(rt, disk, trace, plan, settings, notes, file))
+            .spawn(move || {
+                let mut notes = notes;
+                let written = match Writer::new(disk, trace, plan, settings, notes.alloc, file) {
+                    Ok(mut writer) => write_rounds(rt, &mut notes, &mut writer),
+                    Err(fault) => Err(fault),
+                };
+                if let Err(fault) = written {
+                    trace.give_up(fault);
+                }
+            })
             .is_ok();
         let is_served = is_written && serve();
         trace.end();
