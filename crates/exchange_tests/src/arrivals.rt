@@ -6,62 +6,41 @@ use peer_plan::Endpoint;
 use std::sync::Wait;
 use test_plans::frames::{EAST_ACCEPT, EAST_ANSWER, WEST_ACK, WEST_NEW};
 
-/// A datagram that comes from an endpoint, and its moment.
-#[derive(Clone, Copy)]
-pub struct Arrival {
-    pub at: u64,
-    pub from: Endpoint,
-    pub octets: &'static [u8],
-}
+/// The moment of a datagram, the endpoint from which it comes, and its octets.
+pub type Arrival = (u64, Endpoint, &'static [u8]);
 
 // The west calls 300.
-const CALLED: Arrival = Arrival {
-    at: 0,
-    from: WEST,
-    octets: WEST_NEW,
-};
+const CALLED: Arrival = (0, WEST, WEST_NEW);
 
 // It has the ACCEPT.
-const ACCEPT_TAKEN: Arrival = Arrival {
-    at: 10,
-    from: WEST,
-    octets: b"\x80\x07\x00\x01\x00\x00\x00\x00\x01\x01\x06\x04",
-};
+const ACCEPT_TAKEN: Arrival = (
+    10,
+    WEST,
+    b"\x80\x07\x00\x01\x00\x00\x00\x00\x01\x01\x06\x04",
+);
 
 // The east accepts.
-const ACCEPTS: Arrival = Arrival {
-    at: 10,
-    from: EAST,
-    octets: EAST_ACCEPT,
-};
+const ACCEPTS: Arrival = (10, EAST, EAST_ACCEPT);
 
 // It answers.
-const ANSWERS: Arrival = Arrival {
-    at: 20,
-    from: EAST,
-    octets: EAST_ANSWER,
-};
+const ANSWERS: Arrival = (20, EAST, EAST_ANSWER);
 
 // The west has the answer.
-const ANSWER_TAKEN: Arrival = Arrival {
-    at: 20,
-    from: WEST,
-    octets: WEST_ACK,
-};
+const ANSWER_TAKEN: Arrival = (20, WEST, WEST_ACK);
 
 // It hangs up.
-const HANGS_UP: Arrival = Arrival {
-    at: 100,
-    from: WEST,
-    octets: b"\x80\x07\x00\x01\x00\x00\x00\x64\x01\x02\x06\x05",
-};
+const HANGS_UP: Arrival = (
+    100,
+    WEST,
+    b"\x80\x07\x00\x01\x00\x00\x00\x64\x01\x02\x06\x05",
+);
 
 // The east has the HANGUP.
-const HANGUP_TAKEN: Arrival = Arrival {
-    at: 100,
-    from: EAST,
-    octets: b"\x80\x09\x00\x05\x00\x00\x00\x64\x02\x02\x06\x04",
-};
+const HANGUP_TAKEN: Arrival = (
+    100,
+    EAST,
+    b"\x80\x09\x00\x05\x00\x00\x00\x64\x02\x02\x06\x04",
+);
 
 /// The call from its first datagram to its last.
 pub static WHOLE_CALL: [Arrival; 7] = [
@@ -81,21 +60,17 @@ pub static MEDIA_AND_DIGIT: [Arrival; 8] = [
     ACCEPTS,
     ANSWERS,
     ANSWER_TAKEN,
-    Arrival {
-        at: 20,
-        from: EAST,
-        octets: b"\x80\x09\x00\x05\x00\x00\x00\x14\x02\x01\x02\x04\xff",
-    },
-    Arrival {
-        at: 20,
-        from: EAST,
-        octets: b"\x00\x09\x00\x14\xaa\xbb\xcc",
-    },
-    Arrival {
-        at: 30,
-        from: WEST,
-        octets: b"\x80\x07\x00\x01\x00\x00\x00\x20\x01\x03\x01\x35",
-    },
+    (
+        20,
+        EAST,
+        b"\x80\x09\x00\x05\x00\x00\x00\x14\x02\x01\x02\x04\xff",
+    ),
+    (20, EAST, b"\x00\x09\x00\x14\xaa\xbb\xcc"),
+    (
+        30,
+        WEST,
+        b"\x80\x07\x00\x01\x00\x00\x00\x20\x01\x03\x01\x35",
+    ),
 ];
 
 /// What goes to the west in the whole call, in order.
@@ -118,6 +93,7 @@ pub static TO_EAST: [&[u8]; 4] = [
 /// These come, whatever is answered.
 pub fn hear_all<R: Wait, G: Gate, J: Naming>(desk: &mut Desk<'_, R, G, J>, arrivals: &[Arrival]) {
     for arrival in arrivals {
-        let _told = desk.datagram(arrival.from, arrival.octets, arrival.at);
+        let (at, from, octets) = *arrival;
+        let _told = desk.datagram(from, octets, at);
     }
 }

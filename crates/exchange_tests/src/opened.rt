@@ -1,5 +1,5 @@
 //! An exchange of a plan is opened over two ledgers, and something is played on it.
-ghost use Rattle.std.specs.Prelude.{◌≡◌, ◌+◌, ◌^◌, length};
+ghost use Rattle.std.specs.Prelude.{◌≡◌, ◌+◌, length};
 
 use crate::desk::Desk;
 use crate::growths::call_and_end;
@@ -123,38 +123,7 @@ fn play_any<
     }
 }
 
-// What is played, on an exchange of two ledgers; then the end of the exchange.
-fn play_opened<
-    R: Abort + Clock + Net + Sync + Threads + Wait,
-    G: Gate + Sync,
-    J: Naming,
-    P: Post + Send + Sync,
->(
-    rt: &R,
-    alloc: Global,
-    plan: Plan,
-    gate: G,
-    played: Play<'_>,
-    blanks: (Blank, Blank),
-) -> Option<Sums>
-    requires plan { plan ≡ P.plan }
-    requires octets { (blanks.0.name ≡ J.Octets.name) × (blanks.0.parts ≡ J.Octets.parts) ×
-        (blanks.0.parts ≡ length plan.peers + plan.passes) }
-    requires steps { (blanks.1.name ≡ J.Steps.name) × (blanks.1.parts ≡ J.Steps.parts) ×
-        (blanks.1.parts ≡ length plan.peers + plan.passes) }
-    requires first { (J.first_octets ≡ 2 ^ 48) × (J.first_steps ≡ 2 ^ 48) }
-{
-    match Exchange::<G, J>::open(alloc, plan, gate, blanks.0, blanks.1) {
-        Ok((exchange, passes)) => {
-            let mut passes = passes;
-            play_any::<R, G, J, P>(rt, alloc, played, &exchange, &mut passes);
-            Some(ended(rt, exchange, passes))
-        }
-        Err(_) => None,
-    }
-}
-
-// The same, by the ledgers and the plan that the caller names.
+// What is played, on an exchange of these ledgers and of this plan, which the caller names; then the end of the exchange.
 fn play_named<
     R: Abort + Clock + Net + Sync + Threads + Wait,
     G: Gate + Sync,
@@ -174,7 +143,14 @@ fn play_named<
     requires octets { (octets.name ≡ O.name) × (octets.parts ≡ O.parts) × (octets.parts ≡ length plan.peers + plan.passes) }
     requires steps { (steps.name ≡ T.name) × (steps.parts ≡ T.parts) × (steps.parts ≡ length plan.peers + plan.passes) }
 {
-    play_opened::<R, G, Service<O, T>, P>(rt, alloc, plan, gate, played, (octets, steps))
+    match Exchange::<G, Service<O, T>>::open(alloc, plan, gate, octets, steps) {
+        Ok((exchange, passes)) => {
+            let mut passes = passes;
+            play_any::<R, G, Service<O, T>, P>(rt, alloc, played, &exchange, &mut passes);
+            Some(ended(rt, exchange, passes))
+        }
+        Err(_) => None,
+    }
 }
 
 /// Opens an exchange of a plan, whose gate is this, plays this on it, and closes its accounts, as `ended` does. `None` where

@@ -11,31 +11,8 @@ use std::thread;
 use std::thread::Threads;
 use std::time::Clock;
 
-// What the first thread does: it ticks the west, or both peers where there is no progress to tell of.
-fn first<R: Abort + Wait, G: Gate, J: Naming>(
-    rt: &R,
-    desk: &mut Desk<'_, R, G, J>,
-    progress: Option<&Progress>,
-) {
-    match progress {
-        Some(_) => tick(rt, desk, WEST_PLACE),
-        None => ticked(rt, desk),
-    }
-}
-
-// What the second does: it ticks the east once the west is held, or both peers.
-fn second<R: Abort + Clock + Wait, G: Gate, J: Naming>(
-    rt: &R,
-    desk: &mut Desk<'_, R, G, J>,
-    progress: Option<&Progress>,
-) {
-    match progress {
-        Some(progress) => tick_east(rt, desk, progress),
-        None => ticked(rt, desk),
-    }
-}
-
-/// Both threads, at once.
+/// Two threads at once: the first ticks the west, and the second the east once the west is held; or, where there is no progress to
+/// tell of, each ticks both peers.
 pub fn at_once<R: Abort + Clock + Sync + Threads + Wait, G: Gate + Sync, J: Naming>(
     rt: &R,
     one: &mut Desk<'_, R, G, J>,
@@ -44,7 +21,13 @@ pub fn at_once<R: Abort + Clock + Sync + Threads + Wait, G: Gate + Sync, J: Nami
 ) {
     thread::join(
         rt,
-        || first(rt, one, progress),
-        || second(rt, other, progress),
+        || match progress {
+            Some(_) => tick(rt, one, WEST_PLACE),
+            None => ticked(rt, one),
+        },
+        || match progress {
+            Some(progress) => tick_east(rt, other, progress),
+            None => ticked(rt, other),
+        },
     );
 }

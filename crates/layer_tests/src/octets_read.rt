@@ -1,46 +1,42 @@
 //! Octets, read as frames and as information elements.
-use crate::same::{Place, holds, same_at};
+use crate::same::{Place, holds_at};
 use iax_frames::{Datagram, FrameError, read, subclass_meaning};
 use info_elements::{Cut, elements};
 
-/// Octets that are no frame, and why.
-static NO_FRAMES: [(&[u8], FrameError); 4] = [
-    (&[0x80, 7, 0, 0, 0, 0, 0, 0, 0, 0, 6], FrameError::Short),
-    (&[], FrameError::Short),
-    (&[0, 0, 2, 0], FrameError::MetaCommand(2)),
-    (
-        &[0, 0, 1, 0, 0, 0, 0, 0x14, 0, 1, 0, 3, 0xaa, 0xbb],
-        FrameError::EntryCut(8),
-    ),
-];
-
-/// An octet of C and subclass, and what it means.
-static MEANINGS: [(u8, Option<u64>); 4] = [
-    (0x82, Some(4)),
-    (0xc0, None),
-    (0x04, Some(4)),
-    (0xbf, Some(1 << 63)),
-];
-
-/// Octets, and where they end within an element.
-static CUTS: [(&[u8], Option<Cut>); 3] = [
-    (&[0x0b, 2, 0], Some(Cut(0))),
-    (&[0x0b, 2, 0, 2, 1], Some(Cut(4))),
-    (&[], None),
-];
-
-#[test]
-fn no_frames(rt: HostRuntime) {
-    for (step, (octets, error)) in NO_FRAMES.iter().enumerate() {
-        let at = Place {
-            case: "no frames",
-            step,
-        };
-        same_at(&rt, at, &read(octets).err(), &Some(*error));
-    }
+/// What is read of octets.
+#[derive(Clone, Copy)]
+enum Found {
+    /// They are no frame, for this reason.
+    NoFrame(FrameError),
+    /// The octet of C and subclass means this.
+    Meaning(Option<u64>),
+    /// They end within this element, if within one.
+    Elements(Option<Cut>),
+    /// They are a mini frame of this source and timestamp, without media.
+    EmptyMini(u16, u16),
 }
 
-// Whether octets are a mini frame of this source and timestamp, without media.
+static READ: [(&[u8], Found); 12] = [
+    (
+        &[0x80, 7, 0, 0, 0, 0, 0, 0, 0, 0, 6],
+        Found::NoFrame(FrameError::Short),
+    ),
+    (&[], Found::NoFrame(FrameError::Short)),
+    (&[0, 0, 2, 0], Found::NoFrame(FrameError::MetaCommand(2))),
+    (
+        &[0, 0, 1, 0, 0, 0, 0, 0x14, 0, 1, 0, 3, 0xaa, 0xbb],
+        Found::NoFrame(FrameError::EntryCut(8)),
+    ),
+    (&[0, 0x0a, 0, 1], Found::EmptyMini(10, 1)),
+    (&[0x82], Found::Meaning(Some(4))),
+    (&[0xc0], Found::Meaning(None)),
+    (&[0x04], Found::Meaning(Some(4))),
+    (&[0xbf], Found::Meaning(Some(1 << 63))),
+    (&[0x0b, 2, 0], Found::Elements(Some(Cut(0)))),
+    (&[0x0b, 2, 0, 2, 1], Found::Elements(Some(Cut(4)))),
+    (&[], Found::Elements(None)),
+];
+
 fn is_empty_mini(octets: &[u8], source: u16, timestamp: u16) -> bool {
     match read(octets) {
         Ok(Datagram::Mini(mini)) => {
@@ -52,27 +48,26 @@ fn is_empty_mini(octets: &[u8], source: u16, timestamp: u16) -> bool {
     }
 }
 
-#[test]
-fn mini_without_media(rt: HostRuntime) {
-    let is_so = is_empty_mini(&[0, 0x0a, 0, 1], 10, 1);
-    holds(&rt, "a mini frame", is_so);
-}
-
-#[test]
-fn meanings(rt: HostRuntime) {
-    for (step, (octet, meaning)) in MEANINGS.iter().enumerate() {
-        let at = Place {
-            case: "meanings",
-            step,
-        };
-        same_at(&rt, at, &subclass_meaning(*octet), meaning);
+// Whether this is found of octets.
+fn is_found(octets: &[u8], found: Found) -> bool {
+    match found {
+        Found::NoFrame(error) => read(octets).err() == Some(error),
+        Found::Meaning(meaning) => match octets {
+            [octet] => subclass_meaning(*octet) == meaning,
+            _ => false,
+        },
+        Found::Elements(cut) => elements(octets).err() == cut,
+        Found::EmptyMini(source, timestamp) => is_empty_mini(octets, source, timestamp),
     }
 }
 
 #[test]
-fn cut_elements(rt: HostRuntime) {
-    for (step, (octets, cut)) in CUTS.iter().enumerate() {
-        let at = Place { case: "cuts", step };
-        same_at(&rt, at, &elements(octets).err(), cut);
+fn octets_are_read(rt: HostRuntime) {
+    for (step, (octets, found)) in READ.iter().enumerate() {
+        let at = Place {
+            case: "octets that are read",
+            step,
+        };
+        holds_at(&rt, at, is_found(octets, *found));
     }
 }

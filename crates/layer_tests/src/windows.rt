@@ -124,14 +124,15 @@ static CASES: [Case; 7] = [
     },
 ];
 
-fn frame() -> FrameView<'static>
+/// A PING of two octets of data, which no leg would send: a window doesn't look into frames.
+pub fn frame() -> FrameView<'static>
     ensures { length result.payload.now ≤ 1388 }
 {
     FrameView {
-        ts: 0,
+        ts: 20,
         kind: 6,
-        subclass: 4,
-        payload: &[],
+        subclass: 2,
+        payload: b"ab",
     }
 }
 

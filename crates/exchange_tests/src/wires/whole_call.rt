@@ -62,11 +62,12 @@ fn play_arrivals<G: Gate, J: Naming, R: Wait>(
     let mut sum = TurnReport::default();
     let mut counted = true;
     for arrival in &WHOLE_CALL {
+        let (at, from, octets) = *arrival;
         // One that wasn't received for a fault stays, and this one is lost before the wire.
-        let _put = wire.put(arrival.from, arrival.octets);
+        let _put = wire.put(from, octets);
         let given = wire.given();
         let failures = wire.failures();
-        let report = worker.turn(rt, wire, exchange, pass, arrival.at, challenge);
+        let report = worker.turn(rt, wire, exchange, pass, at, challenge);
         if wire.failures() != failures.wrapping_add(report.faults) {
             counted = false;
         }

@@ -2,13 +2,13 @@
 //!
 //! Each test passes whichever request is refused, and where none is: what was refused left all as it was, and the same call then
 //! answers as it would have. `.ci/refusals` refuses the requests one at a time.
-ghost use Rattle.std.specs.Prelude.{◌≤◌, length};
 
 use crate::leg::lines::{ANSWERING, Event, Handed, Line};
 use crate::leg::{Tested, Wish, leg_of};
 use crate::same::{Place, same, same_at};
+use crate::windows::frame;
 use leg_machine::{Judged, Stage};
-use seq_window::{Acknowledged, FrameView, Received, Window};
+use seq_window::{Acknowledged, Received, Window};
 use std::alloc::Global;
 use std::process::Abort;
 use test_plans::frames::NEW_300;
@@ -137,18 +137,6 @@ fn ping_without_memory(rt: HostRuntime) {
 #[test]
 fn hangup_without_memory(rt: HostRuntime) {
     plays(&rt, rt.alloc(), &HANGUP);
-}
-
-// A PING of two octets of data, which no leg would send: a window doesn't look into frames.
-fn frame() -> FrameView<'static>
-    ensures { length result.payload.now ≤ 1388 }
-{
-    FrameView {
-        ts: 20,
-        kind: 6,
-        subclass: 2,
-        payload: b"ab",
-    }
 }
 
 // What is seen of a window: the numbers of the next frame and of the expected one, how many frames are held, and how many entries
