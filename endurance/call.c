@@ -6,6 +6,8 @@
 #include <stdlib.h>
 #include <string.h>
 
+#include "program.h"
+
 struct wanted wanted;
 struct seen seen;
 struct told told[MOST_TOLD];

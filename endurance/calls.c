@@ -10,24 +10,18 @@
 #include <arpa/inet.h>
 #include <linux/sock_diag.h>
 #include <poll.h>
-#include <signal.h>
 #include <stdio.h>
 #include <stdlib.h>
 #include <string.h>
 #include <sys/socket.h>
 
 #include "call.h"
+#include "program.h"
 
 enum { BATCH = 64, TICK_MS = 5 };
 
 static struct peer peers[MOST_PEERS];
 static int routes[MOST_ROUTES][2], peer_count, route_count;
-static volatile sig_atomic_t is_told_to_end;
-
-static void end_soon(int signal) {
-    (void)signal;
-    is_told_to_end = 1;
-}
 
 static void stop(const char *why) {
     fprintf(stderr, "calls: %s\n", why);
@@ -178,7 +172,7 @@ static void report(double begun) {
 }
 
 int main(int count, char **words) {
-    signal(SIGTERM, end_soon);
+    end_at_sigterm();
     read_words(count, words);
     double begun = now();
     run();

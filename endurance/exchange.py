@@ -49,9 +49,9 @@ class Tools:
     """The C programs of this folder, each built once it is wanted, and where scenes keep what they write."""
 
     FILES = {
-        "calls": (("calls.c", "call.c", "leg.c", "md5.c"), ["-lm"]),
-        "network": (("network.c",), []),
-        "flood": (("flood.c",), []),
+        "calls": (("calls.c", "call.c", "leg.c", "md5.c", "program.c"), ["-lm"]),
+        "network": (("network.c", "program.c"), []),
+        "flood": (("flood.c", "program.c"), []),
         "faults.so": (("faults.c",), ["-shared", "-fPIC", "-fno-builtin", "-ldl"]),
         "memory.so": (("memory.c",), ["-shared", "-fPIC", "-fno-builtin"]),
     }

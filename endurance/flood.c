@@ -7,13 +7,13 @@
 // long as the socket has room for and longer. It ends after so many datagrams, or seconds, and says what it has sent, as one line of JSON.
 #define _GNU_SOURCE
 #include <arpa/inet.h>
-#include <signal.h>
 #include <stdio.h>
 #include <stdlib.h>
 #include <string.h>
 #include <sys/socket.h>
-#include <time.h>
 #include <unistd.h>
+
+#include "program.h"
 
 enum { FULL = 12, MOST_OCTETS = 2200, BURST = 400, PAIRS = 64, NEARLY_EMPTY = 65536 };
 enum { DTMF = 1, VOICE = 2, CONTROL = 4, TEXT = 7, IAX = 6, NEW = 1, ACCEPT = 7 };
@@ -23,27 +23,11 @@ static const char *const names[KINDS] = {"calls", "frames", "minis", "trunks", "
 static unsigned long counts[KINDS], mutated, cut, sent, heard, bursts, long_bursts;
 // Pairs of a call number of the exchange and one of ours, as they came back.
 static unsigned pairs[PAIRS][2], pair_count;
-static unsigned long long state = 1;
 static int wire;
 static unsigned long burst_lengths[2] = {BURST, 20000};
 static const char *prefix = "";
-static volatile sig_atomic_t is_told_to_end;
 
-static void end_soon(int signal) {
-    (void)signal;
-    is_told_to_end = 1;
-}
-
-static double now(void) {
-    struct timespec time;
-    clock_gettime(CLOCK_MONOTONIC, &time);
-    return (double)time.tv_sec + (double)time.tv_nsec / 1e9;
-}
-
-static unsigned below(unsigned bound) {
-    state = state * 6364136223846793005ull + 1442695040888963407ull;
-    return (unsigned)(state >> 33) % bound;
-}
+static unsigned below(unsigned bound) { return draw() % bound; }
 
 static void put16(unsigned char *at, unsigned n) { at[0] = (unsigned char)(n >> 8), at[1] = (unsigned char)n; }
 
@@ -177,10 +161,10 @@ int main(int count, char **words) {
     struct sockaddr_in at = {.sin_family = AF_INET, .sin_port = htons((unsigned short)atoi(word_of(count, words, "from", "0")))};
     struct sockaddr_in to = {.sin_family = AF_INET, .sin_port = htons((unsigned short)port)};
     at.sin_addr.s_addr = to.sin_addr.s_addr = htonl(INADDR_LOOPBACK);
-    signal(SIGTERM, end_soon);
+    end_at_sigterm();
     prefix = word_of(count, words, "prefix", "");
     burst_lengths[1] = strtoul(word_of(count, words, "long_burst", "20000"), NULL, 10);
-    state = strtoull(word_of(count, words, "seed", "1"), NULL, 10) * 2 + 1;
+    set_seed(word_of(count, words, "seed", "1"));
     wire = socket(AF_INET, SOCK_DGRAM, 0);
     if (bind(wire, (struct sockaddr *)&at, sizeof at) != 0 || connect(wire, (struct sockaddr *)&to, sizeof to) != 0) return 2;
     flood(port, strtoul(word_of(count, words, "count", "100000"), NULL, 10), now() + atof(word_of(count, words, "seconds", "10")));

@@ -5,16 +5,11 @@
 #include <stdlib.h>
 #include <string.h>
 #include <sys/socket.h>
-#include <time.h>
+
+#include "program.h"
 
 // How long a number stays unused after its leg, in seconds: what was repeated on the way isn't taken for the next call's.
 static const double REST = 0.3;
-
-double now(void) {
-    struct timespec time;
-    clock_gettime(CLOCK_MONOTONIC, &time);
-    return (double)time.tv_sec + (double)time.tv_nsec / 1e9;
-}
 
 unsigned get16(const unsigned char *at) { return (unsigned)at[0] << 8 | at[1]; }
 

@@ -44,7 +44,6 @@ struct peer {
     unsigned long received, sent, resent, inval;
 };
 
-double now(void);
 unsigned get16(const unsigned char *at);
 void put16(unsigned char *at, unsigned n);
 unsigned timestamp_of(const struct leg *leg);

@@ -15,12 +15,12 @@
 #define _GNU_SOURCE
 #include <arpa/inet.h>
 #include <poll.h>
-#include <signal.h>
 #include <stdio.h>
 #include <stdlib.h>
 #include <string.h>
 #include <sys/socket.h>
-#include <time.h>
+
+#include "program.h"
 
 enum { FULL = 12, MOST_OCTETS = 2048, HEADERS = 28, ROOM = 1 << 17, DTMF = 1, IAX = 6 };
 enum { HANGUP = 5, ACK = 4, INVAL = 10, VNAK = 18 };
@@ -46,26 +46,10 @@ static double last_sent[2][32768][256], last_vnak[2][32768];
 static struct sockaddr_in exchanges[2];
 static int wires[2];
 static double loss, repeats, delay_ms, reorder_ms, retry_ms = 1000, seconds = 1e9, path_kbit, queue_ms = 200, line_s = 1e9;
-static unsigned long long state = 1;
 static char spoil;
-static volatile sig_atomic_t is_told_to_end;
-
-static void end_soon(int signal) {
-    (void)signal;
-    is_told_to_end = 1;
-}
-
-static double now(void) {
-    struct timespec time;
-    clock_gettime(CLOCK_MONOTONIC, &time);
-    return (double)time.tv_sec + (double)time.tv_nsec / 1e9;
-}
 
 // 0 to 1, by the seed.
-static double chance(void) {
-    state = state * 6364136223846793005ull + 1442695040888963407ull;
-    return (double)(state >> 33) / 2147483648.0;
-}
+static double chance(void) { return (double)draw() / 2147483648.0; }
 
 static int is_before(const struct datagram *one, const struct datagram *other) {
     return one->due < other->due || (one->due == other->due && one->order < other->order);
@@ -216,7 +200,7 @@ static void read_word(char *word) {
     *value++ = 0;
     if (strcmp(word, "a") == 0) add_end(0, value);
     if (strcmp(word, "b") == 0) add_end(1, value);
-    if (strcmp(word, "seed") == 0) state = strtoull(value, NULL, 10) * 2 + 1;
+    if (strcmp(word, "seed") == 0) set_seed(value);
     if (strcmp(word, "spoil") == 0) spoil = value[0];
     for (unsigned place = 0; place < sizeof all / sizeof all[0]; place++)
         if (strcmp(all[place].name, word) == 0) *all[place].at = atof(value);
@@ -238,7 +222,7 @@ static void report(double moment) {
 }
 
 int main(int count, char **words) {
-    signal(SIGTERM, end_soon);
+    end_at_sigterm();
     for (int place = 1; place < count; place++) read_word(words[place]);
     for (double end = now() + seconds; !is_told_to_end && now() < end;) {
         struct pollfd both[2] = {{wires[0], POLLIN, 0}, {wires[1], POLLIN, 0}};

@@ -86,10 +86,14 @@ def tell_kept(report, what, place, wanted, milliseconds):
     tell_freed(report, f"{what}, hung up by an order", place, 0, 2 * SPENT)
 
 
-def tell_hung_up(report, what, hangup, begun):
-    """That the caller of a silent peer was hung up once frames to that peer were spent."""
+def tell_hung_up(report, what, place, west):
+    """That the caller of a silent peer is hung up once frames to that peer are spent; once it says that it has the HANGUP it is free."""
+    begun = time.monotonic()
+    hangup = west.expect(IAX, HANGUP)
     elapsed = (time.monotonic() - begun) * 1000
     report.tell(f"silent {what}: the caller is hung up", hangup is not None, f"after {elapsed:.0f} ms", f"reckoned about {SPENT} ms")
+    west.acknowledge(hangup)
+    tell_freed(report, what, place, 0, RETRY)
 
 
 def after_new(report, place):
@@ -101,11 +105,7 @@ def after_new(report, place):
 def after_new_at_the_called(report, place):
     west = place.west.call("200")
     west.acknowledge(west.expect(IAX, ACCEPT))
-    begun = time.monotonic()
-    hangup = west.expect(IAX, HANGUP)
-    tell_hung_up(report, "when called", hangup, begun)
-    west.acknowledge(hangup)
-    tell_freed(report, "when called", place, 0, RETRY)
+    tell_hung_up(report, "when called", place, west)
 
 
 def after_the_first_acknowledgement(report, place):
@@ -169,11 +169,7 @@ def in_the_middle_of_a_window(report, place):
         west.send(DTMF, digit)
     for digit in b"123":
         east.acknowledge(east.expect(DTMF, digit))
-    begun = time.monotonic()
-    hangup = west.expect(IAX, HANGUP)
-    tell_hung_up(report, "in the middle of a window", hangup, begun)
-    west.acknowledge(hangup)
-    tell_freed(report, "in the middle of a window", place, 0, RETRY)
+    tell_hung_up(report, "in the middle of a window", place, west)
 
 
 def without_pings(tools, report):

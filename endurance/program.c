@@ -1,0 +1,29 @@
+// How the programs of this folder end, their clock, their seed (program.h).
+#define _GNU_SOURCE
+#include <stdlib.h>
+#include <time.h>
+
+#include "program.h"
+
+volatile sig_atomic_t is_told_to_end;
+static unsigned long long state = 1;
+
+static void end_soon(int signal) {
+    (void)signal;
+    is_told_to_end = 1;
+}
+
+void end_at_sigterm(void) { signal(SIGTERM, end_soon); }
+
+double now(void) {
+    struct timespec time;
+    clock_gettime(CLOCK_MONOTONIC, &time);
+    return (double)time.tv_sec + (double)time.tv_nsec / 1e9;
+}
+
+void set_seed(const char *text) { state = strtoull(text, NULL, 10) * 2 + 1; }
+
+unsigned draw(void) {
+    state = state * 6364136223846793005ull + 1442695040888963407ull;
+    return (unsigned)(state >> 33);
+}
