@@ -52,6 +52,14 @@ stepped_legs_of legs value place named leg rules view at keeps all =
       held = keeps.recorded.held;
     }))
 
+-- the number of a leg is a call number
+pub number_fits : (legs : PeerLegs) (place : ℕ) (named : NamedLeg) → AreLegs legs → slice_get legs.places place ≡ Some (Some named)
+    → (0 < named.leg.number) × (named.leg.number < 2 ^ 15)
+number_fits legs place named are at =
+    let is : named.leg.number ≡ legs.first + place = (are.named place named at).2 in
+    let within : place < length legs.places = slice_get_within legs.places place (Some named) at in
+    (omega (arith, are.some), omega (arith, are.within))
+
 -- no leg yet
 pub fresh_legs_of : (peer first count : ℕ) (rules : PeerRules) → AreLegsOf rules (record { peer = peer; first = first; places = replicate count None })
 fresh_legs_of peer first count rules number named at =
