@@ -17,7 +17,7 @@ use std::thread::Threads;
 use std::time::{Clock, Instant};
 use udp_workers::{Post, TurnReport, run_all};
 use worker_seats::{
-    PlainSockets, ServiceError, reports_of, seats_of, service_error_name, write_reports,
+    PlainSockets, ServiceError, reports_of, seats_of, service_error_name, tell_reports,
 };
 
 // All workers make their turns; their passes go back to the others.
@@ -50,14 +50,6 @@ fn turns_of<
         Ok(()) => reports,
         Err(error) => Err(ServiceError::from(error)),
     }
-}
-
-// The reports are written, where there are any.
-fn tell_reports<W: Write>(
-    reports: Result<Vec<TurnReport>, ServiceError>,
-    writer: &mut W,
-) -> Result<(), ServiceError> {
-    Ok(write_reports(&reports?, writer)?)
 }
 
 // The turns on an exchange that is opened for them, by the ledgers and the plan that the caller names; then the workers' reports are

@@ -21,7 +21,7 @@ use std::net::SocketAddr;
 use std::sync::ledger::Ledger;
 use std::time::Instant;
 use udp_workers::{Post, TurnReport};
-use worker_seats::{ServiceError, service_error_name, with_spare_pass, write_reports};
+use worker_seats::{ServiceError, service_error_name, tell_reports, with_spare_pass};
 
 /// How a service is run.
 #[derive(Clone, Copy)]
@@ -96,14 +96,6 @@ fn serve_beside<J: Naming, P: Post + Send + Sync, R: ServiceSystem, D: ServiceDi
         }
         Err(error) => Err(error),
     }
-}
-
-// The reports are written, where there are any.
-fn tell_reports<W: Write>(
-    reports: Result<Vec<TurnReport>, ServiceError>,
-    writer: &mut W,
-) -> Result<(), ServiceError> {
-    Ok(write_reports(&reports?, writer)?)
 }
 
 // The workers of the plan serve on an exchange that is opened for it, by the ledgers and the plan that the caller names; then their

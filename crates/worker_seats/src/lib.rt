@@ -13,7 +13,7 @@ mod traced_wire;
 
 pub use clock::SinceOpening;
 pub use digits::Digits;
-pub use reports::{reports_of, write_reports};
+pub use reports::{reports_of, tell_reports};
 pub use seats::{ServiceSeat, seats_of};
 pub use service_error::{ServiceError, service_error_name};
 pub use sockets::{PlainSockets, Sockets};

@@ -35,11 +35,8 @@ pub fn reports_of<W: Wire + Drop, M: Moments + Drop, C: Challenges + Drop, J: Na
     Ok(reports)
 }
 
-/// Writes `worker <place> <received> <sent> <lost> <faults>` for each worker, in order: places from 0 on, counts of datagrams,
-/// and of calls of the wire that failed.
-///
-/// An error is the writer's, at the first line that it doesn't take.
-pub fn write_reports<W: Write>(reports: &[TurnReport], writer: &mut W) -> io::Result<()> {
+// A line for each worker.
+fn write_reports<W: Write>(reports: &[TurnReport], writer: &mut W) -> io::Result<()> {
     for (place, report) in reports.iter().enumerate() {
         writeln!(
             writer,
@@ -48,4 +45,16 @@ pub fn write_reports<W: Write>(reports: &[TurnReport], writer: &mut W) -> io::Re
         )?;
     }
     Ok(())
+}
+
+/// Writes `worker <place> <received> <sent> <lost> <faults>` for each worker, in order: places from 0 on, counts of datagrams,
+/// and of calls of the wire that failed.
+///
+/// Where there are no reports, the error is theirs, and nothing is written; else it is `Writer`, at the first line that isn't
+/// taken.
+pub fn tell_reports<W: Write>(
+    reports: Result<Vec<TurnReport>, ServiceError>,
+    writer: &mut W,
+) -> Result<(), ServiceError> {
+    Ok(write_reports(&reports?, writer)?)
 }
