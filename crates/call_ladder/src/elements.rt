@@ -1,11 +1,12 @@
 //! Information elements in words ("Information Elements").
-use crate::page::Page;
+use crate::pieces::write_hexadecimal;
 use crate::words::{write_formats, write_octets};
 use info_elements::{
     AUTHMETHODS, CALLED_NUMBER, CALLING_NAME, CALLING_NUMBER, CALLINGPRES, CALLINGTNS, CALLINGTON,
     CAPABILITY, CAUSE, CAUSECODE, CHALLENGE, FORMAT, IAX_UNKNOWN, MD5_RESULT, USERNAME, VERSION,
     next_element, u32_in,
 };
+use text_buffer::TextBuffer;
 
 // What the octets of an element are.
 #[derive(Clone, Copy)]
@@ -74,7 +75,7 @@ fn number_in(value: &[u8]) -> u32 {
 }
 
 // A number, and what it means.
-fn write_number(form: Form, number: u32, out: &mut Page) {
+fn write_number(form: Form, number: u32, out: &mut TextBuffer) {
     match form {
         Form::Formats => return write_formats(number, out),
         Form::Methods if number == 2 => return out.text("MD5"),
@@ -90,11 +91,11 @@ fn write_number(form: Form, number: u32, out: &mut Page) {
 }
 
 // An element.
-fn write_element(number: u8, value: &[u8], out: &mut Page) {
+fn write_element(number: u8, value: &[u8], out: &mut TextBuffer) {
     let Some((name, form)) = kind_of(number, value) else {
         out.text("element 0x");
-        out.hexadecimal(u32::from(number), 2);
-        out.count(" of ", value.len() as u64);
+        write_hexadecimal(u32::from(number), 2, out);
+        out.labelled(" of ", value.len() as u64);
         return out.text(" octets");
     };
     out.text(name);
@@ -123,7 +124,7 @@ fn is_left_out(number: u8, value: &[u8], elements: &[u8]) -> bool {
 }
 
 /// Writes the elements, in their order, each behind a blank or a comma.
-pub(crate) fn write_elements(elements: &[u8], out: &mut Page) {
+pub(crate) fn write_elements(elements: &[u8], out: &mut TextBuffer) {
     let mut gap = " ";
     let mut rest = elements;
     while let Some((number, value, after)) = next_element(rest) {

@@ -46,7 +46,7 @@ struct Rows {
 impl Rows {
     // A row that is done is the last one.
     fn push(&mut self, row: Row) {
-        let is_cut = row.text.is_cut() || row.numbers.is_cut();
+        let is_cut = row.text.is_cut || row.numbers.is_cut;
         if is_cut || self.list.push(row).is_err() {
             self.is_cut = true;
         }
@@ -130,7 +130,7 @@ impl Ladder {
         }
         if let Some(row) = self.rows.list.last_mut() {
             row.refuse(name);
-            self.rows.is_cut = self.rows.is_cut || row.text.is_cut();
+            self.rows.is_cut = self.rows.is_cut || row.text.is_cut;
         }
         self.rows.outcome()
     }
@@ -143,7 +143,7 @@ impl Ladder {
         let mut row = Row::new(self.alloc, RowKind::Stage, moment);
         row.local = Some(number);
         row.peer = self.peer_of(number);
-        row.text.count("leg ", u64::from(number));
+        row.text.labelled("leg ", u64::from(number));
         row.text.text(" ");
         row.text.text(name);
         if is_free {

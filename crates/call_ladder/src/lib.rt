@@ -11,7 +11,7 @@ mod ladder;
 pub mod laws;
 mod media_runs;
 mod number_pairs;
-mod page;
+mod pieces;
 mod row;
 mod sides;
 mod svg;

@@ -1,9 +1,9 @@
 //! The rows of a ladder, from the first on downwards.
 use crate::media_runs::{Direction, MediaKind, MediaRun};
-use crate::page::Page;
 use crate::sides::{Peer, Sides};
 use crate::words::write_count;
 use std::alloc::Global;
+use text_buffer::TextBuffer;
 
 /// What a row shows.
 #[derive(Clone, Copy, PartialEq, Eq)]
@@ -76,8 +76,8 @@ pub(crate) struct Row {
     pub is_resent: bool,
     pub is_refused: bool,
     /// What it says, and the frame's numbers: ASCII.
-    pub text: Page,
-    pub numbers: Page,
+    pub text: TextBuffer,
+    pub numbers: TextBuffer,
 }
 
 /// What is drawn: the peers, where they stand, and the rows; of all, or of the leg of one local number.
@@ -101,8 +101,8 @@ impl Row {
             remote: None,
             is_resent: false,
             is_refused: false,
-            text: Page::new(alloc),
-            numbers: Page::new(alloc),
+            text: TextBuffer::new(alloc),
+            numbers: TextBuffer::new(alloc),
         }
     }
 
@@ -179,9 +179,9 @@ pub(crate) fn row_of(alloc: Global, run: &MediaRun, local: Option<u16>) -> Row {
     row.text.text(", ");
     write_count(run.octets, "octet", "octets", &mut row.text);
     if run.last > run.first {
-        row.text.count(", until ", run.last);
+        row.text.labelled(", until ", run.last);
         row.text.text(" ms");
     }
-    row.numbers.count("call ", u64::from(run.key.number));
+    row.numbers.labelled("call ", u64::from(run.key.number));
     row
 }

@@ -1,10 +1,11 @@
 //! A ladder as SVG. Lengths are in pixels; a letter of a label is 8 wide at most.
 use crate::media_runs::Direction;
-use crate::page::Page;
+use crate::pieces::write_escaped;
 use crate::row::{Row, Scene};
 use crate::sides::{Side, Sides};
 use crate::wrapping::split_line;
 use std::alloc::Global;
+use text_buffer::TextBuffer;
 
 // Where the first lifeline stands, how far it is to the next, and how many letters a line of a label has.
 const MARGIN: u64 = 170;
@@ -50,7 +51,7 @@ fn peer_x(sides: &Sides, place: usize) -> u64 {
 }
 
 // An attribute of the element that has begun.
-fn write_attribute(name: &str, value: &str, out: &mut Page) {
+fn write_attribute(name: &str, value: &str, out: &mut TextBuffer) {
     out.text(" ");
     out.text(name);
     out.text("=\"");
@@ -59,7 +60,7 @@ fn write_attribute(name: &str, value: &str, out: &mut Page) {
 }
 
 // An attribute that is a length.
-fn write_length(name: &str, value: u64, out: &mut Page) {
+fn write_length(name: &str, value: u64, out: &mut TextBuffer) {
     out.text(" ");
     out.text(name);
     out.text("=\"");
@@ -68,7 +69,7 @@ fn write_length(name: &str, value: u64, out: &mut Page) {
 }
 
 // A text of a class begins, with its anchor.
-fn begin_words(x: u64, y: u64, class: &str, anchor: &str, out: &mut Page) {
+fn begin_words(x: u64, y: u64, class: &str, anchor: &str, out: &mut TextBuffer) {
     out.text("<text");
     write_length("x", x, out);
     write_length("y", y, out);
@@ -78,21 +79,21 @@ fn begin_words(x: u64, y: u64, class: &str, anchor: &str, out: &mut Page) {
 }
 
 // A text of a class, with its anchor.
-fn write_words(x: u64, y: u64, class: &str, anchor: &str, text: &[u8], out: &mut Page) {
+fn write_words(x: u64, y: u64, class: &str, anchor: &str, text: &[u8], out: &mut TextBuffer) {
     begin_words(x, y, class, anchor, out);
-    out.escaped(text);
+    write_escaped(text, out);
     out.text("</text>\n");
 }
 
 // The moment of a row.
-fn write_moment(moment: u64, y: u64, out: &mut Page) {
+fn write_moment(moment: u64, y: u64, out: &mut TextBuffer) {
     begin_words(12, y, "t", "start", out);
     out.number(moment);
     out.text(" ms</text>\n");
 }
 
 // A line of a class, between two points.
-fn write_line(from: (u64, u64), to: (u64, u64), class: &str, out: &mut Page) {
+fn write_line(from: (u64, u64), to: (u64, u64), class: &str, out: &mut TextBuffer) {
     out.text("<line");
     write_length("x1", from.0, out);
     write_length("y1", from.1, out);
@@ -103,11 +104,11 @@ fn write_line(from: (u64, u64), to: (u64, u64), class: &str, out: &mut Page) {
 }
 
 // An arrow, with its head.
-fn write_arrow(row: &Row, from: u64, to: u64, y: u64, out: &mut Page) {
+fn write_arrow(row: &Row, from: u64, to: u64, y: u64, out: &mut TextBuffer) {
     let look = row.look();
     write_line((from, y), (to, y), look.line, out);
-    out.count("<path d=\"M", to);
-    out.count(" ", y);
+    out.labelled("<path d=\"M", to);
+    out.labelled(" ", y);
     out.text(if from < to {
         "l-10 -5v10z\""
     } else {
@@ -118,7 +119,7 @@ fn write_arrow(row: &Row, from: u64, to: u64, y: u64, out: &mut Page) {
 }
 
 // A label above its arrow, line by line; gives where the next line would stand.
-fn write_label(label: &[u8], x: u64, top: u64, class: &str, out: &mut Page) -> u64 {
+fn write_label(label: &[u8], x: u64, top: u64, class: &str, out: &mut TextBuffer) -> u64 {
     let mut y = top;
     let mut rest = label;
     while !rest.is_empty() {
@@ -131,7 +132,7 @@ fn write_label(label: &[u8], x: u64, top: u64, class: &str, out: &mut Page) -> u
 }
 
 // A datagram between a shown peer and the exchange; gives where the next row begins.
-fn write_datagram(sides: &Sides, row: &Row, place: usize, top: u64, out: &mut Page) -> u64 {
+fn write_datagram(sides: &Sides, row: &Row, place: usize, top: u64, out: &mut TextBuffer) -> u64 {
     let exchange = exchange_x(sides);
     let peer = peer_x(sides, place);
     let middle = if peer < exchange {
@@ -139,7 +140,7 @@ fn write_datagram(sides: &Sides, row: &Row, place: usize, top: u64, out: &mut Pa
     } else {
         exchange.saturating_add(GAP / 2)
     };
-    let y = write_label(row.text.octets(), middle, top, row.look().label, out).saturating_add(7);
+    let y = write_label(&row.text.octets, middle, top, row.look().label, out).saturating_add(7);
     let (from, to) = match row.direction {
         Direction::In => (peer, exchange),
         Direction::Out => (exchange, peer),
@@ -147,12 +148,12 @@ fn write_datagram(sides: &Sides, row: &Row, place: usize, top: u64, out: &mut Pa
     write_arrow(row, from, to, y, out);
     write_moment(row.moment, y.saturating_add(4), out);
     let below = y.saturating_add(14);
-    write_words(middle, below, "n", "middle", row.numbers.octets(), out);
+    write_words(middle, below, "n", "middle", &row.numbers.octets, out);
     below.saturating_add(6)
 }
 
 // A stage, or what the script asked for, beside the exchange's lifeline, on the side of its peer.
-fn write_note(sides: &Sides, row: &Row, top: u64, out: &mut Page) -> u64 {
+fn write_note(sides: &Sides, row: &Row, top: u64, out: &mut TextBuffer) -> u64 {
     let x = exchange_x(sides);
     let y = top.saturating_add(17);
     out.text("<circle");
@@ -163,13 +164,13 @@ fn write_note(sides: &Sides, row: &Row, top: u64, out: &mut Page) -> u64 {
         Some(Side::Left) => (x.saturating_sub(10), "end"),
         _ => (x.saturating_add(10), "start"),
     };
-    write_words(x, y, row.note_class(), anchor, row.text.octets(), out);
+    write_words(x, y, row.note_class(), anchor, &row.text.octets, out);
     write_moment(row.moment, y, out);
     y.saturating_add(4)
 }
 
 // The shown rows; gives where they end.
-fn write_rows(scene: &Scene<'_>, out: &mut Page) -> u64 {
+fn write_rows(scene: &Scene<'_>, out: &mut TextBuffer) -> u64 {
     let mut y = TOP;
     for row in scene.rows {
         if row.is_shown(scene.leg) {
@@ -183,13 +184,13 @@ fn write_rows(scene: &Scene<'_>, out: &mut Page) -> u64 {
 }
 
 // A lifeline under its name.
-fn write_lifeline(x: u64, name: &[u8], bottom: u64, out: &mut Page) {
+fn write_lifeline(x: u64, name: &[u8], bottom: u64, out: &mut TextBuffer) {
     write_words(x, 32, "h", "middle", name, out);
     write_line((x, 42), (x, bottom), "v", out);
 }
 
 // The lifelines of the shown peers and of the exchange.
-fn write_lifelines(scene: &Scene<'_>, bottom: u64, out: &mut Page) {
+fn write_lifelines(scene: &Scene<'_>, bottom: u64, out: &mut TextBuffer) {
     for (place, peer) in scene.sides.peers().iter().enumerate() {
         if let Some(peer) = scene.peers.get(usize::from(*peer)) {
             write_lifeline(
@@ -204,7 +205,7 @@ fn write_lifelines(scene: &Scene<'_>, bottom: u64, out: &mut Page) {
 }
 
 // The head of the picture, and what its lines mean.
-fn write_head(width: u64, height: u64, out: &mut Page) {
+fn write_head(width: u64, height: u64, out: &mut TextBuffer) {
     out.text("<svg xmlns=\"http://www.w3.org/2000/svg\"");
     write_length("width", width, out);
     write_length("height", height, out);
@@ -218,15 +219,15 @@ fn write_head(width: u64, height: u64, out: &mut Page) {
 }
 
 /// The picture of the shown rows.
-pub(crate) fn write_svg(alloc: Global, scene: &Scene<'_>) -> Page {
-    let mut rows = Page::new(alloc);
+pub(crate) fn write_svg(alloc: Global, scene: &Scene<'_>) -> TextBuffer {
+    let mut rows = TextBuffer::new(alloc);
     let bottom = write_rows(scene, &mut rows).saturating_add(10);
     let width = lifeline_x(scene.sides.peers().len()).saturating_add(MARGIN);
-    let mut out = Page::new(alloc);
+    let mut out = TextBuffer::new(alloc);
     write_head(width.max(760), bottom.saturating_add(34), &mut out);
     write_lifelines(scene, bottom, &mut out);
-    out.put(rows.octets());
+    out.put(&rows.octets);
     out.text("</svg>\n");
-    out.includes(&rows);
+    out.is_cut |= rows.is_cut;
     out
 }

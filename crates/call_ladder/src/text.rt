@@ -3,11 +3,12 @@
 ghost use Rattle.std.specs.Prelude.{◌<◌};
 
 use crate::media_runs::Direction;
-use crate::page::Page;
+use crate::pieces::write_blanks;
 use crate::row::{Row, Scene};
 use crate::sides::{Peer, Side};
 use crate::wrapping::split_line;
 use std::alloc::Global;
+use text_buffer::TextBuffer;
 
 // How many columns a line has at most, a name has at most, and an arrow has.
 const COLUMNS: usize = 100;
@@ -49,8 +50,8 @@ impl Columns {
 }
 
 // A moment at the right end of so many columns.
-fn write_moment(moment: u64, columns: usize, out: &mut Page) {
-    out.blanks(columns.saturating_sub(digits(moment)));
+fn write_moment(moment: u64, columns: usize, out: &mut TextBuffer) {
+    write_blanks(columns.saturating_sub(digits(moment)), out);
     out.number(moment);
 }
 
@@ -74,9 +75,9 @@ fn name_of<'a>(peers: &'a [Peer], peer: Option<u16>) -> &'a [u8] {
 }
 
 // An arrow, pointing to the right or to the left.
-fn write_arrow(row: &Row, is_to_the_right: bool, out: &mut Page) {
+fn write_arrow(row: &Row, is_to_the_right: bool, out: &mut TextBuffer) {
     if !row.is_arrow() {
-        out.blanks(ARROW);
+        write_blanks(ARROW, out);
     } else if is_to_the_right {
         out.text(row.look().to_the_right);
     } else {
@@ -85,19 +86,19 @@ fn write_arrow(row: &Row, is_to_the_right: bool, out: &mut Page) {
 }
 
 // The exchange's lifeline, and on the side of a row's peer its name, at the end of its arrow.
-fn write_sides(scene: &Scene<'_>, row: &Row, columns: Columns, out: &mut Page) {
+fn write_sides(scene: &Scene<'_>, row: &Row, columns: Columns, out: &mut TextBuffer) {
     let side = scene.sides.side(row.peer);
     let name = name_of(scene.peers, row.peer);
     let blanks = columns.name.saturating_sub(name.len());
     let is_in = matches!(row.direction, Direction::In);
     match side {
         Some(Side::Left) => {
-            out.blanks(blanks.saturating_add(1));
+            write_blanks(blanks.saturating_add(1), out);
             out.put(name);
             out.text(" ");
             write_arrow(row, is_in, out);
         }
-        _ => out.blanks(columns.name.saturating_add(2 + ARROW)),
+        _ => write_blanks(columns.name.saturating_add(2 + ARROW), out),
     }
     out.text("|");
     match side {
@@ -105,33 +106,33 @@ fn write_sides(scene: &Scene<'_>, row: &Row, columns: Columns, out: &mut Page) {
             write_arrow(row, !is_in, out);
             out.text(" ");
             out.put(name);
-            out.blanks(blanks);
+            write_blanks(blanks, out);
         }
-        _ => out.blanks(columns.name.saturating_add(1 + ARROW)),
+        _ => write_blanks(columns.name.saturating_add(1 + ARROW), out),
     }
     out.text("  ");
 }
 
 // All that a row says.
-fn label_of(alloc: Global, row: &Row) -> Page {
-    let mut label = Page::new(alloc);
-    label.put(row.text.octets());
-    if !row.numbers.octets().is_empty() {
+fn label_of(alloc: Global, row: &Row) -> TextBuffer {
+    let mut label = TextBuffer::new(alloc);
+    label.put(&row.text.octets);
+    if !row.numbers.octets.is_empty() {
         label.text(" (");
-        label.put(row.numbers.octets());
+        label.put(&row.numbers.octets);
         label.text(")");
     }
     label
 }
 
 // What is left of a label, on lines of their own behind the exchange's lifeline.
-fn write_more(label: &[u8], columns: Columns, out: &mut Page) {
+fn write_more(label: &[u8], columns: Columns, out: &mut TextBuffer) {
     let mut rest = label;
     while !rest.is_empty() {
         let (line, after) = split_line(rest, columns.width());
-        out.blanks(columns.margin());
+        write_blanks(columns.margin(), out);
         out.text("|");
-        out.blanks(columns.gap());
+        write_blanks(columns.gap(), out);
         out.put(line);
         out.text("\n");
         rest = after;
@@ -139,15 +140,15 @@ fn write_more(label: &[u8], columns: Columns, out: &mut Page) {
 }
 
 // A row.
-fn write_row(alloc: Global, scene: &Scene<'_>, row: &Row, columns: Columns, out: &mut Page) {
+fn write_row(alloc: Global, scene: &Scene<'_>, row: &Row, columns: Columns, out: &mut TextBuffer) {
     write_moment(row.moment, columns.moment, out);
     write_sides(scene, row, columns, out);
     let label = label_of(alloc, row);
-    let (line, rest) = split_line(label.octets(), columns.width());
+    let (line, rest) = split_line(&label.octets, columns.width());
     out.put(line);
     out.text("\n");
     write_more(rest, columns, out);
-    out.includes(&label);
+    out.is_cut |= label.is_cut;
 }
 
 // How many columns the moments have: those of the last one, and at least two. The names have those of the longest of a shown
@@ -164,12 +165,12 @@ fn columns_of(scene: &Scene<'_>) -> Columns {
 }
 
 /// The shown rows, each on a line or some.
-pub(crate) fn write_text(alloc: Global, scene: &Scene<'_>) -> Page {
-    let mut out = Page::new(alloc);
+pub(crate) fn write_text(alloc: Global, scene: &Scene<'_>) -> TextBuffer {
+    let mut out = TextBuffer::new(alloc);
     let columns = columns_of(scene);
-    out.blanks(columns.moment.saturating_sub(2));
+    write_blanks(columns.moment.saturating_sub(2), &mut out);
     out.text("ms");
-    out.blanks(columns.name.saturating_add(ARROW - 2));
+    write_blanks(columns.name.saturating_add(ARROW - 2), &mut out);
     out.text("exchange\n");
     for row in scene.rows {
         if row.is_shown(scene.leg) {

@@ -2,9 +2,9 @@
 ghost use Rattle.std.specs.Prelude.{◌≡◌, ◌≤◌, ◌+◌, ◌-◌, ◌*◌};
 ghost use Rattle.plan_report.specs.Estimates as estimate;
 
-use crate::report::Report;
 use crate::values::limits_of;
 use peer_plan::Plan;
+use text_buffer::TextBuffer;
 
 // How long a frame is sent again before its call ends, in milliseconds.
 fn silence_ms(retry_ms: u64, max_retries: u32) -> u64
@@ -44,18 +44,18 @@ fn megabytes(legs: u16, record_limit: u32, octets: u16) -> u64
 }
 
 /// Writes what follows from the values of a plan.
-pub(crate) fn write_estimates(plan: &Plan, report: &mut Report) {
+pub(crate) fn write_estimates(plan: &Plan, report: &mut TextBuffer) {
     let rules = limits_of(plan);
     let legs = plan.number_count();
     report.text("a frame that nobody acknowledges ends its call after ");
-    report.count(silence_ms(rules.retry_ms, rules.max_retries), " ms\n");
+    report.counted(silence_ms(rules.retry_ms, rules.max_retries), " ms\n");
     report.text("record_limit ends a call that only talks after about ");
     let minutes = minutes(rules.record_limit, rules.ping_ms);
-    report.count(minutes / 60, " h ");
-    report.count(minutes % 60, " min\n");
-    report.count(u64::from(legs), " legs with full records take some ");
-    report.count(megabytes(legs, rules.record_limit, 8), " MB; ");
-    report.count(
+    report.counted(minutes / 60, " h ");
+    report.counted(minutes % 60, " min\n");
+    report.counted(u64::from(legs), " legs with full records take some ");
+    report.counted(megabytes(legs, rules.record_limit, 8), " MB; ");
+    report.counted(
         megabytes(legs, rules.record_limit, 1388),
         " MB where each frame is as long as it may be\n",
     );

@@ -1,12 +1,12 @@
 //! A plan is explained.
 use crate::estimates::write_estimates;
-use crate::report::Report;
 use crate::unknown_keys::warn_of_unknown_keys;
 use crate::values::write_values;
 use crate::warnings::write_warnings;
 use peer_plan::Plan;
 use std::alloc::{AllocError, Global};
 use std::io::Write;
+use text_buffer::TextBuffer;
 
 // What is told of a plan, which was read from this text.
 fn report_of(alloc: Global, plan: &Plan, text: &[u8]) -> Result<Vec<u8>, AllocError> {
@@ -14,7 +14,7 @@ fn report_of(alloc: Global, plan: &Plan, text: &[u8]) -> Result<Vec<u8>, AllocEr
         // (the text was read a moment ago, so it was memory)
         return Err(AllocError);
     };
-    let mut report = Report::new(alloc);
+    let mut report = TextBuffer::new(alloc);
     write_values(plan, &table, &mut report);
     write_estimates(plan, &mut report);
     warn_of_unknown_keys(&table, &mut report);

@@ -3,7 +3,6 @@
 
 mod estimates;
 mod explaining;
-mod report;
 mod unknown_keys;
 mod values;
 mod warnings;

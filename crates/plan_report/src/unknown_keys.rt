@@ -1,11 +1,11 @@
 //! The keys of a plan that are skipped, since none has that name.
-use crate::report::Report;
 use crate::values::{format_of, tables_of};
 use peer_plan::{Key, Section, is_known};
+use text_buffer::TextBuffer;
 use toml::Table;
 
 // The unknown keys of the plan itself.
-fn warn_of_plan(table: &Table, format: u64, report: &mut Report) {
+fn warn_of_plan(table: &Table, format: u64, report: &mut TextBuffer) {
     for (key, _) in table.iter() {
         if !is_known(Section::Plan, format, key.as_str()) {
             report.text("warning: the plan's key ");
@@ -22,7 +22,7 @@ fn warn_of_table(
     list: Key,
     place: usize,
     format: u64,
-    report: &mut Report,
+    report: &mut TextBuffer,
 ) {
     for (key, _) in table.iter() {
         if !is_known(section, format, key.as_str()) {
@@ -31,14 +31,14 @@ fn warn_of_table(
             report.text(" of ");
             report.text(list.name());
             report.text(" ");
-            report.count(place as u64, " is unknown in format ");
-            report.count(format, ", and skipped\n");
+            report.counted(place as u64, " is unknown in format ");
+            report.counted(format, ", and skipped\n");
         }
     }
 }
 
 // Those of the tables of a list, which are counted from 0 on.
-fn warn_of_list(table: &Table, section: Section, list: Key, format: u64, report: &mut Report) {
+fn warn_of_list(table: &Table, section: Section, list: Key, format: u64, report: &mut TextBuffer) {
     for (place, item) in tables_of(table, list).iter().enumerate() {
         if let Some(table) = item.as_table() {
             warn_of_table(table, section, list, place, format, report);
@@ -47,7 +47,7 @@ fn warn_of_list(table: &Table, section: Section, list: Key, format: u64, report:
 }
 
 /// Writes a warning for each key that a plan doesn't have.
-pub(crate) fn warn_of_unknown_keys(table: &Table, report: &mut Report) {
+pub(crate) fn warn_of_unknown_keys(table: &Table, report: &mut TextBuffer) {
     let format = format_of(table);
     warn_of_plan(table, format, report);
     warn_of_list(table, Section::Worker, Key::Worker, format, report);

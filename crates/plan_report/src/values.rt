@@ -2,9 +2,9 @@
 ghost use Rattle.std.specs.Prelude.{◌<◌, length};
 ghost use Rattle.call_signals.specs.PeerRules.{IsPeerRules};
 
-use crate::report::Report;
 use call_signals::{Format, PeerRules};
 use peer_plan::{Endpoint, Key, Plan, format_name};
+use text_buffer::TextBuffer;
 use toml::{Table, Value};
 
 // What stands behind a value that wasn't given.
@@ -32,19 +32,19 @@ pub(crate) fn tables_of(table: &Table, list: Key) -> &[Value] {
     }
 }
 
-fn begin_line(key: Key, report: &mut Report) {
+fn begin_line(key: Key, report: &mut TextBuffer) {
     report.text("  ");
     report.text(key.name());
     report.text(" ");
 }
 
-fn write_number(table: &Table, key: Key, value: u64, report: &mut Report) {
+fn write_number(table: &Table, key: Key, value: u64, report: &mut TextBuffer) {
     begin_line(key, report);
-    report.count(value, by_default(table, key));
+    report.counted(value, by_default(table, key));
     report.text("\n");
 }
 
-fn write_flag(table: &Table, key: Key, value: bool, report: &mut Report) {
+fn write_flag(table: &Table, key: Key, value: bool, report: &mut TextBuffer) {
     begin_line(key, report);
     report.text(if value { "true" } else { "false" });
     report.text(by_default(table, key));
@@ -52,13 +52,13 @@ fn write_flag(table: &Table, key: Key, value: bool, report: &mut Report) {
 }
 
 // An address and a port, and what stands behind them.
-fn write_endpoint(endpoint: Endpoint, rest: &str, report: &mut Report) {
+fn write_endpoint(endpoint: Endpoint, rest: &str, report: &mut TextBuffer) {
     let [a, b, c, d] = endpoint.address;
-    report.count(u64::from(a), ".");
-    report.count(u64::from(b), ".");
-    report.count(u64::from(c), ".");
-    report.count(u64::from(d), ":");
-    report.count(u64::from(endpoint.port), rest);
+    report.counted(u64::from(a), ".");
+    report.counted(u64::from(b), ".");
+    report.counted(u64::from(c), ".");
+    report.counted(u64::from(d), ":");
+    report.counted(u64::from(endpoint.port), rest);
 }
 
 /// What the legs of all peers go by, as those of the first.
@@ -71,7 +71,7 @@ pub(crate) fn limits_of(plan: &Plan) -> &PeerRules
 }
 
 // The limits that all peers have, and how many passes there are. Only format 3 has a key for the time between two VNAKs.
-fn write_limits(plan: &Plan, table: &Table, format: u64, report: &mut Report) {
+fn write_limits(plan: &Plan, table: &Table, format: u64, report: &mut TextBuffer) {
     let rules = limits_of(plan);
     let numbers = [
         (Key::RetryMs, rules.retry_ms),
@@ -99,10 +99,10 @@ fn is_shared(workers: &[Endpoint], at: Endpoint) -> bool {
     count > 1
 }
 
-fn write_workers(plan: &Plan, report: &mut Report) {
+fn write_workers(plan: &Plan, report: &mut TextBuffer) {
     for (place, endpoint) in plan.workers().iter().enumerate() {
         report.text("worker ");
-        report.count(place as u64, ": ");
+        report.counted(place as u64, ": ");
         let rest = if is_shared(plan.workers(), *endpoint) {
             ", shared (by run; serve refuses to bind it)\n"
         } else {
@@ -113,7 +113,7 @@ fn write_workers(plan: &Plan, report: &mut Report) {
 }
 
 // Who calls, and whether he can prove it.
-fn write_credentials(rules: &PeerRules, report: &mut Report) {
+fn write_credentials(rules: &PeerRules, report: &mut TextBuffer) {
     let Some(user) = &rules.user else {
         return report.text("  no user, no secret\n");
     };
@@ -126,19 +126,19 @@ fn write_credentials(rules: &PeerRules, report: &mut Report) {
 }
 
 // How many frames a leg holds, for which format 1 has no key.
-fn write_window(window: u8, table: &Table, format: u64, report: &mut Report) {
+fn write_window(window: u8, table: &Table, format: u64, report: &mut TextBuffer) {
     let by_default = if format == 1 {
         " (default)"
     } else {
         by_default(table, Key::Window)
     };
     begin_line(Key::Window, report);
-    report.count(u64::from(window), by_default);
+    report.counted(u64::from(window), by_default);
     report.text("\n");
 }
 
 // How media goes to a peer.
-fn write_media(rules: &PeerRules, table: &Table, report: &mut Report) {
+fn write_media(rules: &PeerRules, table: &Table, report: &mut TextBuffer) {
     report.text("  ");
     report.text(Key::Formats.name());
     // (those of lower bits first)
@@ -153,18 +153,18 @@ fn write_media(rules: &PeerRules, table: &Table, report: &mut Report) {
     write_flag(table, Key::TrunkTimestamps, rules.trunk_timestamps, report);
 }
 
-fn write_numbers(plan: &Plan, peer: u16, table: &Table, report: &mut Report)
+fn write_numbers(plan: &Plan, peer: u16, table: &Table, report: &mut TextBuffer)
     requires { peer < length plan.now.peers }
 {
     let range = plan.range(peer);
     begin_line(Key::Numbers, report);
-    report.count(u64::from(range.count), by_default(table, Key::Numbers));
+    report.counted(u64::from(range.count), by_default(table, Key::Numbers));
     report.text(": ");
-    report.count(u64::from(range.first), " to ");
-    report.count(u64::from(range.first + range.count - 1), "\n");
+    report.counted(u64::from(range.first), " to ");
+    report.counted(u64::from(range.first + range.count - 1), "\n");
 }
 
-fn write_peer(plan: &Plan, peer: u16, table: &Table, format: u64, report: &mut Report)
+fn write_peer(plan: &Plan, peer: u16, table: &Table, format: u64, report: &mut TextBuffer)
     requires { peer < length plan.now.peers }
 {
     report.text("peer ");
@@ -172,7 +172,7 @@ fn write_peer(plan: &Plan, peer: u16, table: &Table, format: u64, report: &mut R
     report.text(": ");
     write_endpoint(plan.endpoint(peer), "\n  worker ", report);
     let worker = plan.worker(peer);
-    report.count(u64::from(worker), ": it sends to ");
+    report.counted(u64::from(worker), ": it sends to ");
     write_endpoint(plan.workers()[usize::from(worker)], "\n", report);
     let rules = plan.rules(peer);
     write_credentials(rules, report);
@@ -184,7 +184,7 @@ fn write_peer(plan: &Plan, peer: u16, table: &Table, format: u64, report: &mut R
     write_numbers(plan, peer, table, report);
 }
 
-fn write_routes(plan: &Plan, report: &mut Report) {
+fn write_routes(plan: &Plan, report: &mut TextBuffer) {
     for route in 0..plan.route_count() {
         report.text("route \"");
         report.text(plan.prefix(route));
@@ -200,10 +200,10 @@ fn write_routes(plan: &Plan, report: &mut Report) {
 }
 
 /// Writes the values of a plan, which was read from this table.
-pub(crate) fn write_values(plan: &Plan, table: &Table, report: &mut Report) {
+pub(crate) fn write_values(plan: &Plan, table: &Table, report: &mut TextBuffer) {
     let format = format_of(table);
     report.text("plan of format ");
-    report.count(format, "\n");
+    report.counted(format, "\n");
     write_limits(plan, table, format, report);
     write_workers(plan, report);
     let tables = tables_of(table, Key::Peer);

@@ -3,9 +3,9 @@ ghost use Rattle.std.specs.Prelude.{◌≡◌, ◌<◌, length};
 ghost use Rattle.call_signals.specs.Format.{has_format};
 ghost use Rattle.plan_report.specs.Warnings.{lacks};
 
-use crate::report::Report;
 use call_signals::{Format, Formats};
 use peer_plan::{Plan, format_name};
+use text_buffer::TextBuffer;
 
 // Whether calls of one peer in a format are rejected by another.
 fn lacks(caller: Formats, target: Formats, format: Format) -> bool
@@ -14,7 +14,7 @@ fn lacks(caller: Formats, target: Formats, format: Format) -> bool
     caller.contains(format) && !target.contains(format)
 }
 
-fn warn_of_credentials(plan: &Plan, peer: u16, report: &mut Report)
+fn warn_of_credentials(plan: &Plan, peer: u16, report: &mut TextBuffer)
     requires { peer < length plan.now.peers }
 {
     let name = plan.name(peer);
@@ -59,7 +59,7 @@ fn is_passed_over(plan: &Plan, route: usize, caller: u16) -> bool
 }
 
 // Unless a route has a source, the peer that it leads to reaches itself.
-fn warn_of_return(plan: &Plan, route: usize, report: &mut Report)
+fn warn_of_return(plan: &Plan, route: usize, report: &mut TextBuffer)
     requires { route < length plan.now.routes }
 {
     let peer = plan.target(route);
@@ -86,7 +86,7 @@ fn reaches(plan: &Plan, caller: u16, target: u16) -> bool {
     false
 }
 
-fn warn_of_formats(plan: &Plan, caller: u16, target: u16, report: &mut Report)
+fn warn_of_formats(plan: &Plan, caller: u16, target: u16, report: &mut TextBuffer)
     requires caller { caller < length plan.now.peers }
     requires target { target < length plan.now.peers }
 {
@@ -108,7 +108,7 @@ fn warn_of_formats(plan: &Plan, caller: u16, target: u16, report: &mut Report)
 }
 
 /// Writes a warning for each thing of a plan that may not be meant.
-pub(crate) fn write_warnings(plan: &Plan, report: &mut Report) {
+pub(crate) fn write_warnings(plan: &Plan, report: &mut TextBuffer) {
     for peer in 0..plan.peer_count() {
         warn_of_credentials(plan, peer, report);
     }

@@ -1,8 +1,8 @@
 //! The order in which free numbers are given out, as the lines of a script say it.
-use crate::lines::Lines;
 use crate::trace::Trace;
 use peer_plan::Plan;
 use std::alloc::{AllocError, Global};
+use text_buffer::TextBuffer;
 
 // The numbers of a peer that has no leg, each with when it was freed last, as they are given out: those first that never had a
 // leg.
@@ -24,7 +24,7 @@ fn free_numbers(
 }
 
 // The numbers of this list, those that follow one another as `first-last`.
-fn write_numbers(lines: &mut Lines, numbers: &[(u64, u16)]) {
+fn write_numbers(lines: &mut TextBuffer, numbers: &[(u64, u16)]) {
     let mut run: Option<(u16, u16)> = None;
     for &(_, number) in numbers {
         run = match run {
@@ -42,7 +42,7 @@ fn write_numbers(lines: &mut Lines, numbers: &[(u64, u16)]) {
     }
 }
 
-fn write_run(lines: &mut Lines, first: u16, last: u16) {
+fn write_run(lines: &mut TextBuffer, first: u16, last: u16) {
     lines.number(u64::from(first));
     if first != last {
         lines.text("-");
@@ -51,8 +51,8 @@ fn write_run(lines: &mut Lines, first: u16, last: u16) {
 }
 
 /// The lines that give each peer the order of its free numbers.
-pub(crate) fn orders_of(alloc: Global, trace: &Trace, plan: &Plan) -> Lines {
-    let mut lines = Lines::new(alloc);
+pub(crate) fn orders_of(alloc: Global, trace: &Trace, plan: &Plan) -> TextBuffer {
+    let mut lines = TextBuffer::new(alloc);
     for peer in 0..plan.peer_count() {
         let range = plan.range(peer);
         lines.text("free ");

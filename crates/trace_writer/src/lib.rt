@@ -8,7 +8,6 @@ mod free_numbers;
 mod handed;
 mod hexadecimal;
 mod lane;
-mod lines;
 mod mark;
 mod parts;
 mod spelling;

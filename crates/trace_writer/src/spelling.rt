@@ -4,11 +4,11 @@ ghost use Rattle.hex.specs.Hex.{encode_lower};
 ghost use Rattle.trace_writer.specs.Digits.{spells_digit, hidden, shown};
 
 use crate::hexadecimal::end_in_hex;
-use crate::lines::Lines;
 use crate::mark::{Input, Mark};
 use peer_plan::{Endpoint, Plan};
 use std::alloc::{AllocError, Global};
 use std::io::Write;
+use text_buffer::TextBuffer;
 
 /// How a trace is written.
 #[derive(Clone, Copy)]
@@ -36,7 +36,7 @@ pub(crate) struct Script<'p> {
     manner: Manner,
     // How the line of a datagram begins, of each peer by its place in the plan.
     heads: Vec<String>,
-    pub(crate) lines: Lines,
+    pub(crate) lines: TextBuffer,
     now: u64,
     challenge: Vec<u8>,
     // How many calls of the exchange aren't there, since the last that is.
@@ -102,7 +102,7 @@ fn peers_of(plan: &Plan, thread: usize) -> u32 {
 }
 
 // A line for each of these peers, or one for all where one worker has them.
-fn write_peers(plan: &Plan, command: &str, peers: u32, lines: &mut Lines) {
+fn write_peers(plan: &Plan, command: &str, peers: u32, lines: &mut TextBuffer) {
     if plan.workers().len() == 1 {
         lines.text(command);
         return lines.text("\n");
@@ -150,7 +150,7 @@ impl<'p> Script<'p> {
             plan,
             manner,
             heads: heads_of(alloc, plan)?,
-            lines: Lines::new(alloc),
+            lines: TextBuffer::new(alloc),
             now: 0,
             challenge: Vec::new(alloc),
             missing: 0,
@@ -315,7 +315,9 @@ impl<'p> Script<'p> {
         if write!(self.lines.octets, "stranger {a}.{b}.{c}.{d}:{} ", from.port).is_err() {
             self.lines.is_cut = true;
         }
-        self.lines.end_in_hex(octets);
+        if end_in_hex(&mut self.lines.octets, octets).is_err() {
+            self.lines.is_cut = true;
+        }
     }
 
     // A call that an order had go out.
