@@ -1,7 +1,7 @@
 -- How the value at a key is read, and the tables of a list.
 use Rattle.std.specs.Prelude.{◌≡◌, ℕ, pos, suc, List, [], ◌∷◌, ◌++◌, Option, Some, None, Result, Ok, Err, Bool, nat_le, nat_lt}
 use Rattle.std.specs.Prelude.{◌==◌, ◌&&◌, if◌then◌else◌, ok_or}
-use Rattle.toml.specs.Data.{Data, integer, string, table, Items, no_items, item, Members, get_member, as_array}
+use Rattle.toml.specs.Data.{Data, integer, string, table, Items, no_items, item, Members, get_member, as_array, as_str}
 use Rattle.peer_plan.specs.declared.key.Key.{Key}
 use Rattle.peer_plan.specs.declared.error.PlanError.{PlanError}
 use Rattle.peer_plan.specs.declared.error.PlanError.TheVariants as error
@@ -32,9 +32,12 @@ number_of low high (integer (pos n)) = if nat_le low n && nat_le n high then Som
 number_of low high _ = None
 
 -- a text that passes
+abbrev pub passing : (List ℕ → Bool) → Option (List ℕ) → Option (List ℕ)
+passing fits (Some s) = if fits s then Some s else None
+passing fits None = None
+
 abbrev pub text_of : (List ℕ → Bool) → Data → Option (List ℕ)
-text_of fits (string s) = if fits s then Some s else None
-text_of fits _ = None
+text_of fits d = passing fits (as_str d)
 
 -- the value at a key: the fallback where it is absent, and out of range where it can't be read
 abbrev pub value_at : {A : Type 0} → Key → Result A PlanError → (Data → Option A) → Option Data → Result A PlanError

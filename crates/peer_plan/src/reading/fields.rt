@@ -1,5 +1,5 @@
 //! Single values, and the tables of a list.
-ghost use Rattle.std.specs.Prelude.{◌≡◌, ◌≤◌, Ok, Err, option_map, Bool, false};
+ghost use Rattle.std.specs.Prelude.{◌≡◌, ◌≤◌, Some, None, Ok, Err, IfOk, IfErr, option_map, Bool, false};
 ghost use Rattle.toml.specs.Data.{get_member, as_bool};
 ghost use Rattle.toml.specs.View.{view, table_view, items_view};
 ghost use Rattle.peer_plan.specs.Keys.{key_name};
@@ -14,6 +14,14 @@ pub(crate) fn member(table: &Table, key: Key) -> Option<&Value>
     ensures { option_map (λ x. view x.now) result ≡ get_member (key_name key) (table_view table.now) }
 {
     table.get(key.name())
+}
+
+// The value at a key that has no default.
+pub(crate) fn required(table: &Table, key: Key) -> Result<&Value, PlanError>
+    ensures found { IfOk result (λ found. get_member (key_name key) (table_view table.now) ≡ Some (view found.now)) }
+    ensures absent { IfErr result (λ error. (error ≡ PlanError.Missing key) × (get_member (key_name key) (table_view table.now) ≡ None)) }
+{
+    member(table, key).ok_or(PlanError::Missing(key))
 }
 
 // A whole number in a range.
@@ -60,10 +68,7 @@ pub(crate) fn flag_at(table: &Table, key: Key, fallback: bool) -> Result<bool, P
 pub(crate) fn list_at(table: &Table, key: Key, most: usize) -> Result<&[Value], PlanError>
     ensures { Reads (λ items. items_view items.now) result (list_in (table_view table.now) key most) }
 {
-    let Some(found) = member(table, key) else {
-        return Err(PlanError::Missing(key));
-    };
-    let Some(items) = found.as_array() else {
+    let Some(items) = required(table, key)?.as_array() else {
         return Err(PlanError::Range(key));
     };
     if items.is_empty() {

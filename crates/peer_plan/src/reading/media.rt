@@ -7,7 +7,7 @@ ghost use Rattle.peer_plan.specs.Reading.{with_format, with_format_in, formats_f
 use crate::error::PlanError;
 use crate::key::Key;
 use crate::peer::Media;
-use crate::reading::fields::{flag_at, member};
+use crate::reading::fields::{flag_at, required};
 use call_signals::Formats;
 use toml::{Table, Value};
 
@@ -68,10 +68,7 @@ fn formats(found: &Value) -> Option<Formats>
 fn formats_at(table: &Table, key: Key) -> Result<Formats, PlanError>
     ensures { result ≡ value (table_view table.now) key (Err (PlanError.Missing key)) formats_in }
 {
-    match member(table, key) {
-        Some(found) => formats(found).ok_or(PlanError::Range(key)),
-        None => Err(PlanError::Missing(key)),
-    }
+    formats(required(table, key)?).ok_or(PlanError::Range(key))
 }
 
 // How media goes to a peer.

@@ -8,8 +8,9 @@ use crate::error::PlanError;
 use crate::key::Key;
 use crate::peer::Peer;
 use crate::reading::fields::member;
-use crate::reading::texts::{prefix_at, text_at};
+use crate::reading::texts::{is_prefix, text_at};
 use crate::route::Route;
+use crate::short_text::ShortText;
 use std::alloc::Global;
 use toml::{Table, Value};
 
@@ -59,15 +60,18 @@ fn route(table: &Table, format: u64, peers: &[Peer], before: &[Route]) -> Result
     requires { length peers.now ≤ 32 }
     ensures { result ≡ route_in format peers.now before.now (table_view table.now) }
 {
-    let prefix = prefix_at(table, Key::Prefix)?;
+    let prefix = text_at(table, Key::Prefix)?;
+    if !is_prefix(prefix) {
+        return Err(PlanError::Range(Key::Prefix));
+    }
     let name = text_at(table, Key::Peer)?;
     let peer = peer_named(peers, name).ok_or(PlanError::UnknownPeer)?;
     let source = source(table, format, peers)?;
-    if has_way(prefix.as_str(), source, before) {
+    if has_way(prefix, source, before) {
         return Err(PlanError::SameRoute);
     }
     Ok(Route {
-        prefix,
+        prefix: ShortText::new(prefix),
         source,
         peer: peer as u16,
     })

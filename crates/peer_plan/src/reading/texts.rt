@@ -12,7 +12,7 @@ use crate::endpoint::Endpoint;
 use crate::error::PlanError;
 use crate::key::Key;
 use crate::peer::Credentials;
-use crate::reading::fields::{member, number_at};
+use crate::reading::fields::{member, number_at, required};
 use crate::short_text::ShortText;
 use call_signals::Credential;
 use toml::{Table, Value};
@@ -43,87 +43,36 @@ fn are_visible(text: &[u8]) -> bool
 }
 
 // Whether a text is at most 32 octets of visible ASCII.
-fn is_prefix(text: &str) -> bool
+pub(crate) fn is_prefix(text: &str) -> bool
     ensures { result ≡ is_prefix text.now }
 {
     text.len() <= 32 && are_visible(text.as_bytes())
-}
-
-fn name(found: &Value) -> Option<ShortText>
-    ensures { result ≡ text_of is_name (view found.now) }
-{
-    match found {
-        Value::String(text) => {
-            let text = text.as_str();
-            if is_name(text) {
-                Some(ShortText::new(text))
-            } else {
-                None
-            }
-        }
-        _ => None,
-    }
-}
-
-// The name at a key.
-pub(crate) fn name_at(table: &Table, key: Key) -> Result<ShortText, PlanError>
-    ensures { result ≡ value (table_view table.now) key (Err (PlanError.Missing key)) (text_of is_name) }
-{
-    match member(table, key) {
-        Some(found) => name(found).ok_or(PlanError::Range(key)),
-        None => Err(PlanError::Missing(key)),
-    }
-}
-
-fn prefix(found: &Value) -> Option<ShortText>
-    ensures { result ≡ text_of is_prefix (view found.now) }
-{
-    match found {
-        Value::String(text) => {
-            let text = text.as_str();
-            if is_prefix(text) {
-                Some(ShortText::new(text))
-            } else {
-                None
-            }
-        }
-        _ => None,
-    }
-}
-
-// The prefix at a key.
-pub(crate) fn prefix_at(table: &Table, key: Key) -> Result<ShortText, PlanError>
-    ensures { result ≡ value (table_view table.now) key (Err (PlanError.Missing key)) (text_of is_prefix) }
-{
-    match member(table, key) {
-        Some(found) => prefix(found).ok_or(PlanError::Range(key)),
-        None => Err(PlanError::Missing(key)),
-    }
 }
 
 // Any text at a key.
 pub(crate) fn text_at(table: &Table, key: Key) -> Result<&str, PlanError>
     ensures { Reads (λ text. text.now) result (value (table_view table.now) key (Err (PlanError.Missing key)) as_str) }
 {
-    match member(table, key) {
-        Some(found) => found.as_str().ok_or(PlanError::Range(key)),
-        None => Err(PlanError::Missing(key)),
-    }
+    required(table, key)?.as_str().ok_or(PlanError::Range(key))
 }
 
-fn address_of(found: &Value) -> Option<[u8; 4]>
-    ensures { result ≡ address_in (view found.now) }
+// The name at a key.
+pub(crate) fn name_at(table: &Table, key: Key) -> Result<ShortText, PlanError>
+    ensures { result ≡ value (table_view table.now) key (Err (PlanError.Missing key)) (text_of is_name) }
 {
-    address(found.as_str()?.as_bytes())
+    let text = required(table, key)?.as_str().ok_or(PlanError::Range(key))?;
+    if is_name(text) {
+        Ok(ShortText::new(text))
+    } else {
+        Err(PlanError::Range(key))
+    }
 }
 
 fn address_at(table: &Table, key: Key) -> Result<[u8; 4], PlanError>
     ensures { result ≡ value (table_view table.now) key (Err (PlanError.Missing key)) address_in }
 {
-    match member(table, key) {
-        Some(found) => address_of(found).ok_or(PlanError::Range(key)),
-        None => Err(PlanError::Missing(key)),
-    }
+    let text = required(table, key)?.as_str().ok_or(PlanError::Range(key))?;
+    address(text.as_bytes()).ok_or(PlanError::Range(key))
 }
 
 // The endpoint that a table has as address and port.
