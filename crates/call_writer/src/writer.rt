@@ -204,26 +204,6 @@ fn moment<R: Clock>(rt: &R, opened: Instant, last: u64) -> u64 {
     }
 }
 
-// Appends to the file of this name what is handed over, until the outlets are over.
-fn write_calls<R: Clock + Wait, D: Disk>(
-    rt: &R,
-    disk: &D,
-    path: &str,
-    plan: &Plan,
-    calendar: Calendar,
-    opened: Instant,
-    outlets: &CallOutlets,
-    rows: CallRows,
-) {
-    let spelling = RowSpelling {
-        alloc: rows.alloc,
-        plan,
-        calendar,
-    };
-    let mut writer = rows.writer_to(disk, path);
-    writer.write_rounds(rt, opened, outlets, &spelling);
-}
-
 /// Has a service serve, and appends meanwhile, on a thread of its own, to the file of this name what the service's threads hand
 /// over: in rounds of a tenth of a second. Rows that were written are on the disk after a second at most, and at the end.
 ///
@@ -247,7 +227,15 @@ pub fn write_calls_beside<R: Clock + Threads + Wait + Sync, D: Disk + Sync, F: F
 {
     thread::scope(thread::scope_env(), rt, move |scope| {
         let is_written = scope
-            .spawn(move || write_calls(rt, disk, path, plan, calendar, opened, outlets, rows))
+            .spawn(move || {
+                let spelling = RowSpelling {
+                    alloc: rows.alloc,
+                    plan,
+                    calendar,
+                };
+                let mut writer = rows.writer_to(disk, path);
+                writer.write_rounds(rt, opened, outlets, &spelling);
+            })
             .is_ok();
         let is_served = is_written && serve();
         outlets.end();
