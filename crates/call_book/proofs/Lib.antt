@@ -2,5 +2,5 @@ mod TableLaws
 pub mod RangeLaws
 mod BookLaws
 mod FreeLaws
-mod NameLaws
+pub mod NameLaws
 pub mod Changes

@@ -22,8 +22,7 @@ use Rattle.call_runs.proofs.Called.{one_of}
 use Rattle.call_runs.proofs.Events.{lease_held}
 use Rattle.call_runs.proofs.HeldNames.{same_bits, IsWorlds, the_worlds, leg_times, leases_free}
 use Rattle.call_runs.proofs.InWorld.{IsInWorld}
-use Rattle.peer_lock.proofs.Names.{is_same_itself, same_name}
-use Rattle.call_steps.proofs.BookNames.{bit}
+use Rattle.call_book.proofs.NameLaws.{is_same_itself, same_name, bit}
 
 -- the leg of a name, under its number
 at_name : (o : Option NamedLeg) (name : LegName) (named : NamedLeg) → if_named name o ≡ Some named → (o ≡ Some named)

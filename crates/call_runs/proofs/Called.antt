@@ -26,7 +26,7 @@ use Rattle.call_steps.specs.declared.reply.Reply.TheVariants as replies
 use Rattle.peer_lock.specs.declared.errors.OrderError.TheVariants as order_errors
 use Rattle.call_runs.specs.Spent.{called_at}
 use Rattle.call_runs.specs.Stored.{AreCalled}
-use Rattle.peer_lock.proofs.Names.{is_same_itself}
+use Rattle.call_book.proofs.NameLaws.{is_same_itself}
 
 pub times_append : (name : LegName) (a b : List LegName) → times name (a ++ b) ≡ times name a + times name b
 times_append name [] b = omega arith

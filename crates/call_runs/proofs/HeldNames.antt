@@ -11,8 +11,7 @@ use Rattle.call_steps.specs.World.{World, Caller}
 use Rattle.peer_lock.specs.Legs.{NamedLeg, leg_at, if_named}
 use Rattle.peer_lock.specs.Peer.{PeerView}
 use Rattle.peer_lock.specs.Seen.{SeenNamed, seen_named}
-use Rattle.peer_lock.proofs.Names.{is_same_itself, same_name}
-use Rattle.call_steps.proofs.BookNames.{bit, one_per_number}
+use Rattle.call_book.proofs.NameLaws.{is_same_itself, same_name, bit, one_per_number}
 use Rattle.call_steps.proofs.Held.{found_at}
 use Rattle.call_steps.proofs.WorldLegs.{found_seen, none_seen}
 use Rattle.call_runs.specs.Stored.{Stored}

@@ -5,7 +5,7 @@ use Rattle.call_book.specs.Book.{is_same}
 use Rattle.call_book.specs.declared.leg_name.LegName.{LegName}
 use Rattle.peer_lock.specs.Legs.{PeerLegs, NamedLeg, leg_at, leg_named, if_named}
 use Rattle.peer_lock.specs.Statuses.{is_done}
-use Rattle.peer_lock.proofs.Names.{same_name}
+use Rattle.call_book.proofs.NameLaws.{same_name}
 
 -- the leg of a name, at its peer
 pub record IsNamedThere (legs : PeerLegs) (name : LegName) : Type 0 where

@@ -38,8 +38,7 @@ use Rattle.call_steps.specs.SeenReply.{heard}
 use Rattle.call_steps.specs.Work.{Rest, next_at, go_on, after_heard, after_refused_datagram, after_no_room, after_status, told_at, in_hand}
 use Rattle.call_steps.specs.Scene.{Leg, Scene, Choice, RefusesDatagram, RefusesOpening, RefusesOrder, RefusesTick, KeepsLeg, Brings, HasMedia, Lapses, Opens, LeadsTo, leg_at, leg_named, replaced, without, Answer, answer, heard_of, nothing_heard, brought, brings, all_media, at_datagram, all_lapsed, at_tick, is_leased, dropped, can_open, opened, opens_in, busy_in, at_open_in, opens_out, busy_out, at_open_out, refuses_order, carried, refused, obeys, at_leg, at_order, status_of, told_cause, is_done, retires, keeps, at_retire, reserves, bridges, releases, is_stale, at_release, answered, is_call}
 use Rattle.call_steps.specs.Law.{times, names_of}
-use Rattle.peer_lock.proofs.Names.{is_same_itself, same_name}
-use Rattle.call_steps.proofs.BookNames.{bit, has_name_is}
+use Rattle.call_book.proofs.NameLaws.{is_same_itself, same_name, bit, has_name_is}
 use Rattle.call_steps.proofs.Onward.{onward_holds}
 use Rattle.call_steps.proofs.Held.{scene, IsHeld, same_names, names_replaced, names_lapsed, found_named, leased_own, dropped_own, without_times}
 

@@ -7,8 +7,7 @@ use Rattle.call_book.specs.declared.leg_name.LegName.{LegName}
 use Rattle.leg_machine.specs.Seen.{Lapse}
 use Rattle.call_steps.specs.Scene.{Leg, Scene, leg_at, if_named, leg_named, replaced, without, let_lapse, lapsed_at, all_lapsed, is_leased, dropped}
 use Rattle.call_steps.specs.Law.{times, names_of}
-use Rattle.peer_lock.proofs.Names.{is_same_itself, same_name}
-use Rattle.call_steps.proofs.BookNames.{bit}
+use Rattle.call_book.proofs.NameLaws.{is_same_itself, same_name, bit}
 
 abbrev pub scene : Book → List Leg → List LegName → Scene
 scene book legs leases = record { book = book; legs = legs; leases = leases }

@@ -1,5 +1,4 @@
 mod Signals
-pub mod BookNames
 mod Callers
 mod Onward
 pub mod Held

@@ -11,8 +11,7 @@ use Rattle.call_steps.specs.Work.{Work, next_at, next_of, after_told, in_hand}
 use Rattle.call_steps.specs.Scene.{Leg, Choice, is_leased, leg_at, Answer, answered, is_call}
 use Rattle.call_steps.specs.World.{World, Caller, Event, Starts, Steps, Start, ADatagram, ATick, ACall, AHangUp, work_of, scene_of, makes, steps, begins, starts, happens, run, after_answer}
 use Rattle.call_steps.specs.Law.{IsOpened, IsFresh, times, names_of, leases_of, NamesAreHeldOnce, NoneIsBusy, NoneIsOutside, NoneIsStale}
-use Rattle.peer_lock.proofs.Names.{is_same_itself}
-use Rattle.call_steps.proofs.BookNames.{bit, has_name_is, one_per_number}
+use Rattle.call_book.proofs.NameLaws.{is_same_itself, bit, has_name_is, one_per_number}
 use Rattle.call_steps.proofs.Callers.{total, others, total_split, total_set, at_set, times-append, leases_weight, leases_total}
 use Rattle.call_steps.proofs.Held.{scene, IsHeld, found_at}
 use Rattle.call_steps.proofs.Fits.{Fits, FitsIf, place_fits, in_hand_known}

@@ -6,8 +6,7 @@ use Rattle.call_book.specs.declared.leg_name.LegName.{LegName}
 use Rattle.call_steps.specs.Law.{times, names_of, NumbersServeOne}
 use Rattle.call_steps.specs.Scene.{Leg, leg_at, without}
 use Rattle.call_steps.specs.World.{World}
-use Rattle.peer_lock.proofs.Names.{is_same_itself}
-use Rattle.call_steps.proofs.BookNames.{bit, has_name_is}
+use Rattle.call_book.proofs.NameLaws.{is_same_itself, bit, has_name_is}
 use Rattle.call_steps.proofs.Held.{found_at, without_times}
 use Rattle.call_steps.proofs.Names.{IsNamed}
 

@@ -24,7 +24,7 @@ use Rattle.call_steps.specs.declared.need.Need.{Need}
 use Rattle.call_steps.specs.declared.need.Need.TheVariants as needs
 use Rattle.call_steps.specs.declared.reply.Reply.{Reply}
 use Rattle.call_steps.specs.declared.reply.Reply.TheVariants as replies
-use Rattle.peer_lock.proofs.Names.{same_name}
+use Rattle.call_book.proofs.NameLaws.{same_name}
 use Rattle.call_steps.proofs.WorldLegs.{IsFound, none_seen, leg_seen, named_seen, IsSeenSo, turned_sees, added_sees, gone_sees}
 
 -- a step of the world that comes out so

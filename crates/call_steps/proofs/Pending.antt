@@ -21,8 +21,7 @@ use Rattle.call_steps.specs.Act.{act_kind}
 use Rattle.call_steps.specs.declared.need.Need.{Need}
 use Rattle.call_steps.specs.declared.need.Need.TheVariants as needs
 use Rattle.call_steps.specs.Scene.{Leg, Scene, Choice, RefusesDatagram, RefusesOpening, RefusesOrder, RefusesTick, KeepsLeg, Brings, HasMedia, Lapses, Opens, LeadsTo, leg_at, leg_named, replaced, Answer, brought, brings, at_datagram, let_lapse, lapsed_at, all_lapsed, at_tick, is_leased, can_open, opens_in, busy_in, at_open_in, opens_out, busy_out, at_open_out, refuses_order, carried, refused, obeys, at_leg, at_order, is_done, retires, keeps, at_retire, reserves, bridges, releases, is_stale, at_release, at_route, answered}
-use Rattle.peer_lock.proofs.Names.{same_name}
-use Rattle.call_steps.proofs.BookNames.{bit, has_name_is}
+use Rattle.call_book.proofs.NameLaws.{same_name, bit, has_name_is}
 use Rattle.call_steps.proofs.Held.{found_if}
 use Rattle.call_steps.proofs.Safe.{all_replaced, all_without, all_found, and_second, lapsed_name, some_bit}
 

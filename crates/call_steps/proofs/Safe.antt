@@ -20,8 +20,7 @@ use Rattle.call_steps.specs.SeenReply.{heard}
 use Rattle.call_steps.specs.Work.{Work, Rest, at, go_on, in_hand}
 use Rattle.call_steps.specs.Scene.{Leg, Scene, leg_at, if_named, leg_named, turned, replaced, without, handed_up, brought, let_lapse, carried}
 use Rattle.call_steps.specs.Law.{times, names_of, is_heard, is_kept}
-use Rattle.peer_lock.proofs.Names.{is_same_itself, same_name}
-use Rattle.call_steps.proofs.BookNames.{bit, one_per_number}
+use Rattle.call_book.proofs.NameLaws.{is_same_itself, same_name, bit, one_per_number}
 use Rattle.call_steps.proofs.Held.{IsHeld}
 use Rattle.call_steps.proofs.Fits.{go_on_hand}
 use Rattle.call_steps.proofs.Weights.{care, offers, past, is_fresh, offered_of, go_on_past}

@@ -17,8 +17,7 @@ use Rattle.call_steps.specs.declared.reply.Reply.TheVariants as replies
 use Rattle.call_steps.specs.Work.{Work, Rest, at, ended, go_on, told_at, in_hand}
 use Rattle.call_steps.specs.Scene.{Leg, Scene, is_leased, reserves, bridges, releases, is_stale, at_release}
 use Rattle.call_steps.specs.Law.{times, names_of}
-use Rattle.peer_lock.proofs.Names.{is_same_itself, same_name}
-use Rattle.call_steps.proofs.BookNames.{bit, has_name_is, has_name_from, one_per_number}
+use Rattle.call_book.proofs.NameLaws.{is_same_itself, same_name, bit, has_name_is, has_name_from, one_per_number}
 use Rattle.call_steps.proofs.Held.{scene, IsHeld, leased_own}
 use Rattle.call_steps.proofs.Fits.{go_on_hand, in_hand_known}
 use Rattle.call_steps.proofs.Weights.{care, past, go_on_care, go_on_past}

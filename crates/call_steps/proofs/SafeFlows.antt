@@ -15,7 +15,7 @@ use Rattle.call_steps.specs.declared.place.Place.TheVariants as places
 use Rattle.call_steps.specs.declared.reply.Reply.TheVariants as replies
 use Rattle.call_steps.specs.Work.{Work, Rest, at, ended, go_on, after_no_room, told_at, in_hand}
 use Rattle.call_steps.specs.Scene.{Choice, at_order}
-use Rattle.call_steps.proofs.BookNames.{bit}
+use Rattle.call_book.proofs.NameLaws.{bit}
 use Rattle.call_steps.proofs.Held.{scene}
 use Rattle.call_steps.proofs.Weights.{care, offers, past, go_on_care}
 use Rattle.call_steps.proofs.Safe.{Moves, go_on_moves}

@@ -13,7 +13,7 @@ use Rattle.call_steps.specs.declared.place.Place.TheVariants as places
 use Rattle.call_steps.specs.Work.{Rest, at, go_on}
 use Rattle.call_steps.specs.Scene.{Leg, Choice, RefusesOrder, leg_named, replaced, carried, at_leg, at_order}
 use Rattle.call_steps.specs.Law.{is_spent, is_heard}
-use Rattle.call_steps.proofs.BookNames.{bit}
+use Rattle.call_book.proofs.NameLaws.{bit}
 use Rattle.call_steps.proofs.Held.{scene}
 use Rattle.call_steps.proofs.Weights.{care, go_on_care}
 use Rattle.call_steps.proofs.Safe.{all_map, Covers, doomed_not_kept, go_on_moves}

@@ -23,8 +23,7 @@ use Rattle.call_steps.specs.SeenReply.{heard}
 use Rattle.call_steps.specs.Work.{Work, Rest, at, ended, go_on, after_heard, after_refused_datagram, told_at, in_hand}
 use Rattle.call_steps.specs.Scene.{Leg, Choice, RefusesDatagram, RefusesOpening, RefusesTick, KeepsLeg, Brings, HasMedia, Lapses, Opens, leg_at, leg_named, replaced, without, handed_up, heard_of, nothing_heard, brought, brings, media_up, all_media, at_datagram, let_lapse, lapsed_at, all_lapsed, at_tick, dropped, can_open, opens_in, busy_in, at_open_in, opens_out, busy_out, at_open_out, is_done, retires, keeps, at_retire}
 use Rattle.call_steps.specs.Law.{times, names_of, words, is_kept}
-use Rattle.peer_lock.proofs.Names.{is_same_itself, same_name}
-use Rattle.call_steps.proofs.BookNames.{bit}
+use Rattle.call_book.proofs.NameLaws.{is_same_itself, same_name, bit}
 use Rattle.call_steps.proofs.Held.{scene, found_at, names_replaced}
 use Rattle.call_steps.proofs.Fits.{heard_hand}
 use Rattle.call_steps.proofs.Callers.{times-append}

@@ -17,8 +17,7 @@ use Rattle.call_steps.specs.declared.place.Place.TheVariants as places
 use Rattle.call_steps.specs.declared.reply.Reply.TheVariants as replies
 use Rattle.call_steps.specs.Work.{Rest, at, ended, next_at, go_on, after_status, in_hand}
 use Rattle.call_steps.specs.Scene.{Choice, LeadsTo, leg_at, answer, status_of, told_cause, answered, is_call}
-use Rattle.peer_lock.proofs.Names.{same_name}
-use Rattle.call_steps.proofs.BookNames.{bit}
+use Rattle.call_book.proofs.NameLaws.{same_name, bit}
 use Rattle.call_steps.proofs.Held.{scene}
 use Rattle.call_steps.proofs.Weights.{care, offers, go_on_care}
 use Rattle.call_steps.proofs.Safe.{all_map, Covers, go_on_moves}

@@ -14,7 +14,7 @@ use Rattle.call_steps.specs.declared.place.Place.{Place}
 use Rattle.call_steps.specs.declared.reply.Reply.TheVariants as replies
 use Rattle.call_steps.specs.Work.{Work, Rest, at, told_at, in_hand}
 use Rattle.call_steps.specs.Scene.{Leg, Scene, Choice, RefusesOrder, leg_at, leg_named, replaced, Answer, refuses_order, carried, refused, obeys, at_leg, at_order}
-use Rattle.peer_lock.proofs.Names.{is_same_itself, same_name}
+use Rattle.call_book.proofs.NameLaws.{is_same_itself, same_name}
 use Rattle.call_steps.proofs.Held.{scene, IsHeld, found_named, found_if}
 use Rattle.call_steps.proofs.Weights.{care, past}
 use Rattle.call_steps.proofs.Safe.{all_map, all_replaced, all_found, all_in_book, in_book, not_found, Covers, still_covers, ordered_kept, fresh_at, fresh_none, IsLone, Moves, IsSafeStep}

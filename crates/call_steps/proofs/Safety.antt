@@ -10,7 +10,7 @@ use Rattle.call_steps.specs.Work.{Work, Rest, next_at, next_of, after_told, in_h
 use Rattle.call_steps.specs.Scene.{Choice, Answer, answered, is_call}
 use Rattle.call_steps.specs.World.{World, Caller, Event, Starts, Steps, Start, ADatagram, ATick, ACall, AHangUp, work_of, scene_of, makes, steps, begins, starts, happens, run, after_answer}
 use Rattle.call_steps.specs.Law.{IsOpened, IsFresh, IsWithinSteps, is_spent, times, names_of, names_in, names_in_all, IsLookedAfter, AllAreLookedAfter}
-use Rattle.call_steps.proofs.BookNames.{bit, has_name_is}
+use Rattle.call_book.proofs.NameLaws.{bit, has_name_is}
 use Rattle.call_steps.proofs.Callers.{total, others, total_split, total_set, at_set_apart, total_le, times-append, leases_weight}
 use Rattle.call_steps.proofs.Held.{scene}
 use Rattle.call_steps.proofs.Names.{IsNamed, beside, acting, idle_hand, event_keeps, opened_named, steps_named}

@@ -16,7 +16,7 @@ use Rattle.call_steps.specs.Work.{Work, next_at, next_of, told_at, after_told, i
 use Rattle.call_steps.specs.Scene.{Choice, Answer, leg_at, answered, is_call}
 use Rattle.call_steps.specs.World.{World, Caller, Event, Starts, Steps, Start, ADatagram, ATick, ACall, AHangUp, work_of, scene_of, makes, steps, begins, starts, happens, run, after_answer}
 use Rattle.call_steps.specs.Law.{IsOpened, IsFresh, is_talk, NoneMeetsOffered}
-use Rattle.peer_lock.proofs.Names.{is_same_itself}
+use Rattle.call_book.proofs.NameLaws.{is_same_itself}
 use Rattle.call_steps.proofs.Callers.{total, others, total_split, total_set, at_set_apart, total_le, leases_weight}
 use Rattle.call_steps.proofs.Held.{scene, found_if}
 use Rattle.call_steps.proofs.Names.{beside, idle_hand}

@@ -24,8 +24,7 @@ use Rattle.call_steps.specs.declared.reply.Reply.TheVariants as replies
 use Rattle.call_steps.specs.Work.{Rest, go_on, next_at, after_reserve_in, after_find, told_at, in_hand}
 use Rattle.call_steps.specs.Scene.{Leg, Scene, Choice, RefusesOrder, leg_named, replaced, Answer, answered, is_call, carried, refused, obeys, refuses_order, at_leg, at_order, is_leased, releases, is_stale, at_release, bridges}
 use Rattle.call_steps.specs.Law.{times, names_of}
-use Rattle.peer_lock.proofs.Names.{is_same_itself, same_name}
-use Rattle.call_steps.proofs.BookNames.{bit, has_name_is, has_name_from, one_per_number}
+use Rattle.call_book.proofs.NameLaws.{is_same_itself, same_name, bit, has_name_is, has_name_from, one_per_number}
 use Rattle.call_steps.proofs.Held.{scene, IsHeld, found_named, leased_own}
 use Rattle.call_steps.proofs.Fits.{in_hand_known}
 use Rattle.call_steps.proofs.Weights.{offered_of}

@@ -8,7 +8,7 @@ use Rattle.call_steps.specs.declared.place.Place.{Place}
 use Rattle.call_steps.specs.declared.place.Place.TheVariants as places
 use Rattle.call_steps.specs.Work.{Work, Rest, finish, place_for, passed_on, go_on_from, go_on}
 use Rattle.call_steps.specs.Law.{times, names_at, words, names_in}
-use Rattle.call_steps.proofs.BookNames.{bit}
+use Rattle.call_book.proofs.NameLaws.{bit}
 use Rattle.call_steps.proofs.Callers.{times-append}
 use Rattle.call_steps.proofs.Onward.{passed_holds}
 

@@ -9,7 +9,7 @@ use Rattle.peer_lock.specs.Legs.{PeerLegs}
 use Rattle.peer_lock.specs.Seen.{SeenNamed, seen_at, TurnsAt}
 use Rattle.call_steps.specs.Scene.{Leg, leg_at, if_named, replaced, without}
 use Rattle.call_steps.specs.Sees.{look_of, Sees, AreApart}
-use Rattle.peer_lock.proofs.Names.{is_same_itself, same_name}
+use Rattle.call_book.proofs.NameLaws.{is_same_itself, same_name}
 use Rattle.call_steps.proofs.Held.{found_at}
 
 -- ---- what is seen of the world's legs

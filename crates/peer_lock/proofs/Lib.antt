@@ -2,7 +2,6 @@ pub mod Carrying
 pub mod Choices
 pub mod Entries
 pub mod Kept
-pub mod Names
 pub mod NumberTicks
 pub mod Opened
 pub mod Packing

@@ -11,7 +11,7 @@ use Rattle.leg_machine.specs.Seen.{seen}
 use Rattle.peer_legs.specs.Legs.{NamedLeg, PeerLegs, AreLegs, filled, leg_at, leg_named, if_named, first_remote, leg_of_remote, is_remote, with_leg, with_place}
 use Rattle.peer_legs.proofs.PlaceLaws.{slice_get-set_other, stands_at, leg_at_place, placed_there}
 use Rattle.peer_lock.specs.Seen.{seen_named, seen_at, TurnsAt}
-use Rattle.peer_lock.proofs.Names.{is_same_itself, same_name}
+use Rattle.call_book.proofs.NameLaws.{is_same_itself, same_name}
 
 -- ---- names
 
