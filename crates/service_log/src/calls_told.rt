@@ -1,17 +1,11 @@
 //! What the log tells of the file of call records.
-use crate::lines::{more_than, tell, tell_count};
+use crate::lines::tell;
+use crate::writer_told::WriterTold;
 use call_files::{Fault, Trouble};
 use call_writer::FileState;
 use log::{Level, Log};
 use std::io;
 use std::io::ErrorKind;
-
-/// What was told of the file.
-#[derive(Clone, Copy)]
-pub(crate) struct CallsTold {
-    pub(crate) trouble: Option<Trouble>,
-    pub(crate) lost: u64,
-}
 
 /// The error of the system that a fault is.
 pub(crate) fn error_of(fault: Fault) -> io::Error {
@@ -45,27 +39,13 @@ fn tell_trouble<L: Log>(log: &L, path: &str, trouble: Option<Trouble>) {
     tell_fault(log, path, what, fault);
 }
 
-impl CallsTold {
-    /// Nothing was told.
-    pub(crate) fn new() -> CallsTold {
-        CallsTold {
-            trouble: None,
-            lost: 0,
-        }
-    }
-
+impl WriterTold<Trouble> {
     /// Tells what is wrong with the file of this name, once for as long as it lasts.
     pub(crate) fn look<L: Log>(&mut self, log: &L, path: &str, state: FileState) {
-        if state.trouble != self.trouble {
-            self.trouble = state.trouble;
+        if state.trouble != self.wrong {
+            self.wrong = state.trouble;
             tell_trouble(log, path, state.trouble);
         }
-    }
-
-    /// Tells how many rows were lost, in a round of so many seconds.
-    pub(crate) fn tell_lost<L: Log>(&mut self, log: &L, state: FileState, seconds: u64) {
-        let more = more_than(&mut self.lost, state.lost);
-        tell_count(log, Level::Warn, &"call records lost", more, seconds);
     }
 }
 

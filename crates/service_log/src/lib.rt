@@ -7,6 +7,7 @@ mod start_told;
 mod strangers;
 mod telling;
 mod trace_told;
+mod writer_told;
 
 pub use calls_told::tell_end;
 pub use start_told::tell_start;

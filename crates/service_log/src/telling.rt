@@ -1,10 +1,10 @@
 //! What the log tells of a service, and when.
 ghost use Rattle.std.specs.Prelude.{◌<◌, length};
 
-use crate::calls_told::CallsTold;
 use crate::lines::{more_than, tell, tell_count};
 use crate::strangers::Strangers;
-use crate::trace_told::TraceTold;
+use crate::writer_told::WriterTold;
+use call_files::{Fault, Trouble};
 use exchange_report::refusal_name;
 use log::{Level, Log, log_enabled};
 use peer_plan::{Endpoint, Plan};
@@ -54,8 +54,8 @@ pub struct Told<'s> {
     // The drops of each worker's socket.
     drops: Vec<u64>,
     faults: u64,
-    calls: CallsTold,
-    trace: TraceTold,
+    calls: WriterTold<Trouble>,
+    trace: WriterTold<Fault>,
     strangers: Strangers,
     // A list for the strangers that come.
     spare: Vec<Endpoint>,
@@ -209,8 +209,8 @@ impl<'s> Told<'s> {
             peers: Vec::new(alloc),
             drops: Vec::new(alloc),
             faults: 0,
-            calls: CallsTold::new(),
-            trace: TraceTold::new(),
+            calls: WriterTold::new(),
+            trace: WriterTold::new(),
             strangers,
             spare: Vec::new(alloc),
             legs: Rounds {
@@ -350,10 +350,16 @@ impl<'s> Told<'s> {
         let faults = more_than(&mut self.faults, watch.faults());
         tell_count(log, Level::Warn, &"faults of the sockets", faults, seconds);
         if let Some(calls) = watch.calls() {
-            self.calls.tell_lost(log, calls.state(), seconds);
+            self.calls
+                .tell_lost(log, "call records lost", calls.state().lost, seconds);
         }
         if let Some(trace) = watch.trace() {
-            self.trace.tell_lost(log, trace.state(), seconds);
+            self.trace.tell_lost(
+                log,
+                "calls of the exchange that the trace lacks",
+                trace.state().lost,
+                seconds,
+            );
         }
         match drop_counts(table, alloc, self.plan) {
             Ok(counts) => tell_drops(log, &mut self.drops, &counts, seconds),
