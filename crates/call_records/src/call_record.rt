@@ -8,6 +8,7 @@ ghost use Rattle.call_records.specs.declared.side.Side.TheVariants.{Peer, Exchan
 
 use crate::call_end::CallEnd;
 use crate::courses;
+use crate::courses::Course;
 use crate::leg_moment::LegMoment;
 use crate::side::Side;
 use call_signals::ElementText;
@@ -60,13 +61,18 @@ impl CallRecord {
     {
         let opened_by = courses::opener(history);
         let elements = courses::elements_of_new(history);
+        let Course {
+            accepted,
+            answered,
+            end,
+        } = courses::course_of(history, opened_by);
         CallRecord {
             opened_by,
             called: ElementText::of(elements.called),
             calling: ElementText::of(elements.calling),
-            accepted: courses::accepted(history, opened_by),
-            answered: courses::answered(history, opened_by),
-            end: courses::end(history, opened_by),
+            accepted,
+            answered,
+            end,
             sent: history.sent_count(),
             acknowledged: history.acked_count(),
             taken: history.taken_count(),

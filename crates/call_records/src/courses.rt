@@ -43,53 +43,44 @@ pub(crate) fn elements_of_new(history: &Record) -> NewElements<'_>
     NewElements::read(new_data(history))
 }
 
-// The moment at which the call was accepted.
-pub(crate) fn accepted(history: &Record, opener: Option<Side>) -> Option<LegMoment>
-    ensures { result ≡ course.accepted_of opener (frames_of history.now.entries) }
-{
-    let mut frames = SideFrames::of(history);
-    while let Some(frame) = frames.next() {
-        if frame.ending(opener, false).is_some() {
-            return None;
-        }
-        if frame.accepts(opener) {
-            return Some(frame.moment());
-        }
-    }
-    None
+// How a call went on: the moments at which it was accepted and answered, and how it ended.
+#[derive(Clone, Copy)]
+pub(crate) struct Course {
+    pub(crate) accepted: Option<LegMoment>,
+    pub(crate) answered: Option<LegMoment>,
+    pub(crate) end: Option<CallEnd>,
 }
 
-// The moment at which the call was answered.
-pub(crate) fn answered(history: &Record, opener: Option<Side>) -> Option<LegMoment>
-    ensures { result ≡ course.answered_of opener (frames_of history.now.entries) }
+// How the call went on that this side opened.
+pub(crate) fn course_of(history: &Record, opener: Option<Side>) -> Course
+    ensures accepted { result.accepted ≡ course.accepted_of opener (frames_of history.now.entries) }
+    ensures answered { result.answered ≡ course.answered_of opener (frames_of history.now.entries) }
+    ensures end { result.end ≡ course.end_of opener (frames_of history.now.entries) }
 {
     let mut frames = SideFrames::of(history);
-    let mut accepted = false;
+    let mut accepted = None;
+    let mut answered = None;
     while let Some(frame) = frames.next() {
-        if frame.ending(opener, accepted).is_some() {
-            return None;
+        if let Some(how) = frame.ending(opener, accepted.is_some()) {
+            return Course {
+                accepted,
+                answered,
+                end: Some(frame.end(how)),
+            };
         }
-        if accepted && frame.answers(opener) {
-            return Some(frame.moment());
+        if accepted.is_none() {
+            if frame.accepts(opener) {
+                accepted = Some(frame.moment());
+            }
+        } else if answered.is_none() && frame.answers(opener) {
+            answered = Some(frame.moment());
         }
-        accepted = accepted || frame.accepts(opener);
     }
-    None
-}
-
-// How the call ended.
-pub(crate) fn end(history: &Record, opener: Option<Side>) -> Option<CallEnd>
-    ensures { result ≡ course.end_of opener (frames_of history.now.entries) }
-{
-    let mut frames = SideFrames::of(history);
-    let mut accepted = false;
-    while let Some(frame) = frames.next() {
-        if let Some(how) = frame.ending(opener, accepted) {
-            return Some(frame.end(how));
-        }
-        accepted = accepted || frame.accepts(opener);
+    Course {
+        accepted,
+        answered,
+        end: None,
     }
-    None
 }
 
 // How many digits a side sent.
