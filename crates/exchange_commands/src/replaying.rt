@@ -126,26 +126,6 @@ fn close<J: Naming>(open: Option<(Exchange<NoGate, J>, Vec<Pass<J>>)>) {
     }
 }
 
-// The lines, in order; the number of the line at which it stops.
-fn work_script<J: Naming, R: Wait, V: Viewer>(
-    rt: &R,
-    alloc: Global,
-    player: &mut Player,
-    open: &mut Option<(Exchange<NoGate, J>, Vec<Pass<J>>)>,
-    script: &[u8],
-    viewer: &mut V,
-) -> Result<(), ReplayError> {
-    for (place, line) in script.split(|octet| *octet == b'\n').enumerate() {
-        if ends_script(line) {
-            break;
-        }
-        if let Err(stop) = work_line(rt, alloc, player, open, line, viewer) {
-            return Err(stopped_at(place.saturating_add(1), stop));
-        }
-    }
-    Ok(())
-}
-
 // Who plays a script on an exchange of the plan, of which the viewer is told.
 fn player_of<V: Viewer>(alloc: Global, plan: &Plan, viewer: &mut V) -> Result<Player, Stop> {
     let Some(player) = Player::new(alloc, plan) else {
@@ -157,7 +137,8 @@ fn player_of<V: Viewer>(alloc: Global, plan: &Plan, viewer: &mut V) -> Result<Pl
     }
 }
 
-// The script, through an exchange of the ledgers that the caller names.
+// The lines of the script, in order, through an exchange of the ledgers that the caller names; the number of the line at which it
+// stops.
 fn play<O: Ledger + Send + Sync, S: Ledger + Send + Sync, R: Wait, V: Viewer>(
     rt: &R,
     alloc: Global,
@@ -171,15 +152,23 @@ fn play<O: Ledger + Send + Sync, S: Ledger + Send + Sync, R: Wait, V: Viewer>(
     requires octets { (octets.name ≡ O.name) × (octets.parts ≡ O.parts) × (octets.parts ≡ length plan.peers + plan.passes) }
     requires steps { (steps.name ≡ S.name) × (steps.parts ≡ S.parts) × (steps.parts ≡ length plan.peers + plan.passes) }
 {
-    match Exchange::<NoGate, Service<O, S>>::open(alloc, plan, NoGate, octets, steps) {
-        Ok(opened) => {
-            let mut open = Some(opened);
-            let played = work_script(rt, alloc, player, &mut open, script, viewer);
-            close(open);
-            played
+    let Ok(opened) = Exchange::<NoGate, Service<O, S>>::open(alloc, plan, NoGate, octets, steps)
+    else {
+        return Err(ReplayError::Memory);
+    };
+    let mut open = Some(opened);
+    let mut played = Ok(());
+    for (place, line) in script.split(|octet| *octet == b'\n').enumerate() {
+        if ends_script(line) {
+            break;
         }
-        Err(_) => Err(ReplayError::Memory),
+        if let Err(stop) = work_line(rt, alloc, player, &mut open, line, viewer) {
+            played = Err(stopped_at(place.saturating_add(1), stop));
+            break;
+        }
     }
+    close(open);
+    played
 }
 
 /// Replays a script on an exchange of its plan, and tells the viewer what each line makes, up to the end of the script or to
