@@ -1,18 +1,16 @@
--- What a full frame, an order and media leave and send, where they aren't refused.
-use Rattle.std.specs.Prelude.{map, All, IfOk, OnOk, OnErr, Result, Ok, Err}
+-- What an order leaves and sends, where it isn't refused, and what calls that answer an outcome answer.
+use Rattle.std.specs.Prelude.{map, All, OnOk, OnErr, Result, Ok, Err}
 use Rattle.std.proofs.Common.{◌≡◌, ℕ, List, Option, ◌∙◌, sym, subst}
 use Rattle.std.proofs.lemmas.List.Elements.{All-same}
-use Rattle.iax_frames.specs.FullFrame.{FullFrame, spelling}
+use Rattle.iax_frames.specs.FullFrame.{spelling}
 use Rattle.leg_machine.specs.Leg.{LegState}
 use Rattle.leg_machine.specs.Onward.{onward_if, outcome_of}
-use Rattle.leg_machine.specs.Seen.{seen, IsSeenFrame}
-use Rattle.leg_machine.specs.Steps.{Step, full_step, heard_of}
+use Rattle.leg_machine.specs.Steps.{Step, heard_of}
 use Rattle.leg_machine.specs.Tie.{SendsNumbered}
 use Rattle.call_signals.specs.declared.outcomes.Heard.{Heard}
 use Rattle.call_signals.specs.declared.outcomes.Judged.{Judged}
 use Rattle.call_signals.specs.declared.outcomes.Outcome.{Outcome}
 use Rattle.call_signals.specs.declared.signal.Onward.{Onward}
-use Rattle.leg_machine.proofs.SeenFrames.{heard-seen}
 
 -- ---- calls that may be refused
 
@@ -33,12 +31,6 @@ answers (Ok x) Grows IsSent old step new datagrams outs grows numbered sendings 
 }
 answers (Err e) Grows IsSent old step new datagrams outs grows numbered sendings all leg replies stays =
     record { tied = tt; sendings = tt; numbered = subst SendsNumbered (sym stays) all }
-
-pub frame-heard : {E : Type 0} (result : Result Heard E) (old new : LegState) (frame : FullFrame) (now : ℕ)
-    → OnOk result (new ≡ (full_step old frame now).leg) → IfOk result (λ heard. heard ≡ heard_of (full_step old frame now))
-    → IfOk result (λ heard. IsSeenFrame (seen old) (seen new) heard.signal)
-frame-heard (Ok heard) old new frame now leg answer = heard-seen old new frame now heard leg answer
-frame-heard (Err e) old new frame now leg answer = tt
 
 -- ---- outcomes
 

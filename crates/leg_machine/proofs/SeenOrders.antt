@@ -75,7 +75,7 @@ seen-media media.Voice leg octets now = refl
 seen-media (media.Mini timestamp) leg octets now = refl
 
 -- a talking leg gets media, and callers see no change
-talking-seen : (old new : LegState) → is_talking old.stage ≡ true → seen new ≡ seen old → IsSeenOrder kinds.Media (seen old) (seen new)
+pub talking-seen : (old new : LegState) → is_talking old.stage ≡ true → seen new ≡ seen old → IsSeenOrder kinds.Media (seen old) (seen new)
 talking-seen old new talks same = (
   old.stage,
   media-stage old.stage ∙ ap (λ (b : Bool). cond b (Some old.stage) None) talks,

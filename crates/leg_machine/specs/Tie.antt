@@ -1,16 +1,18 @@
 -- What a step of a leg adds to its record, and what it sends, as one side of a network does ("Message Transport").
-use Rattle.std.specs.Prelude.{◌≡◌, ◌⊎◌, ℕ, ◌≤◌, Bool, true, false, Option, None, Some, List, [], ◌∷◌, ◌++◌, All, slice_get}
+use Rattle.std.specs.Prelude.{◌≡◌, ◌⊎◌, ℕ, ◌+◌, ◌≤◌, Bool, true, false, Option, None, Some, List, [], ◌∷◌, ◌++◌, All, slice_get}
 use Rattle.std.specs.Prelude.{if◌then◌else◌}
 use Rattle.iax_frames.specs.FullFrame.{FullFrame, spelling, subclass_meaning}
 use Rattle.iax_frames.specs.MiniFrame.{MiniFrame, SpellsMini}
 use Rattle.iax_frames.specs.declared.stored_frame.Frame.{Frame}
 use Rattle.seq_window.specs.Entry.{Entry, Sent}
-use Rattle.seq_window.specs.History.{sent, sent_count, taken_count, acked_count}
+use Rattle.seq_window.specs.History.{sent, sent_count, taken_count, acked_count, IsLegal}
 use Rattle.seq_window.specs.Network.{Datagram}
 use Rattle.seq_window.specs.Sequence.{byte_of}
 use Rattle.seq_window.specs.Turn.{Turn, entries_in_turn, entries_for_reply}
+use Rattle.seq_window.specs.Window.{held_count}
 use Rattle.leg_machine.specs.Leg.{LegState}
 use Rattle.call_signals.specs.Message.{message_by, message_of, is_numbered, is_inval}
+use Rattle.call_signals.specs.declared.rules.PeerRules.{PeerRules}
 use Rattle.leg_machine.specs.Working.{stored}
 
 -- the frame to be judged, where it is numbered
@@ -91,3 +93,17 @@ pub record HasSent (leg : LegState) (datagrams : List (List ℕ)) : Type 0 where
 pub record HasSentOrMini (leg : LegState) (datagrams : List (List ℕ)) : Type 0 where
   pub numbered : SendsNumbered leg
   pub sendings : All (IsSendingOrMini leg) datagrams
+
+-- ---- by a peer's rules
+
+-- a leg of a peer with these rules
+pub record IsLegOf (rules : PeerRules) (leg : LegState) : Type 0 where
+  -- its window is as wide, and its record as long, as the rules say
+  pub rules_are : leg.rules ≡ rules
+  pub width : leg.window.width ≡ rules.window
+  pub limit : leg.window.limit ≡ rules.record_limit
+  -- its record is legal, and what stands there as sent is numbered
+  pub legal : IsLegal leg.window.width leg.window.limit leg.window.history
+  pub numbered : SendsNumbered leg
+  -- as many frames are held as the record has as sent and not acknowledged
+  pub held : held_count leg.window + acked_count leg.window.history ≡ sent_count leg.window.history

@@ -13,6 +13,7 @@ ghost use Rattle.leg_machine.specs.Seen.{IsSeenTick};
 ghost use Rattle.leg_machine.specs.Steps.{full_step, heard_of};
 ghost use Rattle.leg_machine.specs.Ticks.{tick_step};
 ghost use Rattle.leg_machine.specs.Tie.{TakesTurn, SendsAtMostOne, TakesFirstTurn, HasSentAtMostOne, IsSending, IsSendingOrMini};
+ghost use Rattle.leg_machine.specs.Tie.{IsLegOf};
 ghost use Rattle.call_signals.specs.declared.order.OrderKind.TheVariants as kinds;
 
 use crate::machine::Machine;
@@ -53,8 +54,8 @@ impl Model for Leg {
 }
 
 impl Leg {
-    /// A leg for a NEW that came ("Call Setup"), under this local number, 1 ..= 32,767, at the moment `now`, in milliseconds.
-    /// What is sent is written to the empty list.
+    /// A leg for a NEW that came ("Call Setup"), under this local number, 1 ..= 32,767, at the moment `now`, in milliseconds. Its
+    /// remote number is the NEW's source. What is sent is written to the empty list.
     ///
     /// The NEW has OSeqno 0 and at most 1,388 octets of data. The challenge goes out where the peer has a secret. `Err` comes
     /// only where memory was refused; then nothing is written.
@@ -76,6 +77,9 @@ impl Leg {
         ensures replies { OnOk result (replies.new ≡
             map spelling (open_in_step rules.now number frame.now now challenge.now).replies) }
         ensures heard { IfOk result (λ opened. opened.1 ≡ heard_of (open_in_step rules.now number frame.now now challenge.now)) }
+        ensures number { IfOk result (λ opened. opened.0.state.number ≡ number) }
+        ensures remote { IfOk result (λ opened. opened.0.state.remote ≡ Some frame.now.head.source) }
+        ensures ruled { IfOk result (λ opened. IsLegOf rules.now opened.0.state) }
         // The record begins as that of one side of a network may.
         ensures tied { IfOk result (λ opened. TakesFirstTurn frame.now opened.0.state) }
         ensures sendings { IfOk result (λ opened. All (IsSending opened.0.state) replies.new) }
@@ -91,6 +95,9 @@ impl Leg {
         machine.challenge = opening.challenge(challenge);
         let effect = opening.effect();
         let heard = machine.take(&effect, frame, &Message::New, now, replies);
+        // What the window says of its record: for proofs alone.
+        let _legal = machine.window.record();
+        let _held = machine.window.held_len();
         Ok((Leg { machine }, heard))
     }
 
@@ -156,7 +163,8 @@ impl Leg {
         ensures none_sent { OnErr result (replies.new ≡ replies.old) }
         ensures capacity { capacity_of self.old ≤ capacity_of self.new }
     {
-        self.machine.full_if_room(frame, now, replies)
+        self.machine.room_for_frame()?;
+        Ok(self.machine.full(frame, now, replies))
     }
 
     /// Media of 1 to 1,380 octets goes out, at the moment `now`, in milliseconds. A full frame is written to the empty list; of
@@ -190,7 +198,11 @@ impl Leg {
         ensures none_sent { OnErr result (replies.new ≡ replies.old) }
         ensures capacity { capacity_of self.old ≤ capacity_of self.new }
     {
-        self.machine.media(media, now, replies)
+        let sent = self.machine.media_sent(now)?;
+        if sent == MediaSent::Voice {
+            self.machine.send_voice(media, now, replies)?;
+        }
+        Ok(sent)
     }
 
     /// An order is carried out, at the moment `now`, in milliseconds; media has 1 to 1,380 octets. What is sent is written to the

@@ -11,6 +11,7 @@ ghost use Rattle.call_signals.specs.NewElements.{named, new_elements};
 ghost use Rattle.call_signals.specs.declared.signal.Signal.TheVariants.{Offered};
 
 use crate::leg::Leg;
+use crate::leg_table::is_media;
 use crate::machine::Machine;
 use call_signals::openings::offered_formats;
 use call_signals::{
@@ -27,7 +28,9 @@ impl Leg {
     pub fn media_in(&self, span: MediaSpan) -> MediaIn
         ensures { result ≡ (if accepts_media self.now.state span then MediaIn.Accepted else MediaIn.NotYet) }
     {
-        if self.machine.accepts_media(span) {
+        let machine = &self.machine;
+        let is_media = is_media(span.len());
+        if machine.stage.is_talking() && machine.voice_taken && is_media {
             MediaIn::Accepted
         } else {
             MediaIn::NotYet

@@ -1,13 +1,13 @@
 //! Media at a leg ("Mini Frames", "Voice Frames").
-ghost use Rattle.std.specs.Prelude.{◌≡◌, ◌≤◌, true, [], ◌∷◌, length, map, None, Err, IfOk, IfErr, OnOk, OnErr};
+ghost use Rattle.std.specs.Prelude.{◌≡◌, ◌≤◌, [], ◌∷◌, length, map, None, Ok, Err, if◌then◌else◌, IfErr, OnOk, OnErr};
 ghost use Rattle.iax_frames.specs.FullFrame.{spelling};
 ghost use Rattle.iax_frames.specs.MiniFrame.{mini_spelling};
+ghost use Rattle.call_signals.specs.Stage.{is_talking};
 ghost use Rattle.leg_machine.specs.Media as rules;
 ghost use Rattle.leg_machine.specs.OrderTable as orders;
 
-use crate::leg_table::is_media;
 use crate::machine::Machine;
-use call_signals::{MediaSpan, OrderError, Replies};
+use call_signals::{OrderError, Replies};
 
 /// How media went out ("Mini Frames", "Voice Frames").
 #[derive(Clone, Copy, Debug, PartialEq, Eq)]
@@ -33,37 +33,36 @@ fn is_other_half(last: Option<u32>, present: u32) -> bool
 impl Machine {
     ghost use Rattle.leg_machine.specs.Leg.{leg_of, whole_leg, capacity_of};
 
-    /// Whether media of the other side counts: the leg is talking, took voice of its format, and the span has 1 to 1,380 octets.
-    pub fn accepts_media(&self, span: MediaSpan) -> bool
-        ensures { result ≡ rules.accepts_media (leg_of self.now) span }
+    /// How media of the layer above goes out at the moment `now`, in milliseconds ("Mini Frames"): not at all where the other
+    /// side wants none; as a full frame where it is the first, or the high half of the timestamp has changed since the last such
+    /// frame; else as a mini frame. `WrongStage` where the leg isn't talking.
+    pub fn media_sent(&self, now: u64) -> Result<MediaSent, OrderError>
+        ensures { result ≡ (if is_talking self.now.stage then Ok (rules.media_sent (leg_of self.now) now)
+            else Err OrderError.WrongStage) }
     {
-        let is_media = is_media(span.len());
-        self.stage.is_talking() && self.voice_taken && is_media
-    }
-
-    fn is_voice_due(&self, now: u64) -> bool
-        ensures { result ≡ rules.is_voice_due (leg_of self.now) now }
-    {
-        is_other_half(self.voice_sent, self.present(now))
-    }
-
-    /// How media goes out at the moment `now`, in milliseconds ("Mini Frames"): not at all where the other side wants none; as a
-    /// full frame where it is the first, or the high half of the timestamp has changed since the last such frame; else as a mini
-    /// frame.
-    pub fn media_sent(&self, now: u64) -> MediaSent
-        ensures { result ≡ rules.media_sent (leg_of self.now) now }
-    {
-        if self.quelched {
+        if !self.stage.is_talking() {
+            return Err(OrderError::WrongStage);
+        }
+        let present = self.present(now);
+        Ok(if self.quelched {
             MediaSent::Quelched
-        } else if self.is_voice_due(now) {
+        } else if is_other_half(self.voice_sent, present) {
             MediaSent::Voice
         } else {
-            MediaSent::Mini((self.present(now) % 0x1_0000) as u16)
-        }
+            MediaSent::Mini((present % 0x1_0000) as u16)
+        })
     }
 
-    // Media goes out as a full frame.
-    fn send_voice(&mut self, media: &[u8], now: u64, outs: &mut Replies) -> Result<(), OrderError>
+    /// Media of at most 1,380 octets goes out as a full frame, at the moment `now`, in milliseconds.
+    ///
+    /// Refusals are looked for in this order: `WindowFull`, `RecordFull`, and `Memory`, which never comes with a spare entry.
+    /// Then nothing is changed or written.
+    pub fn send_voice(
+        &mut self,
+        media: &[u8],
+        now: u64,
+        outs: &mut Replies,
+    ) -> Result<(), OrderError>
         requires short { length media.now ≤ 1380 }
         requires empty { outs.old ≡ [] }
         ensures leg { OnOk result (leg_of self.new ≡ rules.after_media MediaSent.Voice (leg_of self.old) media.now now) }
@@ -83,79 +82,12 @@ impl Machine {
         Ok(())
     }
 
-    /// Media of at most 1,380 octets goes out at the moment `now`, in milliseconds: a full frame is written to the empty list,
-    /// and a mini frame or trunk entry is left to the caller.
-    ///
-    /// Refusals are looked for in this order: `WrongStage`; then, only of a full frame, `WindowFull`, `RecordFull`, and `Memory`,
-    /// which never comes with a spare entry. Then nothing is changed or written.
-    pub fn media(
-        &mut self,
-        media: &[u8],
-        now: u64,
-        outs: &mut Replies,
-    ) -> Result<MediaSent, OrderError>
-        requires short { length media.now ≤ 1380 }
-        requires empty { outs.old ≡ [] }
-        ensures sent { IfOk result (λ sent. sent ≡ rules.media_sent (leg_of self.old) now) }
-        ensures leg { OnOk result (leg_of self.new ≡
-            rules.after_media (rules.media_sent (leg_of self.old) now) (leg_of self.old) media.now now) }
-        ensures replies { OnOk result (outs.new ≡
-            map spelling (rules.media_frames (rules.media_sent (leg_of self.old) now) (leg_of self.old) media.now now)) }
-        ensures unrefused { OnOk result (orders.media_refused (leg_of self.old) now ≡ None) }
-        ensures refused { IfErr result (orders.IsRefusal (orders.media_refused (leg_of self.old) now)) }
-        ensures memory { result ≡ Err OrderError.Memory → orders.is_voice (rules.media_sent (leg_of self.old) now) ≡ true }
-        ensures spare { result ≡ Err OrderError.Memory → self.old.window.spare ≡ 0 }
-        ensures err { OnErr result (self.new ≡ self.old) }
-        ensures none_sent { OnErr result (outs.new ≡ outs.old) }
-        ensures capacity { capacity_of (whole_leg self.old) ≤ capacity_of (whole_leg self.new) }
-    {
-        if !self.stage.is_talking() {
-            return Err(OrderError::WrongStage);
-        }
-        let sent = self.media_sent(now);
-        if sent == MediaSent::Voice {
-            self.send_voice(media, now, outs)?;
-        }
-        Ok(sent)
-    }
-
-    // Media is written as a mini frame.
-    fn mini(&self, timestamp: u16, media: &[u8], outs: &mut Replies)
+    /// Media is written as a mini frame.
+    pub fn mini(&self, timestamp: u16, media: &[u8], outs: &mut Replies)
         requires short { length media.now ≤ 1380 }
         requires empty { outs.old ≡ [] }
         ensures { outs.new ≡ mini_spelling (record { source = self.now.number; timestamp = timestamp; media = media.now }) ∷ [] }
     {
         outs.write_mini(self.number.get(), timestamp, media);
-    }
-
-    /// Media of at most 1,380 octets goes out at the moment `now`, in milliseconds: a full frame or a mini frame is written to
-    /// the empty list.
-    ///
-    /// Refusals are looked for in this order: `WrongStage`; then, only of a full frame, `WindowFull`, `RecordFull`, and `Memory`,
-    /// which never comes with a spare entry. Then nothing is changed or written.
-    pub fn media_order(
-        &mut self,
-        media: &[u8],
-        now: u64,
-        outs: &mut Replies,
-    ) -> Result<(), OrderError>
-        requires short { length media.now ≤ 1380 }
-        requires empty { outs.old ≡ [] }
-        ensures leg { OnOk result (leg_of self.new ≡
-            rules.after_media (rules.media_sent (leg_of self.old) now) (leg_of self.old) media.now now) }
-        ensures replies { OnOk result (outs.new ≡
-            orders.media_datagrams (rules.media_sent (leg_of self.old) now) (leg_of self.old) media.now now) }
-        ensures unrefused { OnOk result (orders.media_refused (leg_of self.old) now ≡ None) }
-        ensures refused { IfErr result (orders.IsRefusal (orders.media_refused (leg_of self.old) now)) }
-        ensures memory { result ≡ Err OrderError.Memory → orders.is_voice (rules.media_sent (leg_of self.old) now) ≡ true }
-        ensures spare { result ≡ Err OrderError.Memory → self.old.window.spare ≡ 0 }
-        ensures err { OnErr result (self.new ≡ self.old) }
-        ensures none_sent { OnErr result (outs.new ≡ outs.old) }
-        ensures capacity { capacity_of (whole_leg self.old) ≤ capacity_of (whole_leg self.new) }
-    {
-        if let MediaSent::Mini(timestamp) = self.media(media, now, outs)? {
-            self.mini(timestamp, media, outs);
-        }
-        Ok(())
     }
 }

@@ -4,6 +4,7 @@ ghost use Rattle.seq_window.specs.Window.{held_count, entry_count};
 ghost use Rattle.leg_machine.specs.OrderTable as orders;
 
 use crate::machine::Machine;
+use crate::media::MediaSent;
 use call_signals::{Cause, Order, OrderError, Replies, Reply, Stage};
 
 /// A row in which a numbered frame goes out.
@@ -183,7 +184,14 @@ impl Machine {
         ensures capacity { capacity_of (whole_leg self.old) ≤ capacity_of (whole_leg self.new) }
     {
         match order {
-            Order::Media(media) => self.media_order(media, now, outs),
+            Order::Media(media) => match self.media_sent(now)? {
+                MediaSent::Quelched => Ok(()),
+                MediaSent::Voice => self.send_voice(media, now, outs),
+                MediaSent::Mini(timestamp) => {
+                    self.mini(timestamp, media, outs);
+                    Ok(())
+                }
+            },
             Order::Doom(cause) => {
                 self.doom(*cause);
                 Ok(())

@@ -1,17 +1,14 @@
 //! What a full frame does, in its working order ("Message Transport").
-ghost use Rattle.std.specs.Prelude.{◌≡◌, ◌+◌, ◌<◌, ◌≤◌, ◌++◌, ◌↔◌, [], true, length, map, Err, IfOk, OnOk, OnErr};
+ghost use Rattle.std.specs.Prelude.{◌≡◌, ◌+◌, ◌<◌, ◌≤◌, ◌++◌, [], true, length, map};
 ghost use Rattle.iax_frames.specs.FullFrame.{spelling};
 ghost use Rattle.seq_window.specs.Window.{held_count, judged_number, judged_acknowledgement};
 ghost use Rattle.leg_machine.specs.Effects.{is_reply, marked};
-ghost use Rattle.leg_machine.specs.Leg.{is_short_of_entries};
 ghost use Rattle.leg_machine.specs.Steps as steps;
 ghost use Rattle.leg_machine.specs.Working.{counts, wants_vnak};
 
 use crate::machine::Machine;
 use call_signals::effects::unless_over;
-use call_signals::{
-    Answering, Effect, Failure, Heard, Judged, Mark, Message, Replies, Signal, StepError,
-};
+use call_signals::{Answering, Effect, Failure, Heard, Judged, Mark, Message, Replies, Signal};
 use iax_frames::Full;
 use seq_window::Received;
 
@@ -215,8 +212,9 @@ impl Machine {
         counts
     }
 
-    // A full frame comes, and there is room for it.
-    fn full(&mut self, frame: &Full, now: u64, outs: &mut Replies) -> Heard
+    /// A full frame comes at the moment `now`, in milliseconds, with at most 1,388 octets of data, and there is room for what it
+    /// can add to the record. What is sent is written to the empty list.
+    pub fn full(&mut self, frame: &Full, now: u64, outs: &mut Replies) -> Heard
         requires room { HasRoom 4 self.old }
         requires short { length frame.now.payload ≤ 1388 }
         requires empty { outs.old ≡ [] }
@@ -240,31 +238,5 @@ impl Machine {
             judged: Judged::Unnumbered,
             signal: None,
         }
-    }
-
-    /// A full frame comes at the moment `now`, in milliseconds, with at most 1,388 octets of data, where there is room for what
-    /// it can add to the record. What is sent is written to the empty list.
-    ///
-    /// Refusals are looked for in this order: `RecordFull` where fewer than four entries of the record are free, `Memory` where
-    /// memory was refused, which never comes with four spare entries. Then nothing is changed or written.
-    pub fn full_if_room(
-        &mut self,
-        frame: &Full,
-        now: u64,
-        outs: &mut Replies,
-    ) -> Result<Heard, StepError>
-        requires short { length frame.now.payload ≤ 1388 }
-        requires empty { outs.old ≡ [] }
-        ensures leg { OnOk result (leg_of self.new ≡ (steps.full_step (leg_of self.old) frame.now now).leg) }
-        ensures replies { OnOk result (outs.new ≡ map spelling (steps.full_step (leg_of self.old) frame.now now).replies) }
-        ensures heard { IfOk result (λ heard. heard ≡ steps.heard_of (steps.full_step (leg_of self.old) frame.now now)) }
-        ensures record_full { (result ≡ Err StepError.RecordFull) ↔ (is_short_of_entries (leg_of self.old) ≡ true) }
-        ensures memory { result ≡ Err StepError.Memory → self.old.window.spare < 4 }
-        ensures err { OnErr result (self.new ≡ self.old) }
-        ensures none_sent { OnErr result (outs.new ≡ outs.old) }
-        ensures capacity { capacity_of (whole_leg self.old) ≤ capacity_of (whole_leg self.new) }
-    {
-        self.room_for_frame()?;
-        Ok(self.full(frame, now, outs))
     }
 }

@@ -103,9 +103,9 @@ pub record IsFound (legs value : PeerLegs) (place number : ℕ) (named : NamedLe
   pub leg_is : leg_at value number ≡ Some named
   pub only : (other : NamedLeg) → leg_at value number ≡ Some other → other ≡ named
 
-pub found : (legs value : PeerLegs) (place number : ℕ) (o : Option NamedLeg) (there named : NamedLeg) → legs ≡ value → place ≡ number - value.first → place < length value.places
+pub found : {legs value : PeerLegs} {place : ℕ} (number : ℕ) {o : Option NamedLeg} {there named : NamedLeg} → legs ≡ value → place ≡ number - value.first → place < length value.places
     → filled (slice_get value.places place) ≡ leg_at value number → o ≡ get_or legs.places place o → o ≡ Some there → named ≡ there → IsFound legs value place number named
-found legs value place number o there named view is_place within is_leg read is same =
+found {legs} {value} {place} number {o} {there} {named} view is_place within is_leg read is same =
     let at : slice_get legs.places place ≡ Some (Some named) = leg_read legs value place o named view within read (is ∙ ap Some (sym same)) in
     let at_value : slice_get value.places place ≡ Some (Some named) = ap (λ v. slice_get v.places place) (sym view) ∙ at in
     let leg : leg_at value number ≡ Some named = sym is_leg ∙ ap filled at_value in

@@ -1,11 +1,15 @@
 -- A step of the leg at a place, carried out or refused: what becomes of the peer's legs.
-use Rattle.std.proofs.Common.{◌≡◌, ℕ, ◌^◌, ◌<◌, List, Option, Some, Result, Ok, Err, OnOk, OnErr, slice_get, sym, ap, subst, ◌∙◌}
+use Rattle.std.proofs.Common.{◌≡◌, ℕ, Option, Some, Result, Ok, Err, OnOk, OnErr, slice_get, sym, ap, subst, ◌∙◌}
+use Rattle.std.specs.Vec.{with_item}
 use Rattle.std.proofs.lemmas.Result.{on_ok_weaker, on_err_weaker}
 use Rattle.call_book.specs.declared.leg_name.LegName.{LegName}
 use Rattle.call_signals.specs.declared.rules.PeerRules.{PeerRules}
 use Rattle.leg_machine.specs.Leg.{Leg, LegState}
 use Rattle.peer_legs.specs.Legs.{NamedLeg, PeerLegs, AreLegs, AreLegsOf, leg_at, with_leg}
-use Rattle.peer_legs.specs.LegsInside.{IsIndex, IsRecorded}
+use Rattle.peer_legs.specs.LegsInside.{IsRecorded, IsSound, RestUntil, legs_of}
+use Rattle.peer_legs.specs.Steps.{IsStep}
+use Rattle.peer_legs.specs.declared.named_leg.NamedLeg.TheInside.{Inside as LegInside}
+use Rattle.peer_legs.specs.declared.peer_legs.PeerLegs.TheInside.{Inside}
 use Rattle.peer_legs.proofs.LegChanges.{AreIndexed, stepped, placed_is_with_leg, still_there}
 use Rattle.peer_legs.proofs.LegIndex.{placed}
 use Rattle.peer_legs.proofs.LegSearch.{IsFound}
@@ -22,29 +26,28 @@ pub record IsKept (old new : LegState) (step : LegState → LegState) : Type 0 w
   pub recorded : IsRecorded new
 
 -- A step was carried out at the leg that stands at a place, or was refused and left it. The clauses speak of `said`.
-pub record IsMade {T E : Type 0} (legs value : PeerLegs) (index : List (Option ℕ)) (place : ℕ) (said : Option NamedLeg) (name : LegName) (old new : Leg) (result : Result T E)
-    (step : LegState → LegState) : Type 0 where
-  pub view : legs ≡ value
-  pub are : AreIndexed legs index
-  pub at : slice_get legs.places place ≡ Some (Some (named_leg name old.state))
-  pub said_is : said ≡ Some (named_leg name old.state)
-  pub carried : OnOk result (new.state ≡ step old.state)
-  pub refused : OnErr result (new ≡ old)
-  pub kept : IsKept old.state new.state step
+pub record IsMade {T E : Type 0} (legs : Inside) (value : PeerLegs) (place : ℕ) (said : Option NamedLeg) (was : LegInside) (new : Leg) (result : Result T E) (step : LegState → LegState) : Type 0 where
+  pub view : legs_of legs ≡ value
+  pub are : AreIndexed (legs_of legs) legs.by_remote
+  pub at : slice_get legs.places.items place ≡ Some (Some (named_leg was.lease was.leg.state))
+  pub said_is : said ≡ Some (named_leg was.lease was.leg.state)
+  pub carried : OnOk result (new.state ≡ step was.leg.state)
+  pub refused : OnErr result (new ≡ was.leg)
+  pub kept : IsKept was.leg.state new.state step
 
 -- .. at the leg of a number
-pub made_at : {T E : Type 0} {legs value : PeerLegs} {index : List (Option ℕ)} {place number : ℕ} {name : LegName} {old new : Leg} {result : Result T E} {step : LegState → LegState}
-    → legs ≡ value → AreLegs legs → IsIndex legs index → IsFound legs value place number (named_leg name old.state)
-    → OnOk result (new.state ≡ step old.state) → OnErr result (new ≡ old) → IsKept old.state new.state step
-    → IsMade legs value index place (leg_at value number) name old new result step
-made_at view legs_are index_is found carried refused kept = record {
+pub made_at : {T E : Type 0} {legs : Inside} {value : PeerLegs} {place number : ℕ} {was : LegInside} {new : Leg} {result : Result T E} {step : LegState → LegState}
+    → IsSound legs → legs_of legs ≡ value → IsFound (legs_of legs) value place number (named_leg was.lease was.leg.state)
+    → OnOk result (new.state ≡ step was.leg.state) → OnErr result (new ≡ was.leg) → KeepsRules was.leg.state (step was.leg.state) → IsRecorded new.state
+    → IsMade legs value place (leg_at value number) was new result step
+made_at sound view found carried refused rules recorded = record {
   view = view;
-  are = record { legs_are = legs_are; index_is = index_is };
+  are = record { legs_are = sound.legs; index_is = sound.index };
   at = found.at;
   said_is = found.leg_is;
   carried = carried;
   refused = refused;
-  kept = kept;
+  kept = record { rules = rules; recorded = recorded };
 }
 
 chosen : {T E : Type 0} (result : Result T E) (P : LegState → Type 0) (old new : Leg) (after : LegState) → OnOk result (new.state ≡ after) → OnErr result (new ≡ old) → P after → P old.state → P new.state
@@ -55,39 +58,54 @@ as_carried : {T E : Type 0} (result : Result T E) (P : LegState → Type 0) (new
 as_carried (Ok answer) P new after carried is = subst P carried is
 as_carried (Err refusal) P new after carried is = tt
 
-module _ {T E : Type 0} {legs value : PeerLegs} {index : List (Option ℕ)} {place : ℕ} {said : Option NamedLeg} {name : LegName} {old new : Leg} {result : Result T E}
-    {step : LegState → LegState} (made : IsMade legs value index place said name old new result step) where
+-- the legs, and the leg, before and after a step
+abbrev pub after_step : Inside → ℕ → LegInside → Leg → PeerLegs
+after_step legs place was new = placed (legs_of legs) place (Some (named_leg was.lease new.state))
+
+module _ {T E : Type 0} {legs : Inside} {value : PeerLegs} {place : ℕ} {said : Option NamedLeg} {was : LegInside} {new : Leg} {result : Result T E}
+    {step : LegState → LegState} (made : IsMade legs value place said was new result step) where
   -- what is so of the leg there is so of the one that the clauses speak of
-  pub of_said : (P : NamedLeg → Type 0) → P (named_leg name old.state) → (named : NamedLeg) → said ≡ Some named → P named
+  pub of_said : (P : NamedLeg → Type 0) → P (named_leg was.lease was.leg.state) → (named : NamedLeg) → said ≡ Some named → P named
   of_said P here named is =
-      let both : Some (named_leg name old.state) ≡ Some named = sym made.said_is ∙ is in
-      let it : named_leg name old.state ≡ named = cc in
+      let both : Some (named_leg was.lease was.leg.state) ≡ Some named = sym made.said_is ∙ is in
+      let it : named_leg was.lease was.leg.state ≡ named = cc in
       subst P it here
 
   -- what is so of the leg before and after the step is so of it now
-  pub of_either : (P : LegState → Type 0) → P (step old.state) → P old.state → P new.state
-  of_either P = chosen result P old new (step old.state) made.carried made.refused
+  pub of_either : (P : LegState → Type 0) → P (step was.leg.state) → P was.leg.state → P new.state
+  of_either P = chosen result P was.leg new (step was.leg.state) made.carried made.refused
 
-  pub leg_made : (named : NamedLeg) → said ≡ Some named → OnOk result (placed legs place (Some (named_leg name new.state)) ≡ with_leg value named.name (step named.leg))
-  leg_made = of_said (λ named. OnOk result (placed legs place (Some (named_leg name new.state)) ≡ with_leg value named.name (step named.leg)))
-      (on_ok_weaker result (placed_is_with_leg legs value place (named_leg name old.state) new.state (step old.state) made.view made.are.legs_are made.at) made.carried)
+  pub leg_made : (named : NamedLeg) → said ≡ Some named → OnOk result (after_step legs place was new ≡ with_leg value named.name (step named.leg))
+  leg_made = of_said (λ named. OnOk result (after_step legs place was new ≡ with_leg value named.name (step named.leg)))
+      (on_ok_weaker result (placed_is_with_leg (legs_of legs) value place (named_leg was.lease was.leg.state) new.state (step was.leg.state) made.view made.are.legs_are made.at) made.carried)
 
-  pub tied_made : (Tied : LegState → LegState → Type 0) → OnOk result (Tied old.state new.state) → (named : NamedLeg) → said ≡ Some named → OnOk result (Tied named.leg (step named.leg))
-  tied_made Tied tied = of_said (λ named. OnOk result (Tied named.leg (step named.leg))) (as_carried result (Tied old.state) new.state (step old.state) made.carried tied)
+  pub tied_made : (Tied : LegState → LegState → Type 0) → OnOk result (Tied was.leg.state new.state) → (named : NamedLeg) → said ≡ Some named → OnOk result (Tied named.leg (step named.leg))
+  tied_made Tied tied = of_said (λ named. OnOk result (Tied named.leg (step named.leg))) (as_carried result (Tied was.leg.state) new.state (step was.leg.state) made.carried tied)
 
-  pub still_made : OnErr result (new.state ≡ old.state)
-  still_made = on_err_weaker result (λ (is : new ≡ old). ap (λ (l : Leg). l.state) is) made.refused
+  pub still_made : OnErr result (new.state ≡ was.leg.state)
+  still_made = on_err_weaker result (λ (is : new ≡ was.leg). ap (λ (l : Leg). l.state) is) made.refused
 
-  pub none_made : OnErr result (placed legs place (Some (named_leg name new.state)) ≡ value)
-  none_made = on_err_weaker result (still_there legs value place (named_leg name old.state) new.state made.view made.at) still_made
+  pub none_made : OnErr result (after_step legs place was new ≡ value)
+  none_made = on_err_weaker result (still_there (legs_of legs) value place (named_leg was.lease was.leg.state) new.state made.view made.at) still_made
 
-  pub ruled_made : (rules : PeerRules) → AreLegsOf rules value → AreLegsOf rules (placed legs place (Some (named_leg name new.state)))
+  pub ruled_made : (rules : PeerRules) → AreLegsOf rules value → AreLegsOf rules (after_step legs place was new)
   ruled_made rules =
-      stepped_legs_of legs value place (named_leg name old.state) new.state rules made.view made.at (record {
-        ruled = of_either (KeepsRules old.state) made.kept.rules (same old.state).ruled;
+      stepped_legs_of (legs_of legs) value place (named_leg was.lease was.leg.state) new.state rules made.view made.at (record {
+        ruled = of_either (KeepsRules was.leg.state) made.kept.rules (same was.leg.state).ruled;
         recorded = made.kept.recorded;
       })
 
   -- a step that leaves both numbers
-  pub kept_made : IsSameCall old.state (step old.state) → AreIndexed (placed legs place (Some (named_leg name new.state))) index
-  kept_made stays = stepped legs place (named_leg name old.state) new.state index made.are made.at (of_either (IsSameCall old.state) stays (same old.state))
+  pub kept_made : IsSameCall was.leg.state (step was.leg.state) → AreIndexed (after_step legs place was new) legs.by_remote
+  kept_made stays = stepped (legs_of legs) place (named_leg was.lease was.leg.state) new.state legs.by_remote made.are made.at (of_either (IsSameCall was.leg.state) stays (same was.leg.state))
+
+-- what a step that may be refused leaves
+pub step_made : {T E : Type 0} {legs : Inside} {value : PeerLegs} {place number : ℕ} {was : LegInside} {new : Leg} {result : Result T E} {step : LegState → LegState}
+    → IsMade legs value place (leg_at value number) was new result step → AreLegs (after_step legs place was new) → IsStep value (after_step legs place was new) number result step
+step_made made sound = record { leg = leg_made made; err = none_made made; sound = sound; ruled = ruled_made made }
+
+-- the array of remote numbers stays right after a step that leaves both numbers, and the legs rest until this moment
+pub sound_made : {T E : Type 0} {legs : Inside} {value : PeerLegs} {place : ℕ} {said : Option NamedLeg} {was : LegInside} {new : Leg} {result : Result T E} {step : LegState → LegState} {until : ℕ}
+    → IsMade legs value place said was new result step → IsSameCall was.leg.state (step was.leg.state) → RestUntil until (after_step legs place was new).places
+    → IsSound (record legs { places = with_item legs.places place (Some (named_leg was.lease new.state)); rest_until = until })
+sound_made made stays rest = let are = kept_made made stays in record { legs = are.legs_are; index = are.index_is; rest = rest }

@@ -13,7 +13,6 @@ use Rattle.leg_machine.specs.Leg.{LegState, entered, failed, is_short_of_entries
 use Rattle.leg_machine.specs.Media.{after_media, media_sent}
 use Rattle.leg_machine.specs.Message.{message_of, is_inval, is_vnak}
 use Rattle.leg_machine.specs.OrderTable.{order_row, row_carried, order_carried}
-use Rattle.leg_machine.specs.Openings.{open_in_step, open_out_step, leg_for_new, leg_for_call, opening_of, opening_effect}
 use Rattle.leg_machine.specs.Steps.{Step, nothing_sent, resend_step, taken, replied, taken_step, asking, not_asking, judged_step, numbered_step, vnak_step, prepared, inval_step, message_step, full_step}
 use Rattle.leg_machine.specs.Stage.{is_closing, is_ended}
 use Rattle.leg_machine.specs.Ticks.{Tick, quiet, hang_up_step, ping_step, last_step, due_frames, tick_step}
@@ -25,15 +24,12 @@ use Rattle.call_signals.specs.declared.effects.Answering.TheVariants.{Acknowledg
 use Rattle.call_signals.specs.declared.effects.Effect.{Effect}
 use Rattle.call_signals.specs.declared.effects.Mark.{Mark}
 use Rattle.call_signals.specs.declared.effects.Mark.TheVariants.{Nothing, Quelches, Unquelches, Authenticates}
-use Rattle.call_signals.specs.declared.format.Format.{Format}
 use Rattle.call_signals.specs.declared.message.Message.{Message}
-use Rattle.call_signals.specs.declared.message.Message.TheVariants.{New}
 use Rattle.leg_machine.specs.declared.media.MediaSent.{MediaSent}
 use Rattle.leg_machine.specs.declared.media.MediaSent.TheVariants.{Quelched, Voice, Mini}
 use Rattle.call_signals.specs.declared.order.Order.{Order}
 use Rattle.call_signals.specs.declared.order.Order.TheVariants as orders
 use Rattle.leg_machine.specs.declared.orders.Ordered.{Ordered}
-use Rattle.call_signals.specs.declared.rules.PeerRules.{PeerRules}
 use Rattle.call_signals.specs.declared.stage.Stage.TheVariants.{Ended}
 
 -- the rules are as before, and the window is as wide and the record as long as it was
@@ -90,7 +86,7 @@ same_replied leg now (Answered reply) = record { number = refl; remote = refl; r
 same_replied leg now Acks = same leg
 same_replied leg now Silent = same leg
 
-pub same_taken_step : (effect : Effect) (leg : LegState) (frame : FullFrame) (message : Message) (now : ℕ) → IsSameCall leg (taken_step effect leg frame message now).leg
+same_taken_step : (effect : Effect) (leg : LegState) (frame : FullFrame) (message : Message) (now : ℕ) → IsSameCall leg (taken_step effect leg frame message now).leg
 same_taken_step effect leg frame message now =
     chosen (λ (s : Step). IsSameCall leg s.leg) _ _ _ (same leg)
     (both_same leg (taken effect leg frame message) _ (same_taken effect leg frame message) (same_replied (taken effect leg frame message) now effect.answer))
@@ -202,13 +198,3 @@ same_tick grown leg now =
     chosen (λ (t : Tick). IsSameCall leg t.leg) (is_ended leg.stage) (quiet leg) (unended_step grown leg now) (same leg)
     (chosen (λ (t : Tick). IsSameCall leg t.leg) (is_short_of_entries leg) (quiet (failed leg RecordFull)) (due_frames grown leg now)
     (record { number = refl; remote = refl; ruled = record { rules = refl; width = refl; limit = refl } }) (same_due grown leg now))
-
--- ---- openings
-
-pub open_in_is : (rules : PeerRules) (number : ℕ) (frame : FullFrame) (now : ℕ) (challenge : List ℕ)
-    → IsSameCall (leg_for_new rules number frame now challenge) (open_in_step rules number frame now challenge).leg
-open_in_is rules number frame now challenge = same_taken_step (opening_effect (opening_of rules frame)) (leg_for_new rules number frame now challenge) frame New now
-
-pub open_out_is : (rules : PeerRules) (number : ℕ) (called : List ℕ) (caller : List ℕ) (format : Format) (now : ℕ)
-    → IsSameCall (leg_for_call rules number format now) (open_out_step rules number called caller format now).leg
-open_out_is rules number called caller format now = record { number = refl; remote = refl; ruled = record { rules = refl; width = refl; limit = refl } }

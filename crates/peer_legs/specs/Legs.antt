@@ -1,13 +1,11 @@
 -- The legs of a peer, by their local numbers.
+pub use Rattle.leg_machine.specs.Tie.{IsLegOf}
 use Rattle.std.specs.Prelude.{◌≡◌, ℕ, ◌+◌, ◌-◌, ◌^◌, ◌≤◌, nat_le, nat_lt, ◌==◌, ◌&&◌, not, is_some, Bool, false, List, [], ◌∷◌}
 use Rattle.std.specs.Prelude.{Option, None, Some, slice_get, slice_set, length, is_none, if◌then◌else◌}
 use Rattle.call_book.specs.Book.{is_same}
 use Rattle.call_book.specs.declared.leg_name.LegName.{LegName}
 use Rattle.call_signals.specs.declared.rules.PeerRules.{PeerRules}
 use Rattle.leg_machine.specs.Leg.{LegState}
-use Rattle.leg_machine.specs.Tie.{SendsNumbered}
-use Rattle.seq_window.specs.History.{IsLegal, acked_count, sent_count}
-use Rattle.seq_window.specs.Window.{held_count}
 
 -- a leg, and the name under which it is known
 pub record NamedLeg : Type 0 where
@@ -82,18 +80,6 @@ pub record AreLegs (legs : PeerLegs) : Type 0 where
       → one.leg.remote ≡ Some remote → other.leg.remote ≡ Some remote → a ≡ b
   pub some : 1 ≤ legs.first
   pub within : legs.first + length legs.places ≤ 2 ^ 15
-
--- a leg of a peer with these rules
-pub record IsLegOf (rules : PeerRules) (leg : LegState) : Type 0 where
-  -- its window is as wide, and its record as long, as the rules say
-  pub rules_are : leg.rules ≡ rules
-  pub width : leg.window.width ≡ rules.window
-  pub limit : leg.window.limit ≡ rules.record_limit
-  -- its record is legal, and what stands there as sent is numbered
-  pub legal : IsLegal leg.window.width leg.window.limit leg.window.history
-  pub numbered : SendsNumbered leg
-  -- as many frames are held as the record has as sent and not acknowledged
-  pub held : held_count leg.window + acked_count leg.window.history ≡ sent_count leg.window.history
 
 -- each leg is one of a peer with these rules
 abbrev pub AreLegsOf : PeerRules → PeerLegs → Type 0

@@ -3,3 +3,4 @@ pub mod Legs
 pub mod LegsInside
 pub mod RemoteNumbers
 pub mod Rests
+pub mod Steps

@@ -1,19 +1,20 @@
 //! The steps of one of a peer's legs: a full frame comes, an order is carried out, media goes out, time goes on.
 ghost use Rattle.std.specs.Option.{ForSome};
 ghost use Rattle.std.specs.Prelude.{◌≡◌, ◌==◌, ◌≤◌, ◌↔◌, length, map};
-ghost use Rattle.std.specs.Prelude.{slice_get, slice_set, true, None, Some, Err, [], IfErr, IfNone, IfOk};
+ghost use Rattle.std.specs.Prelude.{slice_get, slice_set, true, Some, Err, [], IfNone, IfOk};
 ghost use Rattle.std.specs.Prelude.{IsSome, OnErr, OnOk};
 ghost use Rattle.call_signals.specs.declared.rules.PeerRules.{PeerRules};
 ghost use Rattle.iax_frames.specs.FullFrame.{spelling};
 ghost use Rattle.leg_machine.specs.Leg.{is_short_of_entries};
 ghost use Rattle.leg_machine.specs.Media.{media_sent, after_media, media_frames};
-ghost use Rattle.leg_machine.specs.OrderTable.{order_refused, media_refused, is_voice, wants_memory, IsRefusal, IsShortMedia};
+ghost use Rattle.leg_machine.specs.OrderTable.{order_refused, media_refused, is_voice, wants_memory, IsShortMedia};
 ghost use Rattle.leg_machine.specs.OrderTable.{order_carried};
 ghost use Rattle.leg_machine.specs.Steps.{full_step, heard_of};
 ghost use Rattle.leg_machine.specs.Ticks.{tick_step};
 ghost use Rattle.leg_machine.specs.Tie.{TakesTurn, SendsAtMostOne};
 ghost use Rattle.peer_legs.specs.Finding.{can_reach};
 ghost use Rattle.peer_legs.specs.Legs.{NamedLeg as NamedLegValue};
+ghost use Rattle.peer_legs.specs.Steps.{IsAnswer, IsStep};
 
 use crate::named_leg::recorded;
 use crate::peer_legs::PeerLegs;
@@ -39,8 +40,7 @@ impl PeerLegs {
         requires there { can_reach self.old frame.now.head.source (leg_at self.old number) ≡ true }
         requires short { length frame.now.payload ≤ 1388 }
         requires empty { replies.old ≡ [] }
-        ensures leg { OnOk result ((named : NamedLegValue) → leg_at self.old number ≡ Some named →
-            self.new ≡ with_leg self.old named.name (full_step named.leg frame.now now).leg) }
+        ensures step { IsStep self.old self.new number result (λ leg. (full_step leg frame.now now).leg) }
         ensures replies { OnOk result ((named : NamedLegValue) → leg_at self.old number ≡ Some named →
             replies.new ≡ map spelling (full_step named.leg frame.now now).replies) }
         ensures heard { IfOk result (λ heard. (named : NamedLegValue) → leg_at self.old number ≡ Some named →
@@ -53,15 +53,10 @@ impl PeerLegs {
             → leg_at self.new number ≡ Some (record { name = named.name; leg = (full_step named.leg frame.now now).leg })) }
         ensures record_full { (named : NamedLegValue) → leg_at self.old number ≡ Some named →
             (result ≡ Err StepError.RecordFull) ↔ (is_short_of_entries named.leg ≡ true) }
-        ensures err { OnErr result (self.new ≡ self.old) }
         ensures none_sent { OnErr result (replies.new ≡ replies.old) }
-        ensures sound { AreLegs self.new }
-        ensures ruled { (rules : PeerRules) → AreLegsOf rules self.old → AreLegsOf rules self.new }
     {
         let index = self.place_of(number);
-        let Some(named) = &mut self.places[index] else {
-            unreachable!()
-        };
+        let named = self.places[index].as_mut().unwrap();
         let heard = named.leg.full_into(frame, now, replies);
         recorded(&named.leg);
         let remote = named.leg.remote();
@@ -85,27 +80,17 @@ impl PeerLegs {
         requires leg { IsSome (leg_at self.old number) }
         requires media { IsShortMedia order.now }
         requires empty { replies.old ≡ [] }
-        ensures leg { ForSome (leg_at self.old number) (λ named. OnOk result
-            (self.new ≡ with_leg self.old named.name (order_carried named.leg order.now now).leg)) }
+        ensures step { IsStep self.old self.new number result (λ leg. (order_carried leg order.now now).leg) }
         ensures replies { ForSome (leg_at self.old number) (λ named. OnOk result
             (replies.new ≡ (order_carried named.leg order.now now).datagrams)) }
         ensures tied { ForSome (leg_at self.old number) (λ named. OnOk result
             (SendsAtMostOne named.leg (order_carried named.leg order.now now).leg)) }
-        ensures unrefused { ForSome (leg_at self.old number) (λ named. OnOk result
-            (order_refused named.leg order.now now ≡ None)) }
-        ensures refused { ForSome (leg_at self.old number) (λ named. IfErr result
-            (IsRefusal (order_refused named.leg order.now now))) }
-        ensures memory { ForSome (leg_at self.old number) (λ named. result ≡ Err OrderError.Memory
-            → wants_memory named.leg order.now now ≡ true) }
-        ensures err { OnErr result (self.new ≡ self.old) }
+        ensures answer { ForSome (leg_at self.old number) (λ named.
+            IsAnswer result (order_refused named.leg order.now now) (wants_memory named.leg order.now now)) }
         ensures none_sent { OnErr result (replies.new ≡ replies.old) }
-        ensures sound { AreLegs self.new }
-        ensures ruled { (rules : PeerRules) → AreLegsOf rules self.old → AreLegsOf rules self.new }
     {
         let index = self.place_of(number);
-        let Some(named) = &mut self.places[index] else {
-            unreachable!()
-        };
+        let named = self.places[index].as_mut().unwrap();
         let obeyed = named.leg.order_into(order, now, replies);
         recorded(&named.leg);
         self.rest_until = self.rest_until.min(named.rest_until());
@@ -129,27 +114,18 @@ impl PeerLegs {
         requires empty { replies.old ≡ [] }
         ensures sent { ForSome (leg_at self.old number) (λ named. IfOk result
             (λ sent. sent ≡ media_sent named.leg now)) }
-        ensures leg { ForSome (leg_at self.old number) (λ named. OnOk result
-            (self.new ≡ with_leg self.old named.name (after_media (media_sent named.leg now) named.leg media.now now))) }
+        ensures step { IsStep self.old self.new number result
+            (λ leg. after_media (media_sent leg now) leg media.now now) }
         ensures replies { ForSome (leg_at self.old number) (λ named. OnOk result
             (replies.new ≡ map spelling (media_frames (media_sent named.leg now) named.leg media.now now))) }
         ensures tied { ForSome (leg_at self.old number) (λ named. OnOk result
             (SendsAtMostOne named.leg (after_media (media_sent named.leg now) named.leg media.now now))) }
-        ensures unrefused { ForSome (leg_at self.old number) (λ named. OnOk result
-            (media_refused named.leg now ≡ None)) }
-        ensures refused { ForSome (leg_at self.old number) (λ named. IfErr result
-            (IsRefusal (media_refused named.leg now))) }
-        ensures memory { ForSome (leg_at self.old number) (λ named. result ≡ Err OrderError.Memory
-            → is_voice (media_sent named.leg now) ≡ true) }
-        ensures err { OnErr result (self.new ≡ self.old) }
+        ensures answer { ForSome (leg_at self.old number) (λ named.
+            IsAnswer result (media_refused named.leg now) (is_voice (media_sent named.leg now))) }
         ensures none_sent { OnErr result (replies.new ≡ replies.old) }
-        ensures sound { AreLegs self.new }
-        ensures ruled { (rules : PeerRules) → AreLegsOf rules self.old → AreLegsOf rules self.new }
     {
         let index = self.place_of(number);
-        let Some(named) = &mut self.places[index] else {
-            unreachable!()
-        };
+        let named = self.places[index].as_mut().unwrap();
         let sent = named.leg.media_into(media, now, replies);
         recorded(&named.leg);
         self.rest_until = named.rest_after_media(&sent, self.rest_until);

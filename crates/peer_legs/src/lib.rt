@@ -4,11 +4,9 @@
 mod finding;
 mod leg_steps;
 mod named_leg;
-mod openings;
 mod peer_legs;
 mod remote_index;
 mod rests;
 
 pub use named_leg::NamedLeg;
-pub use openings::open_in;
 pub use peer_legs::PeerLegs;

@@ -106,24 +106,16 @@ impl PeerLegs {
         self.places.len()
     }
 
-    // The leg at a place, the first number's being 0.
-    pub(crate) fn place(&self, index: usize) -> Option<&NamedLeg>
-        ensures leg { option_copied result ≡ filled (slice_get self.now.places index) }
-        ensures sound { AreLegs self.now }
-    {
-        match self.places.get(index) {
-            Some(place) => place.as_ref(),
-            None => None,
-        }
-    }
-
     /// The leg of a local number; `None` where there is none.
     pub fn get(&self, number: u16) -> Option<&NamedLeg>
         ensures leg { option_copied result ≡ leg_at self.now number }
         ensures sound { AreLegs self.now }
     {
         if self.first <= number {
-            self.place(usize::from(number - self.first))
+            match self.places.get(usize::from(number - self.first)) {
+                Some(place) => place.as_ref(),
+                None => None,
+            }
         } else {
             None
         }

@@ -42,13 +42,16 @@ abbrev pub IsOpenRefusal : Option OpenError → OpenError → Type 0
 IsOpenRefusal (Some due) e = e ≡ due
 IsOpenRefusal None e = e ≡ errors.Memory
 
--- the peer with a new leg, and with what it sends
-abbrev pub with_opened : PeerView → NamedLeg → List (List ℕ) → PeerView
-with_opened peer named datagrams = record peer {
+-- the peer with a new leg, by a step that is counted
+abbrev pub with_seated : PeerView → NamedLeg → PeerView
+with_seated peer named = record peer {
   legs = with_place peer.legs named.name.number (Some named);
-  outbox = put peer.outbox datagrams;
   accounts = stepped peer.accounts;
 }
+
+-- .. and with what it sends
+abbrev pub with_opened : PeerView → NamedLeg → List (List ℕ) → PeerView
+with_opened peer named datagrams = record (with_seated peer named) { outbox = put peer.outbox datagrams }
 
 -- a NEW opens a leg
 abbrev pub opens_in : PeerView → LegName → FullFrame → ℕ → List ℕ → PeerStep

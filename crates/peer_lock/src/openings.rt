@@ -1,20 +1,17 @@
 //! The steps of a peer in which a leg is opened ("Call Setup").
 ghost use Rattle.std.specs.Prelude.{◌≡◌, ◌≢◌, ◌+◌, ◌<◌, ◌≤◌, [], length, map, None, Some, IsNone, IsTrue, ◌↔◌, true, IfOk, IfErr};
-ghost use Rattle.std.specs.Prelude.{OnOk, OnErr};
+ghost use Rattle.std.specs.Prelude.{OnOk, OnErr, ℕ};
 ghost use Rattle.iax_frames.specs.FullFrame.{spelling};
 ghost use Rattle.peer_accounts.specs.Accounts.{with_step as with_credit};
-ghost use Rattle.std.specs.Prelude.{ℕ};
-ghost use Rattle.peer_legs.specs.Legs.{IsLegOf, leg_at, leg_of_remote, with_place};
+ghost use Rattle.peer_legs.specs.Legs.{IsLegOf, is_free_name, leg_at, leg_of_remote};
 ghost use Rattle.call_signals.specs.declared.outcomes.Judged.TheVariants.{Unnumbered};
-ghost use Rattle.peer_lock.specs.Peer.{counted, handed_up, leg_alone, offer_with};
+ghost use Rattle.peer_lock.specs.Peer.{handed_up, leg_alone, offer_with};
 ghost use Rattle.peer_accounts.specs.HandedUp.{IsNothing};
 ghost use Rattle.peer_lock.specs.Makes.{IsUnchanged};
-ghost use Rattle.peer_legs.specs.Legs.{is_free_name};
-ghost use Rattle.leg_machine.specs.Openings.{open_in_step, open_out_step};
-ghost use Rattle.leg_machine.specs.Steps.{heard_of};
+ghost use Rattle.leg_machine.specs.Openings.{open_out_step};
 ghost use Rattle.outbox.specs.Outbox.{put};
-ghost use Rattle.peer_lock.specs.Openings.{IsOpening, IsOpenRefusal, open_in_refused, open_out_refused, opens_in, opens_out};
-ghost use Rattle.peer_lock.specs.Openings.{with_opened};
+ghost use Rattle.peer_lock.specs.Openings.{IsOpening, IsOpenRefusal, open_in_refused, open_out_refused};
+ghost use Rattle.peer_lock.specs.Openings.{opens_in, opens_out, with_seated};
 
 use crate::arrivals::hand_up;
 use crate::errors::OpenError;
@@ -26,7 +23,6 @@ use call_book::{Lease, LegName};
 use iax_frames::{CallNumber, Full};
 use leg_machine::{Caller, Format, Heard, Judged, Leg};
 use peer_accounts::{Naming, Onwards, Pass};
-use peer_legs::open_in;
 use std::alloc::AllocError;
 
 impl<J: Naming> PeerState<J> {
@@ -37,13 +33,7 @@ impl<J: Naming> PeerState<J> {
         requires number { leg.state.number ≡ lease.number }
         requires remote { (remote : ℕ) → leg.state.remote ≡ Some remote → leg_of_remote self.old.legs remote ≡ None }
         requires ruled { IsLegOf self.old.rules leg.state }
-        ensures peer { self.new ≡
-            record (counted self.old) {
-              legs = with_place self.old.legs lease.number (Some (record {
-                name = lease;
-                leg = leg.state;
-              }));
-            } }
+        ensures peer { self.new ≡ with_seated self.old (record { name = lease; leg = leg.state }) }
         ensures credit { pass.new ≡ with_credit pass.old 0 }
         ensures there { leg_at self.new.legs lease.number ≡ Some (record { name = lease; leg = leg.state }) }
     {
@@ -87,47 +77,6 @@ impl<J: Naming> PeerState<J> {
         CallNumber::new(name.number)
     }
 
-    // A NEW that came makes a leg for a name, and what the leg sends goes to the outbox.
-    fn take_new(
-        &mut self,
-        name: LegName,
-        frame: &Full,
-        now: u64,
-        challenge: &Challenge,
-    ) -> Result<(Leg, Heard), AllocError>
-        requires opening { IsOpening frame.now }
-        requires free { is_free_name self.old.legs name ≡ true }
-        ensures peer { OnOk result
-            (self.new ≡
-            record self.old {
-              outbox =
-                  put self.old.outbox (map spelling
-                  (open_in_step self.old.rules name.number frame.now now challenge.now).replies);
-            }) }
-        ensures leg { IfOk result (λ opened. opened.0.state ≡
-            (open_in_step self.old.rules name.number frame.now now challenge.now).leg) }
-        ensures number { IfOk result (λ opened. opened.0.state.number ≡ name.number) }
-        ensures remote { IfOk result (λ opened. opened.0.state.remote ≡ Some frame.now.head.source) }
-        ensures ruled { IfOk result (λ opened. IsLegOf self.old.rules opened.0.state) }
-        ensures heard { IfOk result (λ opened. opened.1 ≡
-            heard_of (open_in_step self.old.rules name.number frame.now now challenge.now)) }
-        ensures err { OnErr result (self.new ≡ self.old) }
-    {
-        let number = self.free_number(name);
-        self.replies.clear();
-        let opened = open_in(
-            self.alloc,
-            &self.rules,
-            number,
-            frame,
-            now,
-            challenge,
-            &mut self.replies,
-        )?;
-        put_all(&mut self.outbox, &self.replies);
-        Ok(opened)
-    }
-
     /// A NEW that came opens a leg, under the lease, at the moment `now`, in milliseconds: one step ("Call Setup"). It is one
     /// that `datagram` answers by `NeedsNumber`. What is handed up is written to the list, which is empty.
     ///
@@ -156,14 +105,28 @@ impl<J: Naming> PeerState<J> {
         ensures lease { IfErr result (λ back. back.0 ≡ lease) }
         ensures err { OnErr result (IsUnchanged self.old self.new pass.old pass.new onwards.new) }
     {
-        if let Some(refusal) = self.new_refused(lease.name(), frame) {
+        let name = lease.name();
+        if let Some(refusal) = self.new_refused(name, frame) {
             return Err((lease, refusal));
         }
         if onwards.reserve(1).is_err() {
             return Err((lease, OpenError::Memory));
         }
-        match self.take_new(lease.name(), frame, now, challenge) {
-            Ok((leg, heard)) => Ok(self.opened(pass, lease, leg, heard, onwards)),
+        let number = self.free_number(name);
+        self.replies.clear();
+        match Leg::open_in_into(
+            self.alloc,
+            &self.rules,
+            number,
+            frame,
+            now,
+            challenge,
+            &mut self.replies,
+        ) {
+            Ok((leg, heard)) => {
+                put_all(&mut self.outbox, &self.replies);
+                Ok(self.opened(pass, lease, leg, heard, onwards))
+            }
             Err(_) => Err((lease, OpenError::Memory)),
         }
     }
@@ -184,13 +147,7 @@ impl<J: Naming> PeerState<J> {
         requires ruled { IsLegOf self.old.rules leg.state }
         requires room { 1 ≤ onwards.old.room }
         requires nothing { IsNothing onwards.old }
-        ensures peer { self.new ≡
-            record (counted self.old) {
-              legs = with_place self.old.legs lease.number (Some (record {
-                name = lease;
-                leg = leg.state;
-              }));
-            } }
+        ensures peer { self.new ≡ with_seated self.old (record { name = lease; leg = leg.state }) }
         ensures credit { pass.new ≡ with_credit pass.old 0 }
         ensures step { result ≡ leg_alone lease heard.judged }
         ensures signals { onwards.new.signals ≡ handed_up lease heard.signal }

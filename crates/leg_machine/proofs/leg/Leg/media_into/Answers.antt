@@ -1,46 +1,41 @@
-use Rattle.std.specs.Prelude.{map}
-use Rattle.std.proofs.Common.{rules}
-use Rattle.iax_frames.specs.FullFrame.{spelling}
-use Rattle.call_signals.specs.declared.order.OrderKind.TheVariants as kinds
-use Rattle.leg_machine.specs.Leg.{leg_of}
-use Rattle.leg_machine.specs.Media.{media_sent, after_media, media_frames}
-use Rattle.leg_machine.specs.OrderTable.{media_refused}
-use Rattle.leg_machine.specs.Tie.{SendsAtMostOne, SendsNumbered, IsSending}
-use Rattle.leg_machine.proofs.Answered.{Answers, answers}
-use Rattle.leg_machine.proofs.SeenOrders.{answered-seen, answered-wrong, media-seen, media-wrong}
-use Rattle.leg_machine.proofs.SendingSteps.{media-sent}
-use Rattle.leg_machine.proofs.Sides.{has-sent}
+use Rattle.std.proofs.Common.{◌≡◌, ◌∙◌, ap, arith, refl, subst, sym, true}
+use Rattle.std.proofs.lemmas.Grind.{common_steps}
+use Rattle.call_signals.specs.Stage.{is_talking}
+use Rattle.leg_machine.specs.declared.media.MediaSent.TheVariants.{Voice}
+use Rattle.leg_machine.specs.Leg.{Leg, leg_of}
+use Rattle.leg_machine.specs.Media.{after_media, media_frames}
+use Rattle.leg_machine.specs.Seen.{seen}
+use Rattle.leg_machine.specs.Tie.{HasSent, SendsAtMostOne}
+use Rattle.leg_machine.proofs.SeenOrders.{talking-seen}
+use Rattle.leg_machine.proofs.SendingSteps.{media-sent, written}
 use Rattle.leg_machine.proofs.TiedSends.{media-sends}
 use Rattle.leg_machine.proofs.leg.Leg.media_into.Goals as goal
-use Rattle.leg_machine.proofs.leg.Leg.media_into.Goals.{After-media}
 
-all : (c : After-media) → Answers c.media.result (SendsAtMostOne c.args.self.now.state) IsSending (leg_of c.media.new.self) c.media.new.outs
-all c =
-    let old = c.args.self.now.state in
-    let how = media_sent old c.args.now in
-    let step = after_media how old c.args.media.now c.args.now in
-    let frames = media_frames how old c.args.media.now c.args.now in
-    let numbered : SendsNumbered old = search rules in
-    let sent = has-sent step frames (media-sent how old c.args.media.now c.args.now numbered) in
-    answers c.media.result (SendsAtMostOne old) IsSending old step (leg_of c.media.new.self) (map spelling frames) c.media.new.outs
-    (media-sends how old c.args.media.now c.args.now) sent.numbered sent.sendings numbered (search rules) (search rules) (search rules)
+voice : (c : goal.In_ok-send_voice) → HasSent (leg_of c.send_voice.new.self) c.send_voice.new.outs
+voice c =
+    let old = leg_of c.self.inside.machine in
+    written (after_media Voice old c.args.media.now c.args.now) (leg_of c.send_voice.new.self) (media_frames Voice old c.args.media.now c.args.now) c.send_voice.new.outs
+    (media-sent Voice old c.args.media.now c.args.now c.self.invariant) c.in_ok-send_voice.ensures.leg c.in_ok-send_voice.ensures.replies
 
-pub returns-clause-tied : goal.returns-clause-tied
-returns-clause-tied c = (all c).tied
+pub returns-in_ok-send_voice-clause-tied : goal.returns-in_ok-send_voice-clause-tied
+returns-in_ok-send_voice-clause-tied c =
+    let old = leg_of c.self.inside.machine in
+    let sends = subst (SendsAtMostOne old) (sym c.in_ok-send_voice.ensures.leg) (media-sends Voice old c.args.media.now c.args.now) in
+    subst (λ (l : Leg). SendsAtMostOne l.state (leg_of c.send_voice.new.self)) c.self.view_is sends
 
-pub returns-clause-sendings : goal.returns-clause-sendings
-returns-clause-sendings c = (all c).sendings
+pub returns-in_ok-send_voice-clause-sendings : goal.returns-in_ok-send_voice-clause-sendings
+returns-in_ok-send_voice-clause-sendings c = (voice c).sendings
 
-pub returns-clause-seen : goal.returns-clause-seen
-returns-clause-seen c =
-    let old = c.args.self.now.state in
-    answered-seen c.media.result kinds.Media old (after_media (media_sent old c.args.now) old c.args.media.now c.args.now) (leg_of c.media.new.self) _
-    (media-seen old c.args.media.now c.args.now) (search rules) (search rules)
+pub returns-in_ok-send_voice-clause-seen : goal.returns-in_ok-send_voice-clause-seen
+returns-in_ok-send_voice-clause-seen c =
+    let talks : is_talking c.args.self.now.state.stage ≡ true = grind (arith, common_steps) in
+    talking-seen c.args.self.now.state (leg_of c.send_voice.new.self) talks
+    (ap seen c.in_ok-send_voice.ensures.leg ∙ ap (λ (l : Leg). seen l.state) c.self.view_is)
 
-pub returns-clause-wrong_stage : goal.returns-clause-wrong_stage
-returns-clause-wrong_stage c =
-    let old = c.args.self.now.state in
-    answered-wrong c.media.result (media_refused old c.args.now) _ (media-wrong old c.args.now) (search rules) (search rules)
+pub returns-else-eq-clause-seen : goal.returns-else-eq-clause-seen
+returns-else-eq-clause-seen c =
+    let talks : is_talking c.args.self.now.state.stage ≡ true = grind (arith, common_steps) in
+    talking-seen c.args.self.now.state c.args.self.now.state talks refl
 
 pub invariant_of-self : goal.invariant_of-self
-invariant_of-self c = (all c).numbered
+invariant_of-self c = (voice c).numbered

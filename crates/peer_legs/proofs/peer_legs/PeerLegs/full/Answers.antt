@@ -1,5 +1,6 @@
 use Rattle.std.proofs.lemmas.Result.{on_ok_weaker}
 use Rattle.std.proofs.Common.{◌≡◌, ◌∙◌, Some, true, inl, ap, refl, subst, sym}
+use Rattle.std.specs.Option.{option_copied_mut}
 use Rattle.std.specs.Prelude.{OnOk}
 use Rattle.leg_machine.specs.Leg.{LegState}
 use Rattle.leg_machine.specs.Steps.{full_step}
@@ -10,7 +11,7 @@ use Rattle.peer_legs.proofs.AtRest.{rest_placed}
 use Rattle.peer_legs.proofs.LegChanges.{AreIndexed, learned}
 use Rattle.peer_legs.proofs.LegIndex.{placed}
 use Rattle.peer_legs.proofs.LegSearch.{IsFound, found}
-use Rattle.peer_legs.proofs.LegSteps.{IsMade, named_leg, made_at, of_said, of_either, leg_made, tied_made, none_made, ruled_made}
+use Rattle.peer_legs.proofs.LegSteps.{IsMade, named_leg, made_at, of_said, of_either, leg_made, tied_made, step_made}
 use Rattle.peer_legs.proofs.LegThere.{each_ok, each_if_ok, from_reached, kept_there}
 use Rattle.peer_legs.proofs.SameCall.{MayLearn, full_learns}
 use Rattle.peer_legs.proofs.peer_legs.PeerLegs.full.Goals as goal
@@ -27,17 +28,13 @@ after c = placed (legs_of c.self.inside) c.place_of-index.result (Some (named_le
 
 is_found : (c : goal.After-note) → IsFound (legs_of c.self.inside) c.args.self.now c.place_of-index.result c.args.number (before c)
 is_found c =
-    found (legs_of c.self.inside) c.args.self.now c.place_of-index.result c.args.number c.index_mut.result.now c.in-Some.named (before c)
-    c.self.view_is c.place_of-index.ensures.place c.place_of-index.ensures.within c.place_of-index.ensures.leg c.index_mut.ensures.value c.in-Some.is c.named.view_is
+    found c.args.number c.self.view_is c.place_of-index.ensures.place c.place_of-index.ensures.within c.place_of-index.ensures.leg c.index_mut.ensures.value
+    (sym c.as_mut.ensures.value ∙ ap option_copied_mut c.unwrap-named.ensures) c.named.view_is
 
-made : (c : goal.After-note) → IsMade (legs_of c.self.inside) c.args.self.now c.self.inside.by_remote c.place_of-index.result (leg_at c.args.self.now c.args.number)
-    c.named.inside.lease c.named.inside.leg c.full_into-heard.new.self c.full_into-heard.result (step c)
+made : (c : goal.After-note) → IsMade c.self.inside c.args.self.now c.place_of-index.result (leg_at c.args.self.now c.args.number) c.named.inside c.full_into-heard.new.self c.full_into-heard.result (step c)
 made c =
-    made_at c.self.view_is c.self.invariant.legs c.self.invariant.index (is_found c) c.full_into-heard.ensures.leg c.full_into-heard.ensures.err
-    (record {
-      rules = (full_learns c.named.inside.leg.state c.args.frame.now c.args.now).ruled;
-      recorded = c.recorded.ensures;
-    })
+    made_at c.self.invariant c.self.view_is (is_found c) c.full_into-heard.ensures.leg c.full_into-heard.ensures.err (full_learns c.named.inside.leg.state c.args.frame.now c.args.now).ruled
+    c.recorded.ensures
 
 -- the other side's number may have been learnt
 all : (c : goal.After-note) → AreIndexed (after c) c.note.new.self
@@ -70,15 +67,12 @@ pub returns : goal.returns
 returns c =
     let said = leg_at c.args.self.now c.args.number in
     record {
-      leg = each_ok c.full_into-heard.result said _ (leg_made (made c));
+      step = step_made (made c) (all c).legs_are;
       there = each_ok c.full_into-heard.result said _ (there c);
       kept = on_ok_weaker c.full_into-heard.result (λ at. rw at refl) (there c (before c) (is_found c).leg_is);
       replies = each_ok c.full_into-heard.result said _ (of_said (made c) _ c.full_into-heard.ensures.replies);
       heard = each_if_ok c.full_into-heard.result said _ (of_said (made c) _ c.full_into-heard.ensures.heard);
       tied = tied_made (made c) (λ old new. TakesTurn old c.args.frame.now new) c.full_into-heard.ensures.tied;
       record_full = of_said (made c) _ c.full_into-heard.ensures.record_full;
-      err = none_made (made c);
       none_sent = c.full_into-heard.ensures.none_sent;
-      sound = (all c).legs_are;
-      ruled = ruled_made (made c);
     }

@@ -30,8 +30,7 @@ is_found c =
 abbrev answer : goal.After-self-2-1 → Result ℕ ℕ
 answer c = Ok c.tick_into-skipped.result
 
-made : (c : goal.After-self-2-1) → IsMade (legs_of c.self.inside) c.args.self.now c.self.inside.by_remote c.args.index (filled (slice_get c.args.self.now.places c.args.index))
-    c.named.inside.lease c.named.inside.leg c.tick_into-skipped.new.self (answer c) (step c)
+made : (c : goal.After-self-2-1) → IsMade c.self.inside c.args.self.now c.args.index (filled (slice_get c.args.self.now.places c.args.index)) c.named.inside c.tick_into-skipped.new.self (answer c) (step c)
 made c = record {
   view = c.self.view_is;
   are = record { legs_are = c.self.invariant.legs; index_is = c.self.invariant.index };

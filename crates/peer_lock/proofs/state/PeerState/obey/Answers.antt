@@ -2,7 +2,7 @@ use Rattle.peer_lock.proofs.Kept.{legs_kept}
 use Rattle.peer_lock.proofs.state.PeerState.obey.Goals as goal
 
 pub invariant_of-self : goal.invariant_of-self
-invariant_of-self g c = legs_kept _ _ _ c.self.invariant c.order.ensures.ruled
+invariant_of-self g c = legs_kept _ _ _ c.self.invariant c.order.ensures.step.ruled
 
 pub invariant_of-self-2 : goal.invariant_of-self-2
-invariant_of-self-2 g c = legs_kept _ _ _ c.self.invariant c.order.ensures.ruled
+invariant_of-self-2 g c = legs_kept _ _ _ c.self.invariant c.order.ensures.step.ruled

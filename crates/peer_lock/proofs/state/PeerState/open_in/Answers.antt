@@ -1,34 +1,37 @@
-use Rattle.std.specs.Prelude.{map}
-use Rattle.std.proofs.Common.{◌∙◌, ap}
-use Rattle.call_book.specs.declared.leg_name.LegName.{LegName}
+use Rattle.std.proofs.Common.{◌≡◌, ◌∙◌, ap, rules, sym}
 use Rattle.call_signals.specs.declared.outcomes.Heard.{Heard}
-use Rattle.iax_frames.specs.FullFrame.{spelling}
-use Rattle.leg_machine.specs.Leg.{LegState}
-use Rattle.leg_machine.specs.Openings.{open_in_step}
-use Rattle.leg_machine.specs.Steps.{Step}
-use Rattle.peer_lock.specs.Peer.{handed_up, leg_alone, offer_with}
-use Rattle.peer_lock.proofs.Opened.{opened_heard, opened_leg, seated}
+use Rattle.leg_machine.specs.Steps.{Step, heard_of}
+use Rattle.outbox.specs.Outbox.{put}
+use Rattle.peer_legs.specs.Legs.{leg_of_remote}
+use Rattle.peer_lock.specs.Peer.{PeerView, handed_up, leg_alone, offer_with}
+use Rattle.peer_lock.proofs.Opened.{new_source, opened_in, taken_in}
 use Rattle.peer_lock.proofs.state.PeerState.open_in.Goals as goal
 
-pub returns-in-Ok-clause-peer : goal.returns-in-Ok-clause-peer
-returns-in-Ok-clause-peer g c =
-    let step : LegName → Step = λ n. open_in_step c.args.self.now.rules n.number c.args.frame.now c.args.now c.args.challenge.now in
-    seated c.args.self.now c.take_new.new.self c.opened.new.self c.name-2.result c.args.lease (λ n. (step n).leg) (λ n. map spelling (step n).replies)
-    c.in-Ok.leg.state c.name-2.ensures c.opened.ensures.peer c.in-Ok.ensures.peer c.in-Ok.ensures.leg
+pub opened-requires-clause-remote : goal.opened-requires-clause-remote
+opened-requires-clause-remote g c κs within = λ remote is.
+    let source = c.args.frame.now.head.source in
+    let new = new_source c.args.self.now _ c.name-name.result source (sym c.new_refused.ensures ∙ c.in_default.is) in
+    let here = ap (λ (v : PeerView). leg_of_remote v.legs source) c.self.view_is ∙ new in
+    let known = c.in-Ok.ensures.remote in
+    let same : source ≡ remote = cc in
+    rw (← same) here
 
-pub returns-in-Ok-clause-step : goal.returns-in-Ok-clause-step
-returns-in-Ok-clause-step g c =
-    let heard = opened_heard c.args.self.now c.name-2.result c.args.lease c.args.frame.now c.args.now c.args.challenge.now c.name-2.ensures c.in-Ok.heard c.in-Ok.ensures.heard in
-    c.opened.ensures.step ∙ ap (λ (h : Heard). leg_alone c.args.lease h.judged) heard
-
-pub returns-in-Ok-clause-signals : goal.returns-in-Ok-clause-signals
-returns-in-Ok-clause-signals g c =
-    let heard = opened_heard c.args.self.now c.name-2.result c.args.lease c.args.frame.now c.args.now c.args.challenge.now c.name-2.ensures c.in-Ok.heard c.in-Ok.ensures.heard in
-    c.opened.ensures.signals ∙ ap (λ (h : Heard). handed_up c.args.lease h.signal) heard
-
-pub returns-in-Ok-clause-offer : goal.returns-in-Ok-clause-offer
-returns-in-Ok-clause-offer g c =
-    let heard = opened_heard c.args.self.now c.name-2.result c.args.lease c.args.frame.now c.args.now c.args.challenge.now c.name-2.ensures c.in-Ok.heard c.in-Ok.ensures.heard in
-    let leg = opened_leg c.args.self.now c.name-2.result c.args.lease c.args.frame.now c.args.now c.args.challenge.now c.name-2.ensures c.in-Ok.leg.state c.in-Ok.ensures.leg in
-    c.opened.ensures.offer ∙ ap (λ (l : LegState). offer_with l c.in-Ok.heard.signal) leg
-    ∙ ap (λ (h : Heard). offer_with (open_in_step c.args.self.now.rules c.args.lease.number c.args.frame.now c.args.now c.args.challenge.now).leg h.signal) heard
+pub returns-in-Ok : goal.returns-in-Ok
+returns-in-Ok g c =
+    let view : PeerView = record { rules = c.self.inside.rules; legs = c.self.inside.legs; outbox = c.self.inside.outbox; queue = c.self.inside.queue; accounts = c.self.inside.account } in
+    let step_is = taken_in view c.args.self.now c.args.lease c.name-name.result c.free_number-number.result c.args.frame.now c.args.now c.args.challenge.now c.self.view_is c.free_number-number.ensures.number c.name-name.ensures in
+    let heard_is = c.in-Ok.ensures.heard ∙ ap heard_of step_is in
+    let leg_is = c.in-Ok.ensures.leg ∙ ap (λ (s : Step). s.leg) step_is in
+    let sent : c.put_all.new.outbox ≡ put view.outbox c.open_in_into.new.replies = search rules in
+    record {
+      peer = opened_in view c.args.self.now c.opened.new.self c.args.lease _ _ c.put_all.new.outbox c.open_in_into.new.replies c.in-Ok.leg.state
+          c.self.view_is step_is c.opened.ensures.peer sent c.in-Ok.ensures.replies c.in-Ok.ensures.leg;
+      step = c.opened.ensures.step ∙ ap (λ (h : Heard). leg_alone c.args.lease h.judged) heard_is;
+      signals = c.opened.ensures.signals ∙ ap (λ (h : Heard). handed_up c.args.lease h.signal) heard_is;
+      offer = c.opened.ensures.offer ∙ (λ i. offer_with (leg_is i) (heard_is i).signal);
+      credit = search rules;
+      unrefused = search rules;
+      refused = search rules;
+      lease = search rules;
+      err = search rules;
+    }
