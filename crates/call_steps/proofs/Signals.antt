@@ -1,5 +1,5 @@
 -- The signals of a list that aren't passed on yet.
-use Rattle.std.proofs.Common.{◌≡◌, ℕ, zero, suc, ◌-◌, ◌<◌, ◌≤◌, List, [], ◌∷◌, length, drop, Some, slice_get, refl, ap, ◌∙◌, arith}
+use Rattle.std.proofs.Common.{◌≡◌, ℕ, zero, suc, ◌-◌, ◌<◌, ◌≤◌, List, [], ◌∷◌, length, drop, None, Some, slice_get, refl, ap, ◌∙◌, arith}
 use Rattle.call_steps.specs.WorkState.{first_of, tail_of}
 
 pub first_of-drop : {A : Type 0} (xs : List A) (i : ℕ) → slice_get xs i ≡ first_of (drop i xs)
@@ -29,3 +29,8 @@ pub tail_of-last : {A : Type 0} (xs : List A) (count : ℕ) → 1 ≤ count → 
 tail_of-last xs count some few =
     let next : suc (length xs - count) ≡ length xs - (count - 1) = omega arith in
     tail_of-drop xs (length xs - count) ∙ ap (λ i. drop i xs) next
+
+-- where there is no first one, none is left
+pub no_tail : {A : Type 0} (xs : List A) → None ≡ first_of xs → xs ≡ tail_of xs
+no_tail [] none = refl
+no_tail (x ∷ xs) none = absurd (cc)

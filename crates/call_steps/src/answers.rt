@@ -2,7 +2,6 @@
 ghost use Rattle.std.specs.Prelude.{◌≡◌, [], Option, None, Some, Ok, false};
 ghost use Rattle.call_steps.specs.Work as work;
 ghost use Rattle.call_steps.specs.WorkState.{onwards_after, brings_list};
-ghost use Rattle.call_steps.specs.declared.place.Place.TheVariants as places;
 
 use crate::act::Act;
 use crate::need::Route;
@@ -23,8 +22,15 @@ impl Work {
         ensures onwards { self.new.onwards ≡ onwards_after self.old.work.place reply self.old.onwards }
     {
         match self.place() {
-            Place::Datagram(peer) => self.after_datagram(reply, peer),
-            Place::OpenIn(name) => self.after_open_in(reply, name),
+            Place::Datagram(peer) => match reply {
+                Reply::Datagram(Ok(heard)) => self.hear(heard),
+                Reply::Datagram(Err(PeerError::NeedsNumber)) => self.go_to(Place::ReserveIn(peer)),
+                _ => self.end(),
+            },
+            Place::OpenIn(name) => match reply {
+                Reply::OpenIn(Ok(heard)) => self.hear(heard),
+                _ => self.go_to(Place::GiveBack(name)),
+            },
             place => self.told_without_list(place, &reply),
         }
     }
@@ -74,34 +80,12 @@ impl Work {
         }
     }
 
-    #[inline(always)]
-    fn after_datagram(&mut self, reply: Reply, peer: u16)
-        ensures work { self.new.work ≡ work.after_datagram reply peer self.old.work.rest }
-        ensures onwards { self.new.onwards ≡ onwards_after (places.Datagram peer) reply self.old.onwards }
-    {
-        match reply {
-            Reply::Datagram(Ok(heard)) => self.hear(heard),
-            Reply::Datagram(Err(PeerError::NeedsNumber)) => self.go_to(Place::ReserveIn(peer)),
-            _ => self.end(),
-        }
-    }
-
     fn after_reserve_in(&mut self, reply: &Reply)
         ensures { self.new ≡ record self.old { work = work.after_reserve_in reply.now self.old.work.rest } }
     {
         match reply {
             Reply::Reserve(Ok(name)) => self.go_to(Place::OpenIn(*name)),
             _ => self.end(),
-        }
-    }
-
-    fn after_open_in(&mut self, reply: Reply, name: LegName)
-        ensures work { self.new.work ≡ work.after_open_in reply name self.old.work.rest }
-        ensures onwards { self.new.onwards ≡ onwards_after (places.OpenIn name) reply self.old.onwards }
-    {
-        match reply {
-            Reply::OpenIn(Ok(heard)) => self.hear(heard),
-            _ => self.go_to(Place::GiveBack(name)),
         }
     }
 

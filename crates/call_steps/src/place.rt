@@ -2,7 +2,6 @@
 ghost use Rattle.std.specs.Prelude.{◌≡◌};
 
 use crate::act::Act;
-use crate::need::Need;
 use call_book::LegName;
 use leg_machine::{Cause, Format, Signal};
 
@@ -66,44 +65,7 @@ pub enum Place {
 }
 
 impl Place {
-    ghost use Rattle.call_steps.specs.Work.{next_at, place_for};
-
-    /// The step that is to be made here; `None` where there is none.
-    #[inline(always)]
-    pub fn next(&self) -> Option<Need>
-        ensures { result ≡ next_at self.now }
-    {
-        match *self {
-            Place::Datagram(peer) => Some(Need::Datagram(peer)),
-            Place::ReserveIn(peer) | Place::ReserveOut(_, peer, _) | Place::ReserveCall(peer) => {
-                Some(Need::Reserve(peer))
-            }
-            Place::OpenIn(name) => Some(Need::OpenIn(name)),
-            Place::OpenOut(_, name) | Place::OpenCall(name) => Some(Need::OpenOut(name)),
-            Place::GiveBack(name) | Place::Undoing(_, name) | Place::Freeing(name, _) => {
-                Some(Need::Release(name))
-            }
-            Place::Routing(offered) => Some(Need::Route(offered)),
-            Place::Rejecting(offered, cause) => Some(Need::Order(offered, Act::Reject(cause))),
-            Place::Bridging(offered, target, _) => Some(Need::Bridge(offered, target)),
-            Place::Accepting(offered, _, format) => Some(Need::Order(offered, Act::Accept(format))),
-            Place::Checking(name) | Place::Finding(name, _) | Place::FindingPartner(name, _) => {
-                Some(Need::Partner(name))
-            }
-            Place::Dooming(name, cause) => Some(Need::Order(name, Act::Doom(cause))),
-            Place::Passing(partner, act) => Some(Need::Order(partner, act)),
-            Place::Looking(name) => Some(Need::Look(name.peer, name.number)),
-            Place::LookingAt(peer, number) => Some(Need::Look(peer, number)),
-            Place::HangingUp(_, partner, cause) => {
-                Some(Need::Order(partner, Act::Hangup(cause)))
-            }
-            Place::Paying(name, _) => Some(Need::Order(name, Act::Paid)),
-            Place::Retiring(name, _) => Some(Need::Retire(name)),
-            Place::Tick(peer) => Some(Need::Tick(peer)),
-            Place::HangUp(name) => { Some(Need::Order(name, Act::Hangup(Cause::NormalClearing))) }
-            Place::End => None,
-        }
-    }
+    ghost use Rattle.call_steps.specs.Work.{place_for};
 
     /// Where a call first stands for what a leg handed up; `None` where nothing is to be done for it.
     pub fn for_signal(name: LegName, signal: Signal) -> Option<Place>

@@ -3,11 +3,12 @@ ghost use Rattle.std.specs.Prelude.{◌≡◌, ◌+◌, ◌≤◌, ◌^◌, [], 
 ghost use Rattle.call_steps.specs.Beginnings.{beginning_at};
 ghost use Rattle.call_steps.specs.Work as work;
 
+use crate::act::Act;
 use crate::need::Need;
 use crate::place::Place;
 use crate::reply::Heard;
 use call_book::LegName;
-use leg_machine::Signal;
+use leg_machine::{Cause, Signal};
 use peer_lock::{Offer, Onwards};
 use std::marker::Model;
 
@@ -102,7 +103,36 @@ impl Work {
     pub fn next(&self) -> Option<Need>
         ensures { result ≡ work.next_of self.now.work }
     {
-        self.place.next()
+        match self.place {
+            Place::Datagram(peer) => Some(Need::Datagram(peer)),
+            Place::ReserveIn(peer) | Place::ReserveOut(_, peer, _) | Place::ReserveCall(peer) => {
+                Some(Need::Reserve(peer))
+            }
+            Place::OpenIn(name) => Some(Need::OpenIn(name)),
+            Place::OpenOut(_, name) | Place::OpenCall(name) => Some(Need::OpenOut(name)),
+            Place::GiveBack(name) | Place::Undoing(_, name) | Place::Freeing(name, _) => {
+                Some(Need::Release(name))
+            }
+            Place::Routing(offered) => Some(Need::Route(offered)),
+            Place::Rejecting(offered, cause) => Some(Need::Order(offered, Act::Reject(cause))),
+            Place::Bridging(offered, target, _) => Some(Need::Bridge(offered, target)),
+            Place::Accepting(offered, _, format) => Some(Need::Order(offered, Act::Accept(format))),
+            Place::Checking(name) | Place::Finding(name, _) | Place::FindingPartner(name, _) => {
+                Some(Need::Partner(name))
+            }
+            Place::Dooming(name, cause) => Some(Need::Order(name, Act::Doom(cause))),
+            Place::Passing(partner, act) => Some(Need::Order(partner, act)),
+            Place::Looking(name) => Some(Need::Look(name.peer, name.number)),
+            Place::LookingAt(peer, number) => Some(Need::Look(peer, number)),
+            Place::HangingUp(_, partner, cause) => {
+                Some(Need::Order(partner, Act::Hangup(cause)))
+            }
+            Place::Paying(name, _) => Some(Need::Order(name, Act::Paid)),
+            Place::Retiring(name, _) => Some(Need::Retire(name)),
+            Place::Tick(peer) => Some(Need::Tick(peer)),
+            Place::HangUp(name) => { Some(Need::Order(name, Act::Hangup(Cause::NormalClearing))) }
+            Place::End => None,
+        }
     }
 
     /// What the offered call asks for; `None` where the last step of a peer handed no offer up.
@@ -190,7 +220,17 @@ impl Work {
                 return;
             }
         }
-        self.finish();
+        if let Some(name) = self.touched.take() {
+            self.place = Place::Looking(name);
+        } else if self.numbers_left > 0 {
+            self.place = Place::LookingAt(self.peer, self.number);
+            self.numbers_left -= 1;
+            if self.numbers_left > 0 {
+                self.number += 1;
+            }
+        } else {
+            self.place = Place::End;
+        }
     }
 
     // The next signal that isn't passed on yet.
@@ -198,45 +238,11 @@ impl Work {
         ensures signal { result ≡ first_of self.old.work.rest.onward }
         ensures work { self.new ≡ record self.old { work = without_first self.old.work } }
     {
-        let signal = self.next_signal()?;
+        let Some(onwards) = &self.onwards else {
+            return None;
+        };
+        let signal = onwards.get(onwards.len() - self.signals_left)?;
         self.signals_left -= 1;
         Some(signal)
-    }
-
-    fn next_signal(&self) -> Option<(LegName, Signal)>
-        ensures { result ≡ first_of self.now.work.rest.onward }
-    {
-        match &self.onwards {
-            Some(onwards) => onwards.get(onwards.len() - self.signals_left),
-            None => None,
-        }
-    }
-
-    // The touched leg is finished, or the next number of a tick.
-    fn finish(&mut self)
-        requires { self.old.work.rest.onward ≡ [] }
-        ensures { self.new ≡ record self.old { work = work.finish self.old.work.rest.touched self.old.work.rest.looks } }
-    {
-        match self.touched.take() {
-            Some(name) => self.place = Place::Looking(name),
-            None => self.look_at_next(),
-        }
-    }
-
-    // The next number of a tick, or the end.
-    fn look_at_next(&mut self)
-        requires onward { self.old.work.rest.onward ≡ [] }
-        requires touched { self.old.work.rest.touched ≡ None }
-        ensures { self.new ≡ record self.old { work = work.next_look self.old.work.rest.looks } }
-    {
-        if self.numbers_left == 0 {
-            self.place = Place::End;
-            return;
-        }
-        self.place = Place::LookingAt(self.peer, self.number);
-        self.numbers_left -= 1;
-        if self.numbers_left > 0 {
-            self.number += 1;
-        }
     }
 }

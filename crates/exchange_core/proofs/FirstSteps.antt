@@ -1,6 +1,6 @@
 -- Through the first steps of a call: no step of a peer was made and nothing is refused; after them one was made, or the call is refused.
 use Rattle.std.proofs.Common.{◌≡◌, ℕ, ◌+◌, ◌<◌, ◌≤◌, Option, None, Some, Bool, true, false, refl, sym, ap, subst, ◌∙◌, inl, inr, ◌⊎◌, arith}
-use Rattle.std.specs.Prelude.{◌≢◌, Ok, Err, MatchOption}
+use Rattle.std.specs.Prelude.{◌≢◌, Ok, Err, MatchOption, is_some}
 use Rattle.call_book.specs.declared.errors.ReserveError.TheVariants as reserve_errors
 use Rattle.peer_lock.specs.Accounts.{Credit, with_step}
 use Rattle.call_book.specs.declared.leg_name.LegName.{LegName}
@@ -107,6 +107,15 @@ over_is_past : (place : Place) → is_over place ≡ true → beginning_at place
 over_is_past (places.GiveBack name) over = refl
 over_is_past places.End over = refl
 over_is_past place over = absurd (cc)
+
+-- what is noted of the answer to a first step, and to a later one
+pub noted_first : (begun : Option Beginning) (reply : Reply) (denial : Option Denial) → is_some begun ≡ true → denial_of reply ≡ noted begun reply denial
+noted_first (Some begun) reply denial first = refl
+noted_first None reply denial first = absurd (cc)
+
+pub noted_later : (begun : Option Beginning) (reply : Reply) (denial : Option Denial) → is_some begun ≡ false → denial ≡ noted begun reply denial
+noted_later (Some begun) reply denial later = absurd (cc)
+noted_later None reply denial later = refl
 
 -- past the beginning at the next place
 is_past : (start : Place) (first now : Credit) (place : Place) (denial : Option Denial) → beginning_at place ≡ None

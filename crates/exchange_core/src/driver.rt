@@ -1,17 +1,19 @@
 //! The steps of a call, as its table names them, from the first until nothing is left to be done.
 ghost use Rattle.std.specs.Option.{ForSome};
-ghost use Rattle.std.specs.Prelude.{◌≡◌, ◌+◌, ◌<◌, ◌≤◌, [], None, Some, length, map, IsSome, MatchOption};
+ghost use Rattle.std.specs.Prelude.{◌≡◌, ◌+◌, ◌<◌, ◌≤◌, [], Some, length, map, IsSome, MatchOption};
 ghost use Rattle.call_steps.specs.Beginnings.{OfDatagram, beginning_at};
 ghost use Rattle.call_steps.specs.MediaLeft.{media_left};
 ghost use Rattle.exchange_core.specs.Denial.{Denies};
 ghost use Rattle.exchange_core.specs.FirstSteps.{CallIsMade, StartsInPlan};
-ghost use Rattle.exchange_core.specs.Leaving.{Leave, LeftSince, departure_of, leaving_of, nobody};
+ghost use Rattle.exchange_core.specs.Leaving.{Leave, departure_of};
 ghost use Rattle.exchange_core.specs.Numbers.{IsCalled};
 ghost use Rattle.exchange_core.specs.Traces.{MakesAll, call_of};
 
+use crate::denial::Denial;
 use crate::exchange::Exchange;
 use crate::gate::Gate;
 use crate::hands::{Given, Hands, Outcome};
+use crate::leavers::Leavers;
 use call_steps::Work;
 use call_steps::laws::{leases_are_as_named, media_is_carried_once, refused_calls_end};
 use noted_steps::Pass;
@@ -19,45 +21,9 @@ use peer_lock::Naming;
 use std::sync::Wait;
 
 impl<G: Gate, J: Naming> Exchange<G, J> {
-    // Makes the steps of a call that begins so: each that its table names, and tells the table what it answered. Either a step of
-    // a peer was made, or the call is refused, and none was.
-    pub(crate) fn run<R: Wait>(
-        &self,
-        rt: &R,
-        pass: &mut Pass<J>,
-        work: &mut Work,
-        given: &Given<'_, '_, '_>,
-        hands: &mut Hands,
-    )
-        requires peer { StartsInPlan (length self.now.peers) work.old.work.place }
-        requires nothing { (media_left work.old.work ≡ []) × (hands.old.lease ≡ None) × (hands.old.denial ≡ None) }
-        requires nobody { leaving_of hands.old.leavers ≡ nobody }
-        requires challenge { beginning_at work.old.work.place ≡ Some OfDatagram → IsSome given.now.challenge }
-        requires called { ForSome given.now.called (λ text. IsCalled text.now) }
-        // Just the steps that its table named are noted under the pass, each with the answer that the table was told.
-        ensures all { MakesAll (call_of self.now given.entry.now) work.old pass.old pass.new }
-        ensures steps { MatchOption hands.new.denial (pass.old.credit.steps + 1 ≤ pass.new.credit.steps) (λ why.
-            (pass.new.credit ≡ pass.old.credit) × Denies (beginning_at work.old.work.place) why) }
-        // The legs that were taken out in these steps.
-        ensures left { LeftSince given.entry.now.now pass.old pass.new (leaving_of hands.new.leavers) }
-        // It keeps no lease.
-        ensures lease { hands.new.lease ≡ None }
-        ensures call { CallIsMade work.old.work.place pass.old.credit pass.new.credit hands.new.denial hands.new.named }
-    {
-        media_is_carried_once();
-        leases_are_as_named();
-        refused_calls_end();
-        for _ in rt.forever() {
-            let Some(need) = work.next() else {
-                return;
-            };
-            let reply = self.make(rt, pass, work, need, given, hands);
-            hands.tell(work, reply);
-        }
-    }
-
-    // Makes the steps of a call that begins so, and tells what it came to.
-    #[inline(always)]
+    // Makes the steps of a call that begins so: each that its table names, and tells the table what it answered, and notes why the
+    // call is refused, where that is the answer to a first step of it. Either a step of a peer was made, or the call is refused,
+    // and none was.
     pub(crate) fn carry_out<R: Wait>(
         &self,
         rt: &R,
@@ -69,18 +35,40 @@ impl<G: Gate, J: Naming> Exchange<G, J> {
         requires nothing { media_left work.old.work ≡ [] }
         requires challenge { beginning_at work.old.work.place ≡ Some OfDatagram → IsSome given.now.challenge }
         requires called { ForSome given.now.called (λ text. IsCalled text.now) }
+        // Just the steps that its table named are noted under the pass, each with the answer that the table was told.
         ensures all { MakesAll (call_of self.now given.entry.now) work.old pass.old pass.new }
-        ensures steps { MatchOption result.denial (pass.old.credit.steps + 1 ≤ pass.new.credit.steps) (λ why.
+        ensures steps { pass.new.credit.steps ≡ pass.old.credit.steps + result.steps }
+        ensures denied { MatchOption result.denial (1 ≤ result.steps) (λ why.
             (pass.new.credit ≡ pass.old.credit) × Denies (beginning_at work.old.work.place) why) }
+        // The legs that were taken out in these steps.
         ensures retired { Leave given.entry.now.now pass.old pass.new (map departure_of result.retired.items) }
         ensures call { CallIsMade work.old.work.place pass.old.credit pass.new.credit result.denial result.named }
     {
-        let mut hands = Hands::empty(self.alloc);
-        self.run(rt, pass, work, given, &mut hands);
-        Outcome {
-            denial: hands.denial,
-            named: hands.named,
-            retired: hands.leavers.into_legs(),
+        media_is_carried_once();
+        leases_are_as_named();
+        refused_calls_end();
+        let first = pass.steps();
+        let mut hands = Hands {
+            lease: None,
+            named: None,
+            leavers: Leavers::none(self.alloc),
+            denial: None,
+        };
+        for _ in rt.forever() {
+            let Some(need) = work.next() else {
+                return Outcome {
+                    steps: pass.steps() - first,
+                    denial: hands.denial,
+                    named: hands.named,
+                    retired: hands.leavers.into_legs(),
+                };
+            };
+            let reply = self.make(rt, pass, work, need, given, &mut hands);
+            if work.is_beginning() {
+                hands.denial = Denial::of(&reply);
+            }
+            work.told(reply);
         }
+        unreachable!();
     }
 }

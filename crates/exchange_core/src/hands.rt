@@ -1,9 +1,6 @@
 //! What a call was given, and what it has in its hands.
 ghost use Rattle.std.specs.Prelude.{◌≡◌, ◌+◌, ◌≤◌, [], None, Some, option_copied, vec_len, vec_capacity};
-ghost use Rattle.call_steps.specs.Beginnings.{beginning_at};
-ghost use Rattle.exchange_core.specs.Denial.{noted};
-ghost use Rattle.exchange_core.specs.Leaving.{all_left, given_up_at, leaving_of, nobody};
-ghost use Rattle.exchange_core.specs.Traces.{told};
+ghost use Rattle.exchange_core.specs.Leaving.{all_left, given_up_at, leaving_of};
 ghost use Rattle.peer_lock.specs.Statuses.{IsHistory};
 
 use crate::answers::Retired;
@@ -11,9 +8,7 @@ use crate::denial::Denial;
 use crate::leavers::Leavers;
 use call_auth::Challenge;
 use call_book::{Lease, LegName};
-use call_steps::{Reply, Work};
 use peer_lock::{EndedLeg, ReadDatagram};
-use std::alloc::Global;
 
 // What a call was given from outside.
 #[derive(Drop)]
@@ -68,28 +63,17 @@ pub(crate) struct Hands {
     pub(crate) denial: Option<Denial>,
 }
 
-// What a call came to: why it is refused, if it is, the last name that the book gave it, and the legs that it took out, in order.
+// What a call came to: how many steps were made, why it is refused, if it is, the last name that the book gave it, and the legs
+// that it took out, in order.
 #[derive(Drop)]
 pub(crate) struct Outcome {
+    pub(crate) steps: u64,
     pub(crate) denial: Option<Denial>,
     pub(crate) named: Option<LegName>,
     pub(crate) retired: Vec<Retired>,
 }
 
 impl Hands {
-    pub(crate) fn empty(alloc: Global) -> Hands
-        ensures lease { result.lease ≡ None }
-        ensures denial { result.denial ≡ None }
-        ensures nobody { leaving_of result.leavers ≡ nobody }
-    {
-        Hands {
-            lease: None,
-            named: None,
-            leavers: Leavers::none(alloc),
-            denial: None,
-        }
-    }
-
     // Takes over a leg that was taken out, for which there is room, and its lease.
     pub(crate) fn take_over(&mut self, name: LegName, lease: Lease, leg: EndedLeg, now: u64)
         requires room { vec_len self.old.leavers.gone + 2 ≤ vec_capacity self.old.leavers.gone }
@@ -102,20 +86,5 @@ impl Hands {
     {
         self.leavers.take(name, leg, now);
         self.lease = Some(lease);
-    }
-
-    // Tells the steps of the call an answer, and notes why the call is refused, where this is the answer to a first step of it.
-    #[inline(always)]
-    pub(crate) fn tell(&mut self, work: &mut Work, reply: Reply)
-        ensures work { work.new ≡ told work.old reply }
-        ensures denial { self.new.denial ≡ noted (beginning_at work.old.work.place) reply self.old.denial }
-        ensures lease { self.new.lease ≡ self.old.lease }
-        ensures named { self.new.named ≡ self.old.named }
-        ensures leavers { self.new.leavers ≡ self.old.leavers }
-    {
-        if work.is_beginning() {
-            self.denial = Denial::of(&reply);
-        }
-        work.told(reply);
     }
 }

@@ -3,7 +3,6 @@
 #![tactic(auto)]
 
 mod answers;
-mod book_sections;
 mod denial;
 mod driver;
 mod exchange;

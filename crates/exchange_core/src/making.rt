@@ -4,8 +4,6 @@ ghost use Rattle.std.specs.List.{AllByRecursion};
 ghost use Rattle.std.specs.Prelude.{◌≡◌, ◌≢◌, ℕ, ◌+◌, ◌<◌, ◌≤◌, length, Option, None, Some, Err, true, false, IfOk};
 ghost use Rattle.std.specs.Prelude.{IsSome, OnOk, OnErr};
 ghost use Rattle.call_book.specs.declared.leg_name.LegName.{LegName as LegNameValue};
-ghost use Rattle.call_signals.specs.Order.{kind_of};
-ghost use Rattle.call_steps.specs.Act.{act_kind, act_media};
 ghost use Rattle.call_steps.specs.Beginnings.{is_answer, is_made};
 ghost use Rattle.call_steps.specs.Leases.{lease_needed, lease_after};
 ghost use Rattle.call_steps.specs.WorkState.{offer_in};
@@ -18,14 +16,11 @@ ghost use Rattle.exchange_core.specs.Newcomers.{SpellsOpening};
 ghost use Rattle.exchange_core.specs.Leaving as leaving;
 ghost use Rattle.exchange_core.specs.Leaving.{Leaves, leaving_of};
 ghost use Rattle.exchange_core.specs.Numbers.{IsCalled};
-ghost use Rattle.exchange_core.specs.Traces.{Makes, call_of, octets_of};
+ghost use Rattle.exchange_core.specs.Traces.{Makes, call_of};
 ghost use Rattle.exchange_core.specs.declared.hands.Given.{Given as GivenValue};
-ghost use Rattle.leg_machine.specs.OrderTable.{IsShortMedia};
 ghost use Rattle.noted_steps.specs.Notes as notes;
-ghost use Rattle.noted_steps.specs.Notes.{media_of as order_media};
 ghost use Rattle.peer_lock.specs.Accounts.{with_step};
 ghost use Rattle.peer_lock.specs.CarriedMedia.{LiesWithin, handed_octets};
-ghost use Rattle.peer_lock.specs.Orders.{order_octets};
 ghost use Rattle.peer_accounts.specs.declared.onwards.Offer.{Offer as OfferValue};
 
 use crate::exchange::Exchange;
@@ -33,21 +28,10 @@ use crate::gate::Gate;
 use crate::hands::{Given, Hands};
 use call_book::{Lease, LegName, ReserveError, Stale};
 use call_steps::{Act, Heard, Need, Reply, Work};
-use leg_machine::Order;
 use noted_steps::Pass;
+use peer_lock::laws::media_is_the_datagrams;
 use peer_lock::{Naming, OpenError, OrderError, Status, StepsSpent};
 use std::sync::Wait;
-
-// The order of an act, with the octets of its media.
-fn order_of<'o>(_name: LegName, act: Act, octets: &'o [u8]) -> Order<'o>
-    requires { AllByRecursion (LiesWithin (length octets.now)) (media_of _name act) }
-    ensures kind { kind_of result ≡ act_kind act }
-    ensures media { order_media result ≡ octets_of (act_media act octets.now) }
-    ensures short { IsShortMedia result }
-    ensures octets { order_octets result ≡ handed_octets (media_of _name act) }
-{
-    act.order(octets)
-}
 
 // What the book answered, without the lease that came back.
 fn without_lease(answer: Result<Option<LegName>, (Lease, Stale)>) -> Result<Option<LegName>, Stale>
@@ -90,8 +74,12 @@ impl<G: Gate, J: Naming> Exchange<G, J> {
             (pass.old.credit.octets + handed_octets (handed_by result) ≤ pass.new.credit.octets) }
         ensures named { (named : Option LegNameValue) → named_after result named ≡ named }
     {
+        media_is_the_datagrams();
         let mut onwards = pass.lend(self.alloc);
-        match self.hear(rt, pass, peer, &given.datagram, given.now, &mut onwards) {
+        let answer = self
+            .locked(rt, peer)
+            .datagram_read(pass, &given.datagram, given.now, &mut onwards);
+        match answer {
             Ok(step) => Reply::Datagram(Ok(Heard {
                 touched: step.touched,
                 onwards,
@@ -145,7 +133,7 @@ impl<G: Gate, J: Naming> Exchange<G, J> {
             pass.note_unasked();
             return Err(OrderError::Gone);
         }
-        let order = order_of(name, act, given.datagram.octets());
+        let order = act.order(given.datagram.octets());
         let answer = self
             .locked(rt, name.peer)
             .order(pass, name, &order, given.now);
@@ -297,8 +285,10 @@ impl<G: Gate, J: Naming> Exchange<G, J> {
             Need::Look(peer, number) => Reply::Look(self.look_at(rt, pass, peer, number)),
             Need::Retire(name) => Reply::Retire(self.retire_into(rt, pass, name, given.now, hands)),
             Need::Reserve(peer) => Reply::Reserve(self.reserve_into(rt, pass, peer, hands)),
-            Need::Bridge(one, other) => Reply::Bridge(self.bridge(rt, pass, one, other)),
-            Need::Partner(name) => Reply::Partner(self.partner(rt, pass, name)),
+            Need::Bridge(one, other) => {
+                Reply::Bridge(self.book.lock(rt).bridge(pass, one, other))
+            }
+            Need::Partner(name) => Reply::Partner(self.book.lock(rt).partner(pass, name)),
             Need::Release(name) => Reply::Release(self.release_from(rt, pass, name, hands)),
             Need::Route(offered) => Reply::Route(self.route_noted(pass, offered, work.offer())),
         }

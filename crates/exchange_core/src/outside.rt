@@ -11,7 +11,7 @@ ghost use Rattle.exchange_core.specs.Traces.{IsHeard, MakesAll, moment};
 ghost use Rattle.peer_plan.specs.Plan.{counts_of, range_of};
 ghost use Rattle.peer_lock.specs.Accounts.{with_step};
 
-use crate::answers::{Answer, CallError, Refusal, Retired};
+use crate::answers::{Answer, CallError, Refusal};
 use crate::denial::Denial;
 use crate::exchange::Exchange;
 use crate::gate::Gate;
@@ -46,25 +46,6 @@ fn refused_by(denial: Option<Denial>) -> Option<Refusal>
     match denial {
         Some(denial) => Some(denial.of_peer()),
         None => None,
-    }
-}
-
-// The answer of a call that began when the pass had so many steps.
-fn answer_since<J: Naming>(
-    pass: &Pass<J>,
-    first: u64,
-    refused: Option<Refusal>,
-    retired: Vec<Retired>,
-) -> Answer
-    requires { first ≤ pass.now.credit.steps }
-    ensures steps { pass.now.credit.steps ≡ first + result.steps }
-    ensures refused { result.refused ≡ refused }
-    ensures retired { result.retired ≡ retired }
-{
-    Answer {
-        steps: pass.steps() - first,
-        refused,
-        retired,
     }
 }
 
@@ -130,13 +111,16 @@ impl<G: Gate, J: Naming> Exchange<G, J> {
             called: None,
             now,
         };
-        let first = pass.steps();
         let mut work = Work::of_datagram(peer);
         let outcome = self.carry_out(rt, pass, &mut work, &given);
         if let Some(onwards) = work.into_onwards() {
             pass.keep(onwards);
         }
-        answer_since(pass, first, refused_by(outcome.denial), outcome.retired)
+        Answer {
+            steps: outcome.steps,
+            refused: refused_by(outcome.denial),
+            retired: outcome.retired,
+        }
     }
 
     /// Time goes on at a peer of the plan, up to the moment `now`, in milliseconds: its step, then each of its legs that has
@@ -154,11 +138,14 @@ impl<G: Gate, J: Naming> Exchange<G, J> {
         ensures some { IfNone result.refused (1 ≤ result.steps) }
         ensures refused { IsSome result.refused → (result.steps ≡ 0) × (pass.new.credit ≡ pass.old.credit) }
     {
-        let first = pass.steps();
         let range = self.plan.range(peer);
         let mut work = Work::of_tick(peer, range.first, range.count);
         let outcome = self.carry_out(rt, pass, &mut work, &Given::moment(now));
-        answer_since(pass, first, refused_by(outcome.denial), outcome.retired)
+        Answer {
+            steps: outcome.steps,
+            refused: refused_by(outcome.denial),
+            retired: outcome.retired,
+        }
     }
 
     /// A call goes out to a peer of the plan, for a number of 1 to 64 octets 0x21 ..= 0x7e, at the moment `now`, in milliseconds:
@@ -214,11 +201,14 @@ impl<G: Gate, J: Naming> Exchange<G, J> {
         ensures some { IfOk result (λ answer. (1 ≤ answer.steps) × (answer.refused ≡ None)) }
         ensures refused { OnErr result (pass.new.credit ≡ pass.old.credit) }
     {
-        let first = pass.steps();
         let mut work = Work::of_hang_up(name);
         let outcome = self.carry_out(rt, pass, &mut work, &Given::moment(now));
         match hung_up(outcome.denial) {
-            Ok(()) => Ok(answer_since(pass, first, None, outcome.retired)),
+            Ok(()) => Ok(Answer {
+                steps: outcome.steps,
+                refused: None,
+                retired: outcome.retired,
+            }),
             Err(error) => Err(error),
         }
     }

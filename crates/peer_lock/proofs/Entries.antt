@@ -1,6 +1,6 @@
 -- The media of the entries of a trunk frame, one after another.
 use native.Mathlib.Omega.{arith}
-use Rattle.std.proofs.Common.{◌≡◌, ◌≤◌, ℕ, suc, ◌+◌, ◌*◌, Bool, true, false, List, [], ◌∷◌, ◌++◌, Option, None, length, ap, ◌∙◌, sym, subst}
+use Rattle.std.proofs.Common.{◌≡◌, ◌≤◌, ℕ, suc, ◌+◌, ◌*◌, Bool, true, false, List, [], ◌∷◌, ◌++◌, Option, None, length, append-nil, ap, refl, ◌∙◌, sym, subst}
 use Rattle.std.proofs.lemmas.List.{append_assoc}
 use Rattle.std.proofs.Math.Nat.{add_assoc}
 use Rattle.iax_frames.specs.TrunkFrame.{head_len}
@@ -8,7 +8,7 @@ use Rattle.call_signals.specs.declared.signal.MediaSpan.{MediaSpan}
 use Rattle.peer_accounts.specs.Accounts.{Credit, with_accepted}
 use Rattle.peer_lock.specs.Arrivals.{MediaTaken, media_at, entry_span, entries_len, entries_media}
 use Rattle.peer_accounts.specs.HandedUp.{HandedUp}
-use Rattle.peer_legs.specs.Legs.{leg_of_remote}
+use Rattle.peer_legs.specs.Legs.{NamedLeg, leg_of_remote}
 use Rattle.peer_lock.specs.Peer.{PeerView}
 
 -- these entries are left, of those that were to give so much
@@ -80,7 +80,7 @@ module _ (first : ℕ) (start : PeerView) (before : Credit) (total : MediaTaken)
       later = entries_media first peer.legs timed (entry_span timed at item).end (peer.accounts.accepted + now.octets) items
 
   -- the same, where the place of the media is worked out in another way
-  pub one_less_at : (at : ℕ) (span : MediaSpan) (item : ℕ × Option ℕ × List ℕ) (items all : List (ℕ × Option ℕ × List ℕ)) (peer next : PeerView) (pass after : Credit) (onwards more : HandedUp)
+  one_less_in : (at : ℕ) (span : MediaSpan) (item : ℕ × Option ℕ × List ℕ) (items all : List (ℕ × Option ℕ × List ℕ)) (peer next : PeerView) (pass after : Credit) (onwards more : HandedUp)
       → Left at all peer pass onwards
       → all ≡ item ∷ items
       → entry_span timed at item ≡ span
@@ -90,7 +90,7 @@ module _ (first : ℕ) (start : PeerView) (before : Credit) (total : MediaTaken)
       → onwards.room ≤ more.room + 1
       → after ≡ record pass { octets = pass.octets + (media_at first peer.accounts.accepted (leg_of_remote peer.legs item.0) span).octets }
       → Left span.end items next after more
-  one_less_at at span item items all peer next pass after onwards more whole these here =
+  one_less_in at span item items all peer next pass after onwards more whole these here =
       subst (λ place.
       next ≡ record peer { accounts = with_accepted peer.accounts (media_at first peer.accounts.accepted (leg_of_remote peer.legs item.0) place).octets }
       → more.signals ≡ onwards.signals ++ (media_at first peer.accounts.accepted (leg_of_remote peer.legs item.0) place).signals
@@ -100,6 +100,35 @@ module _ (first : ℕ) (start : PeerView) (before : Credit) (total : MediaTaken)
       → Left place.end items next after more)
       here
       (one_less at item items all peer next pass after onwards more whole these)
+
+  -- .. and the leg found in another way
+  pub one_less_at : (leg : Option NamedLeg) (at : ℕ) (span : MediaSpan) (item : ℕ × Option ℕ × List ℕ) (items all : List (ℕ × Option ℕ × List ℕ)) (peer next : PeerView) (pass after : Credit) (onwards more : HandedUp)
+      → leg ≡ leg_of_remote peer.legs item.0
+      → Left at all peer pass onwards
+      → all ≡ item ∷ items
+      → entry_span timed at item ≡ span
+      → next ≡ record peer { accounts = with_accepted peer.accounts (media_at first peer.accounts.accepted leg span).octets }
+      → more.signals ≡ onwards.signals ++ (media_at first peer.accounts.accepted leg span).signals
+      → more.offer ≡ onwards.offer
+      → onwards.room ≤ more.room + 1
+      → after ≡ record pass { octets = pass.octets + (media_at first peer.accounts.accepted leg span).octets }
+      → Left span.end items next after more
+  one_less_at leg at span item items all peer next pass after onwards more found whole these here =
+      rw found (one_less_in at span item items all peer next pass after onwards more whole these here)
+
+  -- an entry for no leg
+  pub none_less_at : (at : ℕ) (span : MediaSpan) (item : ℕ × Option ℕ × List ℕ) (items all : List (ℕ × Option ℕ × List ℕ)) (peer : PeerView) (pass : Credit) (onwards : HandedUp)
+      → leg_of_remote peer.legs item.0 ≡ None
+      → Left at all peer pass onwards
+      → all ≡ item ∷ items
+      → entry_span timed at item ≡ span
+      → Left span.end items peer pass onwards
+  none_less_at at span item items all peer pass onwards none whole these here =
+      let accepted : peer.accounts.accepted ≡ peer.accounts.accepted + 0 = omega arith in
+      let octets : pass.octets ≡ pass.octets + 0 = omega arith in
+      one_less_at None at span item items all peer peer pass pass onwards onwards (sym none) whole these here
+      (ap (λ n. record peer { accounts = record peer.accounts { accepted = n } }) accepted)
+      (sym (append-nil onwards.signals)) refl (omega arith) (ap (λ n. record pass { octets = n }) octets)
 
 more : (n head media rest : ℕ) → 4 * n ≤ rest → 4 ≤ head → 4 * suc n ≤ head + media + rest
 more n head media rest enough four = omega arith

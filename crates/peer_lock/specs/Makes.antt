@@ -1,8 +1,9 @@
 -- What a call of a peer makes of a step, and what it leaves where it is refused.
-use Rattle.std.specs.Prelude.{◌≡◌, Option, None, Some}
-use Rattle.peer_accounts.specs.Accounts.{Credit, with_step}
+use Rattle.std.specs.Prelude.{◌≡◌, ◌+◌, Option, None, Some}
+use Rattle.peer_accounts.specs.Accounts.{Credit, with_accepted, with_step}
 use Rattle.peer_accounts.specs.HandedUp.{HandedUp}
 pub use Rattle.peer_accounts.specs.HandedUp.{IsNothing}
+use Rattle.peer_lock.specs.Arrivals.{MediaTaken}
 use Rattle.peer_lock.specs.Peer.{PeerView, PeerStep}
 use Rattle.peer_lock.specs.declared.errors.PeerError.{PeerError}
 use Rattle.peer_lock.specs.declared.errors.PeerError.TheVariants.{Memory}
@@ -15,6 +16,13 @@ pub record Makes (s : PeerStep) (new : PeerView) (result : Step) (pass_old pass_
   pub signals : onwards.signals ≡ s.signals
   pub offer : onwards.offer ≡ s.offer
   pub credit : pass_new ≡ with_step pass_old s.octets
+
+-- the call took this media, and its step isn't counted yet
+pub record Takes (media : MediaTaken) (old new : PeerView) (pass_old pass_new : Credit) (onwards : HandedUp) : Type 0 where
+  pub peer : new ≡ record old { accounts = with_accepted old.accounts media.octets }
+  pub signals : onwards.signals ≡ media.signals
+  pub offer : onwards.offer ≡ None
+  pub credit : pass_new ≡ record pass_old { octets = pass_old.octets + media.octets }
 
 -- a refused call left all as it was
 pub record IsUnchanged (old new : PeerView) (pass_old pass_new : Credit) (onwards : HandedUp) : Type 0 where

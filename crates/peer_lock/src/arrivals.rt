@@ -22,6 +22,7 @@ ghost use Rattle.peer_lock.specs.Unworked.{IsSoundFull, IsRefusedFull, IsCutFram
 ghost use Rattle.peer_lock.specs.Unworked.{IsWorked, IsUnworked};
 
 use crate::errors::PeerError;
+use crate::media_arrivals::ENTRIES;
 use crate::outboxes::put_all;
 use crate::read_datagram::ReadDatagram;
 use crate::state::PeerState;
@@ -30,7 +31,7 @@ use crate::unknown_calls::answer_to;
 use call_signals::codes::FRAME_IAX;
 use iax_frames::{Datagram, Full, FullHead, write_full};
 use info_elements::elements;
-use leg_machine::{ElementText, Heard, Judged, Signal, StepError};
+use leg_machine::{ElementText, Heard, Judged, MediaSpan, Signal, StepError};
 use peer_accounts::{Naming, Offer, Onwards, Pass};
 use peer_legs::NamedLeg;
 
@@ -155,20 +156,6 @@ impl<J: Naming> PeerState<J> {
         Ok(self.hand_on(pass, number, heard, onwards))
     }
 
-    // A step without a leg.
-    pub(crate) fn step_alone(&mut self, pass: &mut Pass<J>) -> Step
-        requires { self.old.accounts.steps ≢ J.first_steps }
-        ensures peer { self.new ≡ counted self.old }
-        ensures step { result ≡ no_leg }
-        ensures credit { pass.new ≡ with_credit pass.old 0 }
-    {
-        self.account.count_step(pass);
-        Step {
-            judged: Judged::Unnumbered,
-            touched: None,
-        }
-    }
-
     // A step without a leg, in which this frame is sent, without data.
     fn answer_alone(&mut self, pass: &mut Pass<J>, head: &FullHead) -> Step
         requires { self.old.accounts.steps ≢ J.first_steps }
@@ -180,7 +167,11 @@ impl<J: Naming> PeerState<J> {
             Ok(out) => self.outbox.put(&out),
             Err(_) => unreachable!(),
         }
-        self.step_alone(pass)
+        self.account.count_step(pass);
+        Step {
+            judged: Judged::Unnumbered,
+            touched: None,
+        }
     }
 
     // A full frame that no leg has.
@@ -255,11 +246,29 @@ impl<J: Naming> PeerState<J> {
         ensures err { OnErr result (IsUnchanged self.old self.new pass.old pass.new onwards.new) }
     {
         match datagram {
-            Datagram::Full(frame) => self.full(pass, frame, now, onwards),
-            Datagram::Mini(mini) => self.mini(pass, mini, onwards),
-            Datagram::Video(_) => Ok(self.step_alone(pass)),
-            Datagram::Trunk(trunk) => self.trunk(pass, trunk, onwards),
+            Datagram::Full(frame) => return self.full(pass, frame, now, onwards),
+            Datagram::Mini(mini) => {
+                let Some(number) = self.legs.of_remote(mini.source()) else {
+                    return Err(PeerError::NoCall);
+                };
+                onwards.reserve(1)?;
+                let span = MediaSpan {
+                    start: 4,
+                    end: 4 + mini.media().len(),
+                };
+                self.take_media(pass, number, span, onwards);
+            }
+            Datagram::Video(_) => {}
+            Datagram::Trunk(trunk) => {
+                onwards.reserve(ENTRIES)?;
+                self.take_entries(pass, trunk, onwards);
+            }
         }
+        self.account.count_step(pass);
+        Ok(Step {
+            judged: Judged::Unnumbered,
+            touched: None,
+        })
     }
 
     /// A datagram comes from the peer, at most 2,048 octets, at the moment `now`, in milliseconds: one step, at the leg that it

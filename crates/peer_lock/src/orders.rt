@@ -1,8 +1,6 @@
 //! The steps of a peer in which a leg obeys an order ("Call Setup", "Control Frames", "Mini Frames", "Meta Frames").
 ghost use Rattle.std.specs.Prelude.{◌≡◌, ◌≢◌, ◌+◌, ◌-◌, ◌<◌, ◌≤◌, [], length, map, None, Some, Err, true, IsSome, IsTrue, ◌↔◌};
-ghost use Rattle.std.specs.Prelude.{IsNone, IfSome, IfOk, IfErr, OnOk, OnErr, ℕ};
-ghost use Rattle.call_signals.specs.declared.order.Order.{Order as OrderValue};
-ghost use Rattle.std.specs.Option.{ForSome};
+ghost use Rattle.std.specs.Prelude.{IfOk, IfErr, OnOk, OnErr};
 ghost use Rattle.leg_machine.specs.OrderTable.{IsShortMedia, is_voice, wants_memory, media_refused, order_refused};
 ghost use Rattle.leg_machine.specs.OrderTable.{order_carried};
 ghost use Rattle.leg_machine.specs.Media.{media_sent};
@@ -17,39 +15,12 @@ use crate::outboxes::put_all;
 use crate::state::PeerState;
 use crate::steps::Step;
 use call_book::LegName;
-use iax_frames::CallNumber;
 use leg_machine::{Judged, MediaSent, Order};
 use peer_accounts::{Carried, Naming, Pass};
 
 impl<J: Naming> PeerState<J> {
-    // What is counted of media that goes out so. What goes out without a full frame waits for a trunk frame, if the queue has room
-    // for it, or is a mini frame.
-    fn count_media(&mut self, pass: &mut Pass<J>, number: CallNumber, sent: MediaSent, media: &[u8])
-        requires number { 1 ≤ number }
-        requires short { length media.now ≤ 1380 }
-        requires credit { length media.now ≤ pass.old.octets }
-        ensures peer { self.new ≡ counted_media sent self.old number media.now }
-        ensures credit { pass.new.octets + length media.now ≡ pass.old.octets }
-        ensures steps { pass.new.steps ≡ pass.old.steps }
-    {
-        let outcome = match sent {
-            MediaSent::Quelched => Carried::Quelched,
-            MediaSent::Voice => Carried::Packed,
-            MediaSent::Mini(timestamp) if self.rules.trunk => {
-                match self.queue.queue(number, timestamp, media) {
-                    Ok(()) => Carried::Queued,
-                    Err(_) => Carried::Dropped,
-                }
-            }
-            MediaSent::Mini(timestamp) => {
-                self.outbox.put_mini(number, timestamp, media);
-                Carried::Packed
-            }
-        };
-        self.account.carry(pass, media.len() as u64, outcome);
-    }
-
-    // Media goes out at the leg of a name.
+    // Media goes out at the leg of a name, and what became of it is counted. What goes out without a full frame waits for a trunk
+    // frame, if the queue has room for it, or is a mini frame.
     fn order_media(
         &mut self,
         pass: &mut Pass<J>,
@@ -79,7 +50,21 @@ impl<J: Naming> PeerState<J> {
         let sent = self.legs.media(name.number, media, now, &mut self.replies)?;
         put_all(&mut self.outbox, &self.replies);
         self.account.count_step(pass);
-        self.count_media(pass, number, sent, media);
+        let outcome = match sent {
+            MediaSent::Quelched => Carried::Quelched,
+            MediaSent::Voice => Carried::Packed,
+            MediaSent::Mini(timestamp) if self.rules.trunk => {
+                match self.queue.queue(number, timestamp, media) {
+                    Ok(()) => Carried::Queued,
+                    Err(_) => Carried::Dropped,
+                }
+            }
+            MediaSent::Mini(timestamp) => {
+                self.outbox.put_mini(number, timestamp, media);
+                Carried::Packed
+            }
+        };
+        self.account.carry(pass, media.len() as u64, outcome);
         Ok(Step {
             judged: Judged::Unnumbered,
             touched: Some(name),
@@ -107,23 +92,6 @@ impl<J: Naming> PeerState<J> {
         Ok(())
     }
 
-    // Why no leg obeys an order under a name.
-    fn ordering_refused(&self, name: LegName) -> Option<OrderError>
-        ensures none { IsNone result → (self.now.accounts.steps ≢ J.first_steps) × IsSome (leg_named self.now.legs name) }
-        ensures at { IsNone result → leg_at self.now.legs name.number ≡ leg_named self.now.legs name }
-        ensures some { IfSome result (λ refusal. (order : OrderValue) (now : ℕ) →
-            order_refused_by self.now J.first_steps name order now ≡ Some refusal) }
-        ensures not_memory { IfSome result (λ refusal. refusal ≢ OrderError.Memory) }
-    {
-        if self.account.is_spent() {
-            return Some(OrderError::StepsSpent);
-        }
-        if self.legs.named(name).is_none() {
-            return Some(OrderError::Gone);
-        }
-        None
-    }
-
     /// The leg of a name obeys an order at the moment `now`, in milliseconds: one step. Media is 1 to 1,380 octets, for which the
     /// pass has the credit; the credit comes back to the peer, which counts what became of the media.
     ///
@@ -148,8 +116,11 @@ impl<J: Naming> PeerState<J> {
             → wants_memory named.leg order.now now ≡ true }
         ensures err { OnErr result ((self.new ≡ self.old) × (pass.new ≡ pass.old)) }
     {
-        if let Some(refusal) = self.ordering_refused(name) {
-            return Err(refusal);
+        if self.account.is_spent() {
+            return Err(OrderError::StepsSpent);
+        }
+        if self.legs.named(name).is_none() {
+            return Err(OrderError::Gone);
         }
         match order {
             Order::Media(media) => self.order_media(pass, name, media, now),

@@ -179,11 +179,17 @@ impl<J: Naming> PeerState<J> {
         ensures gone { OnSome result (self.new ≡ record self.old { legs = with_place self.old.legs name.number None }) }
         ensures same { IfNone result (self.new ≡ self.old) }
     {
-        let named = self.legs.named(name)?;
-        if !named.leg().stage().is_ended() || named.leg().owes() {
+        let leg = self.legs.named(name)?.leg();
+        if !leg.stage().is_ended() || leg.owes() {
             return None;
         }
-        let facts = LegFacts::of(named);
+        let facts = LegFacts {
+            opened: leg.opened(),
+            format: leg.format(),
+            remote: leg.remote(),
+            failure: leg.failure(),
+            resent: leg.resent(),
+        };
         let (lease, leg) = self.legs.take(name.number).into_parts();
         let history = leg.into_record();
         Some((lease, EndedLeg { facts, history }))

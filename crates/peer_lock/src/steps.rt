@@ -1,6 +1,6 @@
 //! What the calls of a peer answer.
 ghost use Rattle.std.specs.Prelude.{◌≡◌};
-ghost use Rattle.peer_lock.specs.Statuses.{facts_of, status_of};
+ghost use Rattle.peer_lock.specs.Statuses.{status_of};
 
 use call_book::LegName;
 use iax_frames::CallNumber;
@@ -64,22 +64,6 @@ pub struct LegFacts {
     pub failure: Option<Failure>,
     /// How many full frames went out again, modulo 2^64 ("Message Transport": retransmission).
     pub resent: u64,
-}
-
-impl LegFacts {
-    // What the leg tells.
-    pub(crate) fn of(named: &NamedLeg) -> LegFacts
-        ensures { result ≡ facts_of named.now }
-    {
-        let leg = named.leg();
-        LegFacts {
-            opened: leg.opened(),
-            format: leg.format(),
-            remote: leg.remote(),
-            failure: leg.failure(),
-            resent: leg.resent(),
-        }
-    }
 }
 
 /// A leg that was given up.

@@ -6,7 +6,7 @@ use Rattle.exchange_core.specs.Leaving.{LeftSince, leaving_of}
 use Rattle.exchange_core.specs.Newcomers.{SpellsOpening}
 use Rattle.exchange_core.specs.Traces.{Traces, call_of}
 use Rattle.exchange_core.proofs.FirstSteps.{IsUnderWay, MayStand, OpensLeg, PlaceInPlan}
-use Rattle.exchange_core.proofs.exchange.Exchange.run.Given as goal
+use Rattle.exchange_core.proofs.exchange.Exchange.carry_out.Given as goal
 
 abbrev pub invariant-loop : goal.invariant-loop
 invariant-loop g l =

@@ -1,19 +1,20 @@
-use Rattle.std.proofs.Common.{◌≡◌, Some, true, length, sym, ap, subst, ◌∙◌}
+use Rattle.std.proofs.Common.{◌≡◌, Some, rules, true, length, sym, ap, subst, ◌∙◌}
 use Rattle.call_steps.specs.Beginnings.{beginning_at, is_answer}
 use Rattle.call_steps.specs.Leases.{lease_needed}
 use Rattle.call_steps.specs.Work.{next_of}
-use Rattle.call_steps.specs.WorkState.{WorkState}
 use Rattle.exchange_core.specs.Denial.{noted}
 use Rattle.exchange_core.specs.FirstSteps.{InPlan, IsOpened, KeepsPeer}
 use Rattle.exchange_core.specs.Leaving.{LeftSince, leaving_of}
 use Rattle.exchange_core.specs.Newcomers.{SpellsOpening}
 use Rattle.exchange_core.proofs.Carrying.{covers_need, covers_rest, leaves_lease}
-use Rattle.exchange_core.proofs.FirstSteps.{under_way, next_in_plan, stays_in_plan, opened_here, opens_after, stands_on}
-use Rattle.exchange_core.specs.Traces.{call_of}
+use Rattle.exchange_core.proofs.FirstSteps.{noted_first, noted_later, under_way, next_in_plan, stays_in_plan, opened_here, opens_after, stands_on}
+use Rattle.exchange_core.specs.Traces.{call_of, told}
 use Rattle.exchange_core.proofs.Leaving.{left_since}
 use Rattle.exchange_core.proofs.Tracing.{traces_longer}
+use Rattle.exchange_core.specs.declared.hands.Hands.{Hands}
 use Rattle.exchange_core.specs.declared.leavers.Leavers.{Leavers}
-use Rattle.exchange_core.proofs.exchange.Exchange.run.Goals as goal
+use Rattle.exchange_core.proofs.exchange.Exchange.carry_out.Goals as goal
+use Rattle.exchange_core.proofs.exchange.Exchange.carry_out.Goals.{then-is_beginning, else-is_beginning}
 
 pub make-reply-requires-clause-media : goal.make-reply-requires-clause-media
 make-reply-requires-clause-media g c lifetimes lives =
@@ -43,29 +44,38 @@ loop-preserved g c =
     let need : next_of c.loop.work.work ≡ Some c.in-Some-next.need = sym c.next-in-loop.ensures ∙ c.in-Some-next.is in
     let answers : is_answer (next_of c.loop.work.work) c.make-reply.result ≡ true = ap (λ o. is_answer o c.make-reply.result) need ∙ c.make-reply.ensures.answer.0 in
     let keeps : KeepsPeer (next_of c.loop.work.work) c.make-reply.result = subst (λ o. KeepsPeer o c.make-reply.result) (sym need) c.make-reply.ensures.answer.1 in
-    let work = ap (λ (state : WorkState). state.work) c.tell.ensures.work in
-    let denial = c.tell.ensures.denial ∙ ap (noted (beginning_at c.loop.work.work.place) c.make-reply.result) c.make-reply.ensures.hands.1 in (
+    let work = c.told.ensures.work in
+    let whole : c.told.new.self ≡ told c.loop.work c.make-reply.result = λ i. record { work = c.told.ensures.work i; onwards = c.told.ensures.onwards i } in
+    let lease : c.if-is_beginning.hands.lease ≡ c.make-reply.new.hands.lease = search rules in
+    let named : c.if-is_beginning.hands.named ≡ c.make-reply.new.hands.named = search rules in
+    let leavers : c.if-is_beginning.hands.leavers ≡ c.make-reply.new.hands.leavers = search rules in
+    let denial : c.if-is_beginning.hands.denial ≡ noted (beginning_at c.loop.work.work.place) c.make-reply.result c.loop.hands.denial = elim c.if-is_beginning.branch [
+      | then-is_beginning w ↦ ap (λ (h : Hands). h.denial) w.hands-is ∙ w.of-hands.ensures
+          ∙ noted_first (beginning_at c.loop.work.work.place) c.make-reply.result c.loop.hands.denial (sym c.is_beginning.ensures ∙ w.if-is_beginning.true)
+      | else-is_beginning w ↦ ap (λ (h : Hands). h.denial) w.hands-is ∙ c.make-reply.ensures.hands.1
+          ∙ noted_later (beginning_at c.loop.work.work.place) c.make-reply.result c.loop.hands.denial (sym c.is_beginning.ensures ∙ w.if-is_beginning.false)
+    ] in (
       tt,
       tt,
-      covers_rest carried.within carried.octets (length c.args.given.now.datagram) c.loop.pass.credit.octets c.make-reply.new.pass.credit.octets c.loop.work.work c.tell.new.work.work
+      covers_rest carried.within carried.octets (length c.args.given.now.datagram) c.loop.pass.credit.octets c.make-reply.new.pass.credit.octets c.loop.work.work c.told.new.self.work
           c.in-Some-next.need c.make-reply.result need c.make-reply.ensures.media.0 work c.make-reply.ensures.media.1 c.loop.invariant.2,
-      c.tell.ensures.lease
-          ∙ leaves_lease c.leases_are_as_named.ensures.after c.loop.work.work c.tell.new.work.work c.in-Some-next.need c.make-reply.result c.loop.hands.lease
+      lease
+          ∙ leaves_lease c.leases_are_as_named.ensures.after c.loop.work.work c.told.new.self.work c.in-Some-next.need c.make-reply.result c.loop.hands.lease
           c.make-reply.new.hands.lease need work c.loop.invariant.3 c.make-reply.ensures.hands.0,
       under_way begins.made begins.goes_on begins.past begins.refused begins.over begins.nothing c.args.work.now.work.place c.args.pass.now.credit c.loop.pass.credit
-          c.make-reply.new.pass.credit c.loop.work.work c.tell.new.work.work c.make-reply.result c.loop.hands.denial c.tell.new.self.denial answers c.make-reply.ensures.steps.0
+          c.make-reply.new.pass.credit c.loop.work.work c.told.new.self.work c.make-reply.result c.loop.hands.denial c.if-is_beginning.hands.denial answers c.make-reply.ensures.steps.0
           c.make-reply.ensures.steps.1 c.make-reply.ensures.answer.3 work denial c.loop.invariant.4,
-      stays_in_plan begins.made begins.past (length c.args.self.now.peers) c.loop.work.work c.tell.new.work.work c.make-reply.result work keeps
+      stays_in_plan begins.made begins.past (length c.args.self.now.peers) c.loop.work.work c.told.new.self.work c.make-reply.result work keeps
           c.loop.invariant.5,
-      opens_after begins.made begins.past c.loop.work.work c.tell.new.work.work c.make-reply.result (SpellsOpening c.args.given.now.datagram) work
+      opens_after begins.made begins.past c.loop.work.work c.told.new.self.work c.make-reply.result (SpellsOpening c.args.given.now.datagram) work
           c.loop.invariant.6 c.make-reply.ensures.answer.2,
-      stands_on c.args.work.now.work.place c.args.pass.now.credit c.loop.pass.credit c.make-reply.new.pass.credit c.loop.work.work c.tell.new.work.work c.make-reply.result
-          c.loop.hands.denial c.tell.new.self.denial c.loop.hands.named c.tell.new.self.named answers keeps c.make-reply.ensures.steps.2 c.make-reply.ensures.steps.1
-          work denial (c.tell.ensures.named ∙ c.make-reply.ensures.hands.2) c.loop.invariant.7,
-      rw c.tell.ensures.work
+      stands_on c.args.work.now.work.place c.args.pass.now.credit c.loop.pass.credit c.make-reply.new.pass.credit c.loop.work.work c.told.new.self.work c.make-reply.result
+          c.loop.hands.denial c.if-is_beginning.hands.denial c.loop.hands.named c.if-is_beginning.hands.named answers keeps c.make-reply.ensures.steps.2 c.make-reply.ensures.steps.1
+          work denial (named ∙ c.make-reply.ensures.hands.2) c.loop.invariant.7,
+      rw whole
           (traces_longer (call_of c.args.self.now c.args.given.now) c.args.work.now c.loop.work c.in-Some-next.need c.make-reply.result c.args.pass.now c.loop.pass
           c.make-reply.new.pass c.loop.invariant.8 need c.make-reply.ensures.noted),
-      subst (λ (legs : Leavers). LeftSince c.args.given.now.now c.args.pass.now c.make-reply.new.pass (leaving_of legs)) (sym c.tell.ensures.leavers)
+      subst (λ (legs : Leavers). LeftSince c.args.given.now.now c.args.pass.now c.make-reply.new.pass (leaving_of legs)) (sym leavers)
           (left_since c.args.given.now.now c.args.pass.now c.loop.pass c.make-reply.new.pass (leaving_of c.loop.hands.leavers)
           (leaving_of c.make-reply.new.hands.leavers) c.loop.invariant.9 c.make-reply.ensures.left),
     )
