@@ -21,7 +21,7 @@ use std::sync::Wait;
 use std::thread;
 use std::time::{Clock, Instant};
 use trace_writer::Trace;
-use udp_workers::{Post, TurnReport, WatchedExchange, start_until};
+use udp_workers::{MOST_TURNS, Post, TurnReport, WatchedExchange};
 use worker_seats::{ServiceError, ServiceSeat, lane_of, reports_of, seats_of};
 
 /// The workers serve beside the control socket until they are told to end. False if a thread was refused: then they end at once.
@@ -34,7 +34,7 @@ pub(crate) fn serve_seats<J: Naming, P: Post + Send + Sync, R: ServiceSystem>(
     opened: Instant,
 ) -> bool {
     thread::scope(thread::scope_env(), rt, |scope| {
-        let started = start_until(rt, scope, service, seats);
+        let started = service.start_until(rt, scope, seats);
         control.run(rt, desk, opened);
         started
     })
@@ -98,6 +98,7 @@ fn serve_seated<J: Naming, P: Post + Send + Sync, R: ServiceSystem, D: ServiceDi
     let service = WatchedExchange {
         exchange,
         watch,
+        turns: MOST_TURNS,
         post: PhantomData,
     };
     let (plan, level, lent) = (exchange.plan(), control.settings.level, &mut desk);

@@ -48,10 +48,10 @@ pub record OnlyRetires (old new : TurnReport) : Type 0 where
 
 -- So many turns were made, from this count of them to that, and this is what they did. They ended for a reason, or are all that
 -- may be made.
-pub record MakesTurns (reason : Type 0) (old new : ℕ) (report : TurnReport) : Type 0 where
+pub record MakesTurns (most : ℕ) (reason : Type 0) (old new : ℕ) (report : TurnReport) : Type 0 where
   pub turns : ℕ
-  pub most : turns ≤ 2 ^ 48
-  pub ended : (turns ≡ 2 ^ 48) ⊎ reason
+  pub few : turns ≤ most
+  pub ended : (turns ≡ most) ⊎ reason
   pub counted : RisesBy old new turns
   pub received : report.received ≤ 64 * turns
   pub emptied : report.sent + report.lost ≤ 256 * 32 * turns

@@ -16,9 +16,10 @@ mod unwatched;
 mod worker;
 
 pub use report::TurnReport;
+pub use running::MOST_TURNS;
 pub use seat::{Place, Post, Seat, Start, WatchedExchange};
 pub use sources::{Challenges, Moments};
-pub use threads::{NoThread, run_all, start_until};
+pub use threads::{NoThread, run_all};
 pub use udp_wires::{BindError, MioWire, PeerCounts, Sharing, Wire, WireFault};
 pub use unwatched::Unwatched;
 pub use worker::Worker;

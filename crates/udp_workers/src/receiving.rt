@@ -11,13 +11,13 @@ ghost use Rattle.udp_workers.specs.Ticked.{IsLater};
 
 use crate::draining::is_turned_away;
 use crate::tally::Tally;
-use call_auth::Challenge;
-use exchange_core::{Exchange, Gate, Pass};
+use crate::turning::Turn;
+use exchange_core::{Gate, Pass};
 use peer_lock::Naming;
 use peer_plan::Endpoint;
 use std::sync::Wait;
 use udp_wires::Wire;
-use worker_watch::{Event, ServiceStage, Watch};
+use worker_watch::{Event, Watch};
 
 // The longest datagram is 2,048 octets; one more shows that a datagram is longer.
 const OCTETS: usize = 2049;
@@ -28,15 +28,11 @@ const DATAGRAMS: u64 = 64;
 // Takes a datagram that was received. A stranger's is refused, and so is a NEW while the service drains; else it is handed to the
 // exchange.
 fn hear<V: Watch, G: Gate, J: Naming, R: Wait>(
-    rt: &R,
-    exchange: &Exchange<G, J>,
+    turn: &Turn<'_, G, J, R>,
     pass: &mut Pass<J>,
     tally: &mut Tally<'_, V>,
-    stage: ServiceStage,
     from: Endpoint,
     octets: &[u8],
-    now: u64,
-    challenge: &Challenge,
 )
     requires room { HasRoom 3 tally.old.report }
     ensures received { tally.new.report.received ≡ tally.old.report.received + 1 }
@@ -46,102 +42,47 @@ fn hear<V: Watch, G: Gate, J: Naming, R: Wait>(
     ensures lost { tally.new.report.lost ≡ tally.old.report.lost }
     ensures faults { tally.new.report.faults ≡ tally.old.report.faults }
     ensures watch { tally.new.watch ≡ tally.old.watch }
-    ensures told { TellsReceipt (V.told tally.old.watch.now) exchange.now from now }
+    ensures told { TellsReceipt (V.told tally.old.watch.now) turn.now.exchange.now from turn.now.time }
     // Where it isn't refused, it makes a step.
     ensures steps { pass.old.credit.steps + 1 + tally.old.report.refused ≤ pass.new.credit.steps + tally.new.report.refused }
     ensures later { IsLater pass.old pass.new }
     ensures handed { GivesAll (V.given tally.old.watch.now) pass.old pass.new }
     // One that is turned away is refused, and makes none; any other is heard by the exchange.
-    ensures away { IsTurnedAway stage octets.now →
+    ensures away { IsTurnedAway turn.now.stage octets.now →
         (pass.new ≡ pass.old) × (tally.new.report.refused ≡ tally.old.report.refused + 1) }
-    ensures heard { (IsTurnedAway stage octets.now → ⊥) →
-        IsHeard exchange.now from (record (moment exchange.now now) {
+    ensures heard { (IsTurnedAway turn.now.stage octets.now → ⊥) →
+        IsHeard turn.now.exchange.now from (record (moment turn.now.exchange.now turn.now.time) {
           octets = octets.now;
-          challenge = Some challenge.now;
+          challenge = Some turn.now.challenge.now;
         }) pass.old pass.new }
 {
-    let Some(peer) = exchange.plan().peer_of(from) else {
+    let Some(peer) = turn.exchange.plan().peer_of(from) else {
         tally.tell(Event::Stranger { from });
         return;
     };
-    tally.tell(Event::Received { peer, now });
-    if is_turned_away(stage, octets) {
+    tally.tell(Event::Received {
+        peer,
+        now: turn.time,
+    });
+    if is_turned_away(turn.stage, octets) {
         tally.tell(Event::TurnedAway { peer });
         return;
     }
-    let answer = exchange.datagram(rt, pass, from, octets, now, challenge);
+    let answer = turn
+        .exchange
+        .datagram(turn.rt, pass, from, octets, turn.time, turn.challenge);
     if let Some(refusal) = answer.refused {
         tally.tell(Event::Refused { peer, refusal });
     }
     tally.tell_retired(&answer.retired);
 }
 
-// Receives a datagram, if one is there, and takes it. True if there may be another.
-fn receive_one<W: Wire, V: Watch, G: Gate, J: Naming, R: Wait>(
-    rt: &R,
-    wire: &mut W,
-    exchange: &Exchange<G, J>,
-    pass: &mut Pass<J>,
-    tally: &mut Tally<'_, V>,
-    stage: ServiceStage,
-    octets: &mut [u8],
-    now: u64,
-    challenge: &Challenge,
-) -> bool
-    requires room { HasRoom 3 tally.old.report }
-    ensures given { W.given wire.new ≡ W.given wire.old }
-    ensures given_to { (to : Endpoint) → W.given_to wire.new to ≡ W.given_to wire.old to }
-    ensures failures { RiseAlike (W.failures wire.old) (W.failures wire.new) tally.old.report.faults tally.new.report.faults }
-    ensures peers { W.peers wire.new ≡ W.peers wire.old }
-    ensures received { tally.old.report.received ≤ tally.new.report.received }
-    ensures one { tally.new.report.received ≤ tally.old.report.received + 1 }
-    ensures refused { tally.old.report.refused ≤ tally.new.report.refused }
-    ensures few_refused { tally.new.report.refused + tally.old.report.received ≤ tally.old.report.refused +
-        tally.new.report.received }
-    ensures sent { tally.new.report.sent ≡ tally.old.report.sent }
-    ensures lost { tally.new.report.lost ≡ tally.old.report.lost }
-    ensures faults { tally.old.report.faults ≤ tally.new.report.faults }
-    ensures one_fault { tally.new.report.faults ≤ tally.old.report.faults + 1 }
-    ensures last { IsTrue result → tally.new.report.faults ≡ tally.old.report.faults }
-    ensures watch { tally.new.watch ≡ tally.old.watch }
-    ensures steps { pass.old.credit.steps + tally.new.report.received + tally.old.report.refused ≤ pass.new.credit.steps +
-        tally.new.report.refused + tally.old.report.received }
-    ensures later { IsLater pass.old pass.new }
-    ensures handed { GivesAll (V.given tally.old.watch.now) pass.old pass.new }
-{
-    match wire.receive(octets) {
-        Ok(Some((len, from))) => {
-            hear(
-                rt,
-                exchange,
-                pass,
-                tally,
-                stage,
-                from,
-                &octets[..len],
-                now,
-                challenge,
-            );
-            true
-        }
-        Ok(None) => false,
-        Err(_) => {
-            tally.tell(Event::Fault);
-            false
-        }
-    }
-}
-
 // Receives until nothing is there, a call of the wire fails or 64 datagrams came, and takes each.
 pub(crate) fn receive_all<W: Wire, V: Watch, G: Gate, J: Naming, R: Wait>(
-    rt: &R,
+    turn: &Turn<'_, G, J, R>,
     wire: &mut W,
-    exchange: &Exchange<G, J>,
     pass: &mut Pass<J>,
     tally: &mut Tally<'_, V>,
-    stage: ServiceStage,
-    now: u64,
-    challenge: &Challenge,
 )
     requires room { HasRoom 66 tally.old.report }
     ensures given { W.given wire.new ≡ W.given wire.old }
@@ -162,18 +103,13 @@ pub(crate) fn receive_all<W: Wire, V: Watch, G: Gate, J: Naming, R: Wait>(
 {
     let mut octets = [0u8; OCTETS];
     for _ in 0..DATAGRAMS {
-        if !receive_one(
-            rt,
-            wire,
-            exchange,
-            pass,
-            tally,
-            stage,
-            &mut octets,
-            now,
-            challenge,
-        ) {
-            return;
+        match wire.receive(&mut octets) {
+            Ok(Some((len, from))) => hear(turn, pass, tally, from, &octets[..len]),
+            Ok(None) => return,
+            Err(_) => {
+                tally.tell(Event::Fault);
+                return;
+            }
         }
     }
 }

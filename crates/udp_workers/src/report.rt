@@ -43,27 +43,4 @@ impl TurnReport {
         }
         report
     }
-
-    // Both together.
-    pub(crate) fn with(self, other: TurnReport) -> TurnReport
-        requires received { self.received + other.received < 2 ^ 64 }
-        requires refused { self.refused + other.refused < 2 ^ 64 }
-        requires sent { self.sent + other.sent < 2 ^ 64 }
-        requires lost { self.lost + other.lost < 2 ^ 64 }
-        requires faults { self.faults + other.faults < 2 ^ 64 }
-        ensures received { result.received ≡ self.received + other.received }
-        ensures refused { result.refused ≡ self.refused + other.refused }
-        ensures sent { result.sent ≡ self.sent + other.sent }
-        ensures lost { result.lost ≡ self.lost + other.lost }
-        ensures faults { result.faults ≡ self.faults + other.faults }
-    {
-        TurnReport {
-            received: self.received + other.received,
-            refused: self.refused + other.refused,
-            sent: self.sent + other.sent,
-            lost: self.lost + other.lost,
-            faults: self.faults + other.faults,
-            retired: self.retired.wrapping_add(other.retired),
-        }
-    }
 }

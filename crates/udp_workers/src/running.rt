@@ -1,5 +1,5 @@
 //! Turns one after another.
-ghost use Rattle.std.specs.Prelude.{◌≡◌, ◌+◌, ◌*◌, ◌≤◌, length};
+ghost use Rattle.std.specs.Prelude.{◌≡◌, ◌+◌, ◌*◌, ◌^◌, ◌≤◌, length, min};
 ghost use Rattle.udp_wires.specs.Counts.{RisesBy};
 ghost use Rattle.udp_workers.specs.Events.{MakesTurns, Tells};
 ghost use Rattle.udp_workers.specs.Handed.{GivesAll};
@@ -9,6 +9,8 @@ ghost use Rattle.udp_workers.specs.Ticked.{IsLater};
 use crate::report::TurnReport;
 use crate::sources::{Challenges, Moments};
 use crate::tally::Tally;
+use crate::turning::Turn;
+use crate::unwatched::Unwatched;
 use crate::worker::Worker;
 use exchange_core::{Exchange, Gate, Pass};
 use peer_lock::Naming;
@@ -19,8 +21,9 @@ use worker_watch::{ServiceStage, Watch};
 // How long a worker waits for a datagram between two turns, in milliseconds.
 const WAIT_MS: u64 = 20;
 
-// How many turns are made at most until a service ends.
-const TURNS: u64 = 0x1_0000_0000_0000;
+/// How many turns a worker makes at most until a service ends: 2^48, so that no sum passes 64 bits, since a turn gives the wire
+/// 8,192 datagrams at most. At ten microseconds a turn these are eighty-nine years.
+pub const MOST_TURNS: u64 = 0x1_0000_0000_0000;
 
 // Waits for a datagram, but before the first turn.
 fn pause<W: Wire>(wire: &mut W, turn: u64)
@@ -59,26 +62,18 @@ impl Worker {
         ensures peers { self.new.peers ≡ self.old.peers }
         ensures turns { RisesBy self.old.turns self.new.turns turns }
     {
-        let mut report = TurnReport::default();
-        for turn in 0..turns {
-            pause(wire, u64::from(turn));
-            let now = moments.now();
-            let challenge = challenges.draw();
-            let made = self.turn(rt, wire, exchange, pass, now, &challenge);
-            report = report.with(made);
-        }
-        report
+        let most = u64::from(turns);
+        self.run_until(
+            rt, wire, exchange, pass, &Unwatched, most, moments, challenges,
+        )
     }
 
-    /// Makes turns until the watch says that the service has ended: it is asked before each, and told what happens. Each turn has
-    /// its own moment and challenge; between them the worker waits for a datagram, at most 20 ms. Gives the sum of their reports,
-    /// which counts just what the watch was told.
+    /// Makes turns until the watch says that the service has ended, at most so many, and at most `MOST_TURNS`: it is asked before
+    /// each, and told what happens. Each turn has its own moment and challenge; between them the worker waits for a datagram, at
+    /// most 20 ms. Gives the sum of their reports, which counts just what the watch was told.
     ///
     /// While the service drains, a NEW of a peer isn't handed to the exchange if it has no destination and OSeqno 0, also where
     /// it is sent again for a leg that is there. It counts as received and refused. All else goes on.
-    ///
-    /// It makes 2^48 turns at most, so that no sum passes 64 bits: a turn gives the wire 8,192 datagrams at most. At ten
-    /// microseconds a turn these are eighty-nine years.
     pub fn run_until<W: Wire, V: Watch, G: Gate, J: Naming, M: Moments, C: Challenges, R: Wait>(
         &mut self,
         rt: &R,
@@ -86,6 +81,7 @@ impl Worker {
         exchange: &Exchange<G, J>,
         pass: &mut Pass<J>,
         watch: &V,
+        turns: u64,
         moments: &mut M,
         challenges: &mut C,
     ) -> TurnReport
@@ -95,7 +91,8 @@ impl Worker {
         ensures faults { RisesBy (W.failures wire.old) (W.failures wire.new) result.faults }
         ensures wire { W.peers wire.new ≡ W.peers wire.old }
         // So many turns as it made; each of them received 64 datagrams at most, and gave the wire 256 for each peer at most.
-        ensures turns { MakesTurns (V.answered watch.now ServiceStage.Ended) self.old.turns self.new.turns result }
+        ensures turns { MakesTurns
+            (min turns (2 ^ 48)) (V.answered watch.now ServiceStage.Ended) self.old.turns self.new.turns result }
         ensures told { ∥ Tells (V.told watch.now) result ∥₁ }
         // Each leg that was taken out under the pass was given to the watch, with what its peer's state gave up.
         ensures handed { GivesAll (V.given watch.now) pass.old pass.new }
@@ -106,15 +103,20 @@ impl Worker {
         ensures peers { self.new.peers ≡ self.old.peers }
     {
         let mut tally = Tally::new(watch, self.place);
-        for turn in 0..TURNS {
-            pause(wire, turn);
+        for made in 0..turns.min(MOST_TURNS) {
+            pause(wire, made);
             let stage = watch.stage();
             if stage == ServiceStage::Ended {
                 return tally.report;
             }
-            let now = moments.now();
-            let challenge = challenges.draw();
-            self.turn_at(rt, wire, exchange, pass, stage, now, &challenge, &mut tally);
+            let turn = Turn {
+                rt,
+                exchange,
+                stage,
+                time: moments.now(),
+                challenge: &challenges.draw(),
+            };
+            self.turn_at(&turn, wire, pass, &mut tally);
         }
         tally.report
     }

@@ -1,5 +1,5 @@
 //! A worker with all that its run needs.
-ghost use Rattle.std.specs.Prelude.{◌≡◌, ◌+◌, ◌≤◌};
+ghost use Rattle.std.specs.Prelude.{◌≡◌, ◌+◌, ◌^◌, ◌≤◌, min};
 ghost use Rattle.peer_plan.specs.Plan.{PlanView};
 ghost use Rattle.udp_wires.specs.Counts.{RisesBy};
 ghost use Rattle.udp_workers.specs.Served.{AreEndpoints, peers_of};
@@ -25,20 +25,12 @@ impl Post for Brand {
     ghost plan = { record { workers = []; passes = 0; peers = []; routes = [] } };
 }
 
-// So many turns on an exchange of that plan.
-#[derive(Drop)]
-pub(crate) struct Shift<'x, G: Gate, J: Naming, P: Post> {
-    pub(crate) exchange: &'x Exchange<G, J>,
-    pub(crate) turns: u32,
-    pub(crate) post: PhantomData<P>,
-    ghost named: { exchange.now ≡ P.plan },
-}
-
-/// The exchange of that plan, and the watch of those that serve on it.
+/// The exchange of that plan, the watch of those that serve on it, and how many turns each of them makes at most.
 #[derive(Drop)]
 pub struct WatchedExchange<'x, V: Watch, G: Gate, J: Naming, P: Post> {
     pub exchange: &'x Exchange<G, J>,
     pub watch: &'x V,
+    pub turns: u64,
     pub post: PhantomData<P>,
     ghost named: { exchange.now ≡ P.plan },
 }
@@ -98,39 +90,21 @@ impl<W: Wire + Drop, M: Moments + Drop, C: Challenges + Drop, J: Naming, P: Post
     ghost use Rattle.udp_workers.specs.Handed.{GivesAll};
     ghost use Rattle.worker_watch.specs.declared.watch.ServiceStage.TheVariants as ServiceStage;
 
-    // A run from here: its counts begin with what is counted so far, and all its turns are made.
-    fn run<G: Gate, R: Wait>(&mut self, rt: &R, exchange: &Exchange<G, J>, turns: u32)
-        requires { exchange.now ≡ P.plan }
-        ensures given { self.new.start.given ≡ W.given self.old.wire }
-        ensures failures { self.new.start.failures ≡ W.failures self.old.wire }
-        ensures steps { self.new.start.steps ≡ self.old.pass.credit.steps }
-        ensures turns { RisesBy self.old.worker.turns self.new.worker.turns turns }
-    {
-        self.start = start_of(&self.wire, &self.pass);
-        self.report = self.worker.run(
-            rt,
-            &mut self.wire,
-            exchange,
-            &mut self.pass,
-            turns,
-            &mut self.moments,
-            &mut self.challenges,
-        );
-    }
-
-    // A run from here until the watch says that the service has ended: its counts begin with what is counted so far.
-    fn run_until<V: Watch, G: Gate, R: Wait>(
+    // A run from here: its counts begin with what is counted so far.
+    fn run<V: Watch, G: Gate, R: Wait>(
         &mut self,
         rt: &R,
         exchange: &Exchange<G, J>,
         watch: &V,
+        turns: u64,
     )
         requires { exchange.now ≡ P.plan }
         ensures given { self.new.start.given ≡ W.given self.old.wire }
         ensures failures { self.new.start.failures ≡ W.failures self.old.wire }
         ensures steps { self.new.start.steps ≡ self.old.pass.credit.steps }
         ensures turns { MakesTurns
-            (V.answered watch.now ServiceStage.Ended) self.old.worker.turns self.new.worker.turns self.new.report }
+            (min turns (2 ^ 48)) (V.answered watch.now ServiceStage.Ended) self.old.worker.turns self.new.worker.turns
+            self.new.report }
         ensures told { ∥ Tells (V.told watch.now) self.new.report ∥₁ }
         ensures handed { GivesAll (V.given watch.now) self.old.pass self.new.pass }
     {
@@ -141,6 +115,7 @@ impl<W: Wire + Drop, M: Moments + Drop, C: Challenges + Drop, J: Naming, P: Post
             exchange,
             &mut self.pass,
             watch,
+            turns,
             &mut self.moments,
             &mut self.challenges,
         );
@@ -182,19 +157,14 @@ impl<W: Wire + Drop, M: Moments + Drop, C: Challenges + Drop, J: Naming, P: Post
     }
 
     // Makes the run of the worker, on the thread of the caller.
-    pub(crate) fn run<G: Gate, R: Wait>(&self, rt: &R, shift: &Shift<'_, G, J, P>) {
-        self.place.lock(rt).run(rt, shift.exchange, shift.turns);
-    }
-
-    // Makes the run of the worker until the service has ended, on the thread of the caller.
-    pub(crate) fn run_until<V: Watch, G: Gate, R: Wait>(
+    pub(crate) fn run<V: Watch, G: Gate, R: Wait>(
         &self,
         rt: &R,
         service: &WatchedExchange<'_, V, G, J, P>,
     ) {
         self.place
             .lock(rt)
-            .run_until(rt, service.exchange, service.watch);
+            .run(rt, service.exchange, service.watch, service.turns);
     }
 
     /// The worker with all that its run needed, and the sum of the reports of its last run.

@@ -7,7 +7,8 @@ ghost use Rattle.udp_workers.specs.Events.{HasRoom};
 ghost use Rattle.worker_watch.specs.declared.watch.Event.TheVariants as events;
 
 use crate::tally::Tally;
-use exchange_core::{Exchange, Gate, Pass};
+use crate::turning::Turn;
+use exchange_core::{Gate, Pass};
 use iax_frames::Out;
 use peer_lock::Naming;
 use peer_plan::Endpoint;
@@ -56,16 +57,15 @@ fn send_frame<W: Wire, V: Watch>(
 // Takes up to 256 frames from the outbox of a peer, one after another into the place that is lent, and sends each to its
 // endpoint. What the wire doesn't take is lost.
 pub(crate) fn send_all<W: Wire, V: Watch, G: Gate, J: Naming, R: Wait>(
-    rt: &R,
+    turn: &Turn<'_, G, J, R>,
     wire: &mut W,
-    exchange: &Exchange<G, J>,
     pass: &mut Pass<J>,
     tally: &mut Tally<'_, V>,
     peer: u16,
     to: Endpoint,
     out: &mut Out,
 )
-    requires peer { peer < length exchange.now.peers }
+    requires peer { peer < length turn.now.exchange.now.peers }
     requires to { Contains (W.peers wire.old) to }
     requires room { HasRoom 257 tally.old.report }
     ensures given { RiseAlike (W.given wire.old) (W.given wire.new) (tally.old.report.sent + tally.old.report.lost)
@@ -85,7 +85,7 @@ pub(crate) fn send_all<W: Wire, V: Watch, G: Gate, J: Naming, R: Wait>(
     ensures pass { pass.new ≡ pass.old }
 {
     for _ in 0..FRAMES {
-        if !exchange.take_into(rt, pass, peer, out) {
+        if !turn.exchange.take_into(turn.rt, pass, peer, out) {
             return;
         }
         send_frame(wire, tally, peer, to, out.octets());

@@ -1,8 +1,9 @@
 //! Seats on threads of their own.
 ghost use Rattle.std.specs.Prelude.{◌≡◌, ◌≤◌, [], IsFalse, IsOk, length};
 
-use crate::seat::{Post, Seat, Shift, WatchedExchange};
+use crate::seat::{Post, Seat, WatchedExchange};
 use crate::sources::{Challenges, Moments};
+use crate::unwatched::Unwatched;
 use exchange_core::{Exchange, Gate};
 use peer_lock::Naming;
 use std::marker::PhantomData;
@@ -16,54 +17,9 @@ use worker_watch::Watch;
 #[derive(Clone, Copy, Debug, PartialEq, Eq)]
 pub struct NoThread;
 
-// Makes the run of the last seat on the thread of the caller, and of each other one on a thread of its own. True if no thread was
-// refused. So a worker that is alone needs no thread, and the C library spares it what its calls cost a program with several.
-fn run_each<
-    's,
-    E,
-    W: Wire + Drop + Send,
-    M: Moments + Drop + Send,
-    C: Challenges + Drop + Send,
-    G: Gate + Sync,
-    J: Naming,
-    P: Post + Send + Sync,
-    R: Wait + Sync,
->(
-    rt: &'s R,
-    scope: &Scope<'s, E>,
-    shift: &'s Shift<'s, G, J, P>,
-    seats: &'s [Seat<W, M, C, J, P>],
-) -> bool {
-    let Some((last, others)) = seats.split_last() else {
-        return true;
-    };
-    let mut started = true;
-    for seat in others {
-        if scope.spawn(move || seat.run(rt, shift)).is_err() {
-            started = false;
-        }
-    }
-    last.run(rt, shift);
-    started
-}
-
-// Makes the runs of all seats. False if a thread was refused.
-fn run_shared<
-    W: Wire + Drop + Send,
-    M: Moments + Drop + Send,
-    C: Challenges + Drop + Send,
-    G: Gate + Sync,
-    J: Naming,
-    P: Post + Send + Sync,
-    R: Threads + Wait + Sync,
->(rt: &R, shift: &Shift<'_, G, J, P>, seats: &[Seat<W, M, C, J, P>]) -> bool {
-    thread::scope(thread::scope_env(), rt, |scope| {
-        run_each(rt, scope, shift, seats)
-    })
-}
-
 /// Makes the run of each seat, so many turns, and puts the sum of its reports into it: the run of the last on the thread of the
-/// caller, that of each other one on a thread of its own. There are at most 8 seats. All threads have ended when it returns.
+/// caller, that of each other one on a thread of its own. There are at most 8 seats. All threads have ended when it returns. So a
+/// worker that is alone needs no thread, and the C library spares it what its calls cost a program with several.
 ///
 /// `NoThread`: a thread was refused. Seats whose thread was refused are unchanged, the others have run.
 pub fn run_all<
@@ -84,52 +40,66 @@ pub fn run_all<
     requires plan { exchange.now ≡ P.plan }
     ensures { seats.old ≡ [] → IsOk result }
 {
-    if seats.is_empty() {
+    let Some((last, others)) = seats.split_last() else {
         return Ok(());
-    }
-    let shift = Shift {
+    };
+    let service = WatchedExchange {
         exchange,
-        turns,
+        watch: &Unwatched,
+        turns: u64::from(turns),
         post: PhantomData,
     };
-    if run_shared(rt, &shift, seats) {
+    if service.run_beside(rt, others, last) {
         Ok(())
     } else {
         Err(NoThread)
     }
 }
 
-/// Starts a thread for each seat in a scope of the caller. It makes the seat's run until the watch says that the service has
-/// ended, and puts the sum of its reports into the seat. True if no thread was refused; the watch is told of each that was, so
-/// that it can answer `Ended` to the others.
-///
-/// The scope returns when all threads have ended, and none does before it is answered `Ended`. Until then the caller's thread
-/// does beside them what it likes.
-pub fn start_until<
+impl<'s, V: Watch + Sync, G: Gate + Sync, J: Naming, P: Post + Send + Sync> WatchedExchange<
     's,
-    E,
-    V: Watch + Sync,
-    W: Wire + Drop + Send,
-    M: Moments + Drop + Send,
-    C: Challenges + Drop + Send,
-    G: Gate + Sync,
-    J: Naming,
-    P: Post + Send + Sync,
-    R: Wait + Sync,
->(
-    rt: &'s R,
-    scope: &Scope<'s, E>,
-    service: &'s WatchedExchange<'s, V, G, J, P>,
-    seats: &'s [Seat<W, M, C, J, P>],
-) -> bool
-    ensures { IsFalse result → V.lacks_thread service.now.watch.now }
-{
-    let mut started = true;
-    for seat in seats {
-        if scope.spawn(move || seat.run_until(rt, service)).is_err() {
-            service.watch.no_thread();
-            started = false;
+    V,
+    G,
+    J,
+    P,
+> {
+    /// Starts a thread for each seat in a scope of the caller. It makes the seat's run until the watch says that the service has
+    /// ended, or all turns are made, and puts the sum of its reports into the seat. True if no thread was refused; the watch is
+    /// told of each that was, so that it can answer `Ended` to the others.
+    ///
+    /// The scope returns when all threads have ended, and none does before it is answered `Ended` or has made its turns. Until
+    /// then the caller's thread does beside them what it likes.
+    pub fn start_until<
+        E,
+        W: Wire + Drop + Send,
+        M: Moments + Drop + Send,
+        C: Challenges + Drop + Send,
+        R: Wait + Sync,
+    >(&'s self, rt: &'s R, scope: &Scope<'s, E>, seats: &'s [Seat<W, M, C, J, P>]) -> bool
+        ensures { IsFalse result → V.lacks_thread self.now.watch.now }
+    {
+        let mut started = true;
+        for seat in seats {
+            if scope.spawn(move || seat.run(rt, self)).is_err() {
+                self.watch.no_thread();
+                started = false;
+            }
         }
+        started
     }
-    started
+
+    // Makes the runs of seats, each on a thread of its own, and beside them that of the last on the thread of the caller. True if no
+    // thread was refused.
+    fn run_beside<
+        W: Wire + Drop + Send,
+        M: Moments + Drop + Send,
+        C: Challenges + Drop + Send,
+        R: Threads + Wait + Sync,
+    >(&self, rt: &R, others: &[Seat<W, M, C, J, P>], last: &Seat<W, M, C, J, P>) -> bool {
+        thread::scope(thread::scope_env(), rt, |scope| {
+            let started = self.start_until(rt, scope, others);
+            last.run(rt, self);
+            started
+        })
+    }
 }

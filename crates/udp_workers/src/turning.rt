@@ -22,6 +22,18 @@ use std::sync::Wait;
 use udp_wires::Wire;
 use worker_watch::{ServiceStage, Watch};
 
+// What a turn is made with, beside what it changes.
+#[derive(Drop)]
+pub(crate) struct Turn<'x, G: Gate, J: Naming, R: Wait> {
+    pub(crate) rt: &'x R,
+    pub(crate) exchange: &'x Exchange<G, J>,
+    // The stage that the watch was asked for.
+    pub(crate) stage: ServiceStage,
+    // Its moment, in milliseconds since the exchange was opened.
+    pub(crate) time: u64,
+    pub(crate) challenge: &'x Challenge,
+}
+
 impl Worker {
     /// One turn, at a moment in milliseconds since the exchange was opened: receives what is there, at most 64 datagrams; then
     /// lets time go on at each of its peers; then sends what is in their outboxes, up to 256 datagrams each.
@@ -58,29 +70,29 @@ impl Worker {
         ensures turns { RisesBy self.old.turns self.new.turns 1 }
     {
         let mut tally = Tally::new(&Unwatched, self.place);
-        let serving = ServiceStage::Serving;
-        self.turn_at(
-            rt, wire, exchange, pass, serving, now, challenge, &mut tally,
-        );
+        let turn = Turn {
+            rt,
+            exchange,
+            stage: ServiceStage::Serving,
+            time: now,
+            challenge,
+        };
+        self.turn_at(&turn, wire, pass, &mut tally);
         tally.report
     }
 
-    // One turn, at the stage that the watch was asked for.
+    // Makes a turn.
     pub(crate) fn turn_at<W: Wire, V: Watch, G: Gate, J: Naming, R: Wait>(
         &mut self,
-        rt: &R,
+        turn: &Turn<'_, G, J, R>,
         wire: &mut W,
-        exchange: &Exchange<G, J>,
         pass: &mut Pass<J>,
-        stage: ServiceStage,
-        now: u64,
-        challenge: &Challenge,
         tally: &mut Tally<'_, V>,
     )
-        requires peers { self.old.peers ≡ peers_of exchange.now self.old.place }
-        requires wire { AreEndpoints exchange.now self.old.peers (W.peers wire.old) }
-        requires asked { V.answered tally.old.watch.now stage }
-        requires going { stage ≢ ServiceStage.Ended }
+        requires peers { self.old.peers ≡ peers_of turn.now.exchange.now self.old.place }
+        requires wire { AreEndpoints turn.now.exchange.now self.old.peers (W.peers wire.old) }
+        requires asked { V.answered tally.old.watch.now turn.now.stage }
+        requires going { turn.now.stage ≢ ServiceStage.Ended }
         requires room { HasRoom 10000 tally.old.report }
         ensures given { RiseAlike (W.given wire.old) (W.given wire.new) (tally.old.report.sent + tally.old.report.lost)
             (tally.new.report.sent + tally.new.report.lost) }
@@ -98,58 +110,56 @@ impl Worker {
         ensures steps { pass.old.credit.steps + tally.new.report.received + tally.old.report.refused ≤ pass.new.credit.steps +
             tally.new.report.refused + tally.old.report.received }
         ensures handed { GivesAll (V.given tally.old.watch.now) pass.old pass.new }
-        ensures ticked { (mid : Noted) × IsLater pass.old mid × TicksAll exchange.now now self.old.peers mid pass.new }
+        ensures ticked { (mid : Noted) × IsLater pass.old mid ×
+            TicksAll turn.now.exchange.now turn.now.time self.old.peers mid pass.new }
         ensures place { self.new.place ≡ self.old.place }
         ensures peers { self.new.peers ≡ self.old.peers }
         ensures few { length self.new.peers ≤ 32 }
         ensures turns { RisesBy self.old.turns self.new.turns 1 }
     {
         // No two peers of a plan have one endpoint.
-        let _peers = exchange.plan().peer_count();
+        let _peers = turn.exchange.plan().peer_count();
         self.turns = self.turns.wrapping_add(1);
-        receive_all(rt, wire, exchange, pass, tally, stage, now, challenge);
+        receive_all(turn, wire, pass, tally);
         let peers = self.peers.as_slice();
-        tick_all(rt, exchange, pass, tally, peers, now);
-        empty_all(rt, wire, exchange, pass, tally, peers, &mut self.out);
+        tick_all(turn, pass, tally, peers);
+        empty_all(turn, wire, pass, tally, peers, &mut self.out);
     }
 }
 
 // Time goes on at each of these peers.
 fn tick_all<V: Watch, G: Gate, J: Naming, R: Wait>(
-    rt: &R,
-    exchange: &Exchange<G, J>,
+    turn: &Turn<'_, G, J, R>,
     pass: &mut Pass<J>,
     tally: &mut Tally<'_, V>,
     peers: &[u16],
-    now: u64,
 )
-    requires peers { All (λ peer. peer < length exchange.now.peers) peers.now }
+    requires peers { All (λ peer. peer < length turn.now.exchange.now.peers) peers.now }
     requires room { HasRoom 1 tally.old.report }
     ensures steps { pass.old.credit.steps ≤ pass.new.credit.steps }
-    ensures ticked { TicksAll exchange.now now peers.now pass.old pass.new }
+    ensures ticked { TicksAll turn.now.exchange.now turn.now.time peers.now pass.old pass.new }
     ensures handed { GivesAll (V.given tally.old.watch.now) pass.old pass.new }
     ensures only { OnlyRetires tally.old.report tally.new.report }
     ensures watch { tally.new.watch ≡ tally.old.watch }
 {
     for &peer in peers {
-        let answer = exchange.tick(rt, pass, peer, now);
+        let answer = turn.exchange.tick(turn.rt, pass, peer, turn.time);
         tally.tell_retired(&answer.retired);
     }
 }
 
 // Sends what is in the outboxes of these peers.
 fn empty_all<W: Wire, V: Watch, G: Gate, J: Naming, R: Wait>(
-    rt: &R,
+    turn: &Turn<'_, G, J, R>,
     wire: &mut W,
-    exchange: &Exchange<G, J>,
     pass: &mut Pass<J>,
     tally: &mut Tally<'_, V>,
     peers: &[u16],
     out: &mut Out,
 )
     requires few { length peers.now ≤ 32 }
-    requires peers { All (λ peer. peer < length exchange.now.peers) peers.now }
-    requires wire { AreEndpoints exchange.now peers.now (W.peers wire.old) }
+    requires peers { All (λ peer. peer < length turn.now.exchange.now.peers) peers.now }
+    requires wire { AreEndpoints turn.now.exchange.now peers.now (W.peers wire.old) }
     requires apart { AllPairs (λ one other. one ≢ other) (W.peers wire.old) }
     requires room { HasRoom 9000 tally.old.report }
     ensures given { RiseAlike (W.given wire.old) (W.given wire.new) (tally.old.report.sent + tally.old.report.lost)
@@ -166,7 +176,7 @@ fn empty_all<W: Wire, V: Watch, G: Gate, J: Naming, R: Wait>(
     ensures pass { pass.new ≡ pass.old }
 {
     for &peer in peers {
-        let to = exchange.plan().endpoint(peer);
-        send_all(rt, wire, exchange, pass, tally, peer, to, out);
+        let to = turn.exchange.plan().endpoint(peer);
+        send_all(turn, wire, pass, tally, peer, to, out);
     }
 }

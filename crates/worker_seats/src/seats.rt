@@ -29,31 +29,8 @@ pub type ServiceSeat<'t, R, J, P> = Seat<
     P,
 >;
 
-// The wire of a worker at a place of the plan: its own socket, and its lane of the trace.
-fn traced_wire_of<'t, R: Net + Wait, S: Sockets>(
-    rt: &'t R,
-    alloc: Global,
-    plan: &'t Plan,
-    worker: &Worker,
-    place: u16,
-    sockets: &S,
-    trace: Option<&'t Trace>,
-) -> Result<TracedWire<'t, R>, ServiceError>
-    requires place { place < length plan.now.workers }
-    requires peers { worker.now.peers ≡ peers_of plan.now worker.now.place }
-    ensures { IfOk result (λ made. AreEndpoints plan.now worker.now.peers (wires.peers_of made.wire)) }
-{
-    let lane = lane_of(alloc, trace, usize::from(place))?;
-    let wire = wire_of(rt, alloc, plan, worker, place, sockets)?;
-    Ok(TracedWire {
-        rt,
-        wire,
-        plan,
-        lane,
-    })
-}
-
-// What a worker at a place of the plan needs of the system: its wire, and digits for its challenges.
+// What a worker at a place of the plan needs of the system: its wire, which is its own socket and its lane of the trace, and digits
+// for its challenges.
 fn tools_of<'t, R: Net + RandomSource + Wait, S: Sockets>(
     rt: &'t R,
     alloc: Global,
@@ -67,22 +44,25 @@ fn tools_of<'t, R: Net + RandomSource + Wait, S: Sockets>(
     requires peers { worker.now.peers ≡ peers_of plan.now worker.now.place }
     ensures { IfOk result (λ tools. AreEndpoints plan.now worker.now.peers (wires.peers_of tools.0.wire)) }
 {
-    let wire = traced_wire_of(rt, alloc, plan, worker, place, sockets, trace)?;
-    match make_rng(rt) {
-        Ok(generator) => {
-            let thread = usize::from(place);
-            Ok((
-                wire,
-                Digits {
-                    rt,
-                    generator,
-                    trace,
-                    thread,
-                },
-            ))
-        }
-        Err(_) => Err(ServiceError::Entropy),
-    }
+    let thread = usize::from(place);
+    let lane = lane_of(alloc, trace, thread)?;
+    let wire = wire_of(rt, alloc, plan, worker, place, sockets)?;
+    let Ok(generator) = make_rng(rt) else {
+        return Err(ServiceError::Entropy);
+    };
+    let wire = TracedWire {
+        rt,
+        wire,
+        plan,
+        lane,
+    };
+    let digits = Digits {
+        rt,
+        generator,
+        trace,
+        thread,
+    };
+    Ok((wire, digits))
 }
 
 // Puts the worker at a place of the plan into its seat, over its own socket, behind the others. It takes the next pass, once it has

@@ -16,6 +16,6 @@ returns-clause-handed g c =
       | in_default-refused w ↦ ap watch_of w.tally-is ∙ c.tell-2.ensures.watch
     ] in
     let each = subst (All (λ (leg : Retired). g.V.Watch.given c.match-answer.tally.watch.now (departure_of leg))) c.deref.ensures.value c.tell_retired.ensures.given in
-    leave_gives (g.V.Watch.given c.args.tally.now.watch.now) c.args.now c.args.pass.now c.datagram-answer.new.pass c.datagram-answer.result.retired.items
+    leave_gives (g.V.Watch.given c.args.tally.now.watch.now) c.args.turn.now.time c.args.pass.now c.datagram-answer.new.pass c.datagram-answer.result.retired.items
     c.datagram-answer.ensures.retired
     (subst (λ (w : Bor g.row.V.Denot). All (λ (leg : Retired). g.V.Watch.given w.now (departure_of leg)) c.datagram-answer.result.retired.items) same each)

@@ -11,8 +11,8 @@ send_all-requires-clause-to g c κs within =
     let l = c.loop-peer in
     let peers = c.args.peers.now in
     let to = c.endpoint-to.result in
-    let at : endpoint_at c.args.exchange.now (get_or peers l.peer-index 0) ≡ Some to = ap (λ plan. endpoint_at plan (get_or peers l.peer-index 0)) (sym c.plan.ensures) ∙ c.endpoint-to.ensures in
-    subst (λ ends. Contains ends to) (sym l.invariant.peers) (endpoint_among c.args.exchange.now peers _ l.peer-index to c.requires.wire c.loop-peer-test.true at)
+    let at : endpoint_at c.args.turn.now.exchange.now (get_or peers l.peer-index 0) ≡ Some to = ap (λ plan. endpoint_at plan (get_or peers l.peer-index 0)) (sym c.plan.ensures) ∙ c.endpoint-to.ensures in
+    subst (λ ends. Contains ends to) (sym l.invariant.peers) (endpoint_among c.args.turn.now.exchange.now peers _ l.peer-index to c.requires.wire c.loop-peer-test.true at)
 
 pub loop-peer-preserved : goal.loop-peer-preserved
 loop-peer-preserved g c =
@@ -21,8 +21,8 @@ loop-peer-preserved g c =
     let peers = c.args.peers.now in
     let ends = g.W.Wire.peers c.args.wire.now in
     let to = c.endpoint-to.result in
-    let at : endpoint_at c.args.exchange.now (get_or peers l.peer-index 0) ≡ Some to = ap (λ plan. endpoint_at plan (get_or peers l.peer-index 0)) (sym c.plan.ensures) ∙ c.endpoint-to.ensures in
-    let there : slice_get ends l.peer-index ≡ Some to = endpoint_there c.args.exchange.now peers ends l.peer-index to c.requires.wire c.loop-peer-test.true at in
+    let at : endpoint_at c.args.turn.now.exchange.now (get_or peers l.peer-index 0) ≡ Some to = ap (λ plan. endpoint_at plan (get_or peers l.peer-index 0)) (sym c.plan.ensures) ∙ c.endpoint-to.ensures in
+    let there : slice_get ends l.peer-index ≡ Some to = endpoint_there c.args.turn.now.exchange.now peers ends l.peer-index to c.requires.wire c.loop-peer-test.true at in
     let first = g.W.Wire.given_to c.args.wire.now in
     let before = g.W.Wire.given_to l.wire in
     let after = g.W.Wire.given_to gone.new.wire in

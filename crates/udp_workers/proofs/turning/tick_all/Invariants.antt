@@ -7,7 +7,7 @@ use Rattle.udp_workers.proofs.turning.tick_all.Given as goal
 abbrev pub invariant-loop-peer : goal.invariant-loop-peer
 invariant-loop-peer g l = record {
   steps : l.fn.pass.credit.steps ≤ l.pass.credit.steps;
-  ticked : TicksAll l.exchange l.now (take l.peer-index l.peers) l.fn.pass l.pass;
+  ticked : TicksAll l.turn.exchange.now l.turn.time (take l.peer-index l.peers) l.fn.pass l.pass;
   only : OnlyRetires l.fn.tally.report l.tally.report;
   watch : l.tally.watch ≡ l.fn.tally.watch;
   handed : GivesAll (g.V.Watch.given l.fn.tally.watch.now) l.fn.pass l.pass;

@@ -4,9 +4,9 @@ use Rattle.udp_workers.proofs.HandingLaws.{gives_on}
 use Rattle.udp_workers.proofs.TickLaws.{turn_later}
 use Rattle.udp_workers.proofs.worker.Worker.run_until.Goals as goal
 
-pub loop-turn-preserved : goal.loop-turn-preserved
-loop-turn-preserved g c =
-    let l = c.loop-turn in
+pub loop-made-preserved : goal.loop-made-preserved
+loop-made-preserved g c =
+    let l = c.loop-made in
     let made = c.turn_at in
     let few : length l.self.peers ≤ 32 = subst (λ (peers : List ℕ). length peers ≤ 32) made.ensures.peers made.ensures.few in
     record {
@@ -19,7 +19,7 @@ loop-turn-preserved g c =
       failures = omega arith;
       wire = made.ensures.wire ∙ c.pause.ensures.peers ∙ l.invariant.wire;
       steps = omega arith;
-      later = turn_later c.args.exchange.now c.now-now.result l.self.peers c.args.pass.now l.pass made.new.pass l.invariant.later made.ensures.ticked;
+      later = turn_later c.args.exchange.now c.now.result l.self.peers c.args.pass.now l.pass made.new.pass l.invariant.later made.ensures.ticked;
       handed =
           gives_on (g.V.Watch.given c.args.watch.now) c.args.pass.now l.pass made.new.pass l.invariant.handed
           (subst (λ (watch : g.row.V.Denot). GivesAll (g.V.Watch.given watch) l.pass made.new.pass) l.invariant.watch made.ensures.handed);

@@ -4,12 +4,12 @@ use Rattle.udp_workers.specs.Handed.{GivesAll}
 use Rattle.udp_workers.specs.Ticked.{IsLater}
 use Rattle.udp_workers.proofs.worker.Worker.run_until.Given as goal
 
-abbrev pub invariant-loop-turn : goal.invariant-loop-turn
-invariant-loop-turn g l = record {
-  received : l.tally.report.received ≤ 64 * l.turn;
+abbrev pub invariant-loop-made : goal.invariant-loop-made
+invariant-loop-made g l = record {
+  received : l.tally.report.received ≤ 64 * l.made;
   refused : l.tally.report.refused ≤ l.tally.report.received;
-  emptied : l.tally.report.sent + l.tally.report.lost ≤ 256 * 32 * l.turn;
-  faults : l.tally.report.faults ≤ l.tally.report.lost + l.turn;
+  emptied : l.tally.report.sent + l.tally.report.lost ≤ 256 * 32 * l.made;
+  faults : l.tally.report.faults ≤ l.tally.report.lost + l.made;
   watch : l.tally.watch.now ≡ l.watch;
   given : RisesBy (g.W.Wire.given l.fn.wire) (g.W.Wire.given l.wire) (l.tally.report.sent + l.tally.report.lost);
   failures : RisesBy (g.W.Wire.failures l.fn.wire) (g.W.Wire.failures l.wire) l.tally.report.faults;
@@ -19,5 +19,5 @@ invariant-loop-turn g l = record {
   handed : GivesAll (g.V.Watch.given l.watch) l.fn.pass l.pass;
   place : l.self.place ≡ l.fn.self.place;
   peers : l.self.peers ≡ l.fn.self.peers;
-  turns : RisesBy l.fn.self.turns l.self.turns l.turn;
+  turns : RisesBy l.fn.self.turns l.self.turns l.made;
 }

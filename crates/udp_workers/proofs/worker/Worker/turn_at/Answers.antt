@@ -12,20 +12,20 @@ use Rattle.udp_workers.proofs.worker.Worker.turn_at.Goals as goal
 
 pub tick_all-requires-clause-peers : goal.tick_all-requires-clause-peers
 tick_all-requires-clause-peers g c κs within =
-    let plan = c.args.exchange.now in
+    let plan = c.args.turn.now.exchange.now in
     let own = c.as_slice-peers.ensures.value ∙ ap (λ (worker : WorkerView). worker.peers) c.self.view_is ∙ c.requires.peers in
     subst (All (λ peer. peer < length plan.peers)) (sym own) (peers_below plan c.args.self.now.place)
 
 pub empty_all-requires-clause-peers : goal.empty_all-requires-clause-peers
 empty_all-requires-clause-peers g c κs within =
-    let plan = c.args.exchange.now in
+    let plan = c.args.turn.now.exchange.now in
     let own = c.as_slice-peers.ensures.value ∙ ap (λ (worker : WorkerView). worker.peers) c.self.view_is ∙ c.requires.peers in
     subst (All (λ peer. peer < length plan.peers)) (sym own) (peers_below plan c.args.self.now.place)
 
 pub empty_all-requires-clause-apart : goal.empty_all-requires-clause-apart
 empty_all-requires-clause-apart g c κs within =
     let self = c.args.self.now in
-    let plan = c.args.exchange.now in
+    let plan = c.args.turn.now.exchange.now in
     let ends = g.W.Wire.peers c.args.wire.now in
     let sound : IsPlan plan = subst IsPlan c.plan.ensures c.peer_count-peers.ensures.sound in
     let are : AreEndpoints plan self.peers ends = c.requires.wire in
@@ -38,11 +38,11 @@ returns-clause-each g c to =
 
 pub returns-clause-ticked : goal.returns-clause-ticked
 returns-clause-ticked g c =
-    let plan = c.args.exchange.now in
+    let plan = c.args.turn.now.exchange.now in
     let arrived = c.receive_all.new.pass in
     let own = c.as_slice-peers.ensures.value ∙ ap (λ (worker : WorkerView). worker.peers) c.self.view_is in
-    let unsent = subst (TicksAll plan c.args.now c.as_slice-peers.result.now arrived) (sym c.empty_all.ensures.pass) c.tick_all.ensures.ticked in
-    (arrived, c.receive_all.ensures.later, subst (λ peers. TicksAll plan c.args.now peers arrived c.empty_all.new.pass) own unsent)
+    let unsent = subst (TicksAll plan c.args.turn.now.time c.as_slice-peers.result.now arrived) (sym c.empty_all.ensures.pass) c.tick_all.ensures.ticked in
+    (arrived, c.receive_all.ensures.later, subst (λ peers. TicksAll plan c.args.turn.now.time peers arrived c.empty_all.new.pass) own unsent)
 
 pub returns-clause-handed : goal.returns-clause-handed
 returns-clause-handed g c =
