@@ -3,28 +3,4 @@
 #![tactic(auto)]
 
 #[cfg(test)]
-mod arrivals;
-#[cfg(test)]
-mod datagrams;
-#[cfg(test)]
-mod desk;
-#[cfg(test)]
-mod growths;
-#[cfg(test)]
-mod legs;
-#[cfg(test)]
-mod opened;
-#[cfg(test)]
-mod pairs;
-#[cfg(test)]
-mod recovery;
-#[cfg(test)]
-mod same;
-#[cfg(test)]
-mod storm;
-#[cfg(test)]
-mod two_peers;
-#[cfg(test)]
-mod wires;
-#[cfg(test)]
-mod workers;
+mod tests;

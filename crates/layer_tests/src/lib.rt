@@ -3,24 +3,4 @@
 #![tactic(auto)]
 
 #[cfg(test)]
-mod book;
-#[cfg(test)]
-mod challenges;
-#[cfg(test)]
-mod held_frames;
-#[cfg(test)]
-mod ledger;
-#[cfg(test)]
-mod leg;
-#[cfg(test)]
-mod octets_read;
-#[cfg(test)]
-mod outboxes;
-#[cfg(test)]
-mod peer;
-#[cfg(test)]
-mod same;
-#[cfg(test)]
-mod trunks;
-#[cfg(test)]
-mod windows;
+mod tests;

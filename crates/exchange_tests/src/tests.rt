@@ -1,0 +1,14 @@
+//! The tests, and what they share.
+mod arrivals;
+mod datagrams;
+mod desk;
+mod growths;
+mod legs;
+mod opened;
+mod pairs;
+mod recovery;
+mod same;
+mod storm;
+mod two_peers;
+mod wires;
+mod workers;

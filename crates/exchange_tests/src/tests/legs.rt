@@ -1,0 +1,164 @@
+//! How the legs of all numbers stand before and after a datagram, and which of them it concerns.
+
+use crate::tests::datagrams::Sent;
+use crate::tests::desk::{Desk, peer_of};
+use exchange_core::Gate;
+use peer_lock::{Naming, Status};
+use std::sync::Wait;
+
+/// The leg of a number, how it stood at the look before, and the number that it is bridged with; 0 where it is with none.
+#[derive(Clone, Copy)]
+struct Place {
+    number: u16,
+    status: Option<Status>,
+    before: Option<Status>,
+    partner: u16,
+}
+
+/// The legs of the numbers 1 ..= 8.
+#[derive(Clone, Copy)]
+pub struct Legs {
+    places: [Place; 8],
+}
+
+fn place_of(number: u16) -> Place {
+    Place {
+        number,
+        status: None,
+        before: None,
+        partner: 0,
+    }
+}
+
+impl Place {
+    // Whether the leg has changed.
+    fn has_changed(&self) -> bool {
+        self.status != self.before
+    }
+
+    // Whether a leg has the number that it hadn't before.
+    fn is_new(&self) -> bool {
+        match (self.status, self.before) {
+            (Some(status), Some(old)) => status.name != old.name,
+            (Some(_), None) => true,
+            _ => false,
+        }
+    }
+
+    // Whether this is the number of a leg that has changed, or of the one that it is bridged with.
+    fn is_of_call(&self, changed: &Place) -> bool {
+        self.number == changed.number || self.number == changed.partner
+    }
+
+    // Whether the datagram concerns the leg: it is the destination's, or bridged with it; or bridged with a leg of the sender.
+    fn is_concerned(&self, sent: &Sent) -> bool {
+        let is_partner_of_sender = self.partner != 0 && peer_of(self.partner) == sent.peer;
+        if !sent.is_full() {
+            return is_partner_of_sender;
+        }
+        let destination = sent.destination();
+        if destination == 0 {
+            peer_of(self.number) == sent.peer || is_partner_of_sender
+        } else {
+            self.number == destination || self.partner == destination
+        }
+    }
+}
+
+impl Legs {
+    pub fn none() -> Legs {
+        Legs {
+            places: [
+                place_of(1),
+                place_of(2),
+                place_of(3),
+                place_of(4),
+                place_of(5),
+                place_of(6),
+                place_of(7),
+                place_of(8),
+            ],
+        }
+    }
+
+    /// Looks at all legs.
+    pub fn look<R: Wait, G: Gate, J: Naming>(&mut self, desk: &mut Desk<'_, R, G, J>) {
+        for place in self.places.iter_mut() {
+            place.before = place.status;
+            place.status = desk.status(place.number);
+        }
+    }
+
+    /// Whether no leg has changed.
+    pub fn are_unchanged(&self) -> bool {
+        for place in &self.places {
+            if place.has_changed() {
+                return false;
+            }
+        }
+        true
+    }
+
+    // The number of a leg that is new, other than this one; 0 where there is none.
+    fn other_new(&self, number: u16) -> u16 {
+        for place in &self.places {
+            if place.number != number && place.is_new() {
+                return place.number;
+            }
+        }
+        0
+    }
+
+    /// Two legs that are new at once are bridged with each other.
+    pub fn pair_new(&mut self) {
+        let after = *self;
+        for place in self.places.iter_mut() {
+            if place.is_new() {
+                place.partner = after.other_new(place.number);
+            }
+        }
+    }
+
+    // Whether a number has a leg.
+    fn has(&self, number: u16) -> bool {
+        for place in &self.places {
+            if place.number == number {
+                return place.status.is_some();
+            }
+        }
+        false
+    }
+
+    /// A leg that is gone, or whose partner is, has no partner.
+    pub fn part_gone(&mut self) {
+        let after = *self;
+        for place in self.places.iter_mut() {
+            if place.status.is_none() || !after.has(place.partner) {
+                place.partner = 0;
+            }
+        }
+    }
+
+    // Whether this leg is the only one that has changed, besides the one that it is bridged with.
+    fn is_alone(&self, changed: &Place) -> bool {
+        for place in &self.places {
+            if place.has_changed() && !place.is_of_call(changed) {
+                return false;
+            }
+        }
+        true
+    }
+
+    /// Whether no leg has changed but those that the datagram concerns: of a full frame one and the one that it is bridged with.
+    pub fn differ_where_concerned(&self, sent: &Sent) -> bool {
+        let is_full = sent.is_full();
+        for place in &self.places {
+            if place.has_changed()
+                && (!place.is_concerned(sent) || (is_full && !self.is_alone(place)))
+            {
+                return false;
+            }
+        }
+        true
+    }
+}

@@ -1,0 +1,47 @@
+//! A peer of which any one request for memory may be refused, and its book.
+//!
+//! The test passes whichever request is refused, and where none is: what was refused left all as it was, and the same call then
+//! answers as it would have. `.ci/refusals` refuses the requests one at a time.
+use crate::tests::leg::Wish;
+use crate::tests::peer::credits::{Case, plays};
+use crate::tests::peer::steps::Step;
+use crate::tests::same::holds;
+use leg_machine::{Judged, Stage};
+use test_plans::frames::NEW_300;
+
+/// A whole call of the peer: it is accepted and answered; a digit and media come, the same digit goes out, and an octet of media,
+/// for which there is credit.
+static WHOLE_CALL: Case<'static> = Case {
+    name: "whole call",
+    steps: &[
+        Step::Opens(NEW_300),
+        Step::Order(0, Wish::Accept),
+        Step::Says("800100070000000000010607090400000004"),
+        Step::Comes(10, "800700010000000001010604", Judged::Unnumbered),
+        Step::Order(20, Wish::Answer),
+        Step::Says("800100070000001401010404"),
+        Step::Stage(Stage::Up),
+        Step::Comes(32, "800700010000002001020135", Judged::Taken),
+        Step::Says("800100070000002002020604"),
+        Step::Comes(40, "800700010000002802020204ff", Judged::Taken),
+        Step::Says("800100070000002802030604"),
+        Step::Media(50, "00070032aabb", Some((4, 6))),
+        Step::Octets(3),
+        Step::Order(60, Wish::Digit),
+        Step::Says("800100070000003c02030135"),
+        // The credit for three octets goes out with a voice frame of one, and two stay.
+        Step::Order(70, Wish::Media),
+        Step::Says("800100070000004603030204aa"),
+        Step::Octets(2),
+        Step::Tick(80, true),
+        Step::Says(""),
+    ],
+};
+
+#[test]
+fn any_growth_of_a_peer_refused(rt: HostRuntime) {
+    if !plays(&rt, rt.alloc(), &WHOLE_CALL) {
+        let played = plays(&rt, rt.alloc(), &WHOLE_CALL);
+        holds(&rt, "a peer", played);
+    }
+}
