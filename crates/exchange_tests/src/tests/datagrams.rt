@@ -142,10 +142,10 @@ pub struct Call {
     pub expected: u8,
 }
 
-/// Type, subclass and data of what is sent on a call, as they stand in a full frame ("Full Frames"): five ACKs, a VNAK, a PING, a
-/// LAGRQ, a POKE; two ACCEPTs of mu-law, a RINGING, two ANSWERs; a QUELCH, an UNQUELCH, two digits, two of voice; an unknown IAX
-/// frame, a HANGUP, an INVAL, a BUSY. What ends a call is rare among them.
+/// Type, subclass and data of what is sent on a call, as they stand in a full frame ("Full Frames"). What ends a call is rare
+/// among them.
 static FRAMES: [&[u8]; 24] = [
+    // ACK, VNAK, PING, LAGRQ, POKE.
     b"\x06\x04",
     b"\x06\x04",
     b"\x06\x04",
@@ -155,17 +155,20 @@ static FRAMES: [&[u8]; 24] = [
     b"\x06\x02",
     b"\x06\x0b",
     b"\x06\x1e",
+    // ACCEPT of mu-law, RINGING, ANSWER.
     b"\x06\x07\x09\x04\x00\x00\x00\x04",
     b"\x06\x07\x09\x04\x00\x00\x00\x04",
     b"\x04\x03",
     b"\x04\x04",
     b"\x04\x04",
+    // QUELCH, UNQUELCH, DTMF, voice.
     b"\x06\x1c",
     b"\x06\x1d",
     b"\x01\x35",
     b"\x01\x23",
     b"\x02\x04\xee",
     b"\x02\x04\xff\xfe",
+    // An unknown IAX frame, HANGUP, INVAL, BUSY.
     b"\x06\x3f\x01",
     b"\x06\x05",
     b"\x06\x0a",
