@@ -1,3 +1,4 @@
 pub mod StoredLaws
 pub mod QueueLaws
 pub mod PackingLaws
+pub mod WholeLaws

@@ -1,6 +1,7 @@
 -- "Meta Frames": media that waits for a trunk frame
-use Rattle.std.specs.Prelude.{◌≡◌, ℕ, ◌+◌, ◌%◌, ◌<◌, ◌≤◌, ◌^◌, Bool, List, [], ◌∷◌, ◌++◌, ◌⊎◌, length, map, if◌then◌else◌}
-use Rattle.iax_frames.specs.TrunkFrame.{TrunkEntry, TrunkFrame, SpellsTrunk, entry_of, head_len}
+use Rattle.std.specs.Prelude.{◌≡◌, ℕ, ◌+◌, ◌%◌, ◌<◌, ◌≤◌, ◌==◌, ◌^◌, Bool, List, [], ◌∷◌, ◌++◌, ◌⊎◌, length, map, if◌then◌else◌}
+use Rattle.std.specs.List.{flat_map, list_any}
+use Rattle.iax_frames.specs.TrunkFrame.{TrunkEntry, TrunkFrame, SpellsTrunk, entry, entry_of, head_len, trunk_head}
 
 -- an entry of the trunk queue
 pub record QueueEntry : Type 0 where
@@ -22,6 +23,10 @@ pub record HasRoom (queue : List QueueEntry) (octets : ℕ) : Type 0 where
 abbrev pub IsFull : List QueueEntry → ℕ → Type 0
 IsFull queue octets = (256 ≤ length queue) ⊎ (16384 < media_octets queue + octets)
 
+-- media of a call is queued
+abbrev pub has_call : ℕ → List QueueEntry → Bool
+has_call number queue = list_any (λ e. e.number == number) queue
+
 -- an entry as a trunk frame has it
 abbrev pub trunk_entry : Bool → QueueEntry → TrunkEntry
 trunk_entry timed e = entry_of timed e.number e.timestamp e.media
@@ -31,7 +36,12 @@ abbrev pub trunk_of : Bool → ℕ → List QueueEntry → TrunkFrame
 trunk_of timed now entries =
     record { command_data = if timed then 1 else 0; timestamp = now % 2 ^ 32; entries = map (trunk_entry timed) entries }
 
--- the octets of a trunk frame of these entries
+-- the octets that spell the trunk frame of these entries at a moment
+abbrev pub trunk_spelling : Bool → ℕ → List QueueEntry → List ℕ
+trunk_spelling timed now entries =
+    let t = trunk_of timed now entries in trunk_head t.command_data t.timestamp ++ flat_map entry t.entries
+
+-- how many octets a trunk frame of these entries has
 abbrev pub trunk_octets : Bool → List QueueEntry → ℕ
 trunk_octets timed [] = 8
 trunk_octets timed (e ∷ es) = head_len timed + length e.media + trunk_octets timed es

@@ -3,6 +3,7 @@ ghost use Rattle.std.specs.Prelude.{◌≡◌, ℕ, ◌+◌, ◌<◌, ◌≤◌,
 ghost use Rattle.std.specs.Prelude.{IfOk, OnOk, OnErr, Some, IsNone, IfNone, IfSome};
 ghost use Rattle.iax_frames.specs.TrunkFrame.{IsTrunk, head_len, is_timed};
 ghost use Rattle.trunk_packer.specs.Queue.{QueueEntry, media_octets, HasRoom, IsFull, PacksFront};
+ghost use Rattle.trunk_packer.specs.Queue.{has_call, trunk_octets, trunk_spelling};
 ghost use Rattle.trunk_packer.specs.Stored.{stored, IsStored, first_stored};
 ghost use Rattle.trunk_packer.specs.Packing.{AppendsFront};
 
@@ -84,6 +85,29 @@ impl Packer {
         self.entries == 0
     }
 
+    /// Whether media of a call is queued.
+    pub fn has_call(&self, number: CallNumber) -> bool
+        ensures { result ≡ has_call number self.now }
+    {
+        let (front, back) = self.octets.as_slices();
+        let mut left = Pieces { front, back };
+        while let Some((entry, rest)) = split_entry(&left) {
+            if entry.is_of(number) {
+                return true;
+            }
+            left = rest;
+        }
+        false
+    }
+
+    /// How many octets a trunk frame of all that is queued would have, with timestamps where `timed` says so.
+    pub fn frame_len(&self, timed: bool) -> usize
+        ensures len { result ≡ trunk_octets timed self.now }
+        ensures few { result ≤ 17928 }
+    {
+        8 + self.entries * entry_head_len(timed) + self.media
+    }
+
     /// Queues media of a call with the low 16 bits of its timestamp, in milliseconds. It takes no memory.
     ///
     /// Refusals are looked for in this order: `TooLong` where the media has more than 1,380 octets, `QueueFull` where it has no
@@ -142,6 +166,29 @@ impl Packer {
         self.media -= media;
         Some((out, media as u64))
     }
+
+    /// Takes all that is queued, which fits in one trunk frame of at most 1,400 octets, with timestamps where `timed` says so,
+    /// and gives the frame and the octets of media in it, or `None` where nothing is queued. The frame's timestamp is the moment
+    /// `now`, in milliseconds, modulo 2^32. It takes no memory.
+    pub fn pack_whole(&mut self, now: u64, timed: bool) -> Option<(Out, u64)>
+        requires fits { trunk_octets timed self.old ≤ 1400 }
+        ensures none { IsNone result ↔ (self.old ≡ []) }
+        ensures same { IfNone result (self.new ≡ self.old) }
+        ensures frame { IfSome result (λ packed. packed.0 ≡ trunk_spelling timed now self.old) }
+        ensures media { IfSome result (λ packed. packed.1 ≡ media_octets self.old) }
+        ensures empty { IfSome result (λ _. self.new ≡ []) }
+    {
+        let (out, media) = self.pack(now, timed)?;
+        Some((out, media))
+    }
+}
+
+// An entry's octets before its media.
+fn entry_head_len(timed: bool) -> usize
+    ensures len { result ≡ head_len timed }
+    ensures few { result ≤ 6 }
+{
+    if timed { 6 } else { 4 }
 }
 
 // Appends an entry, for which there is room.

@@ -1,5 +1,5 @@
 //! The entries of a queue as they lie in a ring of octets.
-ghost use Rattle.std.specs.Prelude.{◌≡◌, ◌+◌, ◌<◌, ◌≤◌, ◌^◌, ◌↔◌, IsOk, OnOk, OnErr, IfNone, IfSome, length, slice_index, Some};
+ghost use Rattle.std.specs.Prelude.{◌≡◌, ◌==◌, ◌+◌, ◌<◌, ◌≤◌, ◌^◌, ◌↔◌, IsOk, OnOk, OnErr, IfNone, IfSome, length, slice_index, Some};
 ghost use Rattle.std.specs.Prelude.{None};
 ghost use Rattle.iax_frames.specs.TrunkFrame.{TrunkFrame, SpellsTrunk, IsTrunk, with_entry, head_len, is_timed};
 ghost use Rattle.trunk_packer.specs.Queue.{trunk_entry};
@@ -35,6 +35,13 @@ impl<'a> StoredEntry<'a> {
         ensures short { result ≤ 1380 }
     {
         self.media.len()
+    }
+
+    // Whether it is media of this call.
+    pub(crate) fn is_of(&self, number: CallNumber) -> bool
+        ensures { result ≡ (self.now.number == number) }
+    {
+        self.number == number
     }
 
     // Appends the entry to a trunk frame, or changes nothing.
