@@ -51,7 +51,7 @@ def a_storm(tools, storm, seconds, seed, spoil=None):
     """What `calls` and the network saw, and how calls ended at the exchanges."""
     keys = {"retry_ms": storm.retry_ms, "max_retries": 20, "ping_ms": 20000}
     if storm.vnak_ms:
-        keys |= {"format": 3, "vnak_ms": storm.vnak_ms}
+        keys |= {"format": 4, "vnak_ms": storm.vnak_ms}
     name = "storm_" + "_".join(f"{it}" for it in storm)
     trunk = {"window": storm.window, "numbers": 64}
     sites = Sites(tools, name, seed, trunk=trunk, keys=keys, spoil=spoil, **network_of(storm, seconds))

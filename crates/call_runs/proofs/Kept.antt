@@ -97,7 +97,7 @@ module _ (P : ℕ → PeerView → Type 0) (stays : IsOfShape P) where
   outbox_sound : (peer : PeerView) (outbox : List (List ℕ)) → IsSoundPeer peer → IsSoundPeer (record peer { outbox = outbox })
   outbox_sound peer outbox sound = record {
     legs = sound.legs;
-    kept = record { rules = sound.kept.rules; ruled = sound.kept.ruled; queued = sound.kept.queued };
+    kept = record { rules = sound.kept.rules; ruled = sound.kept.ruled; queued = sound.kept.queued; one_frame = sound.kept.one_frame };
   }
 
   pub all_kept : (old new : Stored) → ArePeers old.peers → EachPeer P old.peers → Changes old new → EachPeer P new.peers

@@ -11,9 +11,10 @@ use Rattle.leg_machine.specs.declared.media.MediaSent.TheVariants as sent
 use Rattle.peer_lock.specs.Arrivals.{delivered_step, datagram_step}
 use Rattle.peer_lock.specs.Delivery.{Delivery, Reaches, NeedsNumber, Gets, NoCall, delivery}
 use Rattle.peer_lock.specs.Legs.{PeerLegs, NamedLeg, with_place}
-use Rattle.peer_lock.specs.Orders.{ordered_if, counted_media, with_media, is_full_for}
+use Rattle.peer_lock.specs.Orders.{ordered_if, counted_media, with_media}
 use Rattle.peer_lock.specs.Peer.{PeerView}
-use Rattle.peer_lock.specs.Ticks.{Ticks, legs_tick}
+use Rattle.peer_lock.specs.Ticks.{Ticks, Packs, legs_tick}
+use Rattle.peer_lock.specs.Trunks.{begins_next, is_full_for, queue_after}
 use Rattle.peer_lock.specs.declared.steps.TickReport.{TickReport}
 
 pub record IsShapedAs (old new : PeerLegs) : Type 0 where
@@ -55,19 +56,20 @@ either true x y z is or = is
 either false x y z is or = or
 
 -- what is counted of media changes no leg
-counted_legs : (s : MediaSent) (peer : PeerView) (number : ℕ) (media : List ℕ)
-    → (counted_media s peer number media).legs ≡ peer.legs
-counted_legs sent.Quelched peer number media = refl
-counted_legs sent.Voice peer number media = refl
-counted_legs (sent.Mini timestamp) peer number media =
-    either peer.rules.trunk _ _ peer (either (is_full_for peer.queue (length media)) _ _ peer refl refl) refl
+counted_legs : (s : MediaSent) (peer : PeerView) (number : ℕ) (media : List ℕ) (now : ℕ)
+    → (counted_media s peer number media now).legs ≡ peer.legs
+counted_legs sent.Quelched peer number media now = refl
+counted_legs sent.Voice peer number media now = refl
+counted_legs (sent.Mini timestamp) peer number media now =
+    let left = queue_after (begins_next peer.rules peer.queue number (length media)) peer.queue in
+    either peer.rules.trunk _ _ peer (either (is_full_for left (length media)) _ _ peer refl refl) refl
 
 pub of_order : (peer : PeerView) (o : Option NamedLeg) (order : Order) (now : ℕ)
     → IsShapedAs peer.legs (ordered_if peer o order now).legs
 of_order peer None order now = itself peer.legs
 of_order peer (Some named) (orders.Media media) now =
     let s = media_sent named.leg now in
-    subst (IsShapedAs peer.legs) (sym (counted_legs s (with_media s peer named media.now now) named.name.number media.now))
+    subst (IsShapedAs peer.legs) (sym (counted_legs s (with_media s peer named media.now now) named.name.number media.now now))
     (placed peer.legs named.name.number _)
 of_order peer (Some named) order now = placed peer.legs named.name.number _
 
@@ -79,10 +81,15 @@ ticked_length skips [] now = refl
 ticked_length [] (place ∷ places) now = ap (λ (n : ℕ). suc n) (ticked_length [] places now)
 ticked_length (skipped ∷ skips) (place ∷ places) now = ap (λ (n : ℕ). suc n) (ticked_length skips places now)
 
+-- packing changes no leg
+packed_legs : (wait : Option ℕ) (old : PeerView) (now octets : ℕ) (new : PeerView) → Packs wait old now octets new → new.legs ≡ old.legs
+packed_legs None old now octets new packs = ap (λ (p : PeerView). p.legs) packs.rest
+packed_legs (Some wait) old now octets new packs = ap (λ (p : PeerView). p.legs) packs.rest
+
 pub of_tick : (old new : PeerView) (now : ℕ) (report : TickReport) → Ticks old now report new → IsShapedAs old.legs new.legs
 of_tick old new now report t =
     let between : t.between.legs ≡ record old.legs
     { places = (legs_tick t.legs.skips old.legs.places now).places } = ap (λ (p : PeerView). p.legs) t.legs.legs in
-    let after : new.legs ≡ t.between.legs = ap (λ (p : PeerView). p.legs) t.packs.rest in
+    let after : new.legs ≡ t.between.legs = packed_legs t.between.rules.trunk_ms t.between now t.octets new t.packs in
     subst (IsShapedAs old.legs) (sym (after ∙ between))
     (record { peer = refl; first = refl; count = ticked_length t.legs.skips old.legs.places now })

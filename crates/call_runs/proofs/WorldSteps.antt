@@ -1,6 +1,6 @@
 -- What the laws below say of the steps of peers, and what is to be shown of a step.
 use Rattle.std.specs.Prelude.{option_map, Ok, Err}
-use Rattle.std.proofs.Common.{◌≡◌, ℕ, ◌≤◌, Bool, true, List, ◌∷◌, Option, None, Some}
+use Rattle.std.proofs.Common.{◌≡◌, ℕ, ◌≤◌, Bool, true, List, ◌∷◌, None, Some}
 use Rattle.call_book.specs.declared.leg_name.LegName.{LegName}
 use Rattle.call_signals.specs.declared.format.Format.{Format}
 use Rattle.call_signals.specs.declared.order.Order.{Order}

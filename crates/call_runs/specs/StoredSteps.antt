@@ -23,10 +23,10 @@ use Rattle.iax_frames.specs.declared.datagram.Datagram.{Datagram}
 use Rattle.leg_machine.specs.OrderTable.{wants_memory}
 use Rattle.leg_machine.specs.Seen.{kind_of}
 use Rattle.peer_lock.specs.Arrivals.{datagram_step}
-use Rattle.peer_lock.specs.Legs.{NamedLeg, leg_at, leg_named, with_place}
+use Rattle.peer_lock.specs.Legs.{NamedLeg, leg_at, leg_named}
 use Rattle.peer_lock.specs.Openings.{open_in_refused, open_out_refused, opens_in, opens_out}
 use Rattle.peer_lock.specs.Orders.{order_refused_by, ordered_step, IsOrderRefusal}
-use Rattle.peer_lock.specs.Peer.{PeerView, PeerStep}
+use Rattle.peer_lock.specs.Peer.{PeerView, PeerStep, without_leg}
 use Rattle.peer_lock.specs.SoundPeer.{IsSoundPeer}
 use Rattle.peer_lock.specs.Statuses.{is_done, is_quiet, status_of}
 use Rattle.peer_lock.specs.Ticks.{Ticks}
@@ -113,7 +113,7 @@ pub record TakesTick (old new : PeerView) (reply : Reply) : Type 0 where
 -- the leg of a name, which has ended and owes nothing, is taken out
 pub record GivesUp (name : LegName) (old new : PeerView) (reply : Reply) : Type 0 where
   pub done : is_done (leg_named old.legs name) ≡ true
-  pub becomes : new ≡ record old { legs = with_place old.legs name.number None }
+  pub becomes : new ≡ without_leg old name
   pub answers : reply ≡ replies.Retire true
 
 -- ---- what the exchange becomes

@@ -1,5 +1,5 @@
 -- What a plan lets the rules of a peer be.
-use Rattle.std.specs.Prelude.{ℕ, ◌≤◌, IsSome}
+use Rattle.std.specs.Prelude.{ℕ, ◌≤◌, IsSome, IfSome}
 use Rattle.call_signals.specs.declared.rules.PeerRules.{PeerRules}
 use Rattle.call_signals.specs.Format.{lowest_format}
 
@@ -9,6 +9,7 @@ IsWithin least most n = (least ≤ n) × (n ≤ most)
 pub record IsPeerRules (rules : PeerRules) : Type 0 where
   pub secret_of_user : IsSome rules.secret → IsSome rules.user
   pub some_format : IsSome (lowest_format rules.formats)
+  pub trunk_ms : IfSome rules.trunk_ms (λ ms. ms ≤ 60)
   pub retry_ms : IsWithin 1 60000 rules.retry_ms
   pub max_retries : rules.max_retries ≤ 20
   pub ping_ms : rules.ping_ms ≤ 600000

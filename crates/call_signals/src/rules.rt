@@ -76,6 +76,8 @@ pub struct PeerRules {
     pub trunk: bool,
     /// Whether the entries of those trunk frames have timestamps.
     pub trunk_timestamps: bool,
+    /// How long media waits for a trunk frame to fill: 0 ..= 60 milliseconds; `None` packs whatever is queued at each tick.
+    pub trunk_ms: Option<u64>,
     /// How long a frame waits for its acknowledgement before it goes out again: 1 ..= 60,000 milliseconds.
     pub retry_ms: u64,
     /// How often it goes out again: 0 ..= 20.
@@ -110,6 +112,7 @@ impl PeerRules {
             formats: self.formats,
             trunk: self.trunk,
             trunk_timestamps: self.trunk_timestamps,
+            trunk_ms: self.trunk_ms,
             retry_ms: self.retry_ms,
             max_retries: self.max_retries,
             ping_ms: self.ping_ms,

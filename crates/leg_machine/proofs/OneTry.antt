@@ -1,11 +1,11 @@
 -- One more try.
-use Rattle.std.proofs.Common.{◌≡◌, ℕ, suc, ◌≤◌, ◌++◌, refl, ap, arith}
+use Rattle.std.proofs.Common.{◌≡◌, ℕ, suc, ◌≤◌, ◌++◌, true, refl, ap, arith}
 use Rattle.seq_window.specs.Window.{WindowState, resent, after_resent, entry_count}
 use Rattle.seq_window.specs.declared.judgements.Resent.TheVariants as resents
 use Rattle.seq_window.specs.declared.judgements.Resent.{Resent}
 use Rattle.leg_machine.specs.Leg.{LegState, whole_leg, capacity_of, HasRoom}
 use Rattle.leg_machine.specs.declared.machine.Machine.{Machine}
-use Rattle.leg_machine.specs.Tries.{tries, after_try, frames_again}
+use Rattle.leg_machine.specs.Tries.{tries, tried, after_try, frames_again}
 
 pub tries-again : (more : ℕ) (leg : LegState) (now place : ℕ) → resent leg.window now leg.rules.retry_ms leg.rules.max_retries ≡ resents.Again place
     → tries (suc more) leg now ≡ record {
@@ -14,6 +14,10 @@ pub tries-again : (more : ℕ) (leg : LegState) (now place : ℕ) → resent leg
       spent = (tries more (after_try leg place now) now).spent;
     }
 tries-again more leg now place is = rw is refl
+
+pub tries-spent : (more : ℕ) (leg : LegState) (now : ℕ) → resent leg.window now leg.rules.retry_ms leg.rules.max_retries ≡ resents.Spent
+    → tries (suc more) leg now ≡ tried leg true
+tries-spent more leg now is = rw is refl
 
 entries_kept : (r : Resent) (w : WindowState) (now : ℕ) → (entry_count (after_resent r w now) ≡ entry_count w) × ((after_resent r w now).limit ≡ w.limit)
 entries_kept resents.Nothing w now = (refl, refl)

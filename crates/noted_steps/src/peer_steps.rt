@@ -7,13 +7,13 @@ ghost use Rattle.iax_frames.specs.declared.datagram.Datagram.{Datagram as Datagr
 ghost use Rattle.leg_machine.specs.OrderTable.{IsShortMedia, wants_memory};
 ghost use Rattle.peer_accounts.specs.Accounts.{with_step};
 ghost use Rattle.peer_accounts.specs.HandedUp.{IsNothing};
-ghost use Rattle.peer_lock.specs.Legs.{NamedLeg as NamedLegValue, leg_at, leg_named, with_place};
+ghost use Rattle.peer_lock.specs.Legs.{NamedLeg as NamedLegValue, leg_at, leg_named};
 ghost use Rattle.peer_lock.specs.Rests.{is_quiet};
 ghost use Rattle.peer_lock.specs.Arrivals.{datagram_refused, datagram_step};
 ghost use Rattle.peer_lock.specs.Makes.{IsDue, IsUnchanged, Makes};
 ghost use Rattle.peer_lock.specs.Openings.{IsOpenRefusal, IsOpening, open_in_refused, open_out_refused, opens_in, opens_out};
 ghost use Rattle.peer_lock.specs.Orders.{IsOrderRefusal, order_octets, order_refused_by, ordered_step};
-ghost use Rattle.peer_lock.specs.Peer.{leg_alone};
+ghost use Rattle.peer_lock.specs.Peer.{leg_alone, without_leg};
 ghost use Rattle.peer_lock.specs.Statuses.{IsHistory, facts_of, is_done, status_of};
 ghost use Rattle.peer_lock.specs.Ticks.{Ticks};
 ghost use Rattle.peer_lock.specs.declared.errors.PeerError.{PeerError as PeerErrorValue};
@@ -268,8 +268,8 @@ impl<J: Naming> NotedPeer<J> {
         answer
     }
 
-    /// Gives up the leg of a name that has ended and owes nothing: its lease, its record and what it tells beside that. It is
-    /// noted, and is no step of the peer.
+    /// Gives up the leg of a name that has ended and owes nothing: its lease, its record and what it tells beside that. Queued
+    /// media of its call goes out before, in plan format 4. It is noted, and is no step of the peer.
     ///
     /// `None` exactly where no such leg has that name; then the peer is as before.
     #[tactic(auto, using(crate::proofs::Counted::steps_in_longer))]
@@ -284,8 +284,7 @@ impl<J: Naming> NotedPeer<J> {
         ensures facts { IfSome result (λ retired. (named : NamedLegValue) → leg_named self.old.state.legs name ≡ Some named
             → retired.1.facts ≡ facts_of named) }
         ensures legal { IfSome result (λ retired. IsHistory retired.1.history.entries) }
-        ensures gone { OnSome result (self.new.state ≡
-            record self.old.state { legs = with_place self.old.state.legs name.number None }) }
+        ensures gone { OnSome result (self.new.state ≡ without_leg self.old.state name) }
         ensures same { IfNone result (self.new.state ≡ self.old.state) }
     {
         let answer = self.state.retire(name);

@@ -1,11 +1,62 @@
--- What holds of a peer whenever its lock is free still holds where its legs have stepped.
-use Rattle.std.proofs.Common.{ℕ, List}
+-- What holds of a peer whenever its lock is free still holds where its legs have stepped, and where its queue went out.
+use Rattle.std.proofs.Common.{◌≡◌, ◌≤◌, ℕ, ◌+◌, Bool, true, false, cond, List, [], ◌∷◌, ◌++◌, length, ap, sym, subst, refl, ◌∙◌, arith}
+use Rattle.iax_frames.specs.TrunkFrame.{head_len}
 use Rattle.call_signals.specs.declared.rules.PeerRules.{PeerRules}
+use Rattle.peer_accounts.specs.Accounts.{Accounts}
 use Rattle.peer_legs.specs.Legs.{PeerLegs, AreLegsOf}
 use Rattle.peer_lock.specs.Peer.{PeerView}
 use Rattle.peer_lock.specs.SoundPeer.{IsKept}
+use Rattle.peer_lock.specs.Trunks.{flushes, waits, queue_after, accounts_after}
+use Rattle.trunk_packer.specs.Queue.{QueueEntry, media_octets, trunk_octets}
 
 -- the legs go by the rules by which they went before
 pub legs_kept : (peer : PeerView) (legs : PeerLegs) (outbox : List (List ℕ)) → IsKept peer
     → ((rules : PeerRules) → AreLegsOf rules peer.legs → AreLegsOf rules legs) → IsKept (record peer { legs = legs; outbox = outbox })
-legs_kept peer legs outbox kept ruled = record { rules = kept.rules; ruled = ruled peer.rules kept.ruled; queued = kept.queued }
+legs_kept peer legs outbox kept ruled =
+    record { rules = kept.rules; ruled = ruled peer.rules kept.ruled; queued = kept.queued; one_frame = kept.one_frame }
+
+none_queued : (flushed : Bool) (queue : List QueueEntry) (queued : ℕ) → queued ≡ media_octets queue
+    → cond flushed 0 queued ≡ media_octets (cond flushed [] queue)
+none_queued true queue queued is = refl
+none_queued false queue queued is = is
+
+short_frame : (flushed timed : Bool) (queue : List QueueEntry) → trunk_octets timed queue ≤ 1400 → trunk_octets timed (cond flushed [] queue) ≤ 1400
+short_frame true timed queue fits = omega arith
+short_frame false timed queue fits = fits
+
+-- nothing is queued
+pub empty_frame : (timed : Bool) (queue : List QueueEntry) → queue ≡ [] → trunk_octets timed queue ≤ 1400
+empty_frame timed queue none = subst (λ (q : List QueueEntry). trunk_octets timed q ≤ 1400) (sym none) (omega arith)
+
+push_octets : (timed : Bool) (queue : List QueueEntry) (e : QueueEntry) → trunk_octets timed (queue ++ e ∷ []) ≡ trunk_octets timed queue + head_len timed + length e.media
+push_octets timed [] e = omega arith
+push_octets timed (x ∷ queue) e = omega (arith, push_octets timed queue e)
+
+-- one entry more is queued, for which the frame has room
+pub kept_queued : (peer : PeerView) (queue : List QueueEntry) (since : ℕ) (accounts : Accounts) (e : QueueEntry) → IsKept peer
+    → queue ≡ peer.queue ++ e ∷ [] → media_octets queue ≡ media_octets peer.queue + length e.media
+    → accounts.queued ≡ peer.accounts.queued + length e.media
+    → (waits peer.rules ≡ true → trunk_octets peer.rules.trunk_timestamps peer.queue + head_len peer.rules.trunk_timestamps + length e.media ≤ 1400)
+    → IsKept (record peer { queue = queue; since = since; accounts = accounts })
+kept_queued peer queue since accounts e kept more counted queued room = record {
+  rules = kept.rules;
+  ruled = kept.ruled;
+  queued = omega (arith, queued, counted, kept.queued);
+  one_frame = λ waiting.
+      subst (λ (q : List QueueEntry). trunk_octets peer.rules.trunk_timestamps q ≤ 1400) (sym more)
+      (omega (arith, push_octets peer.rules.trunk_timestamps peer.queue e, room waiting));
+}
+
+-- .. and what waited for a trunk frame went out
+pub kept_after : (peer : PeerView) (goes : Bool) (legs : PeerLegs) (outbox : List (List ℕ)) (queue : List QueueEntry) (accounts : Accounts) → IsKept peer
+    → ((rules : PeerRules) → AreLegsOf rules peer.legs → AreLegsOf rules legs)
+    → queue ≡ queue_after goes peer.queue → accounts ≡ accounts_after goes peer.queue peer.accounts
+    → IsKept (record peer { legs = legs; outbox = outbox; queue = queue; accounts = accounts })
+kept_after peer goes legs outbox queue accounts kept ruled queue_is accounts_are = record {
+  rules = kept.rules;
+  ruled = ruled peer.rules kept.ruled;
+  queued = ap (λ (a : Accounts). a.queued) accounts_are ∙ none_queued (flushes goes peer.queue) peer.queue peer.accounts.queued kept.queued ∙ ap media_octets (sym queue_is);
+  one_frame = λ waiting.
+      subst (λ (q : List QueueEntry). trunk_octets peer.rules.trunk_timestamps q ≤ 1400) (sym queue_is)
+      (short_frame (flushes goes peer.queue) peer.rules.trunk_timestamps peer.queue (kept.one_frame waiting));
+}

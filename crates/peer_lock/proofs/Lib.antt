@@ -2,6 +2,7 @@ pub mod Carrying
 pub mod Choices
 pub mod Entries
 pub mod Kept
+pub mod NoneDropped
 pub mod NumberTicks
 pub mod Opened
 pub mod Packing
@@ -16,3 +17,4 @@ pub mod SidesEvents
 pub mod SidesSent
 pub mod SidesTicks
 pub mod Ticking
+pub mod Trunks

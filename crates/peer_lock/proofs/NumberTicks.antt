@@ -10,6 +10,7 @@ use Rattle.peer_lock.specs.Peer.{PeerView}
 use Rattle.peer_lock.specs.SoundPeer.{IsSoundPeer}
 use Rattle.peer_lock.specs.Ticks.{legs_tick, place_tick, Ticks}
 use Rattle.peer_lock.specs.declared.steps.TickReport.{TickReport}
+use Rattle.peer_lock.proofs.Trunks.{packs_legs}
 
 place_ticked : (skips : List ℕ) (places : List (Option NamedLeg)) (now index : ℕ)
     → (skipped : ℕ) × (filled (slice_get (legs_tick skips places now).places index) ≡ (place_tick skipped (filled (slice_get places index)) now).place)
@@ -29,7 +30,7 @@ number_ticked legs skips now number = elim (cases_Bool (nat_le legs.first number
 -- the legs after a tick
 pub ticked_legs : (old new : PeerView) (now : ℕ) (report : TickReport) (ticks : Ticks old now report new)
     → new.legs ≡ record old.legs { places = (legs_tick ticks.legs.skips old.legs.places now).places }
-ticked_legs old new now report ticks = ap (λ (p : PeerView). p.legs) ticks.packs.rest ∙ ap (λ (p : PeerView). p.legs) ticks.legs.legs
+ticked_legs old new now report ticks = packs_legs ticks.between.rules.trunk_ms ticks.between now ticks.octets new ticks.packs ∙ ap (λ (p : PeerView). p.legs) ticks.legs.legs
 
 pub ticked_at : (old new : PeerView) (now : ℕ) (report : TickReport) → Ticks old now report new → (number : ℕ)
     → (skipped : ℕ) × (leg_at new.legs number ≡ (place_tick skipped (leg_at old.legs number) now).place)

@@ -2,9 +2,11 @@
 use Rattle.std.proofs.Common.{◌≡◌, ◌≤◌, ℕ, ◌+◌, Bool, List, [], ◌∷◌, ◌++◌, ap, sym, refl, subst, ◌∙◌, arith}
 use Rattle.std.proofs.Math.Nat.{add_assoc}
 use Rattle.std.proofs.lemmas.List.{append_assoc, append-nil}
+use Rattle.peer_accounts.specs.Accounts.{Accounts}
 use Rattle.peer_lock.specs.Peer.{PeerView}
+use Rattle.peer_lock.specs.SoundPeer.{IsKept}
 use Rattle.peer_lock.specs.Ticks.{PacksFronts, PacksOne, PacksMedia, IsPacked, with_packed}
-use Rattle.trunk_packer.specs.Queue.{QueueEntry, media_octets, PacksFront}
+use Rattle.trunk_packer.specs.Queue.{QueueEntry, media_octets, trunk_octets, PacksFront}
 
 -- one front more
 fronts_more : (timed : Bool) (now : ℕ) (datagrams : List (List ℕ)) (old between new : List QueueEntry) (datagram : List ℕ)
@@ -57,3 +59,24 @@ one_packed start now octets one peer next so step = record {
 pub all_packed : (start : PeerView) (now octets : ℕ) (peer : PeerView) → ArePacked start now octets peer → IsPacked peer → PacksMedia start now octets peer
 all_packed start now octets peer so done =
     record { datagrams = so.datagrams; fronts = so.fronts; media = so.media; rest = so.rest; done = done }
+
+-- what is left is no longer than what was there
+rest_octets : (timed : Bool) (front rest : List QueueEntry) → trunk_octets timed rest ≤ trunk_octets timed (front ++ rest)
+rest_octets timed [] rest = omega arith
+rest_octets timed (e ∷ front) rest = omega (arith, rest_octets timed front rest)
+
+short_rest : (timed : Bool) (now : ℕ) (old new : List QueueEntry) (out : List ℕ) → PacksFront timed now old new out → trunk_octets timed old ≤ 1400 → trunk_octets timed new ≤ 1400
+short_rest timed now old new out packs short =
+    let whole : trunk_octets timed old ≡ trunk_octets timed (packs.front ++ new) = ap (trunk_octets timed) packs.whole in
+    omega (arith, rest_octets timed packs.front new, whole, short)
+
+pub packed_kept : (peer : PeerView) (now octets : ℕ) (out : List ℕ) (outbox : List (List ℕ)) (queue : List QueueEntry) (accounts : Accounts) → IsKept peer
+    → PacksFront peer.rules.trunk_timestamps now peer.queue queue out → media_octets peer.queue ≡ octets + media_octets queue
+    → accounts.queued + octets ≡ peer.accounts.queued
+    → IsKept (record peer { outbox = outbox; queue = queue; accounts = accounts })
+packed_kept peer now octets out outbox queue accounts kept packs media queued = record {
+  rules = kept.rules;
+  ruled = kept.ruled;
+  queued = omega (arith, media, queued, kept.queued);
+  one_frame = λ waiting. short_rest peer.rules.trunk_timestamps now peer.queue queue out packs (kept.one_frame waiting);
+}

@@ -1,38 +1,21 @@
 -- What a full frame that reaches a leg makes of a peer.
 use Rattle.std.specs.Prelude.{map}
-use Rattle.std.proofs.Common.{◌≡◌, ℕ, List, ap, ◌∙◌}
+use Rattle.std.proofs.Common.{◌≡◌, ℕ, ap, ◌∙◌}
 use Rattle.call_signals.specs.declared.outcomes.Heard.{Heard}
 use Rattle.iax_frames.specs.FullFrame.{FullFrame, spelling}
 use Rattle.leg_machine.specs.Steps.{full_step, heard_of}
 use Rattle.peer_accounts.specs.Accounts.{Credit, stepped, with_accepted, with_step as with_credit}
 use Rattle.peer_accounts.specs.HandedUp.{HandedUp}
-use Rattle.peer_legs.specs.Legs.{NamedLeg, PeerLegs, with_leg}
+use Rattle.peer_legs.specs.Legs.{NamedLeg, with_leg}
 use Rattle.peer_lock.specs.Arrivals.{reached_step}
 use Rattle.peer_lock.specs.Makes.{Makes}
-use Rattle.outbox.specs.Outbox.{put}
-use Rattle.peer_lock.specs.Peer.{PeerView, granted, handed_up, leg_alone, offer_with}
+use Rattle.peer_lock.specs.Peer.{PeerView, granted, handed_up, leg_alone, offer_with, with_sent}
 use Rattle.peer_lock.specs.declared.steps.Step.{Step}
-
--- a leg takes its step, and what it sends goes to the outbox
-pub sent_by_leg : (view old : PeerView) (named : NamedLeg) (frame : FullFrame) (now : ℕ) (legs : PeerLegs) (outbox replies : List (List ℕ))
-    → view ≡ old → legs ≡ with_leg view.legs named.name (full_step named.leg frame now).leg
-    → outbox ≡ put view.outbox replies → replies ≡ map spelling (full_step named.leg frame now).replies
-    → record view { legs = legs; outbox = outbox } ≡ record old {
-      legs = with_leg old.legs named.name (full_step named.leg frame now).leg;
-      outbox = put old.outbox (map spelling (full_step named.leg frame now).replies);
-    }
-sent_by_leg view old named frame now legs outbox replies view_is legs_are outbox_is replies_are =
-    (λ i. record view { legs = legs_are i; outbox = (outbox_is ∙ ap (put view.outbox) replies_are) i })
-    ∙ ap (λ (v : PeerView). record v {
-      legs = with_leg v.legs named.name (full_step named.leg frame now).leg;
-      outbox = put v.outbox (map spelling (full_step named.leg frame now).replies);
-    }) view_is
 
 -- the leg takes its step, and what it heard is counted and handed up
 pub reached : (first : ℕ) (old between new : PeerView) (named : NamedLeg) (frame : FullFrame) (now : ℕ) (heard : Heard) (step : Step) (pass_old pass_new : Credit) (onwards : HandedUp)
-    → between ≡ record old {
+    → between ≡ record (with_sent old named.name.number (map spelling (full_step named.leg frame now).replies)) {
       legs = with_leg old.legs named.name (full_step named.leg frame now).leg;
-      outbox = put old.outbox (map spelling (full_step named.leg frame now).replies);
     }
     → heard ≡ heard_of (full_step named.leg frame now)
     → new ≡ record between { accounts = with_accepted (stepped between.accounts) (granted first between.accounts.accepted heard.signal).octets }
@@ -45,10 +28,9 @@ reached first old between new named frame now heard step pass_old pass_new onwar
   peer =
       new_is
       ∙ ap (λ (v : PeerView). record v { accounts = with_accepted (stepped v.accounts) (granted first v.accounts.accepted heard.signal).octets }) between_is
-      ∙ ap (λ (h : Heard). record old {
+      ∙ ap (λ (h : Heard). record sent {
         legs = with_leg old.legs named.name (full_step named.leg frame now).leg;
-        outbox = put old.outbox (map spelling (full_step named.leg frame now).replies);
-        accounts = with_accepted (stepped old.accounts) (granted first old.accounts.accepted h.signal).octets;
+        accounts = with_accepted (stepped sent.accounts) (granted first old.accounts.accepted h.signal).octets;
       }) heard_is;
   answer = step_is ∙ ap (λ (h : Heard). leg_alone named.name h.judged) heard_is;
   signals =
@@ -64,3 +46,6 @@ reached first old between new named frame now heard step pass_old pass_new onwar
       ∙ ap (λ (v : PeerView). with_credit pass_old (granted first v.accounts.accepted heard.signal).octets) between_is
       ∙ ap (λ (h : Heard). with_credit pass_old (granted first old.accounts.accepted h.signal).octets) heard_is;
 }
+  where
+    sent : PeerView
+    sent = with_sent old named.name.number (map spelling (full_step named.leg frame now).replies)

@@ -26,17 +26,19 @@ use Rattle.call_signals.specs.declared.stage.Stage.TheVariants.{Waiting}
 use Rattle.peer_legs.specs.Legs.{NamedLeg, PeerLegs, filled, leg_at, leg_named, if_named, with_place, with_leg}
 use Rattle.peer_legs.specs.Legs.{is_free_name}
 use Rattle.peer_lock.specs.Openings.{opens_in, opens_out}
-use Rattle.peer_lock.specs.Orders.{order_refused_by, refused_at, from_leg_due, ordered_if, ordered_at, ordered_step, IsOrderRefusal, counted_media, short_media, queued_media, carried_media, is_full_for, with_media}
-use Rattle.peer_lock.specs.Peer.{PeerView, handed_up, with_datagram}
+use Rattle.peer_lock.specs.Orders.{order_refused_by, refused_at, from_leg_due, ordered_if, ordered_at, ordered_step, IsOrderRefusal, counted_media, short_media, queued_media, waiting_media, carried_media, with_media}
+use Rattle.peer_lock.specs.Peer.{PeerView, flushed_if, handed_up, with_datagram}
 use Rattle.peer_lock.specs.Seen.{SeenNamed, seen_named, seen_at, TurnsAt, OpensIn, OpensOut, Obeys, IsGone, Refuses, refuses_order, IsSeenRefusal, IsTickedAt, TicksAll, Retires}
 use Rattle.peer_lock.specs.Statuses.{is_done}
 use Rattle.peer_lock.specs.Ticks.{legs_tick, place_tick, Ticks}
+use Rattle.peer_lock.specs.Trunks.{is_full_for, begins_next}
 use Rattle.peer_accounts.specs.declared.account.Carried.TheVariants.{Packed}
 use Rattle.peer_lock.specs.declared.errors.OrderError.{OrderError}
 use Rattle.peer_lock.specs.declared.errors.OrderError.TheVariants as errors
 use Rattle.peer_lock.specs.declared.steps.TickReport.{TickReport}
 use Rattle.trunk_packer.specs.Queue.{QueueEntry}
 use Rattle.peer_lock.proofs.Choices.{either}
+use Rattle.peer_lock.proofs.Trunks.{packs_legs}
 use Rattle.peer_lock.proofs.SeenChanges.{named_at, none_named, seen_of_name, placed_turns, put_turns, leg_turns}
 
 -- ---- openings
@@ -107,26 +109,27 @@ module _ (law : (rules : PeerRules) (number : ℕ) (called : List ℕ) (caller :
 -- ---- orders
 
 -- the legs after media are those of the leg that sent it
-queued_legs : (peer : PeerView) (entry : QueueEntry) → (queued_media peer entry).legs ≡ peer.legs
-queued_legs peer entry = elim (cases_Bool (is_full_for peer.queue (length entry.media))) [
+queued_legs : (peer : PeerView) (entry : QueueEntry) (now : ℕ) → (queued_media peer entry now).legs ≡ peer.legs
+queued_legs peer entry now = elim (cases_Bool (is_full_for peer.queue (length entry.media))) [
   | inl e ↦ rw e refl
   | inr e ↦ rw e refl
 ]
 
-short_legs : (peer : PeerView) (number timestamp : ℕ) (media : List ℕ) → (short_media peer number timestamp media).legs ≡ peer.legs
-short_legs peer number timestamp media =
-    either (λ (p : PeerView). p.legs ≡ peer.legs) peer.rules.trunk (queued_media peer (record { number = number; timestamp = timestamp; media = media }))
+short_legs : (peer : PeerView) (number timestamp : ℕ) (media : List ℕ) (now : ℕ) → (short_media peer number timestamp media now).legs ≡ peer.legs
+short_legs peer number timestamp media now =
+    let entry : QueueEntry = record { number = number; timestamp = timestamp; media = media } in
+    either (λ (p : PeerView). p.legs ≡ peer.legs) peer.rules.trunk (waiting_media peer entry now)
     (carried_media (with_datagram peer (mini_spelling (record { source = number; timestamp = timestamp; media = media }))) Packed (length media))
-    (queued_legs peer (record { number = number; timestamp = timestamp; media = media })) refl
+    (queued_legs (flushed_if (begins_next peer.rules peer.queue number (length media)) peer) entry now) refl
 
-media_legs : (how : MediaSent) (peer : PeerView) (number : ℕ) (media : List ℕ) → (counted_media how peer number media).legs ≡ peer.legs
-media_legs sent.Quelched peer number media = refl
-media_legs sent.Voice peer number media = refl
-media_legs (sent.Mini timestamp) peer number media = short_legs peer number timestamp media
+media_legs : (how : MediaSent) (peer : PeerView) (number : ℕ) (media : List ℕ) (now : ℕ) → (counted_media how peer number media now).legs ≡ peer.legs
+media_legs sent.Quelched peer number media now = refl
+media_legs sent.Voice peer number media now = refl
+media_legs (sent.Mini timestamp) peer number media now = short_legs peer number timestamp media now
 
 pub ordered_legs : (peer : PeerView) (named : NamedLeg) (order : Order) (now : ℕ) → (ordered_at peer named order now).legs ≡ with_leg peer.legs named.name (order_carried named.leg order now).leg
 ordered_legs peer named (orders.Media media) now =
-    media_legs (media_sent named.leg now) (with_media (media_sent named.leg now) peer named media.now now) named.name.number media.now
+    media_legs (media_sent named.leg now) (with_media (media_sent named.leg now) peer named media.now now) named.name.number media.now now
 ordered_legs peer named (orders.Accept format) now = refl
 ordered_legs peer named (orders.Reject cause) now = refl
 ordered_legs peer named (orders.Indicate indication) now = refl
@@ -287,7 +290,7 @@ module _ (law : (grown : Bool) (leg : LegState) (now : ℕ) → IsSeenTick (seen
   pub tick_seen : (old new : PeerView) (now : ℕ) (report : TickReport) → Ticks old now report new → TicksAll old.legs new.legs
   tick_seen old new now report ticks =
       let same : new.legs ≡ record old.legs { places = (legs_tick ticks.legs.skips old.legs.places now).places } =
-      ap (λ (p : PeerView). p.legs) ticks.packs.rest ∙ ap (λ (p : PeerView). p.legs) ticks.legs.legs in
+      packs_legs ticks.between.rules.trunk_ms ticks.between now ticks.octets new ticks.packs ∙ ap (λ (p : PeerView). p.legs) ticks.legs.legs in
       record {
         peer = ap (λ (legs : PeerLegs). legs.peer) same;
         each = λ number. subst (λ (legs : PeerLegs). IsTickedAt (seen_at old.legs number) (seen_at legs number)) (sym same) (number_seen old.legs ticks.legs.skips now number);

@@ -1,6 +1,6 @@
 -- The steps of a peer but its ticks, as steps of sides of networks.
 use Rattle.std.specs.Prelude.{◌&&◌, map}
-use Rattle.std.proofs.Common.{◌≡◌, ◌^◌, ℕ, ◌-◌, ◌<◌, ◌==◌, ◌⊎◌, true, All, inl, inr, List, [], ◌∷◌, length, Option, Some, None, cond, refl, ap, sym, ◌∙◌, arith}
+use Rattle.std.proofs.Common.{◌≡◌, ◌^◌, ℕ, ◌-◌, ◌<◌, ◌==◌, ◌⊎◌, true, All, inl, inr, List, [], ◌∷◌, length, Option, Some, None, cond, refl, ap, sym, subst, ◌∙◌, arith}
 use Rattle.std.proofs.lemmas.Bool.{cases_Bool}
 use Rattle.call_book.specs.declared.leg_name.LegName.{LegName}
 use Rattle.call_signals.specs.declared.format.Format.{Format}
@@ -28,13 +28,14 @@ use Rattle.peer_legs.proofs.RuleChanges.{number_fits}
 use Rattle.peer_lock.specs.Arrivals.{datagram_step, delivered_step}
 use Rattle.peer_lock.specs.Delivery.{Delivery, NeedsNumber, Gets, NoCall, delivered, is_new, is_poke, inval_for, pong_for, unknown_call}
 use Rattle.peer_lock.specs.Openings.{opens_in, opens_out}
-use Rattle.peer_lock.specs.Orders.{order_refused_by, refused_at, ordered_if, ordered_at, ordered_step, counted_media, short_media, queued_media, carried_media, is_full_for, with_media}
-use Rattle.outbox.specs.Outbox.{put}
-use Rattle.peer_lock.specs.Peer.{PeerView, with_datagram}
+use Rattle.peer_lock.specs.Orders.{order_refused_by, refused_at, ordered_if, ordered_at, ordered_step, counted_media, short_media, queued_media, waiting_media, carried_media, with_media}
+use Rattle.peer_lock.specs.Peer.{PeerView, flushed_if, with_datagram, with_sent}
 use Rattle.peer_lock.specs.Sides.{ComesToNone, TakesTurnAtLeg, TakesDatagram, SendsAtLeg, TakesNew, SendsNew}
 use Rattle.peer_lock.specs.SoundPeer.{IsSoundPeer}
+use Rattle.peer_lock.specs.Trunks.{has_any, flushes, goes_ahead, begins_next, is_full_for}
 use Rattle.trunk_packer.specs.Queue.{QueueEntry}
 use Rattle.peer_lock.proofs.Choices.{either}
+use Rattle.peer_lock.proofs.Trunks.{Ahead, ahead_of, alone_of}
 use Rattle.outbox.proofs.Puts.{put_both}
 use Rattle.peer_lock.proofs.SeenArrivals.{found_named}
 use Rattle.peer_lock.proofs.SeenChanges.{named_at}
@@ -63,11 +64,13 @@ module _ (turns : (leg : LegState) (frame : FullFrame) (now : ℕ) → TakesTurn
   full_side first peer frame now None sound is = inr (unknown_side first peer frame now)
   full_side first peer frame now (Some named) sound is =
       let at = found_named peer.legs frame named sound.legs is in
+      let datagrams = map spelling (full_step named.leg frame now).replies in
+      let sent = ahead_of peer (flushes (has_any datagrams && goes_ahead peer.rules peer.queue named.name.number) peer.queue) datagrams in
       inl (record {
         named = named;
         leg = (full_step named.leg frame now).leg;
         datagrams = map spelling (full_step named.leg frame now).replies;
-        steps = record { at = at; legs = refl; outbox = refl };
+        steps = record { at = at; legs = refl; ahead = sent.ahead; queued = sent.queued; outbox = sent.is };
         tied = turns named.leg frame now;
         sendings = (sends named.leg frame now (sound.kept.ruled named.name.number named at).numbered).sendings;
       })
@@ -80,50 +83,63 @@ module _ (turns : (leg : LegState) (frame : FullFrame) (now : ℕ) → TakesTurn
 
 -- ---- orders
 
--- these datagrams go out, or none
-record Puts (old new sent : List (List ℕ)) : Type 0 where
+-- these datagrams go out, or none, behind media that was queued
+record Puts (peer : PeerView) (new sent : List (List ℕ)) : Type 0 where
   pub datagrams : List (List ℕ)
-  pub outbox : new ≡ put old datagrams
+  pub outbox : Ahead peer new datagrams
   pub which : (datagrams ≡ sent) ⊎ (datagrams ≡ [])
 
-queued_outbox : (peer : PeerView) (entry : QueueEntry) → (queued_media peer entry).outbox ≡ peer.outbox
-queued_outbox peer entry = elim (cases_Bool (is_full_for peer.queue (length entry.media))) [
+queued_outbox : (peer : PeerView) (entry : QueueEntry) (now : ℕ) → (queued_media peer entry now).outbox ≡ peer.outbox
+queued_outbox peer entry now = elim (cases_Bool (is_full_for peer.queue (length entry.media))) [
   | inl e ↦ rw e refl
   | inr e ↦ rw e refl
 ]
 
 short_puts : (peer : PeerView) (named : NamedLeg) (timestamp now : ℕ) (media : List ℕ) → named.name.number ≡ named.leg.number
-    → Puts peer.outbox (short_media (with_media (sent.Mini timestamp) peer named media now) named.name.number timestamp media).outbox (media_datagrams (sent.Mini timestamp) named.leg media now)
+    → Puts peer (short_media (with_media (sent.Mini timestamp) peer named media now) named.name.number timestamp media now).outbox (media_datagrams (sent.Mini timestamp) named.leg media now)
 short_puts peer named timestamp now media same =
     let entry : QueueEntry = record { number = named.name.number; timestamp = timestamp; media = media } in
     let with : PeerView = with_media (sent.Mini timestamp) peer named media now in
     let datagram : List ℕ = mini_spelling (record { source = named.name.number; timestamp = timestamp; media = media }) in
-    either (λ (p : PeerView). Puts peer.outbox p.outbox (media_datagrams (sent.Mini timestamp) named.leg media now)) peer.rules.trunk
-    (queued_media with entry) (carried_media (with_datagram with datagram) Packed (length media))
-    (record { datagrams = []; outbox = queued_outbox with entry; which = inr refl })
+    let next = begins_next peer.rules peer.queue named.name.number (length media) in
+    either (λ (p : PeerView). Puts peer p.outbox (media_datagrams (sent.Mini timestamp) named.leg media now)) peer.rules.trunk
+    (waiting_media with entry now) (carried_media (with_datagram with datagram) Packed (length media))
+    (record {
+      datagrams = [];
+      outbox = subst (λ (o : List (List ℕ)). Ahead peer o []) (sym (queued_outbox (flushed_if next with) entry now)) (alone_of peer (flushes next peer.queue));
+      which = inr refl;
+    })
     (record {
       datagrams = datagram ∷ [];
-      outbox = put_both peer.outbox [] (datagram ∷ []);
+      outbox = record { ahead = []; queued = inl refl; is = put_both peer.outbox [] (datagram ∷ []) };
       which = inl (ap (λ (n : ℕ). mini_spelling (record { source = n; timestamp = timestamp; media = media }) ∷ []) same);
     })
 
+-- what the leg of a number sends goes out, behind media of its call
+sent_puts : (peer : PeerView) (number : ℕ) (datagrams : List (List ℕ)) → Puts peer (with_sent peer number datagrams).outbox datagrams
+sent_puts peer number datagrams = record {
+  datagrams = datagrams;
+  outbox = ahead_of peer (flushes (has_any datagrams && goes_ahead peer.rules peer.queue number) peer.queue) datagrams;
+  which = inl refl;
+}
+
 media_puts : (how : MediaSent) (peer : PeerView) (named : NamedLeg) (media : List ℕ) (now : ℕ) → named.name.number ≡ named.leg.number
-    → Puts peer.outbox (counted_media how (with_media how peer named media now) named.name.number media).outbox (media_datagrams how named.leg media now)
-media_puts sent.Quelched peer named media now same = record { datagrams = []; outbox = refl; which = inr refl }
-media_puts sent.Voice peer named media now same = record { datagrams = media_datagrams sent.Voice named.leg media now; outbox = refl; which = inl refl }
+    → Puts peer (counted_media how (with_media how peer named media now) named.name.number media now).outbox (media_datagrams how named.leg media now)
+media_puts sent.Quelched peer named media now same = record { datagrams = []; outbox = record { ahead = []; queued = inl refl; is = refl }; which = inr refl }
+media_puts sent.Voice peer named media now same = sent_puts peer named.name.number (media_datagrams sent.Voice named.leg media now)
 media_puts (sent.Mini timestamp) peer named media now same = short_puts peer named timestamp now media same
 
 ordered_puts : (peer : PeerView) (named : NamedLeg) (order : Order) (now : ℕ) → named.name.number ≡ named.leg.number
-    → Puts peer.outbox (ordered_at peer named order now).outbox (order_carried named.leg order now).datagrams
+    → Puts peer (ordered_at peer named order now).outbox (order_carried named.leg order now).datagrams
 ordered_puts peer named (orders.Media media) now same = media_puts (media_sent named.leg now) peer named media.now now same
-ordered_puts peer named (orders.Accept format) now same = record { datagrams = _; outbox = refl; which = inl refl }
-ordered_puts peer named (orders.Reject cause) now same = record { datagrams = _; outbox = refl; which = inl refl }
-ordered_puts peer named (orders.Indicate indication) now same = record { datagrams = _; outbox = refl; which = inl refl }
-ordered_puts peer named orders.Answer now same = record { datagrams = _; outbox = refl; which = inl refl }
-ordered_puts peer named (orders.Dtmf digit) now same = record { datagrams = _; outbox = refl; which = inl refl }
-ordered_puts peer named (orders.Hangup cause) now same = record { datagrams = _; outbox = refl; which = inl refl }
-ordered_puts peer named (orders.Doom cause) now same = record { datagrams = _; outbox = refl; which = inl refl }
-ordered_puts peer named orders.Paid now same = record { datagrams = _; outbox = refl; which = inl refl }
+ordered_puts peer named (orders.Accept format) now same = sent_puts peer named.name.number _
+ordered_puts peer named (orders.Reject cause) now same = sent_puts peer named.name.number _
+ordered_puts peer named (orders.Indicate indication) now same = sent_puts peer named.name.number _
+ordered_puts peer named orders.Answer now same = sent_puts peer named.name.number _
+ordered_puts peer named (orders.Dtmf digit) now same = sent_puts peer named.name.number _
+ordered_puts peer named (orders.Hangup cause) now same = sent_puts peer named.name.number _
+ordered_puts peer named (orders.Doom cause) now same = sent_puts peer named.name.number _
+ordered_puts peer named orders.Paid now same = sent_puts peer named.name.number _
 
 all_either : (leg : LegState) (datagrams sent : List (List ℕ)) → (datagrams ≡ sent) ⊎ (datagrams ≡ []) → All (IsSendingOrMini leg) sent → All (IsSendingOrMini leg) datagrams
 all_either leg datagrams sent (inl is) all = rw is all
@@ -150,7 +166,9 @@ module _ (turns : (leg : LegState) (order : Order) (now : ℕ) → SendsAtMostOn
         steps = record {
           at = ap (λ (n : LegName). leg_at peer.legs n.number) at.is ∙ at.at;
           legs = ordered_legs peer named order now;
-          outbox = puts.outbox;
+          ahead = puts.outbox.ahead;
+          queued = puts.outbox.queued;
+          outbox = puts.outbox.is;
         };
         tied = turns named.leg order now;
         sendings = all_either (order_carried named.leg order now).leg puts.datagrams (order_carried named.leg order now).datagrams puts.which has.sendings;

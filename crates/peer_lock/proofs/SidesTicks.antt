@@ -1,6 +1,6 @@
 -- A tick of a peer, as steps of sides of networks.
 use Rattle.std.specs.Prelude.{map}
-use Rattle.std.proofs.Common.{◌≡◌, ℕ, zero, suc, ◌+◌, ◌==◌, Bool, All, List, [], ◌∷◌, ◌++◌, Option, Some, None, slice_get, refl, ap, sym, subst, ◌∙◌, arith}
+use Rattle.std.proofs.Common.{◌≡◌, ◌&&◌, ℕ, zero, suc, ◌+◌, ◌==◌, Bool, All, List, [], ◌∷◌, ◌++◌, Option, Some, None, slice_get, refl, ap, sym, subst, ◌∙◌, arith}
 use Rattle.std.proofs.lemmas.List.Elements.{All-append}
 use Rattle.iax_frames.specs.FullFrame.{spelling}
 use Rattle.leg_machine.specs.Leg.{LegState}
@@ -12,8 +12,10 @@ use Rattle.peer_lock.specs.Peer.{PeerView}
 use Rattle.peer_lock.specs.Sides.{SendsAt, EachSends}
 use Rattle.peer_lock.specs.SoundPeer.{IsSoundPeer}
 use Rattle.peer_lock.specs.Ticks.{legs_tick, place_tick, Ticks}
+use Rattle.peer_lock.specs.Trunks.{has_any, flushes, waits}
 use Rattle.peer_lock.specs.declared.steps.TickReport.{TickReport}
 use Rattle.peer_lock.proofs.NumberTicks.{ticked_at, ticked_legs}
+use Rattle.peer_lock.proofs.Trunks.{ahead_of, packs_more}
 
 -- the leg at a place sends a datagram
 record SentAt (place : Option NamedLeg) (datagram : List ℕ) : Type 0 where
@@ -68,6 +70,9 @@ module _ (turns : (grown : Bool) (leg : LegState) (now : ℕ) → SendsAtMostOne
       let legs = ticked_legs old new now report ticks in
       let sent = places_send ticks.legs.skips old.legs.places now
       (λ place named at. (sound.kept.ruled (old.legs.first + place) named (leg_at_place old.legs (old.legs.first + place) place (Some named) refl at)).numbered) in
+      let datagrams = (legs_tick ticks.legs.skips old.legs.places now).datagrams in
+      let ahead = ahead_of old (flushes (has_any datagrams && waits old.rules) old.queue) datagrams in
+      let more = packs_more ticks.between.rules.trunk_ms ticks.between now ticks.octets new ticks.packs in
       record {
         each = λ number. let is = ticked_at old new now report ticks number in subst (SendsAt (leg_at old.legs number)) (sym is.1) (place_side is.0 (leg_at old.legs number) now);
         datagrams = (legs_tick ticks.legs.skips old.legs.places now).datagrams;
@@ -78,6 +83,8 @@ module _ (turns : (grown : Bool) (leg : LegState) (now : ℕ) → SendsAtMostOne
               ∙ leg_at_place (record old.legs { places = (legs_tick ticks.legs.skips old.legs.places now).places }) (old.legs.first + one.place) one.place (Some one.named) refl one.at;
           sending = one.sending;
         };
-        trunks = ticks.packs.datagrams;
-        outbox = ap (λ (p : PeerView). p.outbox) ticks.packs.rest ∙ ap (λ (p : PeerView). p.outbox ++ ticks.packs.datagrams) ticks.legs.legs;
+        ahead = ahead.ahead;
+        queued = ahead.queued;
+        trunks = more.trunks;
+        outbox = more.is ∙ ap (λ (o : List (List ℕ)). o ++ more.trunks) (ap (λ (p : PeerView). p.outbox) ticks.legs.legs ∙ ahead.is);
       }

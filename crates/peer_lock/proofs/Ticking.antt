@@ -16,9 +16,11 @@ use Rattle.peer_legs.specs.Legs.{NamedLeg}
 use Rattle.outbox.specs.Outbox.{put}
 use Rattle.peer_lock.specs.Peer.{PeerView}
 use Rattle.peer_legs.specs.Rests.{is_quiet, is_resting}
-use Rattle.peer_lock.specs.Ticks.{LegsTick, PlaceTick, TicksLegs, place_tick, legs_tick, then_ticks}
+use Rattle.peer_lock.specs.Ticks.{LegsTick, PlaceTick, TicksLegs, flushed_ahead, place_tick, legs_tick, then_ticks}
+use Rattle.peer_lock.specs.Trunks.{waits}
 use Rattle.peer_lock.proofs.Choices.{either}
-use Rattle.outbox.proofs.Puts.{put_both, put_none}
+use Rattle.outbox.proofs.Puts.{put_none}
+use Rattle.peer_lock.proofs.Trunks.{outbox_twice, queue_twice, accounts_twice}
 use Rattle.seq_window.specs.Window.{held_count}
 
 -- what stands there already
@@ -82,9 +84,10 @@ pub record AreTicked (start : PeerView) (now place : ℕ) (peer : PeerView) (ski
   pub skips : List ℕ
   pub count : length skips ≡ place
   pub skipped_are : skipped ≡ (legs_tick skips (take place start.legs.places) now).skipped
-  pub here : peer ≡ record start {
+  pub here : peer ≡ record (flushed_ahead start (legs_tick skips (take place start.legs.places) now).datagrams) {
     legs = record start.legs { places = (legs_tick skips (take place start.legs.places) now).places ++ drop place start.legs.places };
-    outbox = put start.outbox (legs_tick skips (take place start.legs.places) now).datagrams;
+    outbox = put (flushed_ahead start (legs_tick skips (take place start.legs.places) now).datagrams).outbox
+        (legs_tick skips (take place start.legs.places) now).datagrams;
   }
 
 ticked_len : (skips : List ℕ) (places : List (Option NamedLeg)) (now : ℕ) → length (legs_tick skips places now).places ≡ length places
@@ -158,9 +161,9 @@ next_is start peer now place skipped so p there =
     here = ticked_len so.skips (take place start.legs.places) now ∙ taken_len start.legs.places place p there
 
 pub more_ticked : (start peer next : PeerView) (now place skipped s : ℕ) → AreTicked start now place peer skipped → (p : Option NamedLeg) → slice_get start.legs.places place ≡ Some p
-    → next ≡ record peer {
+    → next ≡ record (flushed_ahead peer (place_tick s p now).datagrams) {
       legs = record peer.legs { places = slice_set peer.legs.places place (place_tick s p now).place };
-      outbox = put peer.outbox (place_tick s p now).datagrams;
+      outbox = put (flushed_ahead peer (place_tick s p now).datagrams).outbox (place_tick s p now).datagrams;
     }
     → s ≡ (place_tick s p now).skipped
     → AreTicked start now (suc place) next (skipped + s)
@@ -171,6 +174,8 @@ more_ticked start peer next now place skipped s so p there went count = record {
   here = went ∙ ap after so.here ∙ λ i. record start {
     legs = record start.legs { places = places_are i };
     outbox = outbox_is i;
+    queue = queue_is i;
+    accounts = accounts_are i;
   };
 }
   where
@@ -181,9 +186,9 @@ more_ticked start peer next now place skipped s so p there went count = record {
     before = legs_tick so.skips (take place start.legs.places) now
 
     after : PeerView → PeerView
-    after q = record q {
+    after q = record (flushed_ahead q (place_tick s p now).datagrams) {
       legs = record q.legs { places = slice_set q.legs.places place (place_tick s p now).place };
-      outbox = put q.outbox (place_tick s p now).datagrams;
+      outbox = put (flushed_ahead q (place_tick s p now).datagrams).outbox (place_tick s p now).datagrams;
     }
 
     joined : legs_tick (so.skips ++ s ∷ []) (take (suc place) start.legs.places) now ≡ record {
@@ -207,8 +212,24 @@ more_ticked start peer next now place skipped s so p there went count = record {
         ∙ sym (append_assoc before.places ((place_tick s p now).place ∷ []) (drop (suc place) start.legs.places))
         ∙ sym (ap (λ (t : LegsTick). t.places ++ drop (suc place) start.legs.places) joined)
 
-    outbox_is : put (put start.outbox before.datagrams) (place_tick s p now).datagrams ≡ put start.outbox (legs_tick (so.skips ++ s ∷ []) (take (suc place) start.legs.places) now).datagrams
-    outbox_is = put_both start.outbox before.datagrams (place_tick s p now).datagrams ∙ sym (ap (λ (t : LegsTick). put start.outbox t.datagrams) joined)
+    here_now : List (List ℕ)
+    here_now = (place_tick s p now).datagrams
+
+    outbox_is : (after (record (flushed_ahead start before.datagrams) { outbox = put (flushed_ahead start before.datagrams).outbox before.datagrams })).outbox
+        ≡ put (flushed_ahead start (legs_tick (so.skips ++ s ∷ []) (take (suc place) start.legs.places) now).datagrams).outbox (legs_tick (so.skips ++ s ∷ []) (take (suc place) start.legs.places) now).datagrams
+    outbox_is =
+        outbox_twice (waits start.rules) start.rules.trunk_timestamps start.since start.outbox before.datagrams here_now start.queue
+        ∙ sym (ap (λ (t : LegsTick). put (flushed_ahead start t.datagrams).outbox t.datagrams) joined)
+
+    queue_is : (after (flushed_ahead start before.datagrams)).queue ≡ (flushed_ahead start (legs_tick (so.skips ++ s ∷ []) (take (suc place) start.legs.places) now).datagrams).queue
+    queue_is =
+        queue_twice (waits start.rules) before.datagrams here_now start.queue
+        ∙ sym (ap (λ (t : LegsTick). (flushed_ahead start t.datagrams).queue) joined)
+
+    accounts_are : (after (flushed_ahead start before.datagrams)).accounts ≡ (flushed_ahead start (legs_tick (so.skips ++ s ∷ []) (take (suc place) start.legs.places) now).datagrams).accounts
+    accounts_are =
+        accounts_twice (waits start.rules) before.datagrams here_now start.queue start.accounts
+        ∙ sym (ap (λ (t : LegsTick). (flushed_ahead start t.datagrams).accounts) joined)
 
 pub none_ticked : (start : PeerView) (now : ℕ) → length start.outbox ≤ 256 → AreTicked start now 0 start 0
 none_ticked start now short = record {
@@ -222,9 +243,9 @@ pub all_ticked : (start peer : PeerView) (now place skipped : ℕ) → AreTicked
 all_ticked start peer now place skipped so past = record {
   skips = so.skips;
   count = so.skipped_are ∙ ap (λ ps. (legs_tick so.skips ps now).skipped) whole;
-  legs = so.here ∙ λ i. record start {
+  legs = so.here ∙ λ i. record (flushed_ahead start (legs_tick so.skips (whole i) now).datagrams) {
     legs = record start.legs { places = places_are i };
-    outbox = put start.outbox (legs_tick so.skips (whole i) now).datagrams;
+    outbox = put (flushed_ahead start (legs_tick so.skips (whole i) now).datagrams).outbox (legs_tick so.skips (whole i) now).datagrams;
   };
 }
   where
@@ -279,10 +300,11 @@ pub none_to_tick : IdleLegsStay → (start : PeerView) (now : ℕ) → length st
 none_to_tick stay start now short all = record {
   skips = [];
   count = ap (λ (t : LegsTick). t.skipped) (sym still);
-  legs = λ i. record start {
-    legs = record start.legs { places = (sym still i).places };
-    outbox = (put_none start.outbox short ∙ ap (λ (t : LegsTick). put start.outbox t.datagrams) (sym still)) i;
-  };
+  legs = (λ i. record start { outbox = (put_none start.outbox short) i })
+      ∙ ap (λ (t : LegsTick). record (flushed_ahead start t.datagrams) {
+        legs = record start.legs { places = t.places };
+        outbox = put (flushed_ahead start t.datagrams).outbox t.datagrams;
+      }) (sym still);
 }
   where
     still : legs_tick [] start.legs.places now ≡ record { places = start.legs.places; datagrams = []; skipped = 0 }

@@ -13,6 +13,7 @@ pub mod Sides
 pub mod SoundPeer
 pub mod Statuses
 pub mod Ticks
+pub mod Trunks
 pub mod Unworked
 pub use Rattle.peer_accounts.specs.Accounts
 pub use Rattle.peer_accounts.specs.Grants

@@ -1,5 +1,5 @@
 -- The steps of a peer in which a leg obeys an order ("Call Setup", "Control Frames", "Mini Frames", "Meta Frames").
-use Rattle.std.specs.Prelude.{◌≡◌, ℕ, ◌+◌, ◌==◌, ◌||◌, nat_le, nat_lt, Bool, List, [], ◌∷◌, ◌++◌, Option, None, Some, length, map}
+use Rattle.std.specs.Prelude.{◌≡◌, ℕ, ◌==◌, List, [], ◌∷◌, ◌++◌, Option, None, Some, length, map}
 use Rattle.std.specs.Prelude.{if◌then◌else◌}
 use Rattle.call_book.specs.declared.leg_name.LegName.{LegName}
 use Rattle.iax_frames.specs.FullFrame.{spelling}
@@ -14,13 +14,13 @@ use Rattle.call_signals.specs.declared.order.OrderError.{OrderError as LegError}
 use Rattle.peer_accounts.specs.Accounts.{stepped, carry_to}
 use Rattle.peer_lock.specs.Errors.{from_leg}
 use Rattle.peer_legs.specs.Legs.{NamedLeg, leg_named, with_leg}
-use Rattle.outbox.specs.Outbox.{put}
-use Rattle.peer_lock.specs.Peer.{PeerView, counted, with_datagram}
+use Rattle.peer_lock.specs.Peer.{PeerView, counted, flushed_if, with_datagram, with_sent}
 use Rattle.peer_accounts.specs.declared.account.Carried.{Carried}
 use Rattle.peer_accounts.specs.declared.account.Carried.TheVariants.{Packed, Queued, Dropped, Quelched}
 use Rattle.peer_lock.specs.declared.errors.OrderError.{OrderError}
 use Rattle.peer_lock.specs.declared.errors.OrderError.TheVariants as errors
-use Rattle.trunk_packer.specs.Queue.{QueueEntry, media_octets}
+use Rattle.peer_lock.specs.Trunks.{has_any, is_full_for, begins_next}
+use Rattle.trunk_packer.specs.Queue.{QueueEntry}
 
 -- ---- refusals
 
@@ -53,22 +53,30 @@ order_octets _ = 0
 abbrev pub carried_media : PeerView → Carried → ℕ → PeerView
 carried_media peer outcome octets = record peer { accounts = carry_to peer.accounts outcome octets }
 
--- the trunk queue has no room for so many octets more
-abbrev pub is_full_for : List QueueEntry → ℕ → Bool
-is_full_for queue octets = nat_le 256 (length queue) || nat_lt 16384 (media_octets queue + octets)
+-- an entry is queued, at this moment
+abbrev pub with_entry : PeerView → QueueEntry → ℕ → PeerView
+with_entry peer entry now = record peer {
+  queue = peer.queue ++ entry ∷ [];
+  since = if has_any peer.queue then peer.since else now;
+}
 
 -- media that waits for a trunk frame, or is dropped
-abbrev pub queued_media : PeerView → QueueEntry → PeerView
-queued_media peer entry =
+abbrev pub queued_media : PeerView → QueueEntry → ℕ → PeerView
+queued_media peer entry now =
     if is_full_for peer.queue (length entry.media)
     then carried_media peer Dropped (length entry.media)
-    else carried_media (record peer { queue = peer.queue ++ entry ∷ [] }) Queued (length entry.media)
+    else carried_media (with_entry peer entry now) Queued (length entry.media)
+
+-- the queue goes out first if this begins the next frame
+abbrev pub waiting_media : PeerView → QueueEntry → ℕ → PeerView
+waiting_media peer entry now =
+    queued_media (flushed_if (begins_next peer.rules peer.queue entry.number (length entry.media)) peer) entry now
 
 -- later media: an entry for the trunk queue, or a mini frame
-abbrev pub short_media : PeerView → ℕ → ℕ → List ℕ → PeerView
-short_media peer number timestamp media =
+abbrev pub short_media : PeerView → ℕ → ℕ → List ℕ → ℕ → PeerView
+short_media peer number timestamp media now =
     if peer.rules.trunk
-    then queued_media peer (record { number = number; timestamp = timestamp; media = media })
+    then waiting_media peer (record { number = number; timestamp = timestamp; media = media }) now
     else carried_media (with_datagram peer (mini_spelling (record {
       source = number;
       timestamp = timestamp;
@@ -76,31 +84,31 @@ short_media peer number timestamp media =
     }))) Packed (length media)
 
 -- what is counted of media that goes out so
-abbrev pub counted_media : MediaSent → PeerView → ℕ → List ℕ → PeerView
-counted_media sent.Quelched peer number media = carried_media peer Quelched (length media)
-counted_media sent.Voice peer number media = carried_media peer Packed (length media)
-counted_media (sent.Mini timestamp) peer number media = short_media peer number timestamp media
+abbrev pub counted_media : MediaSent → PeerView → ℕ → List ℕ → ℕ → PeerView
+counted_media sent.Quelched peer number media now = carried_media peer Quelched (length media)
+counted_media sent.Voice peer number media now = carried_media peer Packed (length media)
+counted_media (sent.Mini timestamp) peer number media now = short_media peer number timestamp media now
 
 -- the leg after media, and the full frame that it sends, if it does
 abbrev pub with_media : MediaSent → PeerView → NamedLeg → List ℕ → ℕ → PeerView
-with_media sent peer named media now = record peer {
-  legs = with_leg peer.legs named.name (after_media sent named.leg media now);
-  outbox = put peer.outbox (map spelling (media_frames sent named.leg media now));
-}
+with_media sent peer named media now =
+    let p = with_sent peer named.name.number (map spelling (media_frames sent named.leg media now)) in
+    record p { legs = with_leg p.legs named.name (after_media sent named.leg media now) }
 
 -- what becomes of media that goes out at a leg
 abbrev pub carries_media : MediaSent → PeerView → NamedLeg → List ℕ → ℕ → PeerView
-carries_media sent peer named media now = counted_media sent (with_media sent peer named media now) named.name.number media
+carries_media sent peer named media now =
+    counted_media sent (with_media sent peer named media now) named.name.number media now
 
 -- ---- the order
 
 -- the leg after an order, and what it sends
 abbrev pub with_order : PeerView → NamedLeg → OrderCarried → PeerView
-with_order peer named carried = record peer {
-  legs = with_leg peer.legs named.name carried.leg;
-  outbox = put peer.outbox carried.datagrams;
-  accounts = stepped peer.accounts;
-}
+with_order peer named carried =
+    let p = with_sent peer named.name.number carried.datagrams in record p {
+      legs = with_leg p.legs named.name carried.leg;
+      accounts = stepped p.accounts;
+    }
 
 -- the peer after an order at a leg
 abbrev pub ordered_at : PeerView → NamedLeg → Order → ℕ → PeerView

@@ -1,5 +1,5 @@
 -- A peer, and what its steps have in common.
-use Rattle.std.specs.Prelude.{ℕ, List, [], ◌∷◌, Option, None, Some}
+use Rattle.std.specs.Prelude.{ℕ, ◌&&◌, Bool, List, [], ◌∷◌, Option, None, Some}
 use Rattle.call_book.specs.declared.leg_name.LegName.{LegName}
 use Rattle.leg_machine.specs.Leg.{LegState}
 use Rattle.leg_machine.specs.Openings.{called_of, caller_of, formats_of}
@@ -10,10 +10,11 @@ use Rattle.call_signals.specs.declared.signal.Signal.{Signal}
 use Rattle.call_signals.specs.declared.signal.Signal.TheVariants.{Offered}
 use Rattle.peer_accounts.specs.Accounts.{Accounts, stepped, with_accepted}
 pub use Rattle.peer_accounts.specs.Grants.{Granted, granted_media, granted}
-use Rattle.peer_legs.specs.Legs.{PeerLegs, with_leg}
+use Rattle.peer_legs.specs.Legs.{PeerLegs, with_leg, with_place}
 use Rattle.outbox.specs.Outbox.{put}
 use Rattle.peer_accounts.specs.declared.onwards.Offer.{Offer}
 use Rattle.peer_lock.specs.declared.steps.Step.{Step}
+use Rattle.peer_lock.specs.Trunks.{has_any, goes_ahead, outbox_after, queue_after, accounts_after}
 use Rattle.trunk_packer.specs.Queue.{QueueEntry}
 
 pub record PeerView : Type 0 where
@@ -24,6 +25,8 @@ pub record PeerView : Type 0 where
   pub outbox : List (List ℕ)
   -- the media that waits for a trunk frame
   pub queue : List QueueEntry
+  -- the moment at which the oldest of it was queued
+  pub since : ℕ
   pub accounts : Accounts
 
 -- the peer after a step, what the step answers and hands up, and the media octets that it accepted
@@ -55,15 +58,36 @@ abbrev pub offer_with : LegState → Option Signal → Option Offer
 offer_with leg (Some Offered) = Some (offer_of leg)
 offer_with leg signal = None
 
+-- ---- sending
+
+-- the whole queue goes out as one trunk frame, if it is to
+abbrev pub flushed_if : Bool → PeerView → PeerView
+flushed_if goes peer = record peer {
+  outbox = outbox_after goes peer.rules.trunk_timestamps peer.since peer.outbox peer.queue;
+  queue = queue_after goes peer.queue;
+  accounts = accounts_after goes peer.queue peer.accounts;
+}
+
+-- The replies of the leg of a number go to the outbox, behind queued media of its call.
+abbrev pub with_sent : PeerView → ℕ → List (List ℕ) → PeerView
+with_sent peer number datagrams =
+    let p = flushed_if (has_any datagrams && goes_ahead peer.rules peer.queue number) peer in
+    record p { outbox = put p.outbox datagrams }
+
+-- the leg of a name is taken out, after queued media of its call went out
+abbrev pub without_leg : PeerView → LegName → PeerView
+without_leg peer name =
+    record (flushed_if (goes_ahead peer.rules peer.queue name.number) peer) { legs = with_place peer.legs name.number None }
+
 -- ---- one leg's step
 
 -- The peer with another state of one leg, and with what that leg sends. The step is counted, and what it accepted.
 abbrev pub with_step : PeerView → LegName → LegState → List (List ℕ) → ℕ → PeerView
-with_step peer name leg datagrams octets = record peer {
-  legs = with_leg peer.legs name leg;
-  outbox = put peer.outbox datagrams;
-  accounts = with_accepted (stepped peer.accounts) octets;
-}
+with_step peer name leg datagrams octets =
+    let p = with_sent peer name.number datagrams in record p {
+      legs = with_leg p.legs name leg;
+      accounts = with_accepted (stepped p.accounts) octets;
+    }
 
 -- ---- steps without a leg
 

@@ -18,16 +18,25 @@ use Rattle.peer_lock.specs.Arrivals.{bare}
 use Rattle.peer_lock.specs.Delivery.{inval_for, pong_for}
 use Rattle.outbox.specs.Outbox.{put}
 use Rattle.peer_lock.specs.Peer.{PeerView}
+use Rattle.trunk_packer.specs.Queue.{trunk_spelling}
 use Rattle.seq_window.specs.Network.{Action, SendNumbered, SendUnnumbered, Retransmit, JudgeAcknowledgement, JudgeNumber}
 use Rattle.seq_window.specs.Network.{Datagram as Sending, Side, actions_in_turn, after_all, empty_side, reply_actions}
 use Rattle.seq_window.specs.Turn.{Turn}
 use Rattle.seq_window.specs.Sequence.{byte_of}
 
--- One leg steps, and sends these datagrams, of which the first go to the outbox, as many as it has room for. The other legs stay.
+-- the trunk frame of all that was queued, or nothing
+abbrev pub IsQueued : PeerView → List (List ℕ) → Type 0
+IsQueued old ahead =
+    (ahead ≡ []) ⊎ (ahead ≡ trunk_spelling old.rules.trunk_timestamps old.since old.queue ∷ [])
+
+-- One leg steps, and sends these datagrams, behind media that was queued; the first of all that go to the outbox, as many as it
+-- has room for. The other legs stay.
 pub record OneSteps (old new : PeerView) (named : NamedLeg) (leg : LegState) (datagrams : List (List ℕ)) : Type 0 where
   pub at : leg_at old.legs named.name.number ≡ Some named
   pub legs : new.legs ≡ with_leg old.legs named.name leg
-  pub outbox : new.outbox ≡ put old.outbox datagrams
+  pub ahead : List (List ℕ)
+  pub queued : IsQueued old ahead
+  pub outbox : new.outbox ≡ put old.outbox (ahead ++ datagrams)
 
 -- ---- datagrams
 
@@ -109,13 +118,16 @@ pub record IsSendingOfOne (legs : PeerLegs) (datagram : List ℕ) : Type 0 where
   pub at : leg_at legs number ≡ Some named
   pub sending : IsSending named.leg datagram
 
--- Each leg ticks by itself, and all that the legs send is a sending from the record of one of them. Then come trunk frames.
+-- Each leg ticks by itself, and all that the legs send is a sending from the record of one of them, behind media that was
+-- queued. Then come trunk frames.
 pub record EachSends (old new : PeerView) : Type 0 where
   pub each : (number : ℕ) → SendsAt (leg_at old.legs number) (leg_at new.legs number)
+  pub ahead : List (List ℕ)
+  pub queued : IsQueued old ahead
   pub datagrams : List (List ℕ)
   pub sendings : All (IsSendingOfOne new.legs) datagrams
   pub trunks : List (List ℕ)
-  pub outbox : new.outbox ≡ put old.outbox datagrams ++ trunks
+  pub outbox : new.outbox ≡ put old.outbox (ahead ++ datagrams) ++ trunks
 
 -- ---- the network
 

@@ -1,15 +1,18 @@
 -- What holds of a peer whenever its lock is free.
-use Rattle.std.specs.Prelude.{◌≡◌}
+use Rattle.std.specs.Prelude.{◌≡◌, ◌≤◌, true}
 use Rattle.call_signals.specs.PeerRules.{IsPeerRules}
 use Rattle.peer_legs.specs.Legs.{AreLegs, AreLegsOf}
 use Rattle.peer_lock.specs.Peer.{PeerView}
-use Rattle.trunk_packer.specs.Queue.{media_octets}
+use Rattle.peer_lock.specs.Trunks.{waits}
+use Rattle.trunk_packer.specs.Queue.{media_octets, trunk_octets}
 
--- the rules are such as a plan lets them be, each leg goes by them, and what is counted as queued is in the queue
+-- The rules are such as a plan lets them be, each leg goes by them, what is counted as queued is in the queue, and media that
+-- waits for a frame to fill fits in one.
 pub record IsKept (peer : PeerView) : Type 0 where
   pub rules : IsPeerRules peer.rules
   pub ruled : AreLegsOf peer.rules peer.legs
   pub queued : peer.accounts.queued ≡ media_octets peer.queue
+  pub one_frame : waits peer.rules ≡ true → trunk_octets peer.rules.trunk_timestamps peer.queue ≤ 1400
 
 -- and no two legs have one remote number, nor one local number
 pub record IsSoundPeer (peer : PeerView) : Type 0 where

@@ -1,10 +1,11 @@
 -- The steps of a peer in which time goes on ("Message Transport", "Meta Frames").
-use Rattle.std.specs.Prelude.{◌≡◌, ℕ, ◌+◌, ◌<◌, ◌≤◌, ◌==◌, ◌⊎◌, Bool, List, [], ◌∷◌, ◌++◌, Option, None, Some, length, map}
+use Rattle.std.specs.Prelude.{◌≡◌, ℕ, ◌+◌, ◌<◌, ◌≤◌, ◌==◌, ◌⊎◌, ◌&&◌, nat_lt, Bool, List, [], ◌∷◌, ◌++◌, Option, None, Some, length, map}
 use Rattle.iax_frames.specs.FullFrame.{spelling}
 use Rattle.leg_machine.specs.Ticks.{tick_step}
 use Rattle.peer_legs.specs.Legs.{NamedLeg}
 use Rattle.outbox.specs.Outbox.{put}
-use Rattle.peer_lock.specs.Peer.{PeerView, counted}
+use Rattle.peer_lock.specs.Peer.{PeerView, counted, flushed_if}
+use Rattle.peer_lock.specs.Trunks.{has_any, waits, is_due}
 use Rattle.peer_lock.specs.declared.steps.TickReport.{TickReport}
 use Rattle.trunk_packer.specs.Queue.{QueueEntry, media_octets, PacksFront}
 
@@ -82,19 +83,36 @@ pub record PacksMedia (old : PeerView) (now octets : ℕ) (new : PeerView) : Typ
   pub rest : new ≡ with_packed old datagrams new.queue octets
   pub done : IsPacked new
 
+-- the whole queue goes out as one frame, once its oldest entry has waited long enough and the outbox has room
+pub record PacksDue (old : PeerView) (now octets : ℕ) (new : PeerView) : Type 0 where
+  pub rest : new ≡ flushed_if (is_due old.rules.trunk_ms old.since now && nat_lt (length old.outbox) 256) old
+  pub media : new.accounts.packed ≡ old.accounts.packed + octets
+
+-- the trunk queue at a tick
+abbrev pub Packs : Option ℕ → PeerView → ℕ → ℕ → PeerView → Type 0
+Packs None old now octets new = PacksMedia old now octets new
+Packs (Some wait) old now octets new = PacksDue old now octets new
+
 -- ---- the tick
 
--- what the legs' ticks do to the peer, and how many frames had no memory
+-- In plan format 4 the queue goes out ahead of the legs' datagrams, if there are any.
+abbrev pub flushed_ahead : PeerView → List (List ℕ) → PeerView
+flushed_ahead peer datagrams = flushed_if (has_any datagrams && waits peer.rules) peer
+
+-- what the legs' ticks do to the peer, how many frames had no memory, and how many octets of media were packed ahead
 pub record TicksLegs (old : PeerView) (now skipped : ℕ) (new : PeerView) : Type 0 where
   pub skips : List ℕ
   pub count : skipped ≡ (legs_tick skips old.legs.places now).skipped
-  pub legs : new ≡ record old {
+  pub legs : new ≡ record (flushed_ahead old (legs_tick skips old.legs.places now).datagrams) {
     legs = record old.legs { places = (legs_tick skips old.legs.places now).places };
-    outbox = put old.outbox (legs_tick skips old.legs.places now).datagrams;
+    outbox = put (flushed_ahead old (legs_tick skips old.legs.places now).datagrams).outbox
+        (legs_tick skips old.legs.places now).datagrams;
   }
 
 -- the step is counted, then come each leg's tick in order, then the trunk queue
 pub record Ticks (old : PeerView) (now : ℕ) (report : TickReport) (new : PeerView) : Type 0 where
   pub between : PeerView
   pub legs : TicksLegs (counted old) now report.skipped between
-  pub packs : PacksMedia between now report.packed new
+  pub octets : ℕ
+  pub packs : Packs between.rules.trunk_ms between now octets new
+  pub packed : new.accounts.packed ≡ old.accounts.packed + report.packed

@@ -13,8 +13,7 @@ ghost use Rattle.peer_legs.specs.Legs.{NamedLeg as NamedLegValue, leg_at, leg_of
 ghost use Rattle.peer_accounts.specs.HandedUp.{IsNothing};
 ghost use Rattle.peer_lock.specs.Makes.{Makes, IsUnchanged, IsDue};
 ghost use Rattle.peer_lock.specs.Peer as spec;
-ghost use Rattle.outbox.specs.Outbox.{put};
-ghost use Rattle.peer_lock.specs.Peer.{handed_up, leg_alone, offer_with, no_leg, counted, with_datagram};
+ghost use Rattle.peer_lock.specs.Peer.{handed_up, leg_alone, offer_with, no_leg, counted, with_datagram, with_sent};
 ghost use Rattle.iax_frames.specs.declared.datagram.Datagram.{Datagram as DatagramValue};
 ghost use Rattle.iax_frames.specs.declared.full_frame.FullHead.{FullHead as FullHeadValue};
 ghost use Rattle.peer_lock.specs.declared.errors.PeerError.{PeerError as PeerErrorValue};
@@ -23,7 +22,7 @@ ghost use Rattle.peer_lock.specs.Unworked.{IsWorked, IsUnworked};
 
 use crate::errors::PeerError;
 use crate::media_arrivals::ENTRIES;
-use crate::outboxes::put_all;
+use crate::outboxes::{flush_if, is_ahead, put_all};
 use crate::read_datagram::ReadDatagram;
 use crate::state::PeerState;
 use crate::steps::Step;
@@ -71,11 +70,10 @@ impl<J: Naming> PeerState<J> {
         requires short { length frame.now.payload ≤ 1388 }
         requires there { can_reach self.old.legs frame.now.head.source (leg_at self.old.legs number) ≡ true }
         ensures peer { OnOk result ((named : NamedLegValue) → leg_at self.old.legs number ≡ Some named →
-            self.new ≡ record self.old {
+            self.new ≡ record (with_sent self.old named.name.number (map spelling (full_step named.leg frame.now now).replies)) {
               legs = with_leg self.old.legs named.name (full_step named.leg frame.now now).leg;
-              outbox = put self.old.outbox (map spelling (full_step named.leg frame.now now).replies);
             }) }
-        ensures accounts { self.new.accounts ≡ self.old.accounts }
+        ensures steps { self.new.accounts.steps ≡ self.old.accounts.steps }
         ensures heard { IfOk result (λ heard. (named : NamedLegValue) → leg_at self.old.legs number ≡ Some named →
             heard ≡ heard_of (full_step named.leg frame.now now)) }
         ensures kept { OnOk result (IsSome (leg_at self.new.legs number)) }
@@ -85,8 +83,19 @@ impl<J: Naming> PeerState<J> {
             (result ≡ Err StepError.RecordFull) ↔ (is_short_of_entries named.leg ≡ true) }
         ensures err { OnErr result (self.new ≡ self.old) }
     {
+        let _sound = self.legs.count();
+        let own = self.legs.call_number(number);
         self.replies.clear();
         let heard = self.legs.full(number, frame, now, &mut self.replies)?;
+        let goes = is_ahead(&self.rules, &self.queue, own, &self.replies);
+        flush_if(
+            goes,
+            self.rules.trunk_timestamps,
+            self.since,
+            &mut self.outbox,
+            &mut self.queue,
+            &mut self.account,
+        );
         put_all(&mut self.outbox, &self.replies);
         Ok(heard)
     }

@@ -23,6 +23,7 @@ pub struct ClosedPeer<J: Naming> {
     pub(crate) legs: PeerLegs,
     pub(crate) outbox: Outbox,
     pub(crate) queue: Packer,
+    pub(crate) since: u64,
     pub(crate) account: ClosedAccount<J>,
     pub(crate) replies: Box<Replies>,
 }
@@ -36,6 +37,7 @@ impl<J: Naming> Drop for ClosedPeer<J> {
             legs: _,
             outbox: _,
             queue: _,
+            since: _,
             account: _,
             replies: _,
         } = self;
@@ -48,10 +50,10 @@ impl<J: Naming> Model for ClosedPeer<J> {
 
     ghost Value = { PeerView };
 
-    ghost view = { λ s. record { rules = s.rules; legs = s.legs; outbox = s.outbox; queue = s.queue; accounts = s.account } };
+    ghost view = { λ s. record { rules = s.rules; legs = s.legs; outbox = s.outbox; queue = s.queue; since = s.since; accounts = s.account } };
 
     ghost invariant = { λ s.
-        IsKept (record { rules = s.rules; legs = s.legs; outbox = s.outbox; queue = s.queue; accounts = s.account }) };
+        IsKept (record { rules = s.rules; legs = s.legs; outbox = s.outbox; queue = s.queue; since = s.since; accounts = s.account }) };
 }
 
 impl<J: Naming> ClosedPeer<J> {
@@ -125,6 +127,7 @@ impl<J: Naming> ClosedPeer<J> {
             legs,
             outbox,
             queue,
+            since,
             account,
             replies,
         } = self;
@@ -134,6 +137,7 @@ impl<J: Naming> ClosedPeer<J> {
             legs,
             outbox,
             queue,
+            since,
             account: account.whole(octets, steps),
             replies,
         }

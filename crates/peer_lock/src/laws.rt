@@ -1,15 +1,17 @@
 //! What holds of every step of a peer.
-ghost use Rattle.std.specs.Prelude.{◌≡◌, ◌≤◌, ◌⊎◌, ℕ, true, length, List, All, Option, None, Some, slice_get};
+ghost use Rattle.std.specs.Prelude.{◌≡◌, ◌≢◌, ◌≤◌, ◌⊎◌, ℕ, true, length, List, All, Option, None, Some, slice_get};
 ghost use Rattle.call_book.specs.declared.leg_name.LegName.{LegName};
 ghost use Rattle.iax_frames.specs.Datagram.{Spells};
 ghost use Rattle.iax_frames.specs.FullFrame.{FullFrame};
 ghost use Rattle.iax_frames.specs.declared.datagram.Datagram.{Datagram};
 ghost use Rattle.call_signals.specs.Message.{message_of};
 ghost use Rattle.leg_machine.specs.Leg.{LegState};
+ghost use Rattle.leg_machine.specs.Media.{media_sent};
 ghost use Rattle.leg_machine.specs.OrderTable.{wants_memory};
 ghost use Rattle.leg_machine.specs.Seen.{kind_of};
 ghost use Rattle.leg_machine.specs.Tie.{IsSending};
 ghost use Rattle.leg_machine.specs.Tries.{NoneDue};
+ghost use Rattle.leg_machine.specs.declared.media.MediaSent.TheVariants.{Quelched};
 ghost use Rattle.call_signals.specs.declared.format.Format.{Format};
 ghost use Rattle.call_signals.specs.declared.order.Order.{Order};
 ghost use Rattle.call_signals.specs.declared.rules.PeerRules.{PeerRules};
@@ -20,7 +22,7 @@ ghost use Rattle.peer_lock.specs.Delivery.{is_new};
 ghost use Rattle.peer_legs.specs.Legs.{AreLegs, IsLegOf, PeerLegs, NamedLeg, leg_at, leg_named, with_place};
 ghost use Rattle.peer_legs.specs.Legs.{is_free_name};
 ghost use Rattle.peer_lock.specs.Openings.{opens_in, opens_out};
-ghost use Rattle.peer_lock.specs.Orders.{order_refused_by, ordered_step, IsOrderRefusal};
+ghost use Rattle.peer_lock.specs.Orders.{order_refused_by, order_octets, ordered_step, IsOrderRefusal};
 ghost use Rattle.peer_lock.specs.Peer.{PeerView};
 ghost use Rattle.peer_lock.specs.Seen.{IsSeenDatagram, OpensIn, OpensOut, Obeys, IsSeenRefusal, TicksAll, Retires};
 ghost use Rattle.peer_lock.specs.Sides.{TakesDatagram, TakesTurnAtLeg, TakesNew, SendsNew, SendsAtLeg, EachSends};
@@ -29,6 +31,7 @@ ghost use Rattle.peer_lock.specs.Sides.{SendsInto, unused_side};
 ghost use Rattle.peer_lock.specs.SoundPeer.{IsSoundPeer};
 ghost use Rattle.peer_lock.specs.Statuses.{is_done};
 ghost use Rattle.peer_lock.specs.Ticks.{Ticks};
+ghost use Rattle.peer_lock.specs.Trunks.{waits};
 ghost use Rattle.peer_lock.specs.declared.errors.OrderError.{OrderError};
 ghost use Rattle.peer_lock.specs.declared.errors.OrderError.TheVariants.{Memory};
 ghost use Rattle.peer_lock.specs.declared.steps.TickReport.{TickReport};
@@ -130,3 +133,11 @@ pub fn ticks_leave_nothing_due()
 {
     leg_machine::laws::ticks_finish_their_tries();
 }
+
+/// In plan format 4 no order drops media for want of room in a trunk queue ("Meta Frames"): media of at most 1,380 octets goes out
+/// or waits, unless the other side wants none. Other orders drop no media.
+pub fn full_trunk_queues_drop_nothing()
+    ensures { (peer : PeerView) (name : LegName) (order : Order) (now : ℕ) (named : NamedLeg) → waits peer.rules ≡ true →
+        order_octets order ≤ 1380 → leg_named peer.legs name ≡ Some named → media_sent named.leg now ≢ Quelched →
+        (ordered_step peer name order now).accounts.dropped ≡ peer.accounts.dropped }
+{}

@@ -17,7 +17,7 @@ use peer_accounts::{Naming, Onwards, Pass};
 pub(crate) const ENTRIES: usize = 512;
 
 // An entry's octets before its media.
-fn entry_head_len(timed: bool) -> usize
+pub(crate) fn entry_head_len(timed: bool) -> usize
     ensures len { result ≡ head_len timed }
     ensures few { result ≤ 6 }
 {

@@ -1,5 +1,5 @@
 //! The steps of a peer in which a leg obeys an order ("Call Setup", "Control Frames", "Mini Frames", "Meta Frames").
-ghost use Rattle.std.specs.Prelude.{◌≡◌, ◌≢◌, ◌+◌, ◌-◌, ◌<◌, ◌≤◌, [], length, map, None, Some, Err, true, IsSome, IsTrue, ◌↔◌};
+ghost use Rattle.std.specs.Prelude.{◌≡◌, ◌≢◌, ◌+◌, ◌-◌, ◌<◌, ◌≤◌, [], length, map, None, Some, Err, true, if◌then◌else◌, IsSome, IsTrue, ◌↔◌};
 ghost use Rattle.std.specs.Prelude.{IfOk, IfErr, OnOk, OnErr};
 ghost use Rattle.leg_machine.specs.OrderTable.{IsShortMedia, is_voice, wants_memory, media_refused, order_refused};
 ghost use Rattle.leg_machine.specs.OrderTable.{order_carried};
@@ -7,20 +7,112 @@ ghost use Rattle.leg_machine.specs.Media.{media_sent};
 ghost use Rattle.call_signals.specs.declared.outcomes.Judged.TheVariants.{Unnumbered};
 ghost use Rattle.peer_legs.specs.Legs.{NamedLeg as NamedLegValue, leg_at, leg_named};
 ghost use Rattle.peer_lock.specs.Peer.{counted, leg_alone};
-ghost use Rattle.peer_lock.specs.Orders.{counted_media, carries_media, with_order, from_leg_due, IsOrderRefusal};
+ghost use Rattle.peer_lock.specs.Orders.{counted_media, queued_media, waiting_media, carries_media, with_media, with_order};
+ghost use Rattle.peer_lock.specs.Orders.{from_leg_due, IsOrderRefusal};
 ghost use Rattle.peer_lock.specs.Orders.{order_refused_by, ordered_step, order_octets};
+ghost use Rattle.iax_frames.specs.TrunkFrame.{head_len};
+ghost use Rattle.peer_lock.specs.Trunks.{has_any, waits};
+ghost use Rattle.trunk_packer.specs.Queue.{trunk_octets};
 
 use crate::errors::OrderError;
-use crate::outboxes::put_all;
+use crate::outboxes::{flush_if, is_ahead, is_next, put_all};
 use crate::state::PeerState;
 use crate::steps::Step;
 use call_book::LegName;
+use iax_frames::CallNumber;
 use leg_machine::{Judged, MediaSent, Order};
 use peer_accounts::{Carried, Naming, Pass};
+use trunk_packer::Packer;
+
+// The moment at which the oldest entry was queued, once there is one more.
+fn oldest(queue: &Packer, since: u64, now: u64) -> u64
+    ensures { result ≡ (if has_any queue.now then since else now) }
+{
+    if queue.is_empty() { now } else { since }
+}
 
 impl<J: Naming> PeerState<J> {
-    // Media goes out at the leg of a name, and what became of it is counted. What goes out without a full frame waits for a trunk
-    // frame, if the queue has room for it, or is a mini frame.
+    // Media is queued, to wait for a trunk frame, or dropped where the queue is full.
+    fn queue_media(
+        &mut self,
+        pass: &mut Pass<J>,
+        number: CallNumber,
+        timestamp: u16,
+        media: &[u8],
+        now: u64,
+    )
+        requires short { length media.now ≤ 1380 }
+        requires credit { length media.now ≤ pass.old.octets }
+        requires frame { waits self.old.rules ≡ true → trunk_octets self.old.rules.trunk_timestamps self.old.queue
+            + head_len self.old.rules.trunk_timestamps + length media.now ≤ 1400 }
+        ensures peer { self.new ≡
+            queued_media self.old (record { number = number; timestamp = timestamp; media = media.now }) now }
+        ensures octets { pass.new.octets + length media.now ≡ pass.old.octets }
+        ensures steps { pass.new.steps ≡ pass.old.steps }
+    {
+        let octets = media.len() as u64;
+        let since = oldest(&self.queue, self.since, now);
+        match self.queue.queue(number, timestamp, media) {
+            Ok(()) => {
+                self.since = since;
+                self.account.carry(pass, octets, Carried::Queued);
+            }
+            Err(_) => self.account.carry(pass, octets, Carried::Dropped),
+        }
+    }
+
+    // Media waits for a trunk frame. The queue goes out first if this begins the next frame.
+    fn wait_for_frame(
+        &mut self,
+        pass: &mut Pass<J>,
+        number: CallNumber,
+        timestamp: u16,
+        media: &[u8],
+        now: u64,
+    )
+        requires short { length media.now ≤ 1380 }
+        requires credit { length media.now ≤ pass.old.octets }
+        ensures peer { self.new ≡
+            waiting_media self.old (record { number = number; timestamp = timestamp; media = media.now }) now }
+        ensures octets { pass.new.octets + length media.now ≡ pass.old.octets }
+        ensures steps { pass.new.steps ≡ pass.old.steps }
+    {
+        let goes = is_next(&self.rules, &self.queue, number, media.len());
+        self.flush(goes);
+        self.queue_media(pass, number, timestamp, media, now);
+    }
+
+    // Carries media on after its leg took it, and counts it. Without a full frame it waits for a trunk frame or is a mini frame.
+    fn carry_media(
+        &mut self,
+        pass: &mut Pass<J>,
+        number: CallNumber,
+        sent: MediaSent,
+        media: &[u8],
+        now: u64,
+    )
+        requires some { 1 ≤ number }
+        requires short { length media.now ≤ 1380 }
+        requires credit { length media.now ≤ pass.old.octets }
+        ensures peer { self.new ≡ counted_media sent self.old number media.now now }
+        ensures octets { pass.new.octets + length media.now ≡ pass.old.octets }
+        ensures steps { pass.new.steps ≡ pass.old.steps }
+    {
+        let octets = media.len() as u64;
+        match sent {
+            MediaSent::Quelched => self.account.carry(pass, octets, Carried::Quelched),
+            MediaSent::Voice => self.account.carry(pass, octets, Carried::Packed),
+            MediaSent::Mini(timestamp) if self.rules.trunk => {
+                self.wait_for_frame(pass, number, timestamp, media, now)
+            }
+            MediaSent::Mini(timestamp) => {
+                self.outbox.put_mini(number, timestamp, media);
+                self.account.carry(pass, octets, Carried::Packed);
+            }
+        }
+    }
+
+    // Media goes out at the leg of a name, and is counted.
     fn order_media(
         &mut self,
         pass: &mut Pass<J>,
@@ -46,38 +138,55 @@ impl<J: Naming> PeerState<J> {
         ensures err { OnErr result ((self.new ≡ self.old) × (pass.new ≡ pass.old)) }
     {
         let number = self.legs.call_number(name.number);
-        self.replies.clear();
-        let sent = self.legs.media(name.number, media, now, &mut self.replies)?;
-        put_all(&mut self.outbox, &self.replies);
+        let sent = self.send_media(name, media, now)?;
+        self.carry_media(pass, number, sent, media, now);
         self.account.count_step(pass);
-        let outcome = match sent {
-            MediaSent::Quelched => Carried::Quelched,
-            MediaSent::Voice => Carried::Packed,
-            MediaSent::Mini(timestamp) if self.rules.trunk => {
-                match self.queue.queue(number, timestamp, media) {
-                    Ok(()) => Carried::Queued,
-                    Err(_) => Carried::Dropped,
-                }
-            }
-            MediaSent::Mini(timestamp) => {
-                self.outbox.put_mini(number, timestamp, media);
-                Carried::Packed
-            }
-        };
-        self.account.carry(pass, media.len() as u64, outcome);
         Ok(Step {
             judged: Judged::Unnumbered,
             touched: Some(name),
         })
     }
 
+    // The leg of a name is given media, and the full frame that it sends, if it does, goes to the outbox.
+    fn send_media(&mut self, name: LegName, media: &[u8], now: u64) -> Result<MediaSent, OrderError>
+        requires there { IsSome (leg_at self.old.legs name.number) }
+        requires short { length media.now ≤ 1380 }
+        ensures peer { (named : NamedLegValue) → leg_at self.old.legs name.number ≡ Some named → named.name ≡ name
+            → OnOk result (self.new ≡ with_media (media_sent named.leg now) self.old named media.now now) }
+        ensures sent { (named : NamedLegValue) → leg_at self.old.legs name.number ≡ Some named →
+            IfOk result (λ sent. sent ≡ media_sent named.leg now) }
+        ensures steps { self.new.accounts.steps ≡ self.old.accounts.steps }
+        ensures unrefused { (named : NamedLegValue) → leg_at self.old.legs name.number ≡ Some named →
+            OnOk result (from_leg_due (media_refused named.leg now) ≡ None) }
+        ensures refused { (named : NamedLegValue) → leg_at self.old.legs name.number ≡ Some named
+            → IfErr result (IsOrderRefusal (from_leg_due (media_refused named.leg now))) }
+        ensures memory { result ≡ Err OrderError.Memory → (named : NamedLegValue) → leg_at self.old.legs name.number ≡ Some named
+            → is_voice (media_sent named.leg now) ≡ true }
+        ensures err { OnErr result (self.new ≡ self.old) }
+    {
+        let number = self.legs.call_number(name.number);
+        self.replies.clear();
+        let sent = self.legs.media(name.number, media, now, &mut self.replies)?;
+        let goes = is_ahead(&self.rules, &self.queue, number, &self.replies);
+        flush_if(
+            goes,
+            self.rules.trunk_timestamps,
+            self.since,
+            &mut self.outbox,
+            &mut self.queue,
+            &mut self.account,
+        );
+        put_all(&mut self.outbox, &self.replies);
+        Ok(sent)
+    }
+
     // The leg of a name obeys another order, and what it sends goes to the outbox.
     fn obey(&mut self, name: LegName, order: &Order, now: u64) -> Result<(), OrderError>
         requires there { IsSome (leg_at self.old.legs name.number) }
         requires media { IsShortMedia order.now }
-        ensures peer { (named : NamedLegValue) → leg_at self.old.legs name.number ≡ Some named
+        ensures peer { (named : NamedLegValue) → leg_at self.old.legs name.number ≡ Some named → named.name ≡ name
             → OnOk result (counted self.new ≡ with_order self.old named (order_carried named.leg order.now now)) }
-        ensures accounts { self.new.accounts ≡ self.old.accounts }
+        ensures steps { self.new.accounts.steps ≡ self.old.accounts.steps }
         ensures unrefused { (named : NamedLegValue) → leg_at self.old.legs name.number ≡ Some named →
             OnOk result (from_leg_due (order_refused named.leg order.now now) ≡ None) }
         ensures refused { (named : NamedLegValue) → leg_at self.old.legs name.number ≡ Some named
@@ -86,8 +195,18 @@ impl<J: Naming> PeerState<J> {
             → wants_memory named.leg order.now now ≡ true }
         ensures err { OnErr result (self.new ≡ self.old) }
     {
+        let number = self.legs.call_number(name.number);
         self.replies.clear();
         self.legs.order(name.number, order, now, &mut self.replies)?;
+        let goes = is_ahead(&self.rules, &self.queue, number, &self.replies);
+        flush_if(
+            goes,
+            self.rules.trunk_timestamps,
+            self.since,
+            &mut self.outbox,
+            &mut self.queue,
+            &mut self.account,
+        );
         put_all(&mut self.outbox, &self.replies);
         Ok(())
     }

@@ -1,9 +1,15 @@
-//! What the step of a leg sends goes to the outbox.
-ghost use Rattle.std.specs.Prelude.{◌≡◌, ◌≤◌, length, take};
+//! The way to the outbox: replies of legs, behind queued media of their calls, and trunk frames ("Meta Frames").
+ghost use Rattle.std.specs.Prelude.{◌≡◌, ◌≤◌, ◌&&◌, true, length, take};
 ghost use Rattle.outbox.specs.Outbox.{put};
+ghost use Rattle.peer_lock.specs.Trunks.{has_any, waits, begins_next, goes_ahead, outbox_after, queue_after, accounts_after};
+ghost use Rattle.trunk_packer.specs.Queue.{media_octets, trunk_octets};
 
-use leg_machine::Replies;
+use crate::media_arrivals::entry_head_len;
+use iax_frames::CallNumber;
+use leg_machine::{PeerRules, Replies};
 use outbox::Outbox;
+use peer_accounts::{Account, Naming};
+use trunk_packer::Packer;
 
 // The first of these datagrams that fit.
 #[tactic(auto, using(outbox::proofs::Puts::put_none, outbox::proofs::Puts::put_more))]
@@ -13,5 +19,70 @@ pub(crate) fn put_all(outbox: &mut Outbox, replies: &Replies)
     let _ = outbox.is_full();
     for place in 0..replies.len() {
         outbox.put(replies.get(place).unwrap());
+    }
+}
+
+// Whether the queue goes out ahead of a leg's replies: it has media of the leg's call.
+pub(crate) fn is_ahead(
+    rules: &PeerRules,
+    queue: &Packer,
+    number: CallNumber,
+    replies: &Replies,
+) -> bool
+    ensures { result ≡ (has_any replies.now && goes_ahead rules.now queue.now number) }
+{
+    if replies.len() == 0 || rules.trunk_ms.is_none() {
+        return false;
+    }
+    queue.has_call(number)
+}
+
+// Whether the queue goes out ahead of a leg's replies at a tick.
+pub(crate) fn is_ahead_at_tick(rules: &PeerRules, replies: &Replies) -> bool
+    ensures { result ≡ (has_any replies.now && waits rules.now) }
+{
+    replies.len() > 0 && rules.trunk_ms.is_some()
+}
+
+// Whether media of a call begins the next trunk frame. `octets` is its length.
+pub(crate) fn is_next(rules: &PeerRules, queue: &Packer, number: CallNumber, octets: usize) -> bool
+    requires short { octets ≤ 1380 }
+    ensures { result ≡ begins_next rules.now queue.now number octets }
+{
+    if rules.trunk_ms.is_none() {
+        return false;
+    }
+    let timed = rules.trunk_timestamps;
+    let (entries, queued) = queue.queued();
+    if entries >= 256 || queued + octets as u64 > 16384 {
+        return true;
+    }
+    if queue.frame_len(timed) + entry_head_len(timed) + octets > 1400 {
+        return true;
+    }
+    !timed && queue.has_call(number)
+}
+
+// The whole queue goes out as one trunk frame if `goes` is true. The frame bears `since`, the moment of the oldest entry.
+pub(crate) fn flush_if<J: Naming>(
+    goes: bool,
+    timed: bool,
+    since: u64,
+    outbox: &mut Outbox,
+    queue: &mut Packer,
+    account: &mut Account<J>,
+)
+    requires fits { goes ≡ true → trunk_octets timed queue.old ≤ 1400 }
+    requires queued { account.old.queued ≡ media_octets queue.old }
+    ensures outbox { outbox.new ≡ outbox_after goes timed since outbox.old queue.old }
+    ensures queue { queue.new ≡ queue_after goes queue.old }
+    ensures account { account.new ≡ accounts_after goes queue.old account.old }
+{
+    if !goes {
+        return;
+    }
+    if let Some((out, octets)) = queue.pack_whole(since, timed) {
+        outbox.put(&out);
+        account.pack(octets);
     }
 }

@@ -1,17 +1,20 @@
 //! What lies under the lock of one peer.
-ghost use Rattle.std.specs.Prelude.{◌≡◌, ◌+◌, ◌^◌, ◌<◌, ◌≤◌, [], ◌∷◌, ◌↔◌, length, replicate, option_map, None, Some, false};
+ghost use Rattle.std.specs.Prelude.{◌≡◌, ◌+◌, ◌^◌, ◌<◌, ◌≤◌, [], ◌∷◌, ◌↔◌, length, replicate, option_map, None, Some, false, true};
 ghost use Rattle.std.specs.Prelude.{IfOk, IfErr, IsErr, IsNone, IfNone, IfSome, OnSome, MatchOption};
 ghost use Rattle.std.specs.Bool.{OnTrue, OnFalse};
 ghost use Rattle.call_signals.specs.declared.rules.PeerRules.{PeerRules as PeerRulesValue};
 ghost use Rattle.leg_machine.specs.PeerRules.{IsPeerRules};
 ghost use Rattle.peer_accounts.specs.Accounts.{no_accounts, carried};
-ghost use Rattle.peer_legs.specs.Legs.{NamedLeg as NamedLegValue, AreLegs, AreLegsOf, leg_at, leg_named, with_place};
+ghost use Rattle.peer_legs.specs.Legs.{NamedLeg as NamedLegValue, AreLegs, AreLegsOf, leg_at, leg_named};
 ghost use Rattle.seq_window.specs.History.{IsLegal};
+ghost use Rattle.peer_lock.specs.Peer.{flushed_if, without_leg};
 ghost use Rattle.peer_lock.specs.SoundPeer.{IsSoundPeer};
 ghost use Rattle.peer_lock.specs.Statuses.{IsHistory, facts_of, status_of, is_done};
+ghost use Rattle.peer_lock.specs.Trunks.{waits};
 ghost use Rattle.trunk_packer.specs.Queue.{media_octets};
 
 use crate::closed::ClosedPeer;
+use crate::outboxes::flush_if;
 use crate::steps::{EndedLeg, LegFacts, Status};
 use call_book::{Lease, LegName};
 use iax_frames::Out;
@@ -36,6 +39,8 @@ pub struct PeerState<J: Naming> {
     pub(crate) legs: PeerLegs,
     pub(crate) outbox: Outbox,
     pub(crate) queue: Packer,
+    // The moment at which the oldest entry was queued, in milliseconds.
+    pub(crate) since: u64,
     pub(crate) account: Account<J>,
     // What the step of a leg sends, on its way to the outbox.
     pub(crate) replies: Box<Replies>,
@@ -50,6 +55,7 @@ impl<J: Naming> Drop for PeerState<J> {
             legs: _,
             outbox: _,
             queue: _,
+            since: _,
             account: _,
             replies: _,
         } = self;
@@ -62,10 +68,10 @@ impl<J: Naming> Model for PeerState<J> {
 
     ghost Value = { PeerView };
 
-    ghost view = { λ s. record { rules = s.rules; legs = s.legs; outbox = s.outbox; queue = s.queue; accounts = s.account } };
+    ghost view = { λ s. record { rules = s.rules; legs = s.legs; outbox = s.outbox; queue = s.queue; since = s.since; accounts = s.account } };
 
     ghost invariant = { λ s.
-        IsKept (record { rules = s.rules; legs = s.legs; outbox = s.outbox; queue = s.queue; accounts = s.account }) };
+        IsKept (record { rules = s.rules; legs = s.legs; outbox = s.outbox; queue = s.queue; since = s.since; accounts = s.account }) };
 }
 
 // What a peer needs memory for.
@@ -128,11 +134,27 @@ impl<J: Naming> PeerState<J> {
                 legs,
                 outbox,
                 queue,
+                since: 0,
                 account: Account::new(octets, steps),
                 replies,
             }),
             Err(error) => Err((octets, steps, error)),
         }
+    }
+
+    // The whole queue goes out as one trunk frame if `goes` is true.
+    pub(crate) fn flush(&mut self, goes: bool)
+        requires { goes ≡ true → waits self.old.rules ≡ true }
+        ensures { self.new ≡ flushed_if goes self.old }
+    {
+        flush_if(
+            goes,
+            self.rules.trunk_timestamps,
+            self.since,
+            &mut self.outbox,
+            &mut self.queue,
+            &mut self.account,
+        );
     }
 
     /// Takes the oldest datagram of the outbox, and writes it over this one; false, and nothing is changed, where none waits.
@@ -161,8 +183,8 @@ impl<J: Naming> PeerState<J> {
         self.legs.get(number).map(|named| Status::of(named))
     }
 
-    /// Gives up the leg of a name that has ended and owes nothing: its lease, its record and what it tells beside that. That is
-    /// no step.
+    /// Gives up the leg of a name that has ended and owes nothing: its lease, its record and what it tells beside that. Queued
+    /// media of its call goes out before, in plan format 4. That is no step.
     ///
     /// `None` exactly where no such leg has that name.
     pub fn retire(&mut self, name: LegName) -> Option<(Lease, EndedLeg)>
@@ -176,7 +198,7 @@ impl<J: Naming> PeerState<J> {
         ensures ruled { IfSome result (λ retired.
             IsLegal self.old.rules.window self.old.rules.record_limit retired.1.history.entries) }
         ensures legal { IfSome result (λ retired. IsHistory retired.1.history.entries) }
-        ensures gone { OnSome result (self.new ≡ record self.old { legs = with_place self.old.legs name.number None }) }
+        ensures gone { OnSome result (self.new ≡ without_leg self.old name) }
         ensures same { IfNone result (self.new ≡ self.old) }
     {
         let leg = self.legs.named(name)?.leg();
@@ -190,6 +212,9 @@ impl<J: Naming> PeerState<J> {
             failure: leg.failure(),
             resent: leg.resent(),
         };
+        let number = self.legs.call_number(name.number);
+        let goes = self.rules.trunk_ms.is_some() && self.queue.has_call(number);
+        self.flush(goes);
         let (lease, leg) = self.legs.take(name.number).into_parts();
         let history = leg.into_record();
         Some((lease, EndedLeg { facts, history }))
@@ -208,6 +233,7 @@ impl<J: Naming> PeerState<J> {
             legs,
             outbox,
             queue,
+            since,
             account,
             replies,
         } = self;
@@ -218,6 +244,7 @@ impl<J: Naming> PeerState<J> {
             legs,
             outbox,
             queue,
+            since,
             account,
             replies,
         };

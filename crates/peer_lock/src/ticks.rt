@@ -5,11 +5,12 @@ ghost use Rattle.peer_accounts.specs.Accounts.{with_step as with_credit};
 ghost use Rattle.peer_legs.specs.Legs.{NamedLeg as NamedLegValue};
 ghost use Rattle.outbox.specs.Outbox.{put};
 ghost use Rattle.peer_legs.specs.Rests.{is_quiet};
-ghost use Rattle.peer_lock.specs.Ticks.{place_tick, TicksLegs, PacksOne, IsPacked, PacksMedia, Ticks};
+ghost use Rattle.peer_lock.specs.Ticks.{place_tick, flushed_ahead, TicksLegs, PacksOne, IsPacked, PacksMedia, PacksDue};
+ghost use Rattle.peer_lock.specs.Ticks.{Packs, Ticks};
 ghost use Rattle.trunk_packer.specs.Queue.{media_octets};
 
 use crate::errors::StepsSpent;
-use crate::outboxes::put_all;
+use crate::outboxes::{flush_if, is_ahead_at_tick, put_all};
 use crate::state::PeerState;
 use crate::steps::TickReport;
 use peer_accounts::{Naming, Pass};
@@ -20,9 +21,10 @@ impl<J: Naming> PeerState<J> {
     fn tick_place(&mut self, index: usize, now: u64) -> u32
         requires { index < length self.old.legs.places }
         ensures peer { (place : Option NamedLegValue) → slice_get self.old.legs.places index ≡ Some place
-            → self.new ≡ record self.old {
+            → self.new ≡ record (flushed_ahead self.old (place_tick result place now).datagrams) {
               legs = record self.old.legs { places = slice_set self.old.legs.places index (place_tick result place now).place };
-              outbox = put self.old.outbox (place_tick result place now).datagrams;
+              outbox = put (flushed_ahead self.old (place_tick result place now).datagrams).outbox
+                  (place_tick result place now).datagrams;
             } }
         ensures skipped { (place : Option NamedLegValue) → slice_get self.old.legs.places index ≡ Some place →
             result ≡ (place_tick result place now).skipped }
@@ -31,6 +33,15 @@ impl<J: Naming> PeerState<J> {
         let _ = self.outbox.is_full();
         self.replies.clear();
         let skipped = self.legs.tick(index, now, &mut self.replies);
+        let goes = is_ahead_at_tick(&self.rules, &self.replies);
+        flush_if(
+            goes,
+            self.rules.trunk_timestamps,
+            self.since,
+            &mut self.outbox,
+            &mut self.queue,
+            &mut self.account,
+        );
         put_all(&mut self.outbox, &self.replies);
         skipped
     }
@@ -99,8 +110,40 @@ impl<J: Naming> PeerState<J> {
         packed
     }
 
+    // The whole queue goes out if its oldest entry is `wait` milliseconds old and the outbox has room. Returns the octets of
+    // media.
+    fn pack_due(&mut self, now: u64, wait: u64) -> u64
+        requires { self.old.rules.trunk_ms ≡ Some wait }
+        ensures { PacksDue self.old now result self.new }
+    {
+        let waiting = self.waiting();
+        let goes = now.saturating_sub(self.since) >= wait && !self.outbox.is_full();
+        self.flush(goes);
+        if goes { waiting } else { 0 }
+    }
+
+    // Packs the trunk queue at a tick. Returns the octets of media.
+    fn pack_at_tick(&mut self, now: u64) -> u64
+        ensures packs { Packs self.old.rules.trunk_ms self.old now result self.new }
+        ensures packed { self.new.accounts.packed ≡ self.old.accounts.packed + result }
+        ensures legs { self.new.legs ≡ self.old.legs }
+    {
+        match self.rules.trunk_ms {
+            None => self.pack(now),
+            Some(wait) => self.pack_due(now, wait),
+        }
+    }
+
+    // The octets of media that were written into frames.
+    fn packed(&self) -> u64
+        ensures { result ≡ self.now.accounts.packed }
+    {
+        self.account.sums().packed
+    }
+
     /// Time goes on, up to the moment `now`, in milliseconds: one step. Each leg's tick by ascending number, then the trunk queue
-    /// is packed while the outbox has room. Tells, too, whether a leg is to be finished then.
+    /// is packed: all of it while the outbox has room, or, in plan format 4, once its oldest entry is `trunk_ms` old.
+    /// Tells, too, whether a leg is to be finished then.
     ///
     /// `StepsSpent` comes exactly where the peer has no step credit left; then nothing is changed.
     pub fn tick(&mut self, pass: &mut Pass<J>, now: u64) -> Result<TickReport, StepsSpent>
@@ -114,12 +157,13 @@ impl<J: Naming> PeerState<J> {
         if self.account.is_spent() {
             return Err(StepsSpent);
         }
+        let packed_before = self.packed();
         self.account.count_step(pass);
         let skipped = self.tick_legs(now);
-        let packed = self.pack(now);
+        self.pack_at_tick(now);
         Ok(TickReport {
             skipped,
-            packed,
+            packed: self.packed() - packed_before,
             is_quiet: self.legs.are_quiet(),
         })
     }

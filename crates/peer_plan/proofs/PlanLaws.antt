@@ -24,9 +24,9 @@ use Rattle.peer_plan.specs.declared.peer.Credentials.{Credentials}
 use Rattle.peer_plan.specs.declared.peer.Media.{Media}
 use Rattle.peer_plan.specs.declared.route.Route.{Route}
 use Rattle.peer_plan.specs.Keys.{key_name}
-use Rattle.peer_plan.specs.Fields.{number_of, text_of, value, value_at, each, list_in}
+use Rattle.peer_plan.specs.Fields.{◌>>=◌, number_of, text_of, value, value_at, each, list_in}
 use Rattle.peer_plan.specs.Plan.{IsPlan, IsPeer, IsRoute, AreApart, is_name, is_prefix, counts_of}
-use Rattle.peer_plan.specs.Reading.{default_record_limit, vnak_ms_in, limits_in, address_in, endpoint_in, workers_in, passes_in, is_credential, credential_in, credentials_in, formats_in, media_in, window_in, poke_in, rules_from, peer_in, has_double, is_named, is_endpoint, has_same_name, has_same_endpoint, told_apart, peers_in, peer_named, source_at, source_in, has_way, new_route, route_in, routes_in}
+use Rattle.peer_plan.specs.Reading.{default_record_limit, vnak_ms_in, trunk_ms_in, limits_in, address_in, endpoint_in, workers_in, passes_in, is_credential, credential_in, credentials_in, formats_in, media_in, window_in, poke_in, rules_from, peer_in, has_double, is_named, is_endpoint, has_same_name, has_same_endpoint, told_apart, peers_in, peer_named, source_at, source_in, has_way, new_route, route_in, routes_in}
 use Rattle.call_book.proofs.RangeLaws.{ranges_apart, total_within}
 use Rattle.peer_plan.proofs.FormatLaws.{formats_some}
 use Rattle.peer_plan.proofs.ReadingLaws.{bound, found_in, value_is, number_within, text_fits, default_within, missing, each_keeps, each_len, list_within}
@@ -39,6 +39,7 @@ pub record IsLimits (limits : Limits) : Type 0 where
   pub ping_ms : IsWithin 0 600000 limits.ping_ms
   pub record_limit : IsWithin 64 65536 limits.record_limit
   pub vnak_ms : IsWithin 0 60000 limits.vnak_ms
+  pub trunk_ms : IfSome limits.trunk_ms (λ ms. ms ≤ 60)
 
 number_is : (ms : Members) (k : Key) (low high fallback n : ℕ) → low ≤ fallback → fallback ≤ high → value ms k (Ok fallback) (number_of low high) ≡ Ok n → IsWithin low high n
 number_is ms k low high fallback n least most h =
@@ -49,18 +50,28 @@ number_there ms k low high n h =
     value_is (IsWithin low high) k (Err (error.Missing k)) (number_of low high) (get_member (key_name k) ms) n (number_within low high n) (missing (error.Missing k) n) h
 
 limit_default : (format : ℕ) → IsWithin 64 65536 (default_record_limit format)
-limit_default format = go (format == 3)
+limit_default format = go (format == 4)
   where
     go : (b : Bool) → IsWithin 64 65536 (cond b 65536 4096)
     go true = (omega arith, omega arith)
     go false = (omega arith, omega arith)
 
 vnak_within : (format n : ℕ) (ms : Members) → vnak_ms_in format ms ≡ Ok n → IsWithin 0 60000 n
-vnak_within format n ms h = go (format == 3) h
+vnak_within format n ms h = go (format == 4) h
   where
     go : (b : Bool) → cond b (value ms key.VnakMs (Ok 0) (number_of 0 60000)) (Ok 0) ≡ Ok n → IsWithin 0 60000 n
     go true is = number_is ms key.VnakMs 0 60000 0 n (omega arith) (omega arith) is
     go false is = default_within 0 60000 n 0 (omega arith) (omega arith) is
+
+trunk_within : (format : ℕ) (wait : Option ℕ) (ms : Members) → trunk_ms_in format ms ≡ Ok wait → IfSome wait (λ ms. ms ≤ 60)
+trunk_within format wait ms h = go (format == 4) h
+  where
+    go : (b : Bool) → cond b (value ms key.TrunkMs (Ok 20) (number_of 0 60) >>= λ n. Ok (Some n)) (Ok None) ≡ Ok wait → IfSome wait (λ ms. ms ≤ 60)
+    go true is =
+        let a = bound (value ms key.TrunkMs (Ok 20) (number_of 0 60)) (λ n. Ok (Some n)) wait is in
+        let same : Some a.0 ≡ wait = cc in
+        subst (λ w. IfSome w (λ ms. ms ≤ 60)) same (number_is ms key.TrunkMs 0 60 20 a.0 (omega arith) (omega arith) a.1).1
+    go false is = let same : None ≡ wait = cc in subst (λ w. IfSome w (λ ms. ms ≤ 60)) same tt
 
 pub limits_sound : (format : ℕ) (ms : Members) (limits : Limits) → limits_in format ms ≡ Ok limits → IsLimits limits
 unfolding limits_in
@@ -70,7 +81,8 @@ limits_sound format ms limits h =
     let c = bound (value ms key.PingMs (Ok 20000) (number_of 0 600000)) _ limits b.2 in
     let d = bound (value ms key.RecordLimit (Ok (default_record_limit format)) (number_of 64 65536)) _ limits c.2 in
     let e = bound (vnak_ms_in format ms) _ limits d.2 in
-    let is : record { retry_ms = a.0; max_retries = b.0; ping_ms = c.0; record_limit = d.0; vnak_ms = e.0 } ≡ limits = cc in
+    let f = bound (trunk_ms_in format ms) _ limits e.2 in
+    let is : record { retry_ms = a.0; max_retries = b.0; ping_ms = c.0; record_limit = d.0; vnak_ms = e.0; trunk_ms = f.0 } ≡ limits = cc in
     let default = limit_default format in
     subst IsLimits is (record {
       retry_ms = number_is ms key.RetryMs 1 60000 1000 a.0 (omega arith) (omega arith) a.1;
@@ -78,6 +90,7 @@ limits_sound format ms limits h =
       ping_ms = number_is ms key.PingMs 0 600000 20000 c.0 (omega arith) (omega arith) c.1;
       record_limit = number_is ms key.RecordLimit 64 65536 (default_record_limit format) d.0 default.0 default.1 d.1;
       vnak_ms = vnak_within format e.0 ms e.1;
+      trunk_ms = trunk_within format f.0 ms f.1;
     })
 
 pub workers_within : (ms : Members) (workers : List Endpoint) → workers_in ms ≡ Ok workers → IsWithin 1 8 (length workers)
@@ -166,6 +179,7 @@ peer_sound format workers limits ms peer some limited h =
       rules = record {
         secret_of_user = secret_of_user ms d.0 d.1;
         some_format = media_some ms e.0 e.1;
+        trunk_ms = limited.trunk_ms;
         retry_ms = limited.retry_ms;
         max_retries = limited.max_retries.1;
         ping_ms = limited.ping_ms.1;
@@ -275,7 +289,7 @@ source_at_within peers (Some d) source h =
     subst (λ s. IfSome s (λ i. i < length peers)) same (named_within peers a.0 b.0 b.1)
 
 source_within : (format : ℕ) (peers : List Peer) (ms : Members) (source : Option ℕ) → source_in format peers ms ≡ Ok source → IfSome source (λ i. i < length peers)
-source_within format peers ms source h = go (format == 3) h
+source_within format peers ms source h = go (format == 4) h
   where
     go : (b : Bool) → cond b (source_at peers (get_member (key_name key.Source) ms)) (Ok None) ≡ Ok source → IfSome source (λ i. i < length peers)
     go true is = source_at_within peers (get_member (key_name key.Source) ms) source is

@@ -102,9 +102,9 @@ none_begins routes caller text none unfit = λ k d lt. go (get_or routes k d) (b
     go route true is none unfit = absurd (true≢false (sym (fit caller text route none is) ∙ unfit))
     go route false is none unfit = is
 
-pub unread_before : (format : ℕ) (peers : List Peer) (ms : Members) → format ≢ 3 → source_in format peers ms ≡ Ok None
-unread_before format peers ms other = go (format == 3) refl
+pub unread_before : (format : ℕ) (peers : List Peer) (ms : Members) → format ≢ 4 → source_in format peers ms ≡ Ok None
+unread_before format peers ms other = go (format == 4) refl
   where
-    go : (b : Bool) → (format == 3) ≡ b → cond b (source_at peers (get_member (key_name key.Source) ms)) (Ok None) ≡ Ok None
+    go : (b : Bool) → (format == 4) ≡ b → cond b (source_at peers (get_member (key_name key.Source) ms)) (Ok None) ≡ Ok None
     go true is = absurd (other (grind (arith, nat_tests)))
     go false is = refl

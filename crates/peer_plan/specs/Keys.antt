@@ -15,6 +15,7 @@ key_name key.MaxRetries = codes "max_retries"
 key_name key.PingMs = codes "ping_ms"
 key_name key.RecordLimit = codes "record_limit"
 key_name key.VnakMs = codes "vnak_ms"
+key_name key.TrunkMs = codes "trunk_ms"
 key_name key.Worker = codes "worker"
 key_name key.Address = codes "address"
 key_name key.Port = codes "port"
@@ -42,12 +43,12 @@ abbrev pub is_known : Section → ℕ → List ℕ → Bool
 is_known section.Plan format name =
     is_one_of (key.Format ∷ key.RetryMs ∷ key.MaxRetries ∷ key.PingMs ∷ key.RecordLimit ∷ key.Worker ∷ key.Passes ∷ key.Peer
     ∷ key.Route ∷ []) name
-    || (format == 3 && bytes_eq (key_name key.VnakMs) name)
+    || (format == 4 && is_one_of (key.VnakMs ∷ key.TrunkMs ∷ []) name)
 is_known section.Worker format name = is_one_of (key.Address ∷ key.Port ∷ []) name
 is_known section.Peer format name =
     is_one_of (key.Name ∷ key.Address ∷ key.Port ∷ key.Worker ∷ key.User ∷ key.Secret ∷ key.Formats ∷ key.Trunk
     ∷ key.TrunkTimestamps ∷ key.Numbers ∷ []) name
     || (nat_le 2 format && bytes_eq (key_name key.Window) name)
-    || (format == 3 && bytes_eq (key_name key.Poke) name)
+    || (format == 4 && bytes_eq (key_name key.Poke) name)
 is_known section.Route format name =
-    is_one_of (key.Prefix ∷ key.Peer ∷ []) name || (format == 3 && bytes_eq (key_name key.Source) name)
+    is_one_of (key.Prefix ∷ key.Peer ∷ []) name || (format == 4 && bytes_eq (key_name key.Source) name)

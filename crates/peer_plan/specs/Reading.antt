@@ -1,10 +1,10 @@
 -- How a plan is read from a document: the keys in their order, with the first fault.
 use Rattle.std.specs.Prelude.{ℕ, ◌-◌, List, [], ◌∷◌, length, Option, Some, None, Result, Ok, Err, Bool, true, false, is_some}
-use Rattle.std.specs.Prelude.{nat_le, nat_eq, ◌==◌, ◌&&◌, if◌then◌else◌, ok_or, option_map, option_and_then, position}
+use Rattle.std.specs.Prelude.{pos, nat_le, nat_eq, ◌==◌, ◌&&◌, ◌||◌, if◌then◌else◌, ok_or, option_map, option_and_then, position}
 use Rattle.std.specs.List.{list_all, list_any}
 use Rattle.std.specs.Option.{option_eq}
 use Rattle.std.specs.Str.{is_utf8, bytes_eq}
-use Rattle.toml.specs.Data.{Data, Items, no_items, item, Members, get_member, as_array, as_bool, as_str}
+use Rattle.toml.specs.Data.{Data, integer, Items, no_items, item, Members, get_member, as_array, as_bool, as_str}
 use Rattle.toml.specs.Parse.{parse_document}
 use Rattle.call_signals.specs.Credential.{is_printable}
 use Rattle.call_signals.specs.declared.format.Format.TheVariants.{Gsm, Ulaw, Alaw}
@@ -26,15 +26,27 @@ use Rattle.peer_plan.specs.Keys.{key_name}
 use Rattle.peer_plan.specs.UnknownKeys.{known_in}
 use Rattle.peer_plan.specs.Plan.{PlanView, is_name, is_prefix}
 
+-- `format`: 1, 2 or 4
+abbrev pub is_format : ℕ → Bool
+is_format number = (number == 1 || number == 2) || number == 4
+
+abbrev pub plan_format : Data → Option ℕ
+plan_format (integer (pos number)) = if is_format number then Some number else None
+plan_format _ = None
+
 -- how many entries a record has at most, where `record_limit` is absent
 abbrev pub default_record_limit : ℕ → ℕ
-default_record_limit format = if format == 3 then 65536 else 4096
+default_record_limit format = if format == 4 then 65536 else 4096
 
--- `vnak_ms`, in format 3 alone
+-- `vnak_ms`, in format 4 alone
 abbrev pub vnak_ms_in : ℕ → Members → Result ℕ PlanError
-vnak_ms_in format ms = if format == 3 then value ms key.VnakMs (Ok 0) (number_of 0 60000) else Ok 0
+vnak_ms_in format ms = if format == 4 then value ms key.VnakMs (Ok 0) (number_of 0 60000) else Ok 0
 
--- `retry_ms`, `max_retries`, `ping_ms`, `record_limit`, `vnak_ms`
+-- `trunk_ms`, in format 4 alone: the formats before it don't say how long media waits for a trunk frame to fill
+abbrev pub trunk_ms_in : ℕ → Members → Result (Option ℕ) PlanError
+trunk_ms_in format ms = if format == 4 then (value ms key.TrunkMs (Ok 20) (number_of 0 60) >>= λ wait. Ok (Some wait)) else Ok None
+
+-- `retry_ms`, `max_retries`, `ping_ms`, `record_limit`, `vnak_ms`, `trunk_ms`
 unfoldable pub limits_in : ℕ → Members → Result Limits PlanError
 limits_in format ms = do
   retry_ms ← value ms key.RetryMs (Ok 1000) (number_of 1 60000)
@@ -42,12 +54,14 @@ limits_in format ms = do
   ping_ms ← value ms key.PingMs (Ok 20000) (number_of 0 600000)
   record_limit ← value ms key.RecordLimit (Ok (default_record_limit format)) (number_of 64 65536)
   vnak_ms ← vnak_ms_in format ms
+  trunk_ms ← trunk_ms_in format ms
   Ok (record {
     retry_ms = retry_ms;
     max_retries = max_retries;
     ping_ms = ping_ms;
     record_limit = record_limit;
     vnak_ms = vnak_ms;
+    trunk_ms = trunk_ms;
   })
 
 -- `address`, `port`
@@ -119,11 +133,11 @@ media_in ms = do
 abbrev pub window_in : ℕ → Members → Result ℕ PlanError
 window_in format ms = if nat_le 2 format then value ms key.Window (Ok 64) (number_of 1 127) else Ok 64
 
--- `poke`, in format 3 alone
+-- `poke`, in format 4 alone
 abbrev pub poke_in : ℕ → Members → Result Bool PlanError
-poke_in format ms = if format == 3 then value ms key.Poke (Ok true) as_bool else Ok false
+poke_in format ms = if format == 4 then value ms key.Poke (Ok true) as_bool else Ok false
 
--- who calls and why a call ended are carried on, and a call's format is chosen as it is routed, in format 3 alone
+-- who calls and why a call ended are carried on, and a call's format is chosen as it is routed, in format 4 alone
 abbrev pub rules_from : ℕ → Limits → Credentials → Media → ℕ → Bool → PeerRules
 rules_from format limits credentials media window poke =
     record {
@@ -132,6 +146,7 @@ rules_from format limits credentials media window poke =
       formats = media.formats;
       trunk = media.trunk;
       trunk_timestamps = media.trunk_timestamps;
+      trunk_ms = limits.trunk_ms;
       retry_ms = limits.retry_ms;
       max_retries = limits.max_retries;
       ping_ms = limits.ping_ms;
@@ -139,9 +154,9 @@ rules_from format limits credentials media window poke =
       window = window;
       vnak_ms = limits.vnak_ms;
       poke = poke;
-      carries_caller = format == 3;
-      carries_cause = format == 3;
-      routes_format = format == 3;
+      carries_caller = format == 4;
+      carries_cause = format == 4;
+      routes_format = format == 4;
     }
 
 unfoldable pub peer_in : ℕ → Limits → ℕ → Members → Result Peer PlanError
@@ -196,7 +211,7 @@ peers_in format limits workers ms = do
 abbrev pub peer_named : List Peer → List ℕ → Result ℕ PlanError
 peer_named peers name = ok_or (position (is_named name) peers) error.UnknownPeer
 
--- `source`, in format 3 alone
+-- `source`, in format 4 alone
 unfoldable pub source_at : List Peer → Option Data → Result (Option ℕ) PlanError
 source_at peers None = Ok None
 source_at peers (Some d) = do
@@ -205,7 +220,7 @@ source_at peers (Some d) = do
   Ok (Some source)
 
 abbrev pub source_in : ℕ → List Peer → Members → Result (Option ℕ) PlanError
-source_in format peers ms = if format == 3 then source_at peers (get_member (key_name key.Source) ms) else Ok None
+source_in format peers ms = if format == 4 then source_at peers (get_member (key_name key.Source) ms) else Ok None
 
 -- whether a route has this prefix and this source
 abbrev pub has_way : List ℕ → Option ℕ → List Route → Bool
@@ -230,7 +245,7 @@ routes_in format peers ms = value ms key.Route (Ok no_items) as_array >>= each k
 
 unfoldable pub plan_in : Members → Result PlanView PlanError
 plan_in ms = do
-  format ← value ms key.Format (Err (error.Missing key.Format)) (number_of 1 3)
+  format ← value ms key.Format (Err (error.Missing key.Format)) plan_format
   limits ← limits_in format ms
   workers ← workers_in ms
   passes ← passes_in (length workers) ms

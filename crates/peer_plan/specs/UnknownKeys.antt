@@ -1,4 +1,4 @@
--- Which key of a document is the first that a plan of format 3 doesn't have: its own keys come first, then those of its workers,
+-- Which key of a document is the first that a plan of format 4 doesn't have: its own keys come first, then those of its workers,
 -- peers and routes, table by table, and those of a table in the order of their names.
 use Rattle.std.specs.Prelude.{ℕ, List, map, take, Option, Some, None, Result, Ok, Err, option_and_then, ◌==◌, if◌then◌else◌}
 use Rattle.toml.specs.Data.{Data, Items, no_items, item, Members, no_members, member, get_member, as_array, as_table}
@@ -48,10 +48,10 @@ unknown_in format ms =
     (or_else (unknown_in_list section.Peer format (get_member (key_name key.Peer) ms))
     (unknown_in_list section.Route format (get_member (key_name key.Route) ms))))
 
--- a plan of format 3 has no other key; in formats 1 and 2 such keys are skipped
+-- a plan of format 4 has no other key; in formats 1 and 2 such keys are skipped
 abbrev pub refused_as : Option (List ℕ) → Result (Unit {0}) PlanError
 refused_as None = Ok tt
 refused_as (Some name) = Err (error.Unknown name)
 
 abbrev pub known_in : ℕ → Members → Result (Unit {0}) PlanError
-known_in format ms = if format == 3 then refused_as (unknown_in format ms) else Ok tt
+known_in format ms = if format == 4 then refused_as (unknown_in format ms) else Ok tt

@@ -24,7 +24,7 @@ pub enum PlanError {
     UnknownPeer,
     /// Two routes have one prefix and one source, or none.
     SameRoute,
-    /// A key that a plan of format 3 doesn't have: looked for after all other faults, in the plan itself, then in its workers,
+    /// A key that a plan of format 4 doesn't have: looked for after all other faults, in the plan itself, then in its workers,
     /// peers and routes, table by table, and in a table by the order of the names.
     Unknown(KeyName),
     /// Memory ran out.

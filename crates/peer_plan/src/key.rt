@@ -22,6 +22,7 @@ pub enum Key {
     PingMs,
     RecordLimit,
     VnakMs,
+    TrunkMs,
     /// The list of workers, and the worker of a peer.
     Worker,
     Address,
@@ -58,6 +59,7 @@ impl Key {
             Key::PingMs => "ping_ms",
             Key::RecordLimit => "record_limit",
             Key::VnakMs => "vnak_ms",
+            Key::TrunkMs => "trunk_ms",
             Key::Worker => "worker",
             Key::Address => "address",
             Key::Port => "port",
@@ -91,6 +93,9 @@ const PLAN_KEYS: [Key; 9] = [
     Key::Route,
 ];
 
+// Those that format 4 adds.
+const PLAN_KEYS_OF_FORMAT_4: [Key; 2] = [Key::VnakMs, Key::TrunkMs];
+
 const WORKER_KEYS: [Key; 2] = [Key::Address, Key::Port];
 
 const PEER_KEYS: [Key; 10] = [
@@ -114,22 +119,22 @@ fn is_one_of(keys: &[Key], name: &str) -> bool
     keys.iter().any(|key| key.name() == name)
 }
 
-/// Whether a table of a plan of format 1, 2 or 3 is read at the key of this name. At any other the table is not looked at.
+/// Whether a table of a plan of format 1, 2 or 4 is read at the key of this name. At any other the table is not looked at.
 pub fn is_known(section: Section, format: u64, name: &str) -> bool
     ensures { result ≡ is_known section format name.now }
 {
     match section {
         Section::Plan => {
-            is_one_of(&PLAN_KEYS, name) || format == 3 && Key::VnakMs.name() == name
+            is_one_of(&PLAN_KEYS, name) || format == 4 && is_one_of(&PLAN_KEYS_OF_FORMAT_4, name)
         }
         Section::Worker => is_one_of(&WORKER_KEYS, name),
         Section::Peer => {
             is_one_of(&PEER_KEYS, name)
                 || 2 <= format && Key::Window.name() == name
-                || format == 3 && Key::Poke.name() == name
+                || format == 4 && Key::Poke.name() == name
         }
         Section::Route => {
-            is_one_of(&ROUTE_KEYS, name) || format == 3 && Key::Source.name() == name
+            is_one_of(&ROUTE_KEYS, name) || format == 4 && Key::Source.name() == name
         }
     }
 }

@@ -14,5 +14,5 @@ pub fn longest_prefixes_lead()
     ensures nowhere { (routes : List Route) (caller : ℕ) (text : List ℕ) →
         All (λ other. other.source ≡ None) routes → All (λ other. fits caller text other ≡ false) routes →
         All (λ other. begins text other ≡ false) routes }
-    ensures before { (format : ℕ) (peers : List Peer) (ms : Members) → format ≢ 3 → source_in format peers ms ≡ Ok None }
+    ensures before { (format : ℕ) (peers : List Peer) (ms : Members) → format ≢ 4 → source_in format peers ms ≡ Ok None }
 {}

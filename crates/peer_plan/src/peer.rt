@@ -23,6 +23,7 @@ pub(crate) struct Limits {
     pub(crate) ping_ms: u64,
     pub(crate) record_limit: u32,
     pub(crate) vnak_ms: u64,
+    pub(crate) trunk_ms: Option<u64>,
 }
 
 // The user's name and secret of a peer.

@@ -62,9 +62,9 @@ impl Model for Plan {
 impl Plan {
     ghost use Rattle.peer_plan.specs.declared.route.Route.{Route};
 
-    /// The plan of a text in TOML, of format 1, 2 or 3, or its first fault.
+    /// The plan of a text in TOML, of format 1, 2 or 4, or its first fault.
     ///
-    /// Any octets may come. The keys are judged in the order of `Key`, lists in their order, and in format 3 last whether there
+    /// Any octets may come. The keys are judged in the order of `Key`, lists in their order, and in format 4 last whether there
     /// are others.
     ///
     /// `NotToml` comes before all others but `Memory`, which may come at any time. `Missing` and `Range` come key by key;

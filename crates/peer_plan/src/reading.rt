@@ -1,8 +1,9 @@
 //! Reading a plan from the values of a TOML document, key by key in the order of the plan's table.
 ghost use Rattle.std.specs.Prelude.{◌≡◌, ◌≤◌, ok_or, length};
-ghost use Rattle.toml.specs.View.{table_view};
-ghost use Rattle.peer_plan.specs.Fields.{Gives, number_of, value};
-ghost use Rattle.peer_plan.specs.Reading.{document_of, default_record_limit, vnak_ms_in, limits_in, passes_in};
+ghost use Rattle.toml.specs.View.{view, table_view};
+ghost use Rattle.peer_plan.specs.Fields.{Gives, value};
+ghost use Rattle.peer_plan.specs.Reading.{document_of, plan_format, default_record_limit, vnak_ms_in, limits_in};
+ghost use Rattle.peer_plan.specs.Reading.{trunk_ms_in, passes_in};
 
 mod fields;
 mod media;
@@ -15,11 +16,11 @@ mod workers;
 use crate::error::PlanError;
 use crate::key::Key;
 use crate::peer::Limits;
-use fields::number_at;
+use fields::{member, number_at};
 pub(crate) use peers::peers;
 pub(crate) use routes::routes;
 use std::alloc::Global;
-use toml::Table;
+use toml::{Table, Value};
 pub(crate) use unknown_keys::known;
 pub(crate) use workers::workers;
 
@@ -39,17 +40,26 @@ pub(crate) fn document(alloc: Global, text: &[u8]) -> Result<Table, PlanError>
     }
 }
 
-// The number of the plan's format: 1 to 3.
-pub(crate) fn format(table: &Table) -> Result<u64, PlanError>
-    ensures { result ≡ value (table_view table.now) Key.Format (Err (PlanError.Missing Key.Format)) (number_of 1 3) }
+// A number that a format has: there is no format 3.
+fn plan_format(found: &Value) -> Option<u64>
+    ensures { result ≡ plan_format (view found.now) }
 {
-    number_at(
-        table,
-        Key::Format,
-        Err(PlanError::Missing(Key::Format)),
-        1,
-        3,
-    )
+    match found {
+        Value::Integer(1) => Some(1),
+        Value::Integer(2) => Some(2),
+        Value::Integer(4) => Some(4),
+        _ => None,
+    }
+}
+
+// The number of the plan's format.
+pub(crate) fn format(table: &Table) -> Result<u64, PlanError>
+    ensures { result ≡ value (table_view table.now) Key.Format (Err (PlanError.Missing Key.Format)) plan_format }
+{
+    match member(table, Key::Format) {
+        Some(found) => plan_format(found).ok_or(PlanError::Range(Key::Format)),
+        None => Err(PlanError::Missing(Key::Format)),
+    }
 }
 
 // How many entries a leg's record has at most, where the plan doesn't say it.
@@ -57,17 +67,28 @@ fn default_record_limit(format: u64) -> u64
     ensures value { result ≡ default_record_limit format }
     ensures most { result ≤ 65536 }
 {
-    if format == 3 { 65_536 } else { 4096 }
+    if format == 4 { 65_536 } else { 4096 }
 }
 
 // How long a leg waits before it asks for the same frame again, in milliseconds.
 fn vnak_ms(table: &Table, format: u64) -> Result<u64, PlanError>
     ensures { result ≡ vnak_ms_in format (table_view table.now) }
 {
-    if format == 3 {
+    if format == 4 {
         number_at(table, Key::VnakMs, Ok(0), 0, 60_000)
     } else {
         Ok(0)
+    }
+}
+
+// How long media waits for a trunk frame to fill, in milliseconds, where the plan says it.
+fn trunk_ms(table: &Table, format: u64) -> Result<Option<u64>, PlanError>
+    ensures { result ≡ trunk_ms_in format (table_view table.now) }
+{
+    if format == 4 {
+        Ok(Some(number_at(table, Key::TrunkMs, Ok(20), 0, 60)?))
+    } else {
+        Ok(None)
     }
 }
 
@@ -82,12 +103,14 @@ pub(crate) fn limits(table: &Table, format: u64) -> Result<Limits, PlanError>
     let default_limit = default_record_limit(format);
     let record_limit = number_at(table, Key::RecordLimit, Ok(default_limit), 64, 65_536)?;
     let vnak_ms = vnak_ms(table, format)?;
+    let trunk_ms = trunk_ms(table, format)?;
     Ok(Limits {
         retry_ms,
         max_retries: max_retries as u32,
         ping_ms,
         record_limit: record_limit as u32,
         vnak_ms,
+        trunk_ms,
     })
 }
 

@@ -19,7 +19,7 @@ fn by_default(table: &Table, key: Key) -> &'static str {
 pub(crate) fn format_of(table: &Table) -> u64 {
     match table.get(Key::Format.name()) {
         Some(Value::Integer(2)) => 2,
-        Some(Value::Integer(3)) => 3,
+        Some(Value::Integer(4)) => 4,
         _ => 1,
     }
 }
@@ -70,19 +70,26 @@ pub(crate) fn limits_of(plan: &Plan) -> &PeerRules
     plan.rules(0)
 }
 
-// The limits that all peers have, and how many passes there are. Only format 3 has a key for the time between two VNAKs.
+// The limits that all peers have, and how many passes there are. Only format 4 has keys for the time between two VNAKs and for
+// the wait of a trunk frame.
 fn write_limits(plan: &Plan, table: &Table, format: u64, report: &mut TextBuffer) {
     let rules = limits_of(plan);
+    let vnak_ms = if format == 4 {
+        Some(rules.vnak_ms)
+    } else {
+        None
+    };
     let numbers = [
-        (Key::RetryMs, rules.retry_ms),
-        (Key::MaxRetries, u64::from(rules.max_retries)),
-        (Key::PingMs, rules.ping_ms),
-        (Key::RecordLimit, u64::from(rules.record_limit)),
-        (Key::VnakMs, rules.vnak_ms),
-        (Key::Passes, u64::from(plan.passes())),
+        (Key::RetryMs, Some(rules.retry_ms)),
+        (Key::MaxRetries, Some(u64::from(rules.max_retries))),
+        (Key::PingMs, Some(rules.ping_ms)),
+        (Key::RecordLimit, Some(u64::from(rules.record_limit))),
+        (Key::VnakMs, vnak_ms),
+        (Key::TrunkMs, rules.trunk_ms),
+        (Key::Passes, Some(u64::from(plan.passes()))),
     ];
     for &(key, number) in &numbers {
-        if key != Key::VnakMs || format == 3 {
+        if let Some(number) = number {
             write_number(table, key, number, report);
         }
     }
@@ -178,7 +185,7 @@ fn write_peer(plan: &Plan, peer: u16, table: &Table, format: u64, report: &mut T
     write_credentials(rules, report);
     write_media(rules, table, report);
     write_window(rules.window, table, format, report);
-    if format == 3 {
+    if format == 4 {
         write_flag(table, Key::Poke, rules.poke, report);
     }
     write_numbers(plan, peer, table, report);

@@ -31,6 +31,7 @@ pub fn rules(ping_ms: u16) -> PeerRules
         },
         trunk: false,
         trunk_timestamps: false,
+        trunk_ms: None,
         retry_ms: 1000,
         max_retries: 4,
         ping_ms: u64::from(ping_ms),

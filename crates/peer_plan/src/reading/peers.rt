@@ -32,7 +32,7 @@ fn window(table: &Table, format: u64) -> Result<u64, PlanError>
 fn poke(table: &Table, format: u64) -> Result<bool, PlanError>
     ensures { result ≡ poke_in format (table_view table.now) }
 {
-    if format == 3 {
+    if format == 4 {
         flag_at(table, Key::Poke, true)
     } else {
         Ok(false)
@@ -69,6 +69,7 @@ fn peer(table: &Table, format: u64, limits: Limits, workers: u64) -> Result<Peer
             formats: media.formats,
             trunk: media.trunk,
             trunk_timestamps: media.trunk_timestamps,
+            trunk_ms: limits.trunk_ms,
             retry_ms: limits.retry_ms,
             max_retries: limits.max_retries,
             ping_ms: limits.ping_ms,
@@ -76,9 +77,9 @@ fn peer(table: &Table, format: u64, limits: Limits, workers: u64) -> Result<Peer
             window: window as u8,
             vnak_ms: limits.vnak_ms,
             poke,
-            carries_caller: format == 3,
-            carries_cause: format == 3,
-            routes_format: format == 3,
+            carries_caller: format == 4,
+            carries_cause: format == 4,
+            routes_format: format == 4,
         },
         numbers: numbers as u16,
     })

@@ -41,7 +41,7 @@ fn source(table: &Table, format: u64, peers: &[Peer]) -> Result<Option<u16>, Pla
     requires { length peers.now ≤ 32 }
     ensures { result ≡ source_in format peers.now (table_view table.now) }
 {
-    if format == 3 {
+    if format == 4 {
         source_at(member(table, Key::Source), peers)
     } else {
         Ok(None)

@@ -1,4 +1,4 @@
-//! The first key that a plan of format 3 doesn't have.
+//! The first key that a plan of format 4 doesn't have.
 ghost use Rattle.std.specs.Prelude.{◌≡◌, option_map};
 ghost use Rattle.toml.specs.View.{view, table_view, items_view};
 ghost use Rattle.toml.specs.Data.{get_member};
@@ -68,7 +68,7 @@ fn unknown_in(table: &Table, format: u64) -> Option<KeyName>
 pub(crate) fn known(table: &Table, format: u64) -> Result<(), PlanError>
     ensures { result ≡ known_in format (table_view table.now) }
 {
-    if format != 3 {
+    if format != 4 {
         return Ok(());
     }
     match unknown_in(table, format) {

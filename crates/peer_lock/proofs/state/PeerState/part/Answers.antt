@@ -8,11 +8,12 @@ invariant_of-closed g c = record {
   rules = c.self.invariant.rules;
   ruled = c.self.invariant.ruled;
   queued = ap (λ (a : Accounts). a.queued) c.part-account.ensures.same ∙ c.self.invariant.queued;
+  one_frame = c.self.invariant.one_frame;
 }
 
 pub returns-clause-same : goal.returns-clause-same
 returns-clause-same g c =
-    ap (λ (a : Accounts). record { rules = c.self.inside.rules; legs = c.self.inside.legs; outbox = c.self.inside.outbox; queue = c.self.inside.queue; accounts = a }) c.part-account.ensures.same
+    ap (λ (a : Accounts). record { rules = c.self.inside.rules; legs = c.self.inside.legs; outbox = c.self.inside.outbox; queue = c.self.inside.queue; since = c.self.inside.since; accounts = a }) c.part-account.ensures.same
     ∙ c.self.view_is
 
 pub returns-clause-octets : goal.returns-clause-octets

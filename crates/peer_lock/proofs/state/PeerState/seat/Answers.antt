@@ -8,4 +8,5 @@ invariant_of-self g c = record {
   rules = c.self.invariant.rules;
   ruled = c.insert.ensures.ruled c.self.inside.rules c.self.invariant.ruled (subst (λ (v : PeerView). IsLegOf v.rules c.args.leg.state) (sym c.self.view_is) c.requires.ruled);
   queued = search rules;
+  one_frame = c.self.invariant.one_frame;
 }

@@ -1,0 +1,60 @@
+-- Media that waits for a trunk frame to fill ("Meta Frames").
+use Rattle.std.specs.Prelude.{ℕ, ◌+◌, ◌-◌, ◌&&◌, ◌||◌, not, nat_le, nat_lt, is_some, Bool, true, false, List, [], ◌∷◌, Option, None, Some, length}
+use Rattle.std.specs.Prelude.{if◌then◌else◌}
+use Rattle.iax_frames.specs.TrunkFrame.{head_len}
+use Rattle.call_signals.specs.declared.rules.PeerRules.{PeerRules}
+use Rattle.outbox.specs.Outbox.{put}
+use Rattle.peer_accounts.specs.Accounts.{Accounts}
+use Rattle.trunk_packer.specs.Queue.{QueueEntry, media_octets, has_call, trunk_octets, trunk_spelling}
+
+abbrev pub has_any : {A : Type 0} → List A → Bool
+has_any [] = false
+has_any (x ∷ xs) = true
+
+-- ---- when the queue goes out
+
+-- media waits for a frame to fill
+abbrev pub waits : PeerRules → Bool
+waits rules = is_some rules.trunk_ms
+
+-- the trunk queue has no room for so many octets more
+abbrev pub is_full_for : List QueueEntry → ℕ → Bool
+is_full_for queue octets = nat_le 256 (length queue) || nat_lt 16384 (media_octets queue + octets)
+
+-- the frame of what is queued has no room for so many octets more
+abbrev pub fills_frame : Bool → List QueueEntry → ℕ → Bool
+fills_frame timed queue octets = nat_lt 1400 (trunk_octets timed queue + head_len timed + octets)
+
+-- So many octets of a call begin the next frame. Without timestamps a receiver would give two entries of a call one moment.
+abbrev pub begins_next : PeerRules → List QueueEntry → ℕ → ℕ → Bool
+begins_next rules queue number octets = waits rules && (is_full_for queue octets
+    || (fills_frame rules.trunk_timestamps queue octets || (not rules.trunk_timestamps && has_call number queue)))
+
+-- media of the call is queued, and goes out ahead of its full frames
+abbrev pub goes_ahead : PeerRules → List QueueEntry → ℕ → Bool
+goes_ahead rules queue number = waits rules && has_call number queue
+
+-- an entry that was queued at one moment is so old at another
+abbrev pub is_due : Option ℕ → ℕ → ℕ → Bool
+is_due None since now = false
+is_due (Some wait) since now = nat_le wait (now - since)
+
+-- ---- the queue goes out
+
+-- it goes out if it is to and isn't empty
+abbrev pub flushes : Bool → List QueueEntry → Bool
+flushes goes queue = goes && has_any queue
+
+-- .. as one trunk frame with the moment at which its oldest entry was queued; a full outbox loses it
+abbrev pub outbox_after : Bool → Bool → ℕ → List (List ℕ) → List QueueEntry → List (List ℕ)
+outbox_after goes timed since outbox queue =
+    if flushes goes queue then put outbox (trunk_spelling timed since queue ∷ []) else outbox
+
+abbrev pub queue_after : Bool → List QueueEntry → List QueueEntry
+queue_after goes queue = if flushes goes queue then [] else queue
+
+abbrev pub accounts_after : Bool → List QueueEntry → Accounts → Accounts
+accounts_after goes queue a = record a {
+  packed = if flushes goes queue then a.packed + a.queued else a.packed;
+  queued = if flushes goes queue then 0 else a.queued;
+}
