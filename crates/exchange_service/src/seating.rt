@@ -21,7 +21,7 @@ use std::sync::Wait;
 use std::thread;
 use std::time::{Clock, Instant};
 use trace_writer::Trace;
-use udp_workers::{MOST_TURNS, Post, TurnReport, WatchedExchange};
+use udp_workers::{Intake, MOST_TURNS, Post, TurnReport, WatchedExchange};
 use worker_seats::{ServiceError, ServiceSeat, lane_of, reports_of, seats_of};
 
 /// The workers serve beside the control socket until they are told to end. False if a thread was refused: then they end at once.
@@ -98,6 +98,7 @@ fn serve_seated<J: Naming, P: Post + Send + Sync, R: ServiceSystem, D: ServiceDi
     let service = WatchedExchange {
         exchange,
         watch,
+        intake: Intake::Bounded,
         turns: MOST_TURNS,
         post: PhantomData,
     };

@@ -5,20 +5,18 @@ use log::{Log, info};
 use std::os::fd::RawFd;
 use worker_seats::Sockets;
 
-// So many octets are asked for. The system gives as many as its `net.core.rmem_max` lets it, and counts each twice.
-const WANTED: u32 = 4_194_304;
-
-/// Workers of one endpoint share it; at each socket more room is asked for, and how much there is at a worker's own is logged:
-/// those that are connected to its peers have as much.
+/// Workers of one endpoint share it; at each socket its share of the room is asked for, and how much there is at a worker's own is
+/// logged: those that are connected to its peers have as much.
 #[derive(Drop)]
 pub(crate) struct ServiceSockets<'l, L> {
     pub(crate) log: &'l L,
 }
 
-// The room of a socket, after more of it was asked for; none where the system doesn't tell.
-fn room_of(descriptor: RawFd) -> Option<u64> {
+// The room of a socket in octets, after so much was asked for: the system gives as much as its `net.core.rmem_max` lets it, and
+// counts each octet twice. None where it doesn't tell.
+fn room_of(descriptor: RawFd, wanted: u32) -> Option<u64> {
     let mut value = [0u8; 16];
-    value[..4].copy_from_slice(&WANTED.to_ne_bytes());
+    value[..4].copy_from_slice(&wanted.to_ne_bytes());
     let _ = unsafe {
         system::setsockopt(descriptor, system::SOL_SOCKET, system::SO_RCVBUF, &value, 4)
     };
@@ -44,15 +42,15 @@ impl<'l, L: Log> Sockets for ServiceSockets<'l, L> {
         true
     }
 
-    fn set_up(&self, place: u16, descriptor: RawFd) -> Option<u64> {
-        let room = room_of(descriptor);
-        if let Some(octets) = room {
+    fn set_up(&self, place: u16, descriptor: RawFd, room: u32) -> Option<u64> {
+        let given = room_of(descriptor, room);
+        if let Some(octets) = given {
             info!(self.log; "worker {place} has room for {octets} octets of datagrams that wait");
         }
-        room
+        given
     }
 
-    fn set_up_link(&self, descriptor: RawFd) {
-        let _room = room_of(descriptor);
+    fn set_up_link(&self, descriptor: RawFd, room: u32) {
+        let _given = room_of(descriptor, room);
     }
 }

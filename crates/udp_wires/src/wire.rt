@@ -35,6 +35,14 @@ pub trait Wire {
         ensures failures { RisesBy (failures self.old) (failures self.new) (if is_ok result then 0 else 1) }
         ensures peers { peers self.new ≡ peers self.old };
 
+    /// A datagram that it gave is handed to the exchange next. A wire that keeps a trace notes it here, any other does nothing.
+    fn note_taken(&mut self, _from: Endpoint, _octets: &[u8])
+        ensures given { given self.new ≡ given self.old }
+        ensures given_to { (to : Endpoint) → given_to self.new to ≡ given_to self.old to }
+        ensures failures { failures self.new ≡ failures self.old }
+        ensures peers { peers self.new ≡ peers self.old }
+    {}
+
     /// Sends a frame to one of the peers. False: it would have to wait, and doesn't send it. `WireFault`: the call failed.
     fn send(&mut self, to: Endpoint, octets: &[u8]) -> Result<bool, WireFault>
         requires frame { IsFrame octets.now }

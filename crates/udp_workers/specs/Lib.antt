@@ -1,6 +1,7 @@
 pub mod Draining
 pub mod Events
 pub mod Handed
+pub mod Intake
 pub mod Receipts
 pub mod Served
 pub mod Ticked

@@ -2,6 +2,8 @@
 #![tactic(auto)]
 
 mod draining;
+mod inbox;
+mod intake;
 pub mod laws;
 mod receiving;
 mod report;
@@ -15,6 +17,7 @@ mod turning;
 mod unwatched;
 mod worker;
 
+pub use intake::Intake;
 pub use report::TurnReport;
 pub use running::MOST_TURNS;
 pub use seat::{Place, Post, Seat, Start, WatchedExchange};

@@ -6,10 +6,13 @@ ghost use Rattle.udp_wires.specs.Counts.{RiseAlike};
 ghost use Rattle.udp_workers.specs.Draining.{IsTurnedAway};
 ghost use Rattle.udp_workers.specs.Events.{HasRoom};
 ghost use Rattle.udp_workers.specs.Handed.{GivesAll};
+ghost use Rattle.udp_workers.specs.Intake.{TakesIn, waiting};
 ghost use Rattle.udp_workers.specs.Receipts.{TellsReceipt};
 ghost use Rattle.udp_workers.specs.Ticked.{IsLater};
 
 use crate::draining::is_turned_away;
+use crate::inbox::Inbox;
+use crate::intake::loaded;
 use crate::tally::Tally;
 use crate::turning::Turn;
 use exchange_core::{Gate, Pass};
@@ -18,9 +21,6 @@ use peer_plan::Endpoint;
 use std::sync::Wait;
 use udp_wires::Wire;
 use worker_watch::{Event, Watch};
-
-// The longest datagram is 2,048 octets; one more shows that a datagram is longer.
-const OCTETS: usize = 2049;
 
 // How many datagrams are received in one turn at most.
 const DATAGRAMS: u64 = 64;
@@ -77,10 +77,12 @@ fn hear<V: Watch, G: Gate, J: Naming, R: Wait>(
     tally.tell_retired(&answer.retired);
 }
 
-// Receives until nothing is there, a call of the wire fails or 64 datagrams came, and takes each.
+// Takes the datagram that was left to this turn, and then receives until nothing is there, a call of the wire fails, 64
+// datagrams came or one doesn't fit any more, and takes each. What doesn't fit is left to the next turn.
 pub(crate) fn receive_all<W: Wire, V: Watch, G: Gate, J: Naming, R: Wait>(
     turn: &Turn<'_, G, J, R>,
     wire: &mut W,
+    inbox: &mut Inbox,
     pass: &mut Pass<J>,
     tally: &mut Tally<'_, V>,
 )
@@ -100,16 +102,28 @@ pub(crate) fn receive_all<W: Wire, V: Watch, G: Gate, J: Naming, R: Wait>(
         tally.new.report.refused + tally.old.report.received }
     ensures later { IsLater pass.old pass.new }
     ensures handed { GivesAll (V.given tally.old.watch.now) pass.old pass.new }
+    ensures takes { TakesIn turn.now.intake turn.now.exchange.now
+        (record { stage = turn.now.stage; now = turn.now.time; challenge = turn.now.challenge.now }) inbox.old.datagram inbox.new.datagram
+        tally.old.report.received tally.new.report.received pass.old pass.new }
+    // What was received was taken, or is left.
+    ensures none_lost { RiseAlike inbox.old.given inbox.new.given (tally.old.report.received + waiting inbox.old.datagram)
+        (tally.new.report.received + waiting inbox.new.datagram) }
 {
-    let mut octets = [0u8; OCTETS];
+    let mut taken = None;
     for _ in 0..DATAGRAMS {
-        match wire.receive(&mut octets) {
-            Ok(Some((len, from))) => hear(turn, pass, tally, from, &octets[..len]),
-            Ok(None) => return,
-            Err(_) => {
-                tally.tell(Event::Fault);
-                return;
-            }
+        if inbox.fill(wire).is_err() {
+            tally.tell(Event::Fault);
+            return;
         }
+        let Some((from, octets)) = inbox.datagram() else {
+            return;
+        };
+        let Some(load) = loaded(turn.intake, taken, octets) else {
+            return;
+        };
+        taken = Some(load);
+        wire.note_taken(from, octets);
+        hear(turn, pass, tally, from, octets);
+        inbox.clear();
     }
 }

@@ -1,11 +1,14 @@
 //! Turns one after another.
-ghost use Rattle.std.specs.Prelude.{◌≡◌, ◌+◌, ◌*◌, ◌^◌, ◌≤◌, length, min};
+ghost use Rattle.std.specs.Prelude.{◌≡◌, ◌+◌, ◌*◌, ◌^◌, ◌≤◌, if◌then◌else◌, length, min, option_and_then, slice_get};
 ghost use Rattle.udp_wires.specs.Counts.{RisesBy};
 ghost use Rattle.udp_workers.specs.Events.{MakesTurns, Tells};
 ghost use Rattle.udp_workers.specs.Handed.{GivesAll};
+ghost use Rattle.udp_workers.specs.Intake.{RunsTurns, longest_wait};
 ghost use Rattle.udp_workers.specs.Served.{AreEndpoints, peers_of};
 ghost use Rattle.udp_workers.specs.Ticked.{IsLater};
 
+use crate::inbox::Inbox;
+use crate::intake::Intake;
 use crate::report::TurnReport;
 use crate::sources::{Challenges, Moments};
 use crate::tally::Tally;
@@ -14,6 +17,7 @@ use crate::unwatched::Unwatched;
 use crate::worker::Worker;
 use exchange_core::{Exchange, Gate, Pass};
 use peer_lock::Naming;
+use peer_plan::Plan;
 use std::sync::Wait;
 use udp_wires::Wire;
 use worker_watch::{ServiceStage, Watch};
@@ -25,14 +29,47 @@ const WAIT_MS: u64 = 20;
 /// 8,192 datagrams at most. At ten microseconds a turn these are eighty-nine years.
 pub const MOST_TURNS: u64 = 0x1_0000_0000_0000;
 
-// Waits for a datagram, but before the first turn.
-fn pause<W: Wire>(wire: &mut W, turn: u64)
+// How long media waits for a trunk frame to fill, in milliseconds, as all peers of the plan have it.
+fn trunk_ms(plan: &Plan) -> Option<u64>
+    ensures { result ≡ option_and_then (λ peer. peer.rules.trunk_ms) (slice_get plan.now.peers 0) }
+{
+    if plan.peer_count() == 0 {
+        return None;
+    }
+    plan.rules(0).trunk_ms
+}
+
+// How long a run waits at most between two turns, in milliseconds.
+fn longest_wait(intake: Intake, trunk_ms: Option<u64>) -> u64
+    ensures { result ≡ longest_wait intake trunk_ms }
+{
+    match (intake, trunk_ms) {
+        (Intake::Whole, _) | (Intake::Bounded, None) => WAIT_MS,
+        (Intake::Bounded, Some(wait)) => {
+            if wait == 0 {
+                WAIT_MS
+            } else {
+                wait.min(WAIT_MS)
+            }
+        }
+    }
+}
+
+// How long a worker waits at most, in milliseconds: not at all if the last turn left a datagram.
+fn wait_ms(is_left: bool, longest: u64) -> u64
+    ensures { result ≡ (if is_left then 0 else longest) }
+{
+    if is_left { 0 } else { longest }
+}
+
+// Waits for a datagram, except before the first turn and if one was left.
+fn pause<W: Wire>(wire: &mut W, turn: u64, is_left: bool, longest: u64)
     ensures given { W.given wire.new ≡ W.given wire.old }
     ensures failures { W.failures wire.new ≡ W.failures wire.old }
     ensures peers { W.peers wire.new ≡ W.peers wire.old }
 {
     if turn > 0 {
-        wire.wait(WAIT_MS);
+        wire.wait(wait_ms(is_left, longest));
     }
 }
 
@@ -64,7 +101,15 @@ impl Worker {
     {
         let most = u64::from(turns);
         self.run_until(
-            rt, wire, exchange, pass, &Unwatched, most, moments, challenges,
+            rt,
+            wire,
+            exchange,
+            pass,
+            &Unwatched,
+            Intake::Whole,
+            most,
+            moments,
+            challenges,
         )
     }
 
@@ -74,6 +119,12 @@ impl Worker {
     ///
     /// While the service drains, a NEW of a peer isn't handed to the exchange if it has no destination and OSeqno 0, also where
     /// it is sent again for a leg that is there. It counts as received and refused. All else goes on.
+    ///
+    /// `Bounded`: a turn takes in no more than empty trunk queues and outboxes have room for: 256 entries and 16,384 octets of
+    /// media, but for its first datagram, which it takes whatever it weighs. An entry of a trunk frame and a mini frame are one
+    /// entry, a full frame is four, a VNAK 128. A datagram that doesn't fit any more ends the receiving of its turn. The next
+    /// turn follows without a pause, takes it first and counts it then; what the last turn left is lost.
+    /// A bounded run waits no longer than the plan's `trunk_ms` between two turns, unless that is 0.
     pub fn run_until<W: Wire, V: Watch, G: Gate, J: Naming, M: Moments, C: Challenges, R: Wait>(
         &mut self,
         rt: &R,
@@ -81,6 +132,7 @@ impl Worker {
         exchange: &Exchange<G, J>,
         pass: &mut Pass<J>,
         watch: &V,
+        intake: Intake,
         turns: u64,
         moments: &mut M,
         challenges: &mut C,
@@ -99,12 +151,17 @@ impl Worker {
         ensures refused { result.refused ≤ result.received }
         ensures steps { pass.old.credit.steps + result.received ≤ pass.new.credit.steps + result.refused }
         ensures later { IsLater pass.old pass.new }
+        // Turn by turn: what it took in, which was within its bound, with the datagram that the turn before left as the first;
+        // then a tick of each of its peers, and nothing else.
+        ensures intake { RunsTurns intake exchange.now self.old.peers result.received pass.old pass.new }
         ensures place { self.new.place ≡ self.old.place }
         ensures peers { self.new.peers ≡ self.old.peers }
     {
+        let longest = longest_wait(intake, trunk_ms(exchange.plan()));
+        let mut inbox = Inbox::new();
         let mut tally = Tally::new(watch, self.place);
         for made in 0..turns.min(MOST_TURNS) {
-            pause(wire, made);
+            pause(wire, made, inbox.is_full(), longest);
             let stage = watch.stage();
             if stage == ServiceStage::Ended {
                 return tally.report;
@@ -113,10 +170,11 @@ impl Worker {
                 rt,
                 exchange,
                 stage,
+                intake,
                 time: moments.now(),
                 challenge: &challenges.draw(),
             };
-            self.turn_at(&turn, wire, pass, &mut tally);
+            self.turn_at(&turn, wire, &mut inbox, pass, &mut tally);
         }
         tally.report
     }

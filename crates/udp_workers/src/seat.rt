@@ -4,6 +4,7 @@ ghost use Rattle.peer_plan.specs.Plan.{PlanView};
 ghost use Rattle.udp_wires.specs.Counts.{RisesBy};
 ghost use Rattle.udp_workers.specs.Served.{AreEndpoints, peers_of};
 
+use crate::intake::Intake;
 use crate::report::TurnReport;
 use crate::sources::{Challenges, Moments};
 use crate::worker::Worker;
@@ -25,11 +26,13 @@ impl Post for Brand {
     ghost plan = { record { workers = []; passes = 0; peers = []; routes = [] } };
 }
 
-/// The exchange of that plan, the watch of those that serve on it, and how many turns each of them makes at most.
+/// The exchange of that plan, the watch of those that serve on it, how much each of them takes in in a turn, and how many turns it
+/// makes at most.
 #[derive(Drop)]
 pub struct WatchedExchange<'x, V: Watch, G: Gate, J: Naming, P: Post> {
     pub exchange: &'x Exchange<G, J>,
     pub watch: &'x V,
+    pub intake: Intake,
     pub turns: u64,
     pub post: PhantomData<P>,
     ghost named: { exchange.now ≡ P.plan },
@@ -88,6 +91,7 @@ impl<W: Wire + Drop, M: Moments + Drop, C: Challenges + Drop, J: Naming, P: Post
 > {
     ghost use Rattle.udp_workers.specs.Events.{MakesTurns, Tells};
     ghost use Rattle.udp_workers.specs.Handed.{GivesAll};
+    ghost use Rattle.udp_workers.specs.Intake.{RunsTurns};
     ghost use Rattle.worker_watch.specs.declared.watch.ServiceStage.TheVariants as ServiceStage;
 
     // A run from here: its counts begin with what is counted so far.
@@ -96,6 +100,7 @@ impl<W: Wire + Drop, M: Moments + Drop, C: Challenges + Drop, J: Naming, P: Post
         rt: &R,
         exchange: &Exchange<G, J>,
         watch: &V,
+        intake: Intake,
         turns: u64,
     )
         requires { exchange.now ≡ P.plan }
@@ -107,6 +112,7 @@ impl<W: Wire + Drop, M: Moments + Drop, C: Challenges + Drop, J: Naming, P: Post
             self.new.report }
         ensures told { ∥ Tells (V.told watch.now) self.new.report ∥₁ }
         ensures handed { GivesAll (V.given watch.now) self.old.pass self.new.pass }
+        ensures intake { RunsTurns intake exchange.now self.old.worker.peers self.new.report.received self.old.pass self.new.pass }
     {
         self.start = start_of(&self.wire, &self.pass);
         self.report = self.worker.run_until(
@@ -115,6 +121,7 @@ impl<W: Wire + Drop, M: Moments + Drop, C: Challenges + Drop, J: Naming, P: Post
             exchange,
             &mut self.pass,
             watch,
+            intake,
             turns,
             &mut self.moments,
             &mut self.challenges,
@@ -162,9 +169,13 @@ impl<W: Wire + Drop, M: Moments + Drop, C: Challenges + Drop, J: Naming, P: Post
         rt: &R,
         service: &WatchedExchange<'_, V, G, J, P>,
     ) {
-        self.place
-            .lock(rt)
-            .run(rt, service.exchange, service.watch, service.turns);
+        self.place.lock(rt).run(
+            rt,
+            service.exchange,
+            service.watch,
+            service.intake,
+            service.turns,
+        );
     }
 
     /// The worker with all that its run needed, and the sum of the reports of its last run.

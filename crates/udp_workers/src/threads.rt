@@ -1,6 +1,7 @@
 //! Seats on threads of their own.
 ghost use Rattle.std.specs.Prelude.{◌≡◌, ◌≤◌, [], IsFalse, IsOk, length};
 
+use crate::intake::Intake;
 use crate::seat::{Post, Seat, WatchedExchange};
 use crate::sources::{Challenges, Moments};
 use crate::unwatched::Unwatched;
@@ -46,6 +47,7 @@ pub fn run_all<
     let service = WatchedExchange {
         exchange,
         watch: &Unwatched,
+        intake: Intake::Whole,
         turns: u64::from(turns),
         post: PhantomData,
     };

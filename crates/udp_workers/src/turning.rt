@@ -5,9 +5,12 @@ ghost use Rattle.noted_steps.specs.Notes.{Noted};
 ghost use Rattle.udp_wires.specs.Counts.{RiseAlike, RisesBy, RisesByAtMost};
 ghost use Rattle.udp_workers.specs.Events.{HasRoom, OnlyRetires};
 ghost use Rattle.udp_workers.specs.Handed.{GivesAll};
+ghost use Rattle.udp_workers.specs.Intake.{MakesTurn};
 ghost use Rattle.udp_workers.specs.Served.{AreEndpoints, peers_of};
 ghost use Rattle.udp_workers.specs.Ticked.{IsLater, TicksAll};
 
+use crate::inbox::Inbox;
+use crate::intake::Intake;
 use crate::receiving::receive_all;
 use crate::report::TurnReport;
 use crate::sending::send_all;
@@ -29,6 +32,7 @@ pub(crate) struct Turn<'x, G: Gate, J: Naming, R: Wait> {
     pub(crate) exchange: &'x Exchange<G, J>,
     // The stage that the watch was asked for.
     pub(crate) stage: ServiceStage,
+    pub(crate) intake: Intake,
     // Its moment, in milliseconds since the exchange was opened.
     pub(crate) time: u64,
     pub(crate) challenge: &'x Challenge,
@@ -74,18 +78,20 @@ impl Worker {
             rt,
             exchange,
             stage: ServiceStage::Serving,
+            intake: Intake::Whole,
             time: now,
             challenge,
         };
-        self.turn_at(&turn, wire, pass, &mut tally);
+        self.turn_at(&turn, wire, &mut Inbox::new(), pass, &mut tally);
         tally.report
     }
 
-    // Makes a turn.
+    // Makes a turn, with the datagram that the one before it left.
     pub(crate) fn turn_at<W: Wire, V: Watch, G: Gate, J: Naming, R: Wait>(
         &mut self,
         turn: &Turn<'_, G, J, R>,
         wire: &mut W,
+        inbox: &mut Inbox,
         pass: &mut Pass<J>,
         tally: &mut Tally<'_, V>,
     )
@@ -112,6 +118,9 @@ impl Worker {
         ensures handed { GivesAll (V.given tally.old.watch.now) pass.old pass.new }
         ensures ticked { (mid : Noted) × IsLater pass.old mid ×
             TicksAll turn.now.exchange.now turn.now.time self.old.peers mid pass.new }
+        ensures turn { MakesTurn turn.now.intake turn.now.exchange.now self.old.peers
+            (record { stage = turn.now.stage; now = turn.now.time; challenge = turn.now.challenge.now }) inbox.old.datagram inbox.new.datagram
+            tally.old.report.received tally.new.report.received pass.old pass.new }
         ensures place { self.new.place ≡ self.old.place }
         ensures peers { self.new.peers ≡ self.old.peers }
         ensures few { length self.new.peers ≤ 32 }
@@ -120,7 +129,7 @@ impl Worker {
         // No two peers of a plan have one endpoint.
         let _peers = turn.exchange.plan().peer_count();
         self.turns = self.turns.wrapping_add(1);
-        receive_all(turn, wire, pass, tally);
+        receive_all(turn, wire, inbox, pass, tally);
         let peers = self.peers.as_slice();
         tick_all(turn, pass, tally, peers);
         empty_all(turn, wire, pass, tally, peers, &mut self.out);

@@ -16,6 +16,6 @@ pub use digits::Digits;
 pub use reports::{reports_of, tell_reports};
 pub use seats::{ServiceSeat, seats_of};
 pub use service_error::{ServiceError, service_error_name};
-pub use sockets::{PlainSockets, Sockets};
+pub use sockets::{PlainSockets, Sockets, room_of};
 pub use spare_pass::with_spare_pass;
 pub use traced_wire::{TracedWire, lane_of};

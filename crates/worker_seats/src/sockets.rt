@@ -1,5 +1,5 @@
 //! The sockets of workers.
-ghost use Rattle.std.specs.Prelude.{◌≡◌, ◌<◌, IfOk, length};
+ghost use Rattle.std.specs.Prelude.{◌≡◌, ◌+◌, ◌/◌, ◌<◌, IfOk, length, max};
 ghost use Rattle.udp_wires.specs.MioWire as wires;
 ghost use Rattle.udp_workers.specs.Served.{AreEndpoints, peers_of};
 
@@ -11,17 +11,24 @@ use std::os::fd::RawFd;
 use udp_wires::{MioWire, Sharing, Wire};
 use udp_workers::Worker;
 
+// So many octets are asked for at the sockets of a worker together.
+const WORKER_ROOM: u64 = 4_194_304;
+
+// At each socket at least so many. The kernel doubles what is asked for, and counts some 832 octets for a mini frame of G.711, so
+// over 600 of these can wait.
+const SOCKET_ROOM: u64 = 262_144;
+
 /// What is done with the sockets of workers.
 pub trait Sockets {
     /// Whether workers of one endpoint share it. Where they don't, the second of them isn't bound.
     fn are_shared(&self) -> bool;
 
-    /// The socket of the worker at this place of the plan has this descriptor. Gives how many octets the system then keeps of
-    /// datagrams that wait, where that was asked.
-    fn set_up(&self, place: u16, descriptor: RawFd) -> Option<u64>;
+    /// The socket of the worker at this place of the plan has this descriptor, and its share of a worker's room for datagrams
+    /// that wait is so many octets. Gives how many octets the system then keeps of them, where that was asked.
+    fn set_up(&self, place: u16, descriptor: RawFd, room: u32) -> Option<u64>;
 
-    /// A socket at that worker's endpoint which is connected to one of its peers has this descriptor.
-    fn set_up_link(&self, descriptor: RawFd);
+    /// A socket at that worker's endpoint which is connected to one of its peers has this descriptor, and the same share.
+    fn set_up_link(&self, descriptor: RawFd, room: u32);
 }
 
 /// Each is bound alone, and nothing is done with it.
@@ -33,19 +40,40 @@ impl Sockets for PlainSockets {
         false
     }
 
-    fn set_up(&self, _place: u16, _descriptor: RawFd) -> Option<u64> {
+    fn set_up(&self, _place: u16, _descriptor: RawFd, _room: u32) -> Option<u64> {
         None
     }
 
-    fn set_up_link(&self, _descriptor: RawFd) {}
+    fn set_up_link(&self, _descriptor: RawFd, _room: u32) {}
+}
+
+/// The share of a worker's room for datagrams that wait which each of its sockets has, in octets: the worker has its own socket,
+/// and beside it so many that are connected to peers. Together they have 4 MiB, but each at least 256 KiB.
+pub fn room_of(links: u32) -> u32
+    ensures { result ≡ max (4194304 / (links + 1)) 262144 }
+{
+    let sockets = u64::from(links) + 1;
+    (WORKER_ROOM / sockets).max(SOCKET_ROOM) as u32
+}
+
+// How many sockets of a wire are connected to peers.
+fn links_of(wire: &MioWire) -> u32 {
+    let mut links: u32 = 0;
+    for peer in 0..wire.peers().len() {
+        if wire.link_descriptor(peer).is_some() {
+            links = links.saturating_add(1);
+        }
+    }
+    links
 }
 
 // Sets up the sockets of a wire.
 fn set_up_all<S: Sockets>(sockets: &S, place: u16, wire: &MioWire) {
-    let _waiting = sockets.set_up(place, wire.descriptor());
+    let room = room_of(links_of(wire));
+    let _waiting = sockets.set_up(place, wire.descriptor(), room);
     for peer in 0..wire.peers().len() {
         if let Some(descriptor) = wire.link_descriptor(peer) {
-            sockets.set_up_link(descriptor);
+            sockets.set_up_link(descriptor, room);
         }
     }
 }

@@ -31,23 +31,6 @@ pub fn lane_of<'t>(
     }
 }
 
-// A datagram that was received is handed to the exchange next; where none was, the ticks come next.
-fn note_received<R: Wait>(
-    rt: &R,
-    plan: &Plan,
-    lane: &mut TraceLane<'_>,
-    octets: &[u8],
-    found: Result<Option<(usize, Endpoint)>, WireFault>,
-) {
-    match found {
-        Ok(Some((len, from))) => {
-            let octets = octets.get(..len).unwrap_or(b"");
-            lane.datagram(rt, plan.peer_of(from), from, octets);
-        }
-        _ => lane.tick(rt),
-    }
-}
-
 impl<'t, R: Wait> Wire for TracedWire<'t, R> {
     ghost given = { λ wire. wires.given_of wire.wire };
 
@@ -61,9 +44,19 @@ impl<'t, R: Wait> Wire for TracedWire<'t, R> {
         let found = self.wire.receive(octets);
         if let Some(lane) = &mut self.lane {
             lane.be_in_turn(self.rt);
-            note_received(self.rt, self.plan, lane, octets, found);
+            // Where none came, the ticks come next.
+            if !matches!(found, Ok(Some(_))) {
+                lane.tick(self.rt);
+            }
         }
         found
+    }
+
+    fn note_taken(&mut self, from: Endpoint, octets: &[u8]) {
+        if let Some(lane) = &mut self.lane {
+            lane.be_in_turn(self.rt);
+            lane.datagram(self.rt, self.plan.peer_of(from), from, octets);
+        }
     }
 
     fn send(&mut self, to: Endpoint, octets: &[u8]) -> Result<bool, WireFault> {

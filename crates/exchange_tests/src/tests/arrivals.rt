@@ -42,6 +42,13 @@ const HANGUP_TAKEN: Arrival = (
     b"\x80\x09\x00\x05\x00\x00\x00\x64\x02\x02\x06\x04",
 );
 
+// An octet of voice comes from the east.
+const VOICE: Arrival = (
+    20,
+    EAST,
+    b"\x80\x09\x00\x05\x00\x00\x00\x14\x02\x01\x02\x04\xff",
+);
+
 /// The call from its first datagram to its last.
 pub static WHOLE_CALL: [Arrival; 7] = [
     CALLED,
@@ -53,6 +60,16 @@ pub static WHOLE_CALL: [Arrival; 7] = [
     HANGUP_TAKEN,
 ];
 
+/// The call until both legs are up, and a voice frame from the east.
+pub static UP_WITH_VOICE: [Arrival; 6] = [
+    CALLED,
+    ACCEPT_TAKEN,
+    ACCEPTS,
+    ANSWERS,
+    ANSWER_TAKEN,
+    VOICE,
+];
+
 /// The call until both legs are up; then a voice frame and a mini frame from the east, and a digit from the west.
 pub static MEDIA_AND_DIGIT: [Arrival; 8] = [
     CALLED,
@@ -60,11 +77,7 @@ pub static MEDIA_AND_DIGIT: [Arrival; 8] = [
     ACCEPTS,
     ANSWERS,
     ANSWER_TAKEN,
-    (
-        20,
-        EAST,
-        b"\x80\x09\x00\x05\x00\x00\x00\x14\x02\x01\x02\x04\xff",
-    ),
+    VOICE,
     (20, EAST, b"\x00\x09\x00\x14\xaa\xbb\xcc"),
     (
         30,

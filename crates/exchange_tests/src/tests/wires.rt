@@ -1,11 +1,13 @@
 //! Tests of the workers, over wires in memory and over a socket on loopback.
 
 mod both_at_once;
+mod burst;
 mod failing_wire;
 mod loopback;
 mod memory_wire;
 mod whole_call;
 
 pub use crate::tests::wires::both_at_once::turn_on;
+pub use crate::tests::wires::burst::{Burst, play_burst};
 pub use crate::tests::wires::loopback::{Rejection, call_first};
 pub use crate::tests::wires::whole_call::{Played, play_call};

@@ -18,9 +18,9 @@ use std::thread::Threads;
 use test_plans::plans::TWO_WORKERS;
 use udp_workers::{Challenges, Moments, Post, Seat, Worker, run_all};
 
-// Moment 0.
+/// Moment 0.
 #[derive(Drop)]
-struct AtOnce;
+pub struct AtOnce;
 
 impl Moments for AtOnce {
     fn now(&mut self) -> u64 {
@@ -28,9 +28,9 @@ impl Moments for AtOnce {
     }
 }
 
-// The challenge `0`.
+/// The challenge `0`.
 #[derive(Drop)]
-struct Zero(Challenge);
+pub struct Zero(pub Challenge);
 
 impl Challenges for Zero {
     fn draw(&mut self) -> Challenge {

@@ -1,5 +1,5 @@
 //! A wire in memory: it gives what a test puts there, keeps what it is given, and fails at one of its calls.
-ghost use Rattle.std.specs.Prelude.{◌≡◌};
+ghost use Rattle.std.specs.Prelude.{◌≡◌, ◌≤◌, length};
 ghost use Rattle.udp_workers.specs.Served.{AreEndpoints, peers_of};
 
 use peer_plan::{Endpoint, Plan};
@@ -15,6 +15,15 @@ struct Sent {
     octets: Vec<u8>,
 }
 
+// A datagram that comes again and again.
+#[derive(Drop)]
+struct Burst {
+    from: Endpoint,
+    octets: Vec<u8>,
+    // How often it comes yet.
+    left: u64,
+}
+
 /// A wire in memory.
 #[derive(Drop)]
 pub struct MemoryWire {
@@ -24,6 +33,8 @@ pub struct MemoryWire {
     failures: u64,
     // The datagram that comes next.
     next: Option<(Endpoint, &'static [u8])>,
+    // What comes where there is none.
+    burst: Option<Burst>,
     // What was sent, in order.
     sent: Vec<Sent>,
     // How many more calls of `receive` and `send` go well before one fails.
@@ -43,6 +54,7 @@ impl MemoryWire {
             given: 0,
             failures: 0,
             next: None,
+            burst: None,
             sent: Vec::new(alloc),
             good_calls: fails_at.wrapping_sub(1),
         })
@@ -57,6 +69,17 @@ impl MemoryWire {
         }
         self.next = Some((from, octets));
         true
+    }
+
+    /// Puts a datagram there that comes so many times.
+    pub fn put_often(&mut self, from: Endpoint, octets: Vec<u8>, times: u64)
+        ensures { self.new.peers ≡ self.old.peers }
+    {
+        self.burst = Some(Burst {
+            from,
+            octets,
+            left: times,
+        });
     }
 
     /// Whether what was sent to an endpoint is this, in order.
@@ -86,6 +109,15 @@ impl MemoryWire {
     }
 }
 
+// A datagram is written to the front of the octets that are lent: its length there.
+fn put_into(octets: &mut [u8], datagram: &[u8]) -> usize
+    ensures { result ≤ length octets.new }
+{
+    let len = datagram.len().min(octets.len());
+    octets[..len].copy_from_slice(datagram.split_at(len).0);
+    len
+}
+
 impl Wire for MemoryWire {
     ghost use Rattle.udp_wires.specs.PeerCounts.{count_of};
 
@@ -102,12 +134,16 @@ impl Wire for MemoryWire {
             self.failures = self.failures.wrapping_add(1);
             return Err(WireFault);
         }
-        let Some((from, datagram)) = self.next.take() else {
-            return Ok(None);
-        };
-        let len = datagram.len().min(octets.len());
-        octets[..len].copy_from_slice(datagram.split_at(len).0);
-        Ok(Some((len, from)))
+        if let Some((from, datagram)) = self.next.take() {
+            return Ok(Some((put_into(octets, datagram), from)));
+        }
+        match &mut self.burst {
+            Some(burst) if burst.left > 0 => {
+                burst.left -= 1;
+                Ok(Some((put_into(octets, &burst.octets), burst.from)))
+            }
+            _ => Ok(None),
+        }
     }
 
     fn send(&mut self, to: Endpoint, octets: &[u8]) -> Result<bool, WireFault> {

@@ -2,7 +2,9 @@ use Rattle.std.proofs.Common.{◌≡◌, ◌+◌, ◌≤◌}
 use Rattle.peer_plan.specs.declared.endpoint.Endpoint.{Endpoint}
 use Rattle.udp_wires.specs.Counts.{RiseAlike}
 use Rattle.udp_workers.specs.Handed.{GivesAll}
+use Rattle.udp_workers.specs.Intake.{waiting}
 use Rattle.udp_workers.specs.Ticked.{IsLater}
+use Rattle.udp_workers.proofs.IntakeLaws.{TakesSoFar}
 use Rattle.udp_workers.proofs.receiving.receive_all.Given as goal
 
 abbrev pub invariant-loop : goal.invariant-loop
@@ -21,4 +23,7 @@ invariant-loop g l = record {
   steps : l.fn.pass.credit.steps + l.tally.report.received + l.fn.tally.report.refused ≤ l.pass.credit.steps + l.tally.report.refused + l.fn.tally.report.received;
   later : IsLater l.fn.pass l.pass;
   handed : GivesAll (g.V.Watch.given l.fn.tally.watch.now) l.fn.pass l.pass;
+  none_lost : RiseAlike l.fn.inbox.given l.inbox.given (l.fn.tally.report.received + waiting l.fn.inbox.datagram) (l.tally.report.received + waiting l.inbox.datagram);
+  takes : TakesSoFar l.turn.intake l.turn.exchange.now (record { stage = l.turn.stage; now = l.turn.time; challenge = l.turn.challenge.now })
+      l.fn.inbox.datagram l.inbox.datagram l.taken l.counter l.fn.tally.report.received l.tally.report.received l.fn.pass l.pass;
 }

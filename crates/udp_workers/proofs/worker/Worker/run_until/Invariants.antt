@@ -1,6 +1,7 @@
-use Rattle.std.proofs.Common.{◌≡◌, ◌+◌, ◌*◌, ◌≤◌}
+use Rattle.std.proofs.Common.{◌≡◌, ◌+◌, ◌*◌, ◌≤◌, List}
 use Rattle.udp_wires.specs.Counts.{RisesBy}
 use Rattle.udp_workers.specs.Handed.{GivesAll}
+use Rattle.udp_workers.specs.Intake.{MakesAllTurns, TurnView}
 use Rattle.udp_workers.specs.Ticked.{IsLater}
 use Rattle.udp_workers.proofs.worker.Worker.run_until.Given as goal
 
@@ -19,5 +20,6 @@ invariant-loop-made g l = record {
   handed : GivesAll (g.V.Watch.given l.watch) l.fn.pass l.pass;
   place : l.self.place ≡ l.fn.self.place;
   peers : l.self.peers ≡ l.fn.self.peers;
+  intake : (turns : List TurnView) × MakesAllTurns l.intake l.exchange l.fn.self.peers turns l.inbox.datagram l.tally.report.received l.fn.pass l.pass;
   turns : RisesBy l.fn.self.turns l.self.turns l.made;
 }

@@ -4,6 +4,7 @@ use Rattle.peer_plan.specs.Plan.{IsPlan}
 use Rattle.peer_plan.specs.declared.endpoint.Endpoint.{Endpoint}
 use Rattle.udp_wires.specs.Counts.{RisesByAtMost}
 use Rattle.udp_workers.specs.Handed.{GivesAll}
+use Rattle.udp_workers.specs.Intake.{TakesIn}
 use Rattle.udp_workers.specs.Served.{WorkerView, AreEndpoints}
 use Rattle.udp_workers.specs.Ticked.{TicksAll}
 use Rattle.udp_workers.proofs.HandingLaws.{gives_on}
@@ -43,6 +44,21 @@ returns-clause-ticked g c =
     let own = c.as_slice-peers.ensures.value ∙ ap (λ (worker : WorkerView). worker.peers) c.self.view_is in
     let unsent = subst (TicksAll plan c.args.turn.now.time c.as_slice-peers.result.now arrived) (sym c.empty_all.ensures.pass) c.tick_all.ensures.ticked in
     (arrived, c.receive_all.ensures.later, subst (λ peers. TicksAll plan c.args.turn.now.time peers arrived c.empty_all.new.pass) own unsent)
+
+pub returns-clause-turn : goal.returns-clause-turn
+returns-clause-turn g c =
+    let turn = c.args.turn.now in
+    let plan = turn.exchange.now in
+    let arrived = c.receive_all.new.pass in
+    let own = c.as_slice-peers.ensures.value ∙ ap (λ (worker : WorkerView). worker.peers) c.self.view_is in
+    let unsent = subst (TicksAll plan turn.time c.as_slice-peers.result.now arrived) (sym c.empty_all.ensures.pass) c.tick_all.ensures.ticked in
+    let counted = c.empty_all.ensures.received ∙ c.tick_all.ensures.only.received in
+    record {
+      mid = arrived;
+      takes = subst (λ (n : ℕ). TakesIn turn.intake plan (record { stage = turn.stage; now = turn.time; challenge = turn.challenge.now }) c.args.inbox.now.datagram c.receive_all.new.inbox.datagram
+          c.args.tally.now.report.received n c.args.pass.now arrived) (sym counted) c.receive_all.ensures.takes;
+      ticks = subst (λ peers. TicksAll plan turn.time peers arrived c.empty_all.new.pass) own unsent;
+    }
 
 pub returns-clause-handed : goal.returns-clause-handed
 returns-clause-handed g c =

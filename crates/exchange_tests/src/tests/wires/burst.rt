@@ -1,0 +1,126 @@
+//! A burst of trunk frames, as a peer with many calls sends them.
+ghost use Rattle.std.specs.Prelude.{◌≡◌};
+ghost use Rattle.udp_workers.specs.Served.{AreEndpoints, peers_of};
+
+use crate::tests::arrivals::UP_WITH_VOICE;
+use crate::tests::desk::EAST;
+use crate::tests::opened::{Play, play_with};
+use crate::tests::same::same;
+use crate::tests::wires::both_at_once::{AtOnce, Zero};
+use crate::tests::wires::memory_wire::{MemoryWire, wire_of};
+use call_auth::Challenge;
+use exchange_core::{Exchange, Gate, NoGate, Pass};
+use peer_lock::Naming;
+use std::alloc::{AllocError, Global};
+use std::process::Abort;
+use std::sync::Wait;
+use std::test::*;
+use test_plans::plans::ONE_WORKER;
+use udp_workers::{Intake, Unwatched, Worker};
+
+// How many trunk frames come at once.
+const FRAMES: u64 = 64;
+
+/// In how many turns a worker takes a burst in: those of `run`, or those of a service, which are bounded.
+#[derive(Clone, Copy)]
+pub enum Burst {
+    Run(u32),
+    Bounded(u64),
+}
+
+// A trunk frame from the east: eight entries of its call, each of 160 octets.
+fn trunk_frame(alloc: Global) -> Result<Vec<u8>, AllocError> {
+    let mut octets = b"\x00\x00\x01\x00\x00\x00\x00\x28".to_vec(alloc)?;
+    for _ in 0..8 {
+        octets.extend_from_slice(b"\x00\x09\x00\xa0")?;
+        octets.extend_from_slice(&[0x55; 160])?;
+    }
+    Ok(octets)
+}
+
+// The call is up, and voice has gone to the west in a full frame.
+fn play_up<G: Gate, J: Naming, R: Wait>(
+    rt: &R,
+    exchange: &Exchange<G, J>,
+    pass: &mut Pass<J>,
+    worker: &mut Worker,
+    wire: &mut MemoryWire,
+    challenge: &Challenge,
+)
+    requires peers { worker.old.peers ≡ peers_of exchange.now worker.old.place }
+    requires wire { AreEndpoints exchange.now worker.old.peers wire.old.peers.endpoints.items }
+    ensures place { worker.new.place ≡ worker.old.place }
+    ensures peers { worker.new.peers ≡ worker.old.peers }
+    ensures wire { wire.new.peers.endpoints.items ≡ wire.old.peers.endpoints.items }
+{
+    for arrival in &UP_WITH_VOICE {
+        let (at, from, octets) = *arrival;
+        let _put = wire.put(from, octets);
+        let _report = worker.turn(rt, wire, exchange, pass, at, challenge);
+    }
+}
+
+/// The only worker of a plan has a call that is up, and is given 64 trunk frames at once. How many it received.
+pub fn play_burst<G: Gate, J: Naming, R: Abort + Wait>(
+    rt: &R,
+    alloc: Global,
+    burst: Burst,
+    exchange: &Exchange<G, J>,
+    passes: &mut [Pass<J>],
+) -> u64 {
+    let pass = passes.first_mut().expect(rt, "a pass");
+    let challenge = Challenge::new(b"0").expect(rt, "a challenge");
+    let _workers = exchange.plan().workers();
+    let mut worker = Worker::new(exchange.plan(), 0);
+    let mut wire = wire_of(rt, alloc, exchange.plan(), &worker, 0);
+    play_up(rt, exchange, pass, &mut worker, &mut wire, &challenge);
+    wire.put_often(EAST, trunk_frame(alloc).expect(rt, "a frame"), FRAMES);
+    let mut zero = Zero(challenge);
+    let report = match burst {
+        Burst::Run(turns) => worker.run(
+            rt,
+            &mut wire,
+            exchange,
+            pass,
+            turns,
+            &mut AtOnce,
+            &mut zero,
+        ),
+        Burst::Bounded(turns) => worker.run_until(
+            rt,
+            &mut wire,
+            exchange,
+            pass,
+            &Unwatched,
+            Intake::Bounded,
+            turns,
+            &mut AtOnce,
+            &mut zero,
+        ),
+    };
+    report.received
+}
+
+// How a burst is taken in, how many datagrams are received so, and how many octets of their media are packed and dropped.
+static ROWS: [(Burst, u64, u64, u64); 4] = [
+    // Twelve frames of 1,280 octets of media fit 16,384.
+    (Burst::Bounded(1), 12, 12 * 1280, 0),
+    (Burst::Bounded(5), 60, 60 * 1280, 0),
+    (Burst::Bounded(6), 64, 64 * 1280, 0),
+    // A trunk queue takes 102 entries of 160 octets.
+    (Burst::Run(1), 64, 102 * 160, 64 * 1280 - 102 * 160),
+];
+
+#[test]
+fn bounded_turns_lose_nothing(rt: HostRuntime) {
+    for row in &ROWS {
+        let (burst, count, packed, dropped) = *row;
+        let mut received = 0;
+        let played = Play::Burst(burst, &mut received);
+        let sums = play_with(&rt, rt.alloc(), ONE_WORKER, NoGate, played);
+        let sums = sums.expect(&rt, "an exchange");
+        same(&rt, &received, &count);
+        // An octet of voice went before.
+        same(&rt, &(sums.packed, sums.dropped), &(packed + 1, dropped));
+    }
+}

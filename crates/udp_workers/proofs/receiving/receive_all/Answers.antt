@@ -1,0 +1,83 @@
+use Rattle.std.proofs.Common.{◌≡◌, ◌+◌, ℕ, Bor, None, Some, ◌∙◌, ap, arith, rules, subst, sym}
+use Rattle.udp_workers.specs.Handed.{GivesAll}
+use Rattle.udp_workers.specs.Intake.{Arrival, InboxView, IsLoaded, TakesIn, TurnView}
+use Rattle.udp_workers.specs.declared.report.TurnReport.{TurnReport}
+use Rattle.udp_workers.proofs.HandingLaws.{gives_on}
+use Rattle.udp_workers.proofs.IntakeLaws.{TakesSoFar, at_error, not_there, takes_64, takes_no_more, takes_one, takes_what_fits}
+use Rattle.udp_workers.proofs.TickLaws.{later_on}
+use Rattle.udp_workers.proofs.receiving.receive_all.Goals as goal
+
+pub returns-then-is_err-clause-takes : goal.returns-then-is_err-clause-takes
+returns-then-is_err-clause-takes g c =
+    let turn = c.args.turn.now in
+    let l = c.loop in
+    let view : TurnView = record { stage = turn.stage; now = turn.time; challenge = turn.challenge.now } in
+    let none = sym (at_error c.fill.result (c.fill.new.self.datagram ≡ None) c.fill.ensures.fault (sym c.is_err.ensures.value ∙ c.if-is_err.true)) in
+    let so_far = subst (λ (n : ℕ). TakesSoFar turn.intake turn.exchange.now view c.args.inbox.now.datagram l.inbox.datagram l.taken l.counter c.args.tally.now.report.received n c.args.pass.now l.pass) (sym (ap (λ (report : TurnReport). report.received) c.tell.ensures.counted)) l.invariant.takes in
+    subst (λ left. TakesIn turn.intake turn.exchange.now view c.args.inbox.now.datagram left c.args.tally.now.report.received c.tell.new.self.report.received c.args.pass.now l.pass) none
+    (takes_no_more turn.intake turn.exchange.now view c.args.inbox.now.datagram c.args.tally.now.report.received c.args.pass.now l.inbox.datagram l.taken l.counter c.tell.new.self.report.received l.pass
+    so_far (λ some. none ∙ ap (λ (inbox : InboxView). inbox.datagram) (c.fill.ensures.kept some)) (omega arith))
+
+pub returns-in_default-clause-takes : goal.returns-in_default-clause-takes
+returns-in_default-clause-takes g c =
+    let turn = c.args.turn.now in
+    let l = c.loop in
+    let view : TurnView = record { stage = turn.stage; now = turn.time; challenge = turn.challenge.now } in
+    let none : None ≡ c.fill.new.self.datagram = not_there c.fill.new.self.datagram c.datagram.result c.datagram.ensures c.in_default.is in
+    subst (λ left. TakesIn turn.intake turn.exchange.now view c.args.inbox.now.datagram left c.args.tally.now.report.received l.tally.report.received c.args.pass.now l.pass) none
+    (takes_no_more turn.intake turn.exchange.now view c.args.inbox.now.datagram c.args.tally.now.report.received c.args.pass.now l.inbox.datagram l.taken l.counter l.tally.report.received l.pass
+    l.invariant.takes (λ some. none ∙ ap (λ (inbox : InboxView). inbox.datagram) (c.fill.ensures.kept some)) (omega arith))
+
+pub returns-in_default-loaded-clause-takes : goal.returns-in_default-loaded-clause-takes
+returns-in_default-loaded-clause-takes g c =
+    let turn = c.args.turn.now in
+    let l = c.loop in
+    let view : TurnView = record { stage = turn.stage; now = turn.time; challenge = turn.challenge.now } in
+    let arrival : Arrival = record { from = c.in-Some.from; octets = c.in-Some.octets.now } in
+    let here : Some arrival ≡ c.fill.new.self.datagram = c.in-Some.ensures in
+    let full = subst (IsLoaded turn.intake l.taken arrival.octets) c.in_default-loaded.is c.loaded.ensures in
+    subst (λ left. TakesIn turn.intake turn.exchange.now view c.args.inbox.now.datagram left c.args.tally.now.report.received l.tally.report.received c.args.pass.now l.pass) here
+    (takes_what_fits turn.intake turn.exchange.now view c.args.inbox.now.datagram c.args.tally.now.report.received c.args.pass.now l.inbox.datagram l.taken arrival l.counter l.tally.report.received l.pass
+    l.invariant.takes full (omega arith))
+
+pub returns-clause-takes : goal.returns-clause-takes
+returns-clause-takes g c =
+    let turn = c.args.turn.now in
+    let l = c.loop in
+    let view : TurnView = record { stage = turn.stage; now = turn.time; challenge = turn.challenge.now } in
+    let all : l.counter ≡ 64 = omega arith in
+    takes_64 turn.intake turn.exchange.now view c.args.inbox.now.datagram c.args.tally.now.report.received c.args.pass.now l.inbox.datagram l.taken l.tally.report.received l.pass
+    (subst (λ (n : ℕ). TakesSoFar turn.intake turn.exchange.now view c.args.inbox.now.datagram l.inbox.datagram l.taken n c.args.tally.now.report.received l.tally.report.received c.args.pass.now l.pass) all l.invariant.takes)
+
+pub loop-preserved : goal.loop-preserved
+loop-preserved g c =
+    let turn = c.args.turn.now in
+    let l = c.loop in
+    let view : TurnView = record { stage = turn.stage; now = turn.time; challenge = turn.challenge.now } in
+    let arrival : Arrival = record { from = c.in-Some.from; octets = c.in-Some.octets.now } in
+    let here : Some arrival ≡ c.fill.new.self.datagram = c.in-Some.ensures in
+    let more = subst (IsLoaded turn.intake l.taken arrival.octets) c.in-Some-loaded.is c.loaded.ensures in
+    record {
+      received = omega arith;
+      more = omega arith;
+      refused = omega arith;
+      no_fault = c.hear.ensures.faults ∙ l.invariant.no_fault;
+      sent = c.hear.ensures.sent ∙ l.invariant.sent;
+      lost = c.hear.ensures.lost ∙ l.invariant.lost;
+      watch = c.hear.ensures.watch ∙ l.invariant.watch;
+      given = c.note_taken.ensures.given ∙ c.fill.ensures.given ∙ l.invariant.given;
+      given_to = λ to. c.note_taken.ensures.given_to to ∙ c.fill.ensures.given_to to ∙ l.invariant.given_to to;
+      failures = search rules;
+      peers = c.note_taken.ensures.peers ∙ c.fill.ensures.peers ∙ l.invariant.peers;
+      steps = omega arith;
+      later = later_on c.args.pass.now l.pass c.hear.new.pass l.invariant.later c.hear.ensures.later;
+      handed =
+          gives_on (g.V.Watch.given c.args.tally.now.watch.now) c.args.pass.now l.pass c.hear.new.pass l.invariant.handed
+          (subst (λ (watch : Bor g.row.V.Denot). GivesAll (g.V.Watch.given watch.now) l.pass c.hear.new.pass) l.invariant.watch c.hear.ensures.handed);
+      none_lost = search rules;
+      takes =
+          subst (λ left. TakesSoFar turn.intake turn.exchange.now view c.args.inbox.now.datagram left (Some c.in-Some-loaded.load) (l.counter + 1) c.args.tally.now.report.received c.hear.new.tally.report.received c.args.pass.now c.hear.new.pass)
+          (sym (ap (λ (inbox : InboxView). inbox.datagram) c.clear.ensures))
+          (takes_one turn.intake turn.exchange.now view c.args.inbox.now.datagram c.args.tally.now.report.received c.args.pass.now l.inbox.datagram l.taken c.in-Some-loaded.load arrival l.counter l.tally.report.received c.hear.new.tally.report.received
+          l.pass c.hear.new.pass l.invariant.takes (λ some. here ∙ ap (λ (inbox : InboxView). inbox.datagram) (c.fill.ensures.kept some)) more (record { away = λ is. (c.hear.ensures.away is).0; heard = c.hear.ensures.heard }) c.hear.ensures.received);
+    }

@@ -1,0 +1,125 @@
+//! How much a turn takes in.
+ghost use Rattle.std.specs.Prelude.{◌≡◌, ◌<◌, ◌^◌, length};
+ghost use Rattle.udp_workers.specs.Intake.{IsLoaded, IsWeightOf, fits, media_octets, weight_of_full, with_weight};
+
+use call_signals::codes::{FRAME_IAX, FRAME_VOICE, IAX_VNAK};
+use iax_frames::{Datagram, Full, Trunk, read};
+
+// A trunk queue has 256 entries, and an outbox 256 datagrams.
+const MOST_ENTRIES: u64 = 256;
+
+// A trunk queue has so many octets of media.
+const MOST_OCTETS: u64 = 16_384;
+
+// A VNAK may have so many frames sent again.
+const VNAK_ENTRIES: u64 = 128;
+
+// The frames that a full frame leads to at most, as a rule.
+const FULL_ENTRIES: u64 = 4;
+
+// The longest media.
+const MEDIA_OCTETS: usize = 1380;
+
+/// How much a turn takes in, beside 64 datagrams at most.
+#[derive(Clone, Copy, Debug, PartialEq, Eq)]
+pub enum Intake {
+    /// Whatever comes.
+    Whole,
+    /// As much as an empty trunk queue and an empty outbox have room for: 256 entries and 16,384 octets of media, or one
+    /// datagram.
+    Bounded,
+}
+
+/// What a datagram may put into queues and outboxes, or several together.
+#[derive(Clone, Copy, Debug, PartialEq, Eq)]
+pub(crate) struct Weight {
+    /// Entries of a trunk queue, or datagrams of an outbox.
+    pub(crate) entries: u64,
+    /// Octets of media.
+    pub(crate) octets: u64,
+}
+
+const NO_WEIGHT: Weight = Weight {
+    entries: 0,
+    octets: 0,
+};
+
+// The weight of a full frame.
+fn weight_of_full(frame: &Full<'_>) -> Weight
+    ensures { result ≡ weight_of_full frame.now }
+{
+    let is_vnak = frame.frame_type() == FRAME_IAX && frame.subclass() == IAX_VNAK;
+    let is_voice = frame.frame_type() == FRAME_VOICE;
+    Weight {
+        entries: if is_vnak { VNAK_ENTRIES } else { FULL_ENTRIES },
+        octets: if is_voice {
+            frame.payload().len().min(MEDIA_OCTETS) as u64
+        } else {
+            0
+        },
+    }
+}
+
+// The weight of a trunk frame, in one pass over the heads of its entries.
+fn weight_of_trunk(frame: &Trunk<'_>) -> Weight
+    requires few { length frame.now.entries < 2 ^ 64 }
+    requires short { media_octets frame.now.entries < 2 ^ 64 }
+    ensures entries { result.entries ≡ length frame.now.entries }
+    ensures octets { result.octets ≡ media_octets frame.now.entries }
+{
+    let mut weight = NO_WEIGHT;
+    let mut left = frame.entries();
+    while let Some(entry) = left.next() {
+        weight.entries += 1;
+        weight.octets += entry.2.len() as u64;
+    }
+    weight
+}
+
+// The weight of a datagram.
+fn weigh(octets: &[u8]) -> Weight
+    ensures { IsWeightOf octets.now result }
+{
+    match read(octets) {
+        Ok(Datagram::Full(frame)) => weight_of_full(&frame),
+        Ok(Datagram::Mini(frame)) => Weight {
+            entries: 1,
+            octets: frame.media().len() as u64,
+        },
+        Ok(Datagram::Trunk(frame)) => weight_of_trunk(&frame),
+        Ok(Datagram::Video(_)) | Err(_) => NO_WEIGHT,
+    }
+}
+
+// Whether a trunk queue and an outbox that are empty have room for it.
+fn fits(weight: Weight) -> bool
+    ensures { result ≡ fits weight }
+{
+    weight.entries <= MOST_ENTRIES && weight.octets <= MOST_OCTETS
+}
+
+// What a turn has taken in with one datagram more. None: it doesn't fit.
+fn with_weight(taken: Option<Weight>, one: Weight) -> Option<Weight>
+    ensures { result ≡ with_weight taken one }
+{
+    let Some(taken) = taken else {
+        return Some(one);
+    };
+    let both = Weight {
+        entries: taken.entries.saturating_add(one.entries),
+        octets: taken.octets.saturating_add(one.octets),
+    };
+    if fits(both) { Some(both) } else { None }
+}
+
+/// What a turn has taken in with one datagram more; None before the first. A turn that isn't bounded weighs nothing.
+///
+/// None: it doesn't fit.
+pub(crate) fn loaded(intake: Intake, taken: Option<Weight>, octets: &[u8]) -> Option<Weight>
+    ensures { IsLoaded intake taken octets.now result }
+{
+    match intake {
+        Intake::Whole => Some(NO_WEIGHT),
+        Intake::Bounded => with_weight(taken, weigh(octets)),
+    }
+}
