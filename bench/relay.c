@@ -1,6 +1,7 @@
 // A plain UDP relay between two peers, to compare the exchange with: what comes from one goes to the other, unread.
 //
-// relay PORT WEST_PORT EAST_PORT, all on 127.0.0.1. It runs until it is ended.
+// relay PORT WEST_PORT EAST_PORT [ROOM], all on 127.0.0.1. It runs until it is ended. With ROOM it asks for so many octets of room for
+// datagrams that wait at its socket.
 #include <arpa/inet.h>
 #include <netinet/in.h>
 #include <stdio.h>
@@ -14,8 +15,8 @@ static struct sockaddr_in local(const char *port) {
 }
 
 int main(int count, char **words) {
-    if (count != 4) {
-        fprintf(stderr, "usage: relay PORT WEST_PORT EAST_PORT\n");
+    if (count != 4 && count != 5) {
+        fprintf(stderr, "usage: relay PORT WEST_PORT EAST_PORT [ROOM]\n");
         return 2;
     }
     struct sockaddr_in at = local(words[1]), west = local(words[2]), east = local(words[3]);
@@ -24,6 +25,8 @@ int main(int count, char **words) {
         perror("relay");
         return 1;
     }
+    int room = count == 5 ? atoi(words[4]) : 0;
+    if (room) setsockopt(wire, SOL_SOCKET, SO_RCVBUF, &room, sizeof room);
     static char octets[2049];
     for (;;) {
         struct sockaddr_in from;

@@ -46,12 +46,14 @@ class Report:
 
 
 class Tools:
-    """The C programs of this folder, each built once it is wanted, and where scenes keep what they write."""
+    """The C programs of this folder and of bench/, each built once it is wanted, and where scenes keep what they write."""
 
     FILES = {
         "calls": (("calls.c", "call.c", "leg.c", "md5.c", "program.c"), ["-lm"]),
         "network": (("network.c", "program.c"), []),
         "flood": (("flood.c", "program.c"), []),
+        "paced": (("../bench/paced.c", "../bench/paced_calls.c", "../bench/paced_report.c", "leg.c", "program.c"), ["-lm"]),
+        "relay": (("../bench/relay.c",), []),
         "faults.so": (("faults.c",), ["-shared", "-fPIC", "-fno-builtin", "-ldl"]),
         "memory.so": (("memory.c",), ["-shared", "-fPIC", "-fno-builtin"]),
     }
