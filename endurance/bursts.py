@@ -6,7 +6,7 @@ from exchange import PATIENCE, Exchange, plan_of, reported, spare_ports, tell_ac
 
 # The limits of the scene:
 # - the calls of a burst, the most that a peer can have, and the seconds for which they send;
-# - the most frames that the exchange may lose, beside those that the system dropped at full sockets;
+# - the most frames that the exchange may lose, apart from those that the system dropped at full sockets;
 # - the fewest entries of a trunk datagram, by the mean: eight frames of G.711 fill one of 1,400 octets. Plans before format 4, and a
 #   `trunk_ms` of 0, pack whatever is queued at each tick. So nothing is asked of these, nor of too few calls to fill several datagrams.
 CALLS = 512
@@ -161,13 +161,14 @@ def tell_pace(report, what, seen):
 
 def run(tools, report, seconds, seed, **keys):
     # (with the gate's share of a half, too, these are all calls)
-    calls, lasts = min(CALLS, tools.some(2 * CALLS)), seconds / 2 if seconds else SECONDS
+    calls, lasts = min(CALLS, tools.some(2 * CALLS)), seconds / 3 if seconds else SECONDS
     keys = {"format": FORMAT} | {name: value for name, value in keys.items() if value is not None}
-    for kind in ("trunk", "mini"):
-        load, what = Load(calls=calls, sends=kind, gets=kind), f"{kind} to {kind}"
+    # A burst of trunk frames that goes out as mini frames fills an outbox unless turns are bounded.
+    for sends, gets in (("trunk", "trunk"), ("trunk", "mini"), ("mini", "mini")):
+        load, what = Load(calls=calls, sends=sends, gets=gets), f"{sends} to {gets}"
         seen, status, lines = measured(tools, load, lasts, **keys)
         tell_pace(report, what, seen)
         tell_loss(report, what, load, seen)
-        if kind == "trunk":
+        if gets == "trunk":
             tell_packing(report, load, seen, calls >= ENOUGH_CALLS and keys["format"] >= 4 and keys.get("trunk_ms", 1) > 0)
         tell_accounts(report, f"the exchange, {what}", status, lines)
