@@ -120,6 +120,11 @@ def lost_in_sending(seen):
     return sum(it["lost"] for it in seen["peers"].values())
 
 
+def lost_in_outboxes(seen):
+    """Returns the frames for which the exchange's outboxes had no room."""
+    return sum(it["outbox_lost"] for it in seen["peers"].values())
+
+
 def lost_by_system(load, seen):
     """Returns how many frames the system may have dropped, at full sockets or before them."""
     come, go = load.frames_in_one(load.sends, PEERS_MTU), load.frames_in_one(load.gets, MTU)
@@ -136,6 +141,7 @@ def tell_loss(report, what, load, seen):
     dropped = {"dropped_at_the_exchange's_sockets": seen["dropped_at_worker"], "at_the_peers'": seen["drops"]}
     dropped["on_the_way"] = seen["dropped_on_the_way"]
     own = {"octets_that_it_dropped": seen["accounts"]["dropped"], "datagrams_lost_in_sending": lost_in_sending(seen)}
+    own["frames_lost_in_outboxes"] = lost_in_outboxes(seen)
     is_kept = seen["sent"] > 0 and lacking <= by_system + MOST_LOST and seen["accounts"]["dropped"] <= MOST_LOST * load.octets
     share = f"{lacking / max(1, seen['sent']):.3%}"
     report.tell(f"{what}, no frame is lost but by full sockets", is_kept, sent=seen["sent"], lacking=lacking, that_is=share, **dropped, **own)

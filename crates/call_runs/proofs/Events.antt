@@ -13,6 +13,7 @@ use Rattle.call_steps.specs.declared.need.Need.{Need}
 use Rattle.call_steps.specs.declared.need.Need.TheVariants as needs
 use Rattle.call_steps.specs.declared.reply.Reply.{Reply}
 use Rattle.call_steps.specs.declared.reply.Reply.TheVariants as replies
+use Rattle.peer_lock.specs.Outbox.{with_waiting}
 use Rattle.peer_lock.specs.Peer.{PeerView}
 use Rattle.call_runs.specs.Runs.{Begins, TakesOut}
 use Rattle.call_runs.specs.Runs.{Steps as StoredSteps}
@@ -135,7 +136,7 @@ begin_seen called old new world seen b =
 pub out_seen : (called : List LegName) (old new : Stored) (world : World) → IsSeenIn called old world → TakesOut old new
     → IsSeenIn called new world
 out_seen called old new world seen t =
-    let after : PeerView = record t.before { outbox = t.outbox } in
+    let after : PeerView = record t.before { outbox = with_waiting t.before.outbox t.waiting } in
     record {
       book = seen.book ∙ sym t.book;
       callers = seen.callers ∙ sym t.callers;

@@ -8,6 +8,7 @@ use Rattle.call_book.specs.declared.leg_name.LegName.{LegName}
 use Rattle.call_steps.specs.declared.need.Need.{Need}
 use Rattle.call_steps.specs.declared.need.Need.TheVariants as needs
 use Rattle.call_steps.specs.declared.reply.Reply.{Reply}
+use Rattle.peer_lock.specs.Outbox.{OutboxView, with_waiting}
 use Rattle.peer_lock.specs.Legs.{leg_named}
 use Rattle.peer_lock.specs.Openings.{opens_in, opens_out}
 use Rattle.peer_lock.specs.Peer.{PeerView}
@@ -94,7 +95,7 @@ module _ (P : ℕ → PeerView → Type 0) (stays : IsOfShape P) where
   made (needs.Release name) old new reply all m = same old new m.peers all
   made (needs.Route name) old new reply all m = same old new m.1.peers all
 
-  outbox_sound : (peer : PeerView) (outbox : List (List ℕ)) → IsSoundPeer peer → IsSoundPeer (record peer { outbox = outbox })
+  outbox_sound : (peer : PeerView) (outbox : OutboxView) → IsSoundPeer peer → IsSoundPeer (record peer { outbox = outbox })
   outbox_sound peer outbox sound = record {
     legs = sound.legs;
     kept = record { rules = sound.kept.rules; ruled = sound.kept.ruled; queued = sound.kept.queued; one_frame = sound.kept.one_frame };
@@ -105,8 +106,8 @@ module _ (P : ℕ → PeerView → Type 0) (stays : IsOfShape P) where
   all_kept old new are all (ByStep s) = made s.need old new s.reply all s.made
   all_kept old new are all (ByTakingOut t) =
       subst (EachPeer P) (sym t.peers)
-      (kept_set old.peers t.place t.before (record t.before { outbox = t.outbox }) all t.at (itself t.before.legs)
-      (outbox_sound t.before t.outbox (are t.place t.before t.at).sound))
+      (kept_set old.peers t.place t.before (record t.before { outbox = with_waiting t.before.outbox t.waiting }) all t.at (itself t.before.legs)
+      (outbox_sound t.before (with_waiting t.before.outbox t.waiting) (are t.place t.before t.at).sound))
 
 pub peers_kept : (old new : Stored) → ArePeers old.peers → Changes old new → ArePeers new.peers
 peers_kept old new are change =

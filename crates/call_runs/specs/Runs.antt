@@ -4,6 +4,7 @@ use Rattle.call_steps.specs.Work.{next_of, after_told}
 use Rattle.call_steps.specs.World.{Caller, Start, work_of}
 use Rattle.call_steps.specs.declared.need.Need.{Need}
 use Rattle.call_steps.specs.declared.reply.Reply.{Reply}
+use Rattle.peer_lock.specs.Outbox.{with_waiting}
 use Rattle.peer_lock.specs.Peer.{PeerView}
 use Rattle.call_runs.specs.Stored.{Stored}
 use Rattle.call_runs.specs.StoredSteps.{Makes, leases_after}
@@ -40,9 +41,9 @@ pub record TakesOut (old new : Stored) : Type 0 where
   pub before : PeerView
   pub at : slice_get old.peers place ≡ Some before
   pub datagram : List ℕ
-  pub outbox : List (List ℕ)
-  pub oldest : before.outbox ≡ datagram ∷ outbox
-  pub peers : new.peers ≡ slice_set old.peers place (record before { outbox = outbox })
+  pub waiting : List (List ℕ)
+  pub oldest : before.outbox.waiting ≡ datagram ∷ waiting
+  pub peers : new.peers ≡ slice_set old.peers place (record before { outbox = with_waiting before.outbox waiting })
   pub book : new.book ≡ old.book
   pub callers : new.callers ≡ old.callers
 

@@ -15,11 +15,13 @@ peer_data row = object (
     member (codes "lost") (number (unsigned row.lost)) (
     member (codes "name") (string row.name.now) (
     member (codes "numbers") (number (unsigned row.numbers)) (
+    member (codes "outbox_lost") (number (unsigned row.outbox_lost)) (
+    member (codes "queue_dropped") (number (unsigned row.queue_dropped)) (
     member (codes "received") (number (unsigned row.received)) (
     member (codes "refused") (number (unsigned row.refused)) (
     member (codes "sent") (number (unsigned row.sent)) (
     member (codes "silent_ms") (optional row.silent_ms) (
-    member (codes "worker") (number (unsigned row.worker)) no_members))))))))))
+    member (codes "worker") (number (unsigned row.worker)) no_members))))))))))))
 
 abbrev pub call_data : CallRow → Data
 call_data row = object (

@@ -43,6 +43,8 @@ const PEERS: Kind = Kind {
         "refused",
         "sent",
         "lost",
+        "outbox_lost",
+        "queue_dropped",
     ],
 };
 

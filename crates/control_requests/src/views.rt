@@ -28,8 +28,12 @@ pub struct PeerRow<'a> {
     pub refused: u64,
     /// Datagrams that went to it.
     pub sent: u64,
-    /// Datagrams that should have gone to it and were lost.
+    /// Datagrams that should have gone to it and that the socket didn't take.
     pub lost: u64,
+    /// Frames for which its outbox had no room.
+    pub outbox_lost: u64,
+    /// Octets of media for which its trunk queue had no room.
+    pub queue_dropped: u64,
 }
 
 /// A call, as it is shown.
@@ -123,6 +127,8 @@ fn peer_text(alloc: Global, row: PeerRow<'_>) -> Result<String, AllocError>
         ("lost", Shown::Number(row.lost)),
         ("name", Shown::Text(row.name)),
         ("numbers", Shown::Number(u64::from(row.numbers))),
+        ("outbox_lost", Shown::Number(row.outbox_lost)),
+        ("queue_dropped", Shown::Number(row.queue_dropped)),
         ("received", Shown::Number(row.received)),
         ("refused", Shown::Number(row.refused)),
         ("sent", Shown::Number(row.sent)),

@@ -5,7 +5,7 @@ use crate::exchange::Exchange;
 use crate::gate::Gate;
 use call_book::LegName;
 use noted_steps::Pass;
-use peer_lock::{Description, Naming, Status, Sums};
+use peer_lock::{Description, Losses, Naming, Status, Sums};
 use std::sync::Wait;
 
 impl<G: Gate, J: Naming> Exchange<G, J> {
@@ -51,6 +51,16 @@ impl<G: Gate, J: Naming> Exchange<G, J> {
         let state = self.peers[usize::from(peer)].lock(rt);
         self.gate.enter(peer);
         state.sums()
+    }
+
+    /// How many datagrams for a peer of the plan were lost, because its outbox was full.
+    pub fn lost<R: Wait>(&self, rt: &R, _pass: &mut Pass<J>, peer: u16) -> Losses
+        requires { peer < length self.now.peers }
+        ensures { _pass.new ≡ _pass.old }
+    {
+        let state = self.peers[usize::from(peer)].lock(rt);
+        self.gate.enter(peer);
+        state.lost()
     }
 
     /// The leg that a leg is bridged with; `None` where it isn't bridged.

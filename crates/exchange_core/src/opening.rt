@@ -2,6 +2,7 @@
 ghost use Rattle.std.specs.Prelude.{◌≡◌, ℕ, ◌+◌, ◌-◌, ◌*◌, ◌<◌, ◌≤◌, ◌^◌, ◌++◌, [], Some, IfOk, OnOk, All, length};
 ghost use Rattle.std.specs.Prelude.{option_map, replicate, slice_get, vec_len};
 ghost use Rattle.exchange_core.specs.Start.{first_book, first_legs, IsStart};
+ghost use Rattle.peer_lock.specs.Outbox.{no_losses};
 ghost use Rattle.peer_lock.specs.Accounts.{no_accounts};
 
 use crate::exchange::{Exchange, PeerCell};
@@ -258,8 +259,8 @@ fn state_of<J: Naming>(
     ensures rules { IfOk result (λ state. option_map (λ peer. peer.rules) (slice_get plan.now.peers peer) ≡
         Some state.state.rules) }
     ensures legs { IfOk result (λ state. (state.number ≡ peer) × (state.state.legs ≡ first_legs plan.now peer)) }
-    ensures empty { IfOk result (λ state. (state.state.outbox ≡ []) × (state.state.queue ≡ []) ×
-        (state.state.accounts ≡ no_accounts)) }
+    ensures empty { IfOk result (λ state. (state.state.outbox ≡ record { waiting = []; lost = no_losses }) ×
+        (state.state.queue ≡ []) × (state.state.accounts ≡ no_accounts)) }
 {
     let _counts = plan.counts();
     let range = plan.range(peer);

@@ -4,7 +4,7 @@ use crate::journal::Journal;
 use crate::running::Settings;
 use control_requests::Request;
 use control_server::{Clients, Door};
-use exchange_report::count_legs;
+use exchange_report::{count_legs, losses_of};
 use log::{Log, warn};
 use peer_lock::Naming;
 use service_desk::{Desk, Drain, answer_scrape};
@@ -134,7 +134,8 @@ impl<'s> Control<'s> {
         desk.watch.has_ended() && !self.clients.is_answering()
     }
 
-    // The log tells what there is to tell at a moment. Legs are counted where it tells how many there are.
+    // The log tells what there is to tell at a moment. Legs are counted where it tells how many there are, and losses are read where
+    // it tells them.
     fn tell<R: Wait, J: Naming, L: Log>(
         &mut self,
         rt: &R,
@@ -144,9 +145,13 @@ impl<'s> Control<'s> {
         now: u64,
     ) {
         let exchange = desk.exchange;
+        let tells_losses = told.tells_losses(now);
         for peer in 0..exchange.plan().peer_count() {
             if told.see_peer(log, peer, now) {
                 told.note_legs(peer, count_legs(rt, exchange, &mut desk.pass, peer));
+            }
+            if tells_losses {
+                told.note_losses(peer, losses_of(rt, exchange, &mut desk.pass, peer));
             }
         }
         told.look(rt, log, self.alloc, &mut self.table, now);

@@ -4,10 +4,11 @@ ghost use Rattle.std.specs.Bool.{OnTrue, OnFalse};
 ghost use Rattle.peer_lock.specs.Accounts.{shown};
 ghost use Rattle.peer_lock.specs.Descriptions.{description_of};
 ghost use Rattle.peer_lock.specs.Legs.{leg_at};
+ghost use Rattle.peer_lock.specs.Outbox.{with_waiting};
 ghost use Rattle.peer_lock.specs.Statuses.{status_of};
 
 use iax_frames::Out;
-use peer_lock::{Description, Naming, PeerState, Status, Sums};
+use peer_lock::{Description, Losses, Naming, PeerState, Status, Sums};
 use std::marker::Model;
 
 /// The state of a peer, whose every step is noted under the pass that it is made with. Contracts see that state and the peer's
@@ -54,9 +55,11 @@ impl<J: Naming> NotedPeer<J> {
 
     /// Takes the oldest datagram of the outbox; `None` where none waits. It isn't noted.
     pub fn take_out(&mut self) -> Option<Out>
-        ensures oldest { MatchOption result ((self.old.state.outbox ≡ []) × (self.new.state ≡ self.old.state))
-            (λ out. (self.old.state.outbox ≡ out ∷ self.new.state.outbox)
-            × (self.new.state ≡ record self.old.state { outbox = self.new.state.outbox })) }
+        ensures oldest { MatchOption result ((self.old.state.outbox.waiting ≡ []) × (self.new.state ≡ self.old.state))
+            (λ out. (self.old.state.outbox.waiting ≡ out ∷ self.new.state.outbox.waiting)
+            × (self.new.state ≡ record self.old.state {
+              outbox = with_waiting self.old.state.outbox self.new.state.outbox.waiting;
+            })) }
         ensures number { self.new.number ≡ self.old.number }
     {
         self.state.take_out()
@@ -65,9 +68,11 @@ impl<J: Naming> NotedPeer<J> {
     /// Takes the oldest datagram of the outbox, and writes it over this one; false, and nothing is changed, where none waits. It
     /// isn't noted.
     pub fn take_into(&mut self, out: &mut Out) -> bool
-        ensures taken { OnTrue result ((self.old.state.outbox ≡ out.new ∷ self.new.state.outbox)
-            × (self.new.state ≡ record self.old.state { outbox = self.new.state.outbox })) }
-        ensures empty { OnFalse result (self.old.state.outbox ≡ []) }
+        ensures taken { OnTrue result ((self.old.state.outbox.waiting ≡ out.new ∷ self.new.state.outbox.waiting)
+            × (self.new.state ≡ record self.old.state {
+              outbox = with_waiting self.old.state.outbox self.new.state.outbox.waiting;
+            })) }
+        ensures empty { OnFalse result (self.old.state.outbox.waiting ≡ []) }
         ensures same { OnFalse result ((self.new.state ≡ self.old.state) × (out.new ≡ out.old)) }
         ensures number { self.new.number ≡ self.old.number }
     {
@@ -95,6 +100,13 @@ impl<J: Naming> NotedPeer<J> {
         ensures part { result.quelched ≤ result.dropped }
     {
         self.state.sums()
+    }
+
+    /// How many datagrams a full outbox lost, for whoever asks from outside: it isn't noted.
+    pub fn lost(&self) -> Losses
+        ensures { result ≡ self.now.state.outbox.lost }
+    {
+        self.state.lost()
     }
 
     /// Gives the state of the peer itself back.

@@ -3,8 +3,9 @@ ghost use Rattle.std.specs.Prelude.{◌≡◌, ◌+◌, ◌<◌, ◌≤◌, ◌�
 ghost use Rattle.std.specs.Bool.{OnTrue, OnFalse};
 ghost use Rattle.iax_frames.specs.Datagram.{IsFrame};
 ghost use Rattle.iax_frames.specs.MiniFrame.{mini_spelling};
-ghost use Rattle.outbox.specs.Outbox.{put};
+ghost use Rattle.outbox.specs.Outbox.{put, no_losses};
 
+use crate::losses::Losses;
 use circular_buffer::HeapCircularBuffer;
 use iax_frames::{CallNumber, Out, mini_head};
 use std::alloc::{AllocError, Global};
@@ -15,10 +16,11 @@ const MAX_DATAGRAMS: usize = 256;
 /// The octets of a full outbox: 1,400 for each of its datagrams.
 const CAPACITY: usize = 358400;
 
-/// The datagrams that wait to be sent, at most 256, the oldest first. Contracts see the octets of each.
+/// The datagrams that wait to be sent, at most 256, the oldest first. Contracts see the octets of each, and how many datagrams
+/// were lost.
 ///
 /// Each is kept at its own length, of at most 1,400 octets. Only `new` takes memory, and nothing else can fail: a full outbox
-/// loses what is put into it.
+/// loses what is put into it, and counts it.
 #[derive(Drop)]
 pub struct Outbox {
     // The octets of the datagrams, one after another, behind those that were taken out. They begin anew whenever none waits, so
@@ -28,15 +30,17 @@ pub struct Outbox {
     taken: usize,
     // How many octets each datagram has.
     lens: HeapCircularBuffer<u16>,
+    lost: Losses,
 }
 
 impl Model for Outbox {
     ghost use Rattle.std.specs.Prelude.{◌≡◌, ◌≤◌, ℕ, List, length, drop, vec_capacity};
+    ghost use Rattle.outbox.specs.Outbox.{OutboxView};
     ghost use Rattle.outbox.specs.Stored.{datagrams_in, HoldsDatagrams};
 
-    ghost Value = { List (List ℕ) };
+    ghost Value = { OutboxView };
 
-    ghost view = { λ o. datagrams_in o.lens.items (drop o.taken o.octets.items) };
+    ghost view = { λ o. record { waiting = datagrams_in o.lens.items (drop o.taken o.octets.items); lost = o.lost } };
 
     ghost invariant = { λ o.
         (358400 ≤ vec_capacity o.octets) × (o.lens.capacity ≡ 256) × (o.taken ≤ length o.octets.items) ×
@@ -46,19 +50,20 @@ impl Model for Outbox {
 impl Outbox {
     /// An empty outbox, with room for 256 datagrams of 1,400 octets. `Err` comes only where memory was refused.
     pub fn new(alloc: Global) -> Result<Outbox, AllocError>
-        ensures { IfOk result (λ outbox. outbox ≡ []) }
+        ensures { IfOk result (λ outbox. outbox ≡ record { waiting = []; lost = no_losses }) }
     {
         Ok(Outbox {
             octets: Vec::with_capacity(alloc, CAPACITY)?,
             taken: 0,
             lens: HeapCircularBuffer::with_capacity(alloc, MAX_DATAGRAMS)?,
+            lost: Losses::default(),
         })
     }
 
     /// How many datagrams wait, 0 ..= 256.
     #[tactic(auto, using(crate::proofs::StoredLaws::as_many))]
     pub fn len(&self) -> usize
-        ensures len { result ≡ length self.now }
+        ensures len { result ≡ length self.now.waiting }
         ensures limit { result ≤ 256 }
     {
         self.lens.len()
@@ -66,21 +71,28 @@ impl Outbox {
 
     /// Whether no datagram waits.
     pub fn is_empty(&self) -> bool
-        ensures { IsTrue result ↔ (self.now ≡ []) }
+        ensures { IsTrue result ↔ (self.now.waiting ≡ []) }
     {
         self.len() == 0
+    }
+
+    /// How many datagrams were lost since it was made.
+    pub fn lost(&self) -> Losses
+        ensures { result ≡ self.now.lost }
+    {
+        self.lost
     }
 
     /// Whether no datagram more fits: 256 wait.
     #[tactic(auto, using(crate::proofs::StoredLaws::as_many))]
     pub fn is_full(&self) -> bool
-        ensures full { IsTrue result ↔ (256 ≤ length self.now) }
-        ensures limit { length self.now ≤ 256 }
+        ensures full { IsTrue result ↔ (256 ≤ length self.now.waiting) }
+        ensures limit { length self.now.waiting ≤ 256 }
     {
         self.lens.is_full()
     }
 
-    /// One datagram more; a full outbox loses it.
+    /// One datagram more; a full outbox loses it, and counts it.
     pub fn put(&mut self, datagram: &Out)
         ensures { self.new ≡ put self.old (datagram.now ∷ []) }
     {
@@ -88,7 +100,7 @@ impl Outbox {
     }
 
     /// One mini frame more ("Mini Frames"), from call number 1 ..= 32,767, with the low 16 bits of the timestamp, in
-    /// milliseconds, and media of at most 1,396 octets; a full outbox loses it.
+    /// milliseconds, and media of at most 1,396 octets; a full outbox loses it, and counts it.
     pub fn put_mini(&mut self, number: CallNumber, timestamp: u16, media: &[u8])
         requires some { 0 < number }
         requires fits { length media.now ≤ 1396 }
@@ -98,9 +110,10 @@ impl Outbox {
         self.put_in_two(&mini_head(number, timestamp), media);
     }
 
-    // One datagram more, whose octets lie in two pieces; a full outbox loses it.
+    // One datagram more, whose octets lie in two pieces, the first two in front; a full outbox loses it.
     fn put_in_two(&mut self, front: &[u8], back: &[u8])
         requires frame { IsFrame (front.now ++ back.now) }
+        requires first { 2 ≤ length front.now }
         requires fits { length front.now + length back.now ≤ 1400 }
         ensures { self.new ≡ put self.old ((front.now ++ back.now) ∷ []) }
     {
@@ -110,15 +123,16 @@ impl Outbox {
                 make_room(&mut self.octets, &mut self.taken, len);
                 extend(&mut self.octets, front, back);
             }
-            Err(_) => {}
+            Err(_) => self.lost = self.lost.with(front[0], front[1]),
         }
     }
 
     /// Takes the oldest datagram, and writes it over this one; false, and nothing is changed, where none waits.
     pub fn take_into(&mut self, out: &mut Out) -> bool
-        ensures taken { OnTrue result (self.old ≡ out.new ∷ self.new) }
-        ensures empty { OnFalse result (self.old ≡ []) }
+        ensures taken { OnTrue result (self.old.waiting ≡ out.new ∷ self.new.waiting) }
+        ensures empty { OnFalse result (self.old.waiting ≡ []) }
         ensures same { OnFalse result ((self.new ≡ self.old) × (out.new ≡ out.old)) }
+        ensures lost { self.new.lost ≡ self.old.lost }
     {
         match self.lens.pop_front() {
             None => false,
@@ -131,7 +145,9 @@ impl Outbox {
 
     /// Takes the oldest datagram; `None` where none waits.
     pub fn take_out(&mut self) -> Option<Out>
-        ensures { MatchOption result ((self.old ≡ []) × (self.new ≡ [])) (λ out. self.old ≡ out ∷ self.new) }
+        ensures taken { MatchOption result ((self.old.waiting ≡ []) × (self.new ≡ self.old))
+            (λ out. self.old.waiting ≡ out ∷ self.new.waiting) }
+        ensures lost { self.new.lost ≡ self.old.lost }
     {
         let mut out = Out::default();
         if self.take_into(&mut out) {

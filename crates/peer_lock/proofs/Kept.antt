@@ -1,6 +1,7 @@
 -- What holds of a peer whenever its lock is free still holds where its legs have stepped, and where its queue went out.
 use Rattle.std.proofs.Common.{◌≡◌, ◌≤◌, ℕ, ◌+◌, Bool, true, false, cond, List, [], ◌∷◌, ◌++◌, length, ap, sym, subst, refl, ◌∙◌, arith}
 use Rattle.iax_frames.specs.TrunkFrame.{head_len}
+use Rattle.outbox.specs.Outbox.{OutboxView}
 use Rattle.call_signals.specs.declared.rules.PeerRules.{PeerRules}
 use Rattle.peer_accounts.specs.Accounts.{Accounts}
 use Rattle.peer_legs.specs.Legs.{PeerLegs, AreLegsOf}
@@ -10,7 +11,7 @@ use Rattle.peer_lock.specs.Trunks.{flushes, waits, queue_after, accounts_after}
 use Rattle.trunk_packer.specs.Queue.{QueueEntry, media_octets, trunk_octets}
 
 -- the legs go by the rules by which they went before
-pub legs_kept : (peer : PeerView) (legs : PeerLegs) (outbox : List (List ℕ)) → IsKept peer
+pub legs_kept : (peer : PeerView) (legs : PeerLegs) (outbox : OutboxView) → IsKept peer
     → ((rules : PeerRules) → AreLegsOf rules peer.legs → AreLegsOf rules legs) → IsKept (record peer { legs = legs; outbox = outbox })
 legs_kept peer legs outbox kept ruled =
     record { rules = kept.rules; ruled = ruled peer.rules kept.ruled; queued = kept.queued; one_frame = kept.one_frame }
@@ -48,7 +49,7 @@ kept_queued peer queue since accounts e kept more counted queued room = record {
 }
 
 -- .. and what waited for a trunk frame went out
-pub kept_after : (peer : PeerView) (goes : Bool) (legs : PeerLegs) (outbox : List (List ℕ)) (queue : List QueueEntry) (accounts : Accounts) → IsKept peer
+pub kept_after : (peer : PeerView) (goes : Bool) (legs : PeerLegs) (outbox : OutboxView) (queue : List QueueEntry) (accounts : Accounts) → IsKept peer
     → ((rules : PeerRules) → AreLegsOf rules peer.legs → AreLegsOf rules legs)
     → queue ≡ queue_after goes peer.queue → accounts ≡ accounts_after goes peer.queue peer.accounts
     → IsKept (record peer { legs = legs; outbox = outbox; queue = queue; accounts = accounts })

@@ -1,3 +1,4 @@
+pub mod Bursts
 pub mod Carrying
 pub mod Choices
 pub mod Entries
@@ -8,6 +9,7 @@ pub mod Opened
 pub mod Packing
 pub mod Reached
 pub mod Refusing
+pub mod Resting
 pub mod SeenArrivals
 pub mod SeenChanges
 pub mod SeenSteps

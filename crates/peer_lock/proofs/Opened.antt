@@ -10,15 +10,15 @@ use Rattle.call_signals.specs.declared.format.Format.{Format}
 use Rattle.leg_machine.specs.Steps.{Step}
 use Rattle.peer_legs.specs.Legs.{leg_of_remote}
 use Rattle.peer_lock.specs.Openings.{open_in_refused, with_opened, with_seated}
-use Rattle.outbox.specs.Outbox.{put}
+use Rattle.outbox.specs.Outbox.{OutboxView, put}
 use Rattle.peer_lock.specs.Peer.{PeerView}
 
 -- what a leg that calls sends goes to the outbox
-pub sent_new : (view old : PeerView) (name : LegName) (number : ℕ) (called : List ℕ) (caller : List ℕ) (format : Format) (now : ℕ) (outbox replies : List (List ℕ))
+pub sent_new : (view old : PeerView) (name : LegName) (number : ℕ) (called : List ℕ) (caller : List ℕ) (format : Format) (now : ℕ) (outbox : OutboxView) (replies : List (List ℕ))
     → view ≡ old → number ≡ name.number → outbox ≡ put view.outbox replies → replies ≡ map spelling (open_out_step view.rules number called caller format now).replies
     → record view { outbox = outbox } ≡ record old { outbox = put old.outbox (map spelling (open_out_step old.rules name.number called caller format now).replies) }
 sent_new view old name number called caller format now outbox replies view_is number_is outbox_is replies_are =
-    ap (λ (sent : List (List ℕ)). record view { outbox = sent }) (outbox_is ∙ ap (put view.outbox) replies_are)
+    ap (λ (sent : OutboxView). record view { outbox = sent }) (outbox_is ∙ ap (put view.outbox) replies_are)
     ∙ ap (λ (n : ℕ). record view { outbox = put view.outbox (map spelling (open_out_step view.rules n called caller format now).replies) }) number_is
     ∙ ap (λ (v : PeerView). record v { outbox = put v.outbox (map spelling (open_out_step v.rules name.number called caller format now).replies) }) view_is
 
@@ -33,13 +33,13 @@ taken_in view old lease name number frame now challenge view_is number_is name_i
     λ i. open_in_step (view_is i).rules ((number_is ∙ ap (λ (n : LegName). n.number) name_is) i) frame now challenge
 
 -- its leg takes its place, and what it sends goes to the outbox
-pub opened_in : (view old new : PeerView) (lease : LegName) (step opens : Step) (outbox replies : List (List ℕ)) (leg : LegState) → view ≡ old → step ≡ opens
+pub opened_in : (view old new : PeerView) (lease : LegName) (step opens : Step) (outbox : OutboxView) (replies : List (List ℕ)) (leg : LegState) → view ≡ old → step ≡ opens
     → new ≡ with_seated (record view { outbox = outbox }) (record { name = lease; leg = leg })
     → outbox ≡ put view.outbox replies → replies ≡ map spelling step.replies → leg ≡ step.leg
     → new ≡ with_opened old (record { name = lease; leg = opens.leg }) (map spelling opens.replies)
 opened_in view old new lease step opens outbox replies leg view_is step_is is outbox_is replies_are leg_is =
     is
-    ∙ ap (λ (sent : List (List ℕ)). with_seated (record view { outbox = sent }) (record { name = lease; leg = leg }))
+    ∙ ap (λ (sent : OutboxView). with_seated (record view { outbox = sent }) (record { name = lease; leg = leg }))
     (outbox_is ∙ ap (put view.outbox) replies_are)
     ∙ ap (λ (l : LegState). with_opened view (record { name = lease; leg = l }) (map spelling step.replies)) leg_is
     ∙ (λ i. with_opened (view_is i) (record { name = lease; leg = (step_is i).leg }) (map spelling (step_is i).replies))

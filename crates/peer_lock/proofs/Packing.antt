@@ -1,7 +1,8 @@
 -- Trunk frames that are packed one after another.
-use Rattle.std.proofs.Common.{◌≡◌, ◌≤◌, ℕ, ◌+◌, Bool, List, [], ◌∷◌, ◌++◌, ap, sym, refl, subst, ◌∙◌, arith}
+use Rattle.std.proofs.Common.{◌≡◌, ◌≤◌, ◌<◌, ℕ, ◌+◌, Bool, List, [], ◌∷◌, ◌++◌, length, ap, sym, refl, subst, ◌∙◌, arith}
 use Rattle.std.proofs.Math.Nat.{add_assoc}
 use Rattle.std.proofs.lemmas.List.{append_assoc, append-nil}
+use Rattle.outbox.specs.Outbox.{OutboxView}
 use Rattle.peer_accounts.specs.Accounts.{Accounts}
 use Rattle.peer_lock.specs.Peer.{PeerView}
 use Rattle.peer_lock.specs.SoundPeer.{IsKept}
@@ -10,10 +11,12 @@ use Rattle.trunk_packer.specs.Queue.{QueueEntry, media_octets, trunk_octets, Pac
 
 -- one front more
 fronts_more : (timed : Bool) (now : ℕ) (datagrams : List (List ℕ)) (old between new : List QueueEntry) (datagram : List ℕ)
-    → PacksFronts timed now old datagrams between → PacksFront timed now between new datagram → PacksFronts timed now old (datagrams ++ datagram ∷ []) new
-fronts_more timed now [] old between new datagram here front = (new, subst (λ q. PacksFront timed now q new datagram) here front, refl)
-fronts_more timed now (first ∷ datagrams) old between new datagram here front =
-    (here.0, here.1, fronts_more timed now datagrams here.0 between new datagram here.2 front)
+    → PacksFronts timed now old datagrams between → PacksFront timed now between new datagram → length new < length between
+    → PacksFronts timed now old (datagrams ++ datagram ∷ []) new
+fronts_more timed now [] old between new datagram here front shorter =
+    (new, subst (λ q. PacksFront timed now q new datagram) here front, subst (λ (q : List QueueEntry). length new < length q) here shorter, refl)
+fronts_more timed now (first ∷ datagrams) old between new datagram here front shorter =
+    (here.0, here.1, here.2, fronts_more timed now datagrams here.0 between new datagram here.3 front shorter)
 
 -- what was packed so far
 pub record ArePacked (start : PeerView) (now octets : ℕ) (peer : PeerView) : Type 0 where
@@ -30,7 +33,7 @@ none_packed start now queued few = record {
   media = omega arith;
   few = few;
   rest = λ i. record start {
-    outbox = (sym (append-nil start.outbox)) i;
+    outbox = record start.outbox { waiting = (sym (append-nil start.outbox.waiting)) i };
     accounts = record start.accounts { packed = (plus start.accounts.packed) i; queued = queued i };
   };
 }
@@ -45,12 +48,13 @@ pub one_packed : (start : PeerView) (now octets one : ℕ) (peer next : PeerView
 one_packed start now octets one peer next so step = record {
   datagrams = so.datagrams ++ step.datagram ∷ [];
   fronts = fronts_more start.rules.trunk_timestamps now so.datagrams start.queue peer.queue next.queue step.datagram so.fronts
-      (subst (λ (timed : Bool). PacksFront timed now peer.queue next.queue step.datagram) (ap (λ (p : PeerView). p.rules.trunk_timestamps) so.rest) step.front);
+      (subst (λ (timed : Bool). PacksFront timed now peer.queue next.queue step.datagram) (ap (λ (p : PeerView). p.rules.trunk_timestamps) so.rest) step.front)
+      step.shorter;
   media = more_media (media_octets start.queue) octets one (media_octets peer.queue) (media_octets next.queue) so.media step.media;
   few = so.few;
   rest = step.rest ∙ ap (λ (p : PeerView). with_packed p (step.datagram ∷ []) next.queue one) so.rest
       ∙ λ i. record start {
-        outbox = (append_assoc start.outbox so.datagrams (step.datagram ∷ [])) i;
+        outbox = record start.outbox { waiting = (append_assoc start.outbox.waiting so.datagrams (step.datagram ∷ [])) i };
         queue = next.queue;
         accounts = record start.accounts { packed = (add_assoc start.accounts.packed octets one) i; queued = media_octets next.queue };
       };
@@ -70,7 +74,7 @@ short_rest timed now old new out packs short =
     let whole : trunk_octets timed old ≡ trunk_octets timed (packs.front ++ new) = ap (trunk_octets timed) packs.whole in
     omega (arith, rest_octets timed packs.front new, whole, short)
 
-pub packed_kept : (peer : PeerView) (now octets : ℕ) (out : List ℕ) (outbox : List (List ℕ)) (queue : List QueueEntry) (accounts : Accounts) → IsKept peer
+pub packed_kept : (peer : PeerView) (now octets : ℕ) (out : List ℕ) (outbox : OutboxView) (queue : List QueueEntry) (accounts : Accounts) → IsKept peer
     → PacksFront peer.rules.trunk_timestamps now peer.queue queue out → media_octets peer.queue ≡ octets + media_octets queue
     → accounts.queued + octets ≡ peer.accounts.queued
     → IsKept (record peer { outbox = outbox; queue = queue; accounts = accounts })

@@ -36,6 +36,7 @@ use Rattle.peer_lock.specs.Trunks.{has_any, flushes, goes_ahead, begins_next, is
 use Rattle.trunk_packer.specs.Queue.{QueueEntry}
 use Rattle.peer_lock.proofs.Choices.{either}
 use Rattle.peer_lock.proofs.Trunks.{Ahead, ahead_of, alone_of}
+use Rattle.outbox.specs.Outbox.{OutboxView}
 use Rattle.outbox.proofs.Puts.{put_both}
 use Rattle.peer_lock.proofs.SeenArrivals.{found_named}
 use Rattle.peer_lock.proofs.SeenChanges.{named_at}
@@ -84,7 +85,7 @@ module _ (turns : (leg : LegState) (frame : FullFrame) (now : ℕ) → TakesTurn
 -- ---- orders
 
 -- these datagrams go out, or none, behind media that was queued
-record Puts (peer : PeerView) (new sent : List (List ℕ)) : Type 0 where
+record Puts (peer : PeerView) (new : OutboxView) (sent : List (List ℕ)) : Type 0 where
   pub datagrams : List (List ℕ)
   pub outbox : Ahead peer new datagrams
   pub which : (datagrams ≡ sent) ⊎ (datagrams ≡ [])
@@ -106,7 +107,7 @@ short_puts peer named timestamp now media same =
     (waiting_media with entry now) (carried_media (with_datagram with datagram) Packed (length media))
     (record {
       datagrams = [];
-      outbox = subst (λ (o : List (List ℕ)). Ahead peer o []) (sym (queued_outbox (flushed_if next with) entry now)) (alone_of peer (flushes next peer.queue));
+      outbox = subst (λ (o : OutboxView). Ahead peer o []) (sym (queued_outbox (flushed_if next with) entry now)) (alone_of peer (flushes next peer.queue));
       which = inr refl;
     })
     (record {

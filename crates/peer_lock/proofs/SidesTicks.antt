@@ -8,6 +8,7 @@ use Rattle.leg_machine.specs.Ticks.{tick_step}
 use Rattle.leg_machine.specs.Tie.{SendsAtMostOne, SendsNumbered, HasSent, IsSending}
 use Rattle.peer_legs.specs.Legs.{NamedLeg, PeerLegs, leg_at}
 use Rattle.peer_legs.proofs.PlaceLaws.{leg_at_place}
+use Rattle.outbox.specs.Outbox.{OutboxView, extended}
 use Rattle.peer_lock.specs.Peer.{PeerView}
 use Rattle.peer_lock.specs.Sides.{SendsAt, EachSends}
 use Rattle.peer_lock.specs.SoundPeer.{IsSoundPeer}
@@ -86,5 +87,5 @@ module _ (turns : (grown : Bool) (leg : LegState) (now : ℕ) → SendsAtMostOne
         ahead = ahead.ahead;
         queued = ahead.queued;
         trunks = more.trunks;
-        outbox = more.is ∙ ap (λ (o : List (List ℕ)). o ++ more.trunks) (ap (λ (p : PeerView). p.outbox) ticks.legs.legs ∙ ahead.is);
+        outbox = more.is ∙ ap (λ (o : OutboxView). extended o more.trunks) (ap (λ (p : PeerView). p.outbox) ticks.legs.legs ∙ ahead.is);
       }

@@ -231,7 +231,7 @@ more_ticked start peer next now place skipped s so p there went count = record {
         accounts_twice (waits start.rules) before.datagrams here_now start.queue start.accounts
         ∙ sym (ap (λ (t : LegsTick). (flushed_ahead start t.datagrams).accounts) joined)
 
-pub none_ticked : (start : PeerView) (now : ℕ) → length start.outbox ≤ 256 → AreTicked start now 0 start 0
+pub none_ticked : (start : PeerView) (now : ℕ) → length start.outbox.waiting ≤ 256 → AreTicked start now 0 start 0
 none_ticked start now short = record {
   skips = [];
   count = refl;
@@ -282,20 +282,29 @@ and-right : (a b : Bool) → (a && b) ≡ true → b ≡ true
 and-right true b is = is
 and-right false b is = cc
 
-resting_place : IdleLegsStay → (now : ℕ) (place : Option NamedLeg) → is_resting place now ≡ true → place_tick 0 place now ≡ record { place = place; datagrams = []; skipped = 0 }
-resting_place stay now None rests = refl
-resting_place stay now (Some named) rests =
+resting_place : IdleLegsStay → (skipped now : ℕ) (place : Option NamedLeg) → is_resting place now ≡ true
+    → place_tick skipped place now ≡ record { place = place; datagrams = []; skipped = 0 }
+resting_place stay skipped now None rests = refl
+resting_place stay skipped now (Some named) rests =
     ap (λ (t : Tick). record { place = Some (record { name = named.name; leg = t.leg }); datagrams = map spelling t.replies; skipped = t.skipped })
-    (stay true named.leg now (and-right (is_quiet (Some named)) (is_idle named.leg now) rests))
+    (stay (skipped == 0) named.leg now (and-right (is_quiet (Some named)) (is_idle named.leg now) rests))
 
-resting_places : IdleLegsStay → (now : ℕ) (places : List (Option NamedLeg)) → All (λ place. is_resting place now ≡ true) places
-    → legs_tick [] places now ≡ record { places = places; datagrams = []; skipped = 0 }
-resting_places stay now [] all = refl
-resting_places stay now (place ∷ places) all =
-    ap (λ (first : PlaceTick). then_ticks first (legs_tick [] places now)) (resting_place stay now place (all 0 place (omega arith)))
-    ∙ ap (then_ticks (record { place = place; datagrams = []; skipped = 0 })) (resting_places stay now places (λ k d within. all (suc k) d (omega arith)))
+rest_more : (first : PlaceTick) (rest : LegsTick) (place : Option NamedLeg) (places : List (Option NamedLeg))
+    → first ≡ record { place = place; datagrams = []; skipped = 0 } → rest ≡ record { places = places; datagrams = []; skipped = 0 }
+    → then_ticks first rest ≡ record { places = place ∷ places; datagrams = []; skipped = 0 }
+rest_more first rest place places first_is rest_is = λ i. then_ticks (first_is i) (rest_is i)
 
-pub none_to_tick : IdleLegsStay → (start : PeerView) (now : ℕ) → length start.outbox ≤ 256 → All (λ place. is_resting place now ≡ true) start.legs.places
+pub resting_places : IdleLegsStay → (skips : List ℕ) (now : ℕ) (places : List (Option NamedLeg)) → All (λ place. is_resting place now ≡ true) places
+    → legs_tick skips places now ≡ record { places = places; datagrams = []; skipped = 0 }
+resting_places stay skips now [] all = refl
+resting_places stay [] now (place ∷ places) all =
+    rest_more (place_tick 0 place now) (legs_tick [] places now) place places (resting_place stay 0 now place (all 0 place (omega arith)))
+    (resting_places stay [] now places (λ k d within. all (suc k) d (omega arith)))
+resting_places stay (skipped ∷ skips) now (place ∷ places) all =
+    rest_more (place_tick skipped place now) (legs_tick skips places now) place places (resting_place stay skipped now place (all 0 place (omega arith)))
+    (resting_places stay skips now places (λ k d within. all (suc k) d (omega arith)))
+
+pub none_to_tick : IdleLegsStay → (start : PeerView) (now : ℕ) → length start.outbox.waiting ≤ 256 → All (λ place. is_resting place now ≡ true) start.legs.places
     → TicksLegs start now 0 start
 none_to_tick stay start now short all = record {
   skips = [];
@@ -308,4 +317,4 @@ none_to_tick stay start now short all = record {
 }
   where
     still : legs_tick [] start.legs.places now ≡ record { places = start.legs.places; datagrams = []; skipped = 0 }
-    still = resting_places stay now start.legs.places all
+    still = resting_places stay [] now start.legs.places all

@@ -5,7 +5,7 @@ use Rattle.std.proofs.lemmas.Bool.{cases_Bool, ltb-true, ltb-false}
 use Rattle.std.proofs.lemmas.List.{append-nil}
 use Rattle.call_signals.specs.declared.rules.PeerRules.{PeerRules}
 use Rattle.iax_frames.specs.TrunkFrame.{head_len}
-use Rattle.outbox.specs.Outbox.{put}
+use Rattle.outbox.specs.Outbox.{OutboxView, put, extended}
 use Rattle.outbox.proofs.Puts.{put_both, put_fits}
 use Rattle.peer_accounts.specs.Accounts.{Accounts}
 use Rattle.call_book.specs.declared.leg_name.LegName.{LegName}
@@ -23,7 +23,7 @@ abbrev whole : PeerView → List ℕ
 whole peer = trunk_spelling peer.rules.trunk_timestamps peer.since peer.queue
 
 -- what goes out is what was queued, if it goes, and these datagrams
-pub record Ahead (peer : PeerView) (outbox datagrams : List (List ℕ)) : Type 0 where
+pub record Ahead (peer : PeerView) (outbox : OutboxView) (datagrams : List (List ℕ)) : Type 0 where
   pub ahead : List (List ℕ)
   pub queued : IsQueued peer ahead
   pub is : outbox ≡ put peer.outbox (ahead ++ datagrams)
@@ -38,24 +38,24 @@ alone_of peer true = record { ahead = whole peer ∷ []; queued = inr refl; is =
 alone_of peer false = record { ahead = []; queued = inl refl; is = refl }
 
 -- what a leg's step leaves of what goes out and waits
-pub record IsSent (view : PeerView) (number : ℕ) (replies outbox : List (List ℕ)) (queue : List QueueEntry) (accounts : Accounts) : Type 0 where
+pub record IsSent (view : PeerView) (number : ℕ) (replies : List (List ℕ)) (outbox : OutboxView) (queue : List QueueEntry) (accounts : Accounts) : Type 0 where
   pub outbox_is : outbox ≡ (with_sent view number replies).outbox
   pub queue_is : queue ≡ (with_sent view number replies).queue
   pub accounts_are : accounts ≡ (with_sent view number replies).accounts
 
-pub is_sent : (view : PeerView) (number : ℕ) (replies : List (List ℕ)) (goes : Bool) (flushed outbox : List (List ℕ)) (queue : List QueueEntry) (accounts : Accounts)
+pub is_sent : (view : PeerView) (number : ℕ) (replies : List (List ℕ)) (goes : Bool) (flushed outbox : OutboxView) (queue : List QueueEntry) (accounts : Accounts)
     → goes ≡ (has_any replies && goes_ahead view.rules view.queue number)
     → flushed ≡ outbox_after goes view.rules.trunk_timestamps view.since view.outbox view.queue → outbox ≡ put flushed replies
     → queue ≡ queue_after goes view.queue → accounts ≡ accounts_after goes view.queue view.accounts
     → IsSent view number replies outbox queue accounts
 is_sent view number replies goes flushed outbox queue accounts goes_is flushed_is outbox_is queue_is accounts_are = record {
-  outbox_is = outbox_is ∙ ap (λ (o : List (List ℕ)). put o replies) (flushed_is ∙ ap (λ (b : Bool). outbox_after b view.rules.trunk_timestamps view.since view.outbox view.queue) goes_is);
+  outbox_is = outbox_is ∙ ap (λ (o : OutboxView). put o replies) (flushed_is ∙ ap (λ (b : Bool). outbox_after b view.rules.trunk_timestamps view.since view.outbox view.queue) goes_is);
   queue_is = queue_is ∙ ap (λ (b : Bool). queue_after b view.queue) goes_is;
   accounts_are = accounts_are ∙ ap (λ (b : Bool). accounts_after b view.queue view.accounts) goes_is;
 }
 
 -- the same of the peer with its legs after the step
-pub sent_peer : (view old : PeerView) (name : LegName) (number : ℕ) (legs : PeerLegs) (leg : LegState) (replies outbox : List (List ℕ)) (queue : List QueueEntry) (accounts : Accounts)
+pub sent_peer : (view old : PeerView) (name : LegName) (number : ℕ) (legs : PeerLegs) (leg : LegState) (replies : List (List ℕ)) (outbox : OutboxView) (queue : List QueueEntry) (accounts : Accounts)
     → view ≡ old → number ≡ name.number → legs ≡ with_leg view.legs name leg → IsSent view number replies outbox queue accounts
     → record view { legs = legs; outbox = outbox; queue = queue; accounts = accounts } ≡ record (with_sent old name.number replies) { legs = with_leg old.legs name leg }
 sent_peer view old name number legs leg replies outbox queue accounts view_is number_is legs_are sent =
@@ -70,21 +70,21 @@ packs_legs None old now octets new packs = ap (λ (p : PeerView). p.legs) packs.
 packs_legs (Some wait) old now octets new packs = ap (λ (p : PeerView). p.legs) packs.rest
 
 -- the outbox has trunk frames more
-pub record More (old new : List (List ℕ)) : Type 0 where
+pub record More (old new : OutboxView) : Type 0 where
   pub trunks : List (List ℕ)
-  pub is : new ≡ old ++ trunks
+  pub is : new ≡ extended old trunks
 
-none_more : (old : List (List ℕ)) → More old old
-none_more old = record { trunks = []; is = sym (append-nil old) }
+none_more : (old : OutboxView) → More old old
+none_more old = record { trunks = []; is = λ i. record old { waiting = sym (append-nil old.waiting) i } }
 
-fitting : (any : Bool) (outbox : List (List ℕ)) (out : List ℕ) → length outbox < 256 → More outbox (cond any (put outbox (out ∷ [])) outbox)
+fitting : (any : Bool) (outbox : OutboxView) (out : List ℕ) → length outbox.waiting < 256 → More outbox (cond any (put outbox (out ∷ [])) outbox)
 fitting true outbox out room = record { trunks = out ∷ []; is = sym (put_fits outbox out room) }
 fitting false outbox out room = none_more outbox
 
-due_more : (due any : Bool) (outbox : List (List ℕ)) (out : List ℕ) → More outbox (cond ((due && nat_lt (length outbox) 256) && any) (put outbox (out ∷ [])) outbox)
+due_more : (due any : Bool) (outbox : OutboxView) (out : List ℕ) → More outbox (cond ((due && nat_lt (length outbox.waiting) 256) && any) (put outbox (out ∷ [])) outbox)
 due_more false any outbox out = none_more outbox
-due_more true any outbox out = elim (cases_Bool (nat_lt (length outbox) 256)) [
-  | inl e ↦ rw e (fitting any outbox out (ltb-true (length outbox) 256 e))
+due_more true any outbox out = elim (cases_Bool (nat_lt (length outbox.waiting) 256)) [
+  | inl e ↦ rw e (fitting any outbox out (ltb-true (length outbox.waiting) 256 e))
   | inr e ↦ rw e (none_more outbox)
 ]
 
@@ -115,11 +115,11 @@ accounts_twice true (d ∷ first) (e ∷ then) [] a = refl
 accounts_twice true (d ∷ first) [] (q ∷ queue) a = refl
 accounts_twice true (d ∷ first) (e ∷ then) (q ∷ queue) a = refl
 
-again : (outbox first then : List (List ℕ)) (out : List ℕ) (flushed : Bool) → put (cond flushed (put (put outbox []) (out ∷ [])) (put outbox [])) then ≡ put (cond flushed (put outbox (out ∷ [])) outbox) then
-again outbox first then out true = ap (λ (o : List (List ℕ)). put o then) (put_both outbox [] (out ∷ []))
+again : (outbox : OutboxView) (first then : List (List ℕ)) (out : List ℕ) (flushed : Bool) → put (cond flushed (put (put outbox []) (out ∷ [])) (put outbox [])) then ≡ put (cond flushed (put outbox (out ∷ [])) outbox) then
+again outbox first then out true = ap (λ (o : OutboxView). put o then) (put_both outbox [] (out ∷ []))
 again outbox first then out false = put_both outbox [] then
 
-pub outbox_twice : (waiting timed : Bool) (since : ℕ) (outbox first then : List (List ℕ)) (queue : List QueueEntry)
+pub outbox_twice : (waiting timed : Bool) (since : ℕ) (outbox : OutboxView) (first then : List (List ℕ)) (queue : List QueueEntry)
     → put (outbox_after (has_any then && waiting) timed since (put (outbox_after (has_any first && waiting) timed since outbox queue) first) (queue_after (has_any first && waiting) queue)) then
     ≡ put (outbox_after (has_any (first ++ then) && waiting) timed since outbox queue) (first ++ then)
 outbox_twice waiting timed since outbox [] then queue = again outbox [] then (trunk_spelling timed since queue) (flushes (has_any then && waiting) queue)

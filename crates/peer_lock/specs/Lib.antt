@@ -15,6 +15,7 @@ pub mod Statuses
 pub mod Ticks
 pub mod Trunks
 pub mod Unworked
+pub use Rattle.outbox.specs.Outbox
 pub use Rattle.peer_accounts.specs.Accounts
 pub use Rattle.peer_accounts.specs.Grants
 pub use Rattle.peer_accounts.specs.HandedUp

@@ -1,5 +1,5 @@
 -- A peer, and what its steps have in common.
-use Rattle.std.specs.Prelude.{ℕ, ◌&&◌, Bool, List, [], ◌∷◌, Option, None, Some}
+use Rattle.std.specs.Prelude.{ℕ, ◌+◌, ◌&&◌, Bool, List, [], ◌∷◌, length, Option, None, Some, if◌then◌else◌}
 use Rattle.call_book.specs.declared.leg_name.LegName.{LegName}
 use Rattle.leg_machine.specs.Leg.{LegState}
 use Rattle.leg_machine.specs.Openings.{called_of, caller_of, formats_of}
@@ -11,7 +11,7 @@ use Rattle.call_signals.specs.declared.signal.Signal.TheVariants.{Offered}
 use Rattle.peer_accounts.specs.Accounts.{Accounts, stepped, with_accepted}
 pub use Rattle.peer_accounts.specs.Grants.{Granted, granted_media, granted}
 use Rattle.peer_legs.specs.Legs.{PeerLegs, with_leg, with_place}
-use Rattle.outbox.specs.Outbox.{put}
+use Rattle.outbox.specs.Outbox.{OutboxView, put}
 use Rattle.peer_accounts.specs.declared.onwards.Offer.{Offer}
 use Rattle.peer_lock.specs.declared.steps.Step.{Step}
 use Rattle.peer_lock.specs.Trunks.{has_any, goes_ahead, outbox_after, queue_after, accounts_after}
@@ -21,8 +21,8 @@ pub record PeerView : Type 0 where
   pub rules : PeerRules
   -- the legs, by local number
   pub legs : PeerLegs
-  -- the datagrams that wait to be sent, the oldest first
-  pub outbox : List (List ℕ)
+  -- the datagrams that wait to be sent, and how many a full outbox lost
+  pub outbox : OutboxView
   -- the media that waits for a trunk frame
   pub queue : List QueueEntry
   -- the moment at which the oldest of it was queued
@@ -78,6 +78,10 @@ with_sent peer number datagrams =
 abbrev pub without_leg : PeerView → LegName → PeerView
 without_leg peer name =
     record (flushed_if (goes_ahead peer.rules peer.queue name.number) peer) { legs = with_place peer.legs name.number None }
+
+-- the datagrams that wait to be sent, and one for media that waits for a trunk frame
+abbrev pub to_send : PeerView → ℕ
+to_send peer = length peer.outbox.waiting + (if has_any peer.queue then 1 else 0)
 
 -- ---- one leg's step
 

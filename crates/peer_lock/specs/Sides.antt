@@ -16,7 +16,7 @@ use Rattle.leg_machine.specs.Tie.{IsSendingOf, IsSending, IsSendingOrMini}
 use Rattle.peer_legs.specs.Legs.{PeerLegs, NamedLeg, leg_at, with_leg, with_place}
 use Rattle.peer_lock.specs.Arrivals.{bare}
 use Rattle.peer_lock.specs.Delivery.{inval_for, pong_for}
-use Rattle.outbox.specs.Outbox.{put}
+use Rattle.outbox.specs.Outbox.{put, extended}
 use Rattle.peer_lock.specs.Peer.{PeerView}
 use Rattle.trunk_packer.specs.Queue.{trunk_spelling}
 use Rattle.seq_window.specs.Network.{Action, SendNumbered, SendUnnumbered, Retransmit, JudgeAcknowledgement, JudgeNumber}
@@ -127,7 +127,7 @@ pub record EachSends (old new : PeerView) : Type 0 where
   pub datagrams : List (List ℕ)
   pub sendings : All (IsSendingOfOne new.legs) datagrams
   pub trunks : List (List ℕ)
-  pub outbox : new.outbox ≡ put old.outbox (ahead ++ datagrams) ++ trunks
+  pub outbox : new.outbox ≡ extended (put old.outbox (ahead ++ datagrams)) trunks
 
 -- ---- the network
 

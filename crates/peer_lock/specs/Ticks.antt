@@ -1,9 +1,10 @@
 -- The steps of a peer in which time goes on ("Message Transport", "Meta Frames").
-use Rattle.std.specs.Prelude.{◌≡◌, ℕ, ◌+◌, ◌<◌, ◌≤◌, ◌==◌, ◌⊎◌, ◌&&◌, nat_lt, Bool, List, [], ◌∷◌, ◌++◌, Option, None, Some, length, map}
+use Rattle.std.specs.Prelude.{◌≡◌, ℕ, ◌+◌, ◌<◌, ◌≤◌, ◌==◌, ◌⊎◌, ◌&&◌, nat_lt, Bool, true, false, All, List, [], ◌∷◌, ◌++◌, Option, None, Some, length, map}
 use Rattle.iax_frames.specs.FullFrame.{spelling}
 use Rattle.leg_machine.specs.Ticks.{tick_step}
 use Rattle.peer_legs.specs.Legs.{NamedLeg}
-use Rattle.outbox.specs.Outbox.{put}
+use Rattle.peer_legs.specs.Rests.{is_resting}
+use Rattle.outbox.specs.Outbox.{put, extended}
 use Rattle.peer_lock.specs.Peer.{PeerView, counted, flushed_if}
 use Rattle.peer_lock.specs.Trunks.{has_any, waits, is_due}
 use Rattle.peer_lock.specs.declared.steps.TickReport.{TickReport}
@@ -49,20 +50,21 @@ legs_tick (skipped ∷ skips) (place ∷ places) now = then_ticks (place_tick sk
 
 -- ---- the trunk queue
 
--- these datagrams are trunk frames of fronts of a queue, one after another, and the rest of it stays
+-- these datagrams are trunk frames of fronts of a queue, none of them empty, one after another, and the rest of it stays
 abbrev pub PacksFronts : Bool → ℕ → List QueueEntry → List (List ℕ) → List QueueEntry → Type 0
 PacksFronts timed now old [] new = new ≡ old
 PacksFronts timed now old (datagram ∷ datagrams) new =
-    (rest : List QueueEntry) × PacksFront timed now old rest datagram × PacksFronts timed now rest datagrams new
+    (rest : List QueueEntry) × PacksFront timed now old rest datagram × (length rest < length old) ×
+    PacksFronts timed now rest datagrams new
 
 -- the queue is packed, as far as the outbox has room
 abbrev pub IsPacked : PeerView → Type 0
-IsPacked peer = (peer.queue ≡ []) ⊎ (256 ≤ length peer.outbox)
+IsPacked peer = (peer.queue ≡ []) ⊎ (256 ≤ length peer.outbox.waiting)
 
 -- the peer with more in its outbox, and less in its queue
 abbrev pub with_packed : PeerView → List (List ℕ) → List QueueEntry → ℕ → PeerView
 with_packed peer datagrams queue octets = record peer {
-  outbox = peer.outbox ++ datagrams;
+  outbox = extended peer.outbox datagrams;
   queue = queue;
   accounts = record peer.accounts { packed = peer.accounts.packed + octets; queued = media_octets queue };
 }
@@ -85,13 +87,26 @@ pub record PacksMedia (old : PeerView) (now octets : ℕ) (new : PeerView) : Typ
 
 -- the whole queue goes out as one frame, once its oldest entry has waited long enough and the outbox has room
 pub record PacksDue (old : PeerView) (now octets : ℕ) (new : PeerView) : Type 0 where
-  pub rest : new ≡ flushed_if (is_due old.rules.trunk_ms old.since now && nat_lt (length old.outbox) 256) old
+  pub rest : new ≡ flushed_if (is_due old.rules.trunk_ms old.since now && nat_lt (length old.outbox.waiting) 256) old
   pub media : new.accounts.packed ≡ old.accounts.packed + octets
 
 -- the trunk queue at a tick
 abbrev pub Packs : Option ℕ → PeerView → ℕ → ℕ → PeerView → Type 0
 Packs None old now octets new = PacksMedia old now octets new
 Packs (Some wait) old now octets new = PacksDue old now octets new
+
+-- ---- nothing to do
+
+-- nothing that is queued is to go out at this moment
+abbrev pub QueueRests : PeerView → ℕ → Type 0
+QueueRests peer now =
+    (peer.queue ≡ []) ⊎ (waits peer.rules ≡ true) × (is_due peer.rules.trunk_ms peer.since now ≡ false)
+
+-- a tick at this moment has nothing to do: each leg rests, and so does the queue
+pub record RestsAt (peer : PeerView) (now : ℕ) : Type 0 where
+  pub legs : All (λ place. is_resting place now ≡ true) peer.legs.places
+  pub queue : QueueRests peer now
+  pub few : length peer.outbox.waiting ≤ 256
 
 -- ---- the tick
 

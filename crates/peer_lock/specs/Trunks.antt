@@ -3,7 +3,7 @@ use Rattle.std.specs.Prelude.{ℕ, ◌+◌, ◌-◌, ◌&&◌, ◌||◌, not, na
 use Rattle.std.specs.Prelude.{if◌then◌else◌}
 use Rattle.iax_frames.specs.TrunkFrame.{head_len}
 use Rattle.call_signals.specs.declared.rules.PeerRules.{PeerRules}
-use Rattle.outbox.specs.Outbox.{put}
+use Rattle.outbox.specs.Outbox.{OutboxView, put}
 use Rattle.peer_accounts.specs.Accounts.{Accounts}
 use Rattle.trunk_packer.specs.Queue.{QueueEntry, media_octets, has_call, trunk_octets, trunk_spelling}
 
@@ -45,8 +45,8 @@ is_due (Some wait) since now = nat_le wait (now - since)
 abbrev pub flushes : Bool → List QueueEntry → Bool
 flushes goes queue = goes && has_any queue
 
--- .. as one trunk frame with the moment at which its oldest entry was queued; a full outbox loses it
-abbrev pub outbox_after : Bool → Bool → ℕ → List (List ℕ) → List QueueEntry → List (List ℕ)
+-- .. as one trunk frame with the moment at which its oldest entry was queued; a full outbox loses it and counts it
+abbrev pub outbox_after : Bool → Bool → ℕ → OutboxView → List QueueEntry → OutboxView
 outbox_after goes timed since outbox queue =
     if flushes goes queue then put outbox (trunk_spelling timed since queue ∷ []) else outbox
 

@@ -9,7 +9,7 @@ use crate::state::PeerState;
 use crate::steps::Status;
 use leg_machine::{PeerRules, Replies};
 use media_ledger::Share;
-use outbox::Outbox;
+use outbox::{Losses, Outbox};
 use peer_accounts::{ClosedAccount, Naming};
 use peer_legs::PeerLegs;
 use std::alloc::Global;
@@ -106,6 +106,13 @@ impl<J: Naming> ClosedPeer<J> {
         ensures part { result ≤ self.now.accounts.dropped }
     {
         self.account.sums().quelched
+    }
+
+    /// How many datagrams a full outbox lost.
+    pub fn lost(&self) -> Losses
+        ensures { result ≡ self.now.outbox.lost }
+    {
+        self.outbox.lost()
     }
 
     /// How many steps the peer made.

@@ -8,6 +8,7 @@ use crate::state::PeerState;
 use crate::steps::Status;
 use iax_frames::CallNumber;
 use leg_machine::{ElementText, Format};
+use outbox::Losses;
 use peer_accounts::{Naming, Sums};
 use peer_legs::NamedLeg;
 
@@ -58,5 +59,12 @@ impl<J: Naming> PeerState<J> {
         ensures part { result.quelched ≤ result.dropped }
     {
         self.account.sums()
+    }
+
+    /// How many datagrams a full outbox lost. That is no step.
+    pub fn lost(&self) -> Losses
+        ensures { result ≡ self.now.outbox.lost }
+    {
+        self.outbox.lost()
     }
 }

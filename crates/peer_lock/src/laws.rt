@@ -1,5 +1,5 @@
 //! What holds of every step of a peer.
-ghost use Rattle.std.specs.Prelude.{◌≡◌, ◌≢◌, ◌≤◌, ◌⊎◌, ℕ, true, length, List, All, Option, None, Some, slice_get};
+ghost use Rattle.std.specs.Prelude.{◌≡◌, ◌≢◌, ◌+◌, ◌≤◌, ◌⊎◌, ℕ, true, length, List, All, Option, None, Some, slice_get};
 ghost use Rattle.call_book.specs.declared.leg_name.LegName.{LegName};
 ghost use Rattle.iax_frames.specs.Datagram.{Spells};
 ghost use Rattle.iax_frames.specs.FullFrame.{FullFrame};
@@ -14,6 +14,7 @@ ghost use Rattle.leg_machine.specs.Tries.{NoneDue};
 ghost use Rattle.leg_machine.specs.declared.media.MediaSent.TheVariants.{Quelched};
 ghost use Rattle.call_signals.specs.declared.format.Format.{Format};
 ghost use Rattle.call_signals.specs.declared.order.Order.{Order};
+ghost use Rattle.call_signals.specs.declared.order.OrderKind.TheVariants.{Media};
 ghost use Rattle.call_signals.specs.declared.rules.PeerRules.{PeerRules};
 ghost use Rattle.call_signals.specs.declared.stage.Stage.TheVariants.{Ended};
 ghost use Rattle.peer_lock.specs.Arrivals.{datagram_step};
@@ -23,14 +24,14 @@ ghost use Rattle.peer_legs.specs.Legs.{AreLegs, IsLegOf, PeerLegs, NamedLeg, leg
 ghost use Rattle.peer_legs.specs.Legs.{is_free_name};
 ghost use Rattle.peer_lock.specs.Openings.{opens_in, opens_out};
 ghost use Rattle.peer_lock.specs.Orders.{order_refused_by, order_octets, ordered_step, IsOrderRefusal};
-ghost use Rattle.peer_lock.specs.Peer.{PeerView};
+ghost use Rattle.peer_lock.specs.Peer.{PeerView, counted, to_send};
 ghost use Rattle.peer_lock.specs.Seen.{IsSeenDatagram, OpensIn, OpensOut, Obeys, IsSeenRefusal, TicksAll, Retires};
 ghost use Rattle.peer_lock.specs.Sides.{TakesDatagram, TakesTurnAtLeg, TakesNew, SendsNew, SendsAtLeg, EachSends};
 ghost use Rattle.peer_lock.specs.Sides.{IsSideOf, Bears, HasDatagram, IsSentBy, IsSentByOrMini, IsSentFrom, SendsAll, TurnsInto};
 ghost use Rattle.peer_lock.specs.Sides.{SendsInto, unused_side};
 ghost use Rattle.peer_lock.specs.SoundPeer.{IsSoundPeer};
 ghost use Rattle.peer_lock.specs.Statuses.{is_done};
-ghost use Rattle.peer_lock.specs.Ticks.{Ticks};
+ghost use Rattle.peer_lock.specs.Ticks.{RestsAt, Ticks};
 ghost use Rattle.peer_lock.specs.Trunks.{waits};
 ghost use Rattle.peer_lock.specs.declared.errors.OrderError.{OrderError};
 ghost use Rattle.peer_lock.specs.declared.errors.OrderError.TheVariants.{Memory};
@@ -134,10 +135,29 @@ pub fn ticks_leave_nothing_due()
     leg_machine::laws::ticks_finish_their_tries();
 }
 
+/// A tick that has nothing to do changes nothing but the count of steps, and sends nothing. So it can be left out. It has nothing
+/// to do if each leg rests and nothing that is queued is to go out.
+pub fn resting_peers_stay()
+    ensures { (old new : PeerView) (now : ℕ) (report : TickReport) → IsSoundPeer old → RestsAt old now →
+        Ticks old now report new → new ≡ counted old }
+{
+    leg_machine::laws::idle_legs_stay();
+}
+
 /// In plan format 4 no order drops media for want of room in a trunk queue ("Meta Frames"): media of at most 1,380 octets goes out
 /// or waits, unless the other side wants none. Other orders drop no media.
 pub fn full_trunk_queues_drop_nothing()
     ensures { (peer : PeerView) (name : LegName) (order : Order) (now : ℕ) (named : NamedLeg) → waits peer.rules ≡ true →
         order_octets order ≤ 1380 → leg_named peer.legs name ≡ Some named → media_sent named.leg now ≢ Quelched →
         (ordered_step peer name order now).accounts.dropped ≡ peer.accounts.dropped }
+{}
+
+/// Media that goes to a peer adds at most one datagram to those that are to be sent to it, where media that waits for a trunk frame
+/// counts as one, and nothing is lost in the outbox as long as there are at most 256. So 255 pieces of media lose nothing where the
+/// outbox was empty and one trunk frame's worth was queued; without that, 256.
+pub fn media_adds_one_datagram()
+    ensures most { (peer : PeerView) (name : LegName) (order : Order) (now : ℕ) → kind_of order ≡ Media →
+        to_send (ordered_step peer name order now) ≤ to_send peer + 1 }
+    ensures kept { (peer : PeerView) (name : LegName) (order : Order) (now : ℕ) → kind_of order ≡ Media →
+        to_send peer + 1 ≤ 256 → (ordered_step peer name order now).outbox.lost ≡ peer.outbox.lost }
 {}

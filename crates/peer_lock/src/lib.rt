@@ -19,6 +19,7 @@ mod unknown_calls;
 pub use closed::ClosedPeer;
 pub use descriptions::Description;
 pub use errors::{OpenError, OrderError, PeerError, StepsSpent};
+pub use outbox::Losses;
 pub use peer_accounts::{Naming, Offer, Onwards, Pass, Service, Sums};
 pub use read_datagram::ReadDatagram;
 pub use state::PeerState;

@@ -1,6 +1,6 @@
 //! The steps of a peer in which media comes without a full frame ("Mini Frames", "Meta Frames").
 ghost use Rattle.std.specs.Prelude.{◌≡◌, ◌≢◌, ◌+◌, ◌<◌, ◌≤◌, ◌++◌, [], length, map, IfErr, IsSome, OnOk, OnErr, None};
-ghost use Rattle.iax_frames.specs.TrunkFrame.{entry_item, head_len, is_timed};
+ghost use Rattle.iax_frames.specs.TrunkFrame.{entry_item, is_timed};
 ghost use Rattle.peer_accounts.specs.Accounts.{with_accepted};
 ghost use Rattle.peer_lock.specs.Arrivals.{media_at, mini_media, mini_refused, trunk_media, entries_len};
 ghost use Rattle.peer_legs.specs.Legs.{leg_at, leg_of_remote};
@@ -12,17 +12,10 @@ use crate::state::PeerState;
 use iax_frames::{Mini, Trunk};
 use leg_machine::{MediaIn, MediaSpan, Signal};
 use peer_accounts::{Naming, Onwards, Pass};
+use trunk_packer::entry_head_len;
 
 /// A datagram of 2,048 octets has fewer trunk entries.
 pub(crate) const ENTRIES: usize = 512;
-
-// An entry's octets before its media.
-pub(crate) fn entry_head_len(timed: bool) -> usize
-    ensures len { result ≡ head_len timed }
-    ensures few { result ≤ 6 }
-{
-    if timed { 6 } else { 4 }
-}
 
 impl<J: Naming> PeerState<J> {
     // Media for the leg of a number. Where it counts and there is credit for it, it is handed up.

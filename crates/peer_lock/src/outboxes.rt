@@ -4,12 +4,11 @@ ghost use Rattle.outbox.specs.Outbox.{put};
 ghost use Rattle.peer_lock.specs.Trunks.{has_any, waits, begins_next, goes_ahead, outbox_after, queue_after, accounts_after};
 ghost use Rattle.trunk_packer.specs.Queue.{media_octets, trunk_octets};
 
-use crate::media_arrivals::entry_head_len;
 use iax_frames::CallNumber;
 use leg_machine::{PeerRules, Replies};
 use outbox::Outbox;
 use peer_accounts::{Account, Naming};
-use trunk_packer::Packer;
+use trunk_packer::{Packer, entry_head_len};
 
 // The first of these datagrams that fit.
 #[tactic(auto, using(outbox::proofs::Puts::put_none, outbox::proofs::Puts::put_more))]

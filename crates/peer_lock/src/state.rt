@@ -4,6 +4,7 @@ ghost use Rattle.std.specs.Prelude.{IfOk, IfErr, IsErr, IsNone, IfNone, IfSome, 
 ghost use Rattle.std.specs.Bool.{OnTrue, OnFalse};
 ghost use Rattle.call_signals.specs.declared.rules.PeerRules.{PeerRules as PeerRulesValue};
 ghost use Rattle.leg_machine.specs.PeerRules.{IsPeerRules};
+ghost use Rattle.outbox.specs.Outbox.{no_losses, with_waiting};
 ghost use Rattle.peer_accounts.specs.Accounts.{no_accounts, carried};
 ghost use Rattle.peer_legs.specs.Legs.{NamedLeg as NamedLegValue, AreLegs, AreLegsOf, leg_at, leg_named};
 ghost use Rattle.seq_window.specs.History.{IsLegal};
@@ -86,7 +87,7 @@ fn rooms(
     requires most { count ≤ 512 }
     requires within { first + count ≤ 2 ^ 15 }
     ensures legs { IfOk result (λ made. made.0 ≡ record { peer = peer; first = first; places = replicate count None }) }
-    ensures outbox { IfOk result (λ made. made.1 ≡ []) }
+    ensures outbox { IfOk result (λ made. made.1 ≡ record { waiting = []; lost = no_losses }) }
     ensures queue { IfOk result (λ made. made.2 ≡ []) }
     ensures sound { IfOk result (λ made. AreLegs made.0) }
     ensures ruled { IfOk result (λ made. (rules : PeerRulesValue) → AreLegsOf rules made.0) }
@@ -121,7 +122,7 @@ impl<J: Naming> PeerState<J> {
         requires steps { steps ≡ J.first_steps }
         ensures rules { IfOk result (λ state. state.rules ≡ rules.now) }
         ensures legs { IfOk result (λ state. state.legs ≡ record { peer = peer; first = first; places = replicate count None }) }
-        ensures outbox { IfOk result (λ state. state.outbox ≡ []) }
+        ensures outbox { IfOk result (λ state. state.outbox ≡ record { waiting = []; lost = no_losses }) }
         ensures queue { IfOk result (λ state. state.queue ≡ []) }
         ensures accounts { IfOk result (λ state. state.accounts ≡ no_accounts) }
         ensures sound { IfOk result IsSoundPeer }
@@ -159,9 +160,9 @@ impl<J: Naming> PeerState<J> {
 
     /// Takes the oldest datagram of the outbox, and writes it over this one; false, and nothing is changed, where none waits.
     pub fn take_into(&mut self, out: &mut Out) -> bool
-        ensures taken { OnTrue result ((self.old.outbox ≡ out.new ∷ self.new.outbox)
-            × (self.new ≡ record self.old { outbox = self.new.outbox })) }
-        ensures empty { OnFalse result (self.old.outbox ≡ []) }
+        ensures taken { OnTrue result ((self.old.outbox.waiting ≡ out.new ∷ self.new.outbox.waiting)
+            × (self.new ≡ record self.old { outbox = with_waiting self.old.outbox self.new.outbox.waiting })) }
+        ensures empty { OnFalse result (self.old.outbox.waiting ≡ []) }
         ensures same { OnFalse result ((self.new ≡ self.old) × (out.new ≡ out.old)) }
     {
         self.outbox.take_into(out)
@@ -169,8 +170,9 @@ impl<J: Naming> PeerState<J> {
 
     /// Takes the oldest datagram of the outbox; `None` where none waits.
     pub fn take_out(&mut self) -> Option<Out>
-        ensures { MatchOption result ((self.old.outbox ≡ []) × (self.new ≡ self.old))
-            (λ out. (self.old.outbox ≡ out ∷ self.new.outbox) × (self.new ≡ record self.old { outbox = self.new.outbox })) }
+        ensures { MatchOption result ((self.old.outbox.waiting ≡ []) × (self.new ≡ self.old))
+            (λ out. (self.old.outbox.waiting ≡ out ∷ self.new.outbox.waiting)
+            × (self.new ≡ record self.old { outbox = with_waiting self.old.outbox self.new.outbox.waiting })) }
     {
         self.outbox.take_out()
     }

@@ -50,7 +50,7 @@ impl<J: Naming> PeerState<J> {
     fn place_count(&self) -> usize
         ensures count { result ≡ length self.now.legs.places }
         ensures few { result ≤ 2 ^ 15 }
-        ensures outbox { length self.now.outbox ≤ 256 }
+        ensures outbox { length self.now.outbox.waiting ≤ 256 }
     {
         let _ = self.outbox.is_full();
         self.legs.count()

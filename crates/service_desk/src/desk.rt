@@ -9,7 +9,7 @@ use control_requests::{
     Status, accounts_body, call_body, command_of, place_of,
 };
 use exchange_core::{CallError, Exchange, NoGate, Pass};
-use exchange_report::{call_error_name, count_legs, peer_named};
+use exchange_report::{PeerLosses, call_error_name, count_legs, losses_of, peer_named};
 use peer_lock::Naming;
 use peer_plan::{Endpoint, Plan};
 use service_watch::ServiceWatch;
@@ -109,8 +109,11 @@ impl<'x, J: Naming> Desk<'x, J> {
     ) -> Result<(), AllocError> {
         let (exchange, watch) = (self.exchange, self.watch);
         for peer in 0..exchange.plan().peer_count() {
-            let legs = count_legs(rt, exchange, &mut self.pass, peer);
-            push_peer(alloc, rows, exchange.plan(), watch, peer, legs, now)?;
+            let counted = Counted {
+                legs: count_legs(rt, exchange, &mut self.pass, peer),
+                losses: losses_of(rt, exchange, &mut self.pass, peer),
+            };
+            push_peer(alloc, rows, exchange.plan(), watch, peer, counted, now)?;
         }
         Ok(())
     }
@@ -266,6 +269,13 @@ fn fault_name(fault: PlaceFault) -> &'static str {
     }
 }
 
+// What is counted of a peer under its lock.
+#[derive(Clone, Copy)]
+struct Counted {
+    legs: u16,
+    losses: PeerLosses,
+}
+
 // A peer as it is shown, behind the others.
 fn push_peer(
     alloc: Global,
@@ -273,7 +283,7 @@ fn push_peer(
     plan: &Plan,
     watch: &ServiceWatch,
     peer: u16,
-    legs: u16,
+    counted: Counted,
     now: u64,
 ) -> Result<(), AllocError>
     requires { peer < length plan.now.peers }
@@ -288,13 +298,15 @@ fn push_peer(
             name: plan.name(peer),
             endpoint: &endpoint,
             worker: plan.worker(peer),
-            legs,
+            legs: counted.legs,
             numbers: plan.range(peer).count,
             silent_ms: marks.heard.map(|heard| now.saturating_sub(heard)),
             received: marks.received,
             refused: marks.refused,
             sent: marks.sent,
             lost: marks.lost,
+            outbox_lost: counted.losses.frames(),
+            queue_dropped: counted.losses.queue,
         },
     )
 }

@@ -5,7 +5,7 @@ use crate::lines::{more_than, tell, tell_count};
 use crate::strangers::Strangers;
 use crate::writer_told::WriterTold;
 use call_files::{Fault, Trouble};
-use exchange_report::refusal_name;
+use exchange_report::{PeerLosses, refusal_name};
 use log::{Level, Log, log_enabled};
 use peer_plan::{Endpoint, Plan};
 use service_report::{Hearing, News, Rounds, news_of};
@@ -20,7 +20,7 @@ use worker_watch::{ServiceStage, Watch};
 // How long a round lasts in which ended legs are counted, in milliseconds.
 const LEGS_MS: u64 = 1000;
 
-// How long one lasts in which refusals, strangers, faults and drops are counted.
+// How long one lasts in which refusals, losses, strangers, faults and drops are counted.
 const REFUSALS_MS: u64 = 10_000;
 
 // After so many times its `ping_ms` a peer is silent.
@@ -37,6 +37,8 @@ struct PeerTold {
     legs_now: u16,
     legs_ended_now: u64,
     turned_away: u64,
+    lost: PeerLosses,
+    lost_now: PeerLosses,
     // In the order of `REFUSALS`.
     refused: [u64; REFUSALS.len()],
 }
@@ -74,6 +76,8 @@ impl PeerTold {
             legs_now: 0,
             legs_ended_now: 0,
             turned_away: 0,
+            lost: PeerLosses::default(),
+            lost_now: PeerLosses::default(),
             refused: [0; REFUSALS.len()],
         }
     }
@@ -110,6 +114,23 @@ impl PeerTold {
                 &format_args!("legs of {name} that ended: {ended}"),
             );
         }
+    }
+
+    // What was lost on the way to it, in a round of so many seconds.
+    fn tell_losses<L: Log>(&mut self, log: &L, name: &str, seconds: u64) {
+        let (told, now) = (&mut self.lost, self.lost_now);
+        let kinds = [
+            ("full", more_than(&mut told.outbox.full, now.outbox.full)),
+            ("mini", more_than(&mut told.outbox.mini, now.outbox.mini)),
+            ("trunk", more_than(&mut told.outbox.trunk, now.outbox.trunk)),
+        ];
+        for (kind, lost) in kinds {
+            let what = format_args!("{kind} frames to {name} lost by a full outbox");
+            tell_count(log, Level::Warn, &what, lost, seconds);
+        }
+        let dropped = more_than(&mut told.queue, now.queue);
+        let what = format_args!("octets of media to {name} dropped by a full trunk queue");
+        tell_count(log, Level::Warn, &what, dropped, seconds);
     }
 
     // How many datagrams were refused for each reason, and how many were turned away, in a round of so many seconds.
@@ -266,6 +287,20 @@ impl<'s> Told<'s> {
         }
     }
 
+    /// Whether the next `look` at a moment, in milliseconds since the exchange was opened, tells what was lost on the way to
+    /// peers. Then `note_losses` has to say it first, of each peer.
+    pub fn tells_losses(&self, now: u64) -> bool {
+        let mut rounds = self.refusals;
+        rounds.due(now).is_some()
+    }
+
+    /// So much was lost on the way to the peer at this place of the plan.
+    pub fn note_losses(&mut self, peer: u16, losses: PeerLosses) {
+        if let Some(told) = self.peers.get_mut(usize::from(peer)) {
+            told.lost_now = losses;
+        }
+    }
+
     // That the service stops.
     fn tell_stage<L: Log>(&mut self, log: &L, stage: ServiceStage) {
         if stage == self.stage {
@@ -320,13 +355,14 @@ impl<'s> Told<'s> {
         }
     }
 
-    // What was refused in a round of so many seconds.
+    // What was refused and lost in a round of so many seconds.
     fn tell_refusals<L: Log>(&mut self, log: &L, seconds: u64) {
         let (plan, watch) = (self.plan, self.watch);
         for peer in 0..plan.peer_count() {
             let name = plan.name(peer);
             if let Some(told) = self.peers.get_mut(usize::from(peer)) {
                 told.tell_refusals(log, watch, peer, name, seconds);
+                told.tell_losses(log, name, seconds);
             }
         }
     }
@@ -342,7 +378,7 @@ impl<'s> Told<'s> {
         self.spare = seen;
     }
 
-    // What was refused, and came from strangers, and failed, in a round of so many milliseconds.
+    // What was refused and lost, and came from strangers, and failed, in a round of so many milliseconds.
     fn tell_round<L: Log>(&mut self, table: &mut SocketTable, log: &L, alloc: Global, lasted: u64) {
         let (watch, seconds) = (self.watch, lasted / 1000);
         self.tell_refusals(log, seconds);
@@ -369,7 +405,7 @@ impl<'s> Told<'s> {
 
     /// Tells the log what is to be told at this moment, in milliseconds since the exchange was opened, once `see_peer` has read
     /// each peer at that moment: the stage, peers, the files of records and of the trace; legs once a second; refusals,
-    /// strangers, faults, lost rows and drops once in ten.
+    /// losses, strangers, faults, lost rows and drops once in ten.
     pub fn look<L: Log, R: Wait>(
         &mut self,
         rt: &R,

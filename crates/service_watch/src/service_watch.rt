@@ -358,4 +358,6 @@ impl Watch for ServiceWatch {
     fn no_thread(&self) {
         self.end();
     }
+
+    fn wake(&self, _worker: u16) {}
 }

@@ -5,4 +5,4 @@ mod packer;
 mod pieces;
 mod stored;
 
-pub use packer::{Packer, QueueError};
+pub use packer::{Packer, QueueError, entry_head_len};

@@ -183,8 +183,8 @@ impl Packer {
     }
 }
 
-// An entry's octets before its media.
-fn entry_head_len(timed: bool) -> usize
+/// How many octets an entry of a trunk frame has before its media, 4, or 6 with timestamps ("Meta Frames").
+pub fn entry_head_len(timed: bool) -> usize
     ensures len { result ≡ head_len timed }
     ensures few { result ≤ 6 }
 {

@@ -22,4 +22,6 @@ impl Watch for Unwatched {
     fn retire(&self, _worker: u16, _leg: &Retired) {}
 
     fn no_thread(&self) {}
+
+    fn wake(&self, _worker: u16) {}
 }

@@ -70,4 +70,8 @@ pub trait Watch {
     /// A worker's thread was refused. The others go on until they are answered `Ended`.
     fn no_thread(&self)
         ensures { lacks_thread self.now };
+
+    /// The worker at this place of the plan may have datagrams to send, since another caller filled outboxes of its peers. It
+    /// should wait no longer.
+    fn wake(&self, worker: u16);
 }

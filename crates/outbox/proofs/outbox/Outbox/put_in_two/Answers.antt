@@ -1,7 +1,9 @@
-use Rattle.std.proofs.Common.{◌≡◌, ◌+◌, ◌++◌, List, ℕ, [], ◌∷◌, length, drop, ap, sym, ◌∙◌, arith, refl, length-append, append_assoc, ltb}
-use Rattle.std.proofs.lemmas.List.{drop-append-le, length-drop}
+use Rattle.std.proofs.Common.{◌≡◌, ◌<◌, ◌≤◌, ◌+◌, ◌++◌, List, ℕ, [], ◌∷◌, length, drop, ap, sym, ◌∙◌, arith, refl, length-append, append_assoc, ltb}
+use Rattle.std.proofs.lemmas.List.{drop-append-le, get_or_append_left, length-drop}
 use Rattle.circular_buffer.specs.Buffer.{Buffer}
+use Rattle.outbox.specs.Outbox.{OutboxView, put, with_lost}
 use Rattle.outbox.specs.Stored.{datagrams_in}
+use Rattle.outbox.specs.declared.losses.Losses.{Losses}
 use Rattle.outbox.proofs.Puts.{put_fits, put_full}
 use Rattle.outbox.proofs.StoredLaws.{HasPut, HasPut-pushed, HoldsDatagrams-length, as_many, full_at}
 use Rattle.outbox.proofs.outbox.Outbox.put_in_two.Goals as goal
@@ -45,19 +47,28 @@ invariant_of-self c =
 
 pub returns-in-Ok : goal.returns-in-Ok
 returns-in-Ok c =
-    let many = as_many c.self.inside.lens.items (drop c.self.inside.taken c.self.inside.octets.items) in
     let datagram = c.args.front.now ++ c.args.back.now in
-    (has_put c).datagrams ∙ ap (λ (l : List (List ℕ)). l ++ datagram ∷ []) c.self.view_is
-    ∙ put_fits c.args.self.now datagram (omega (arith, ap length c.self.view_is, many, c.self.invariant.1, c.in-Ok.ensures.variant.0 refl))
+    let lens = c.self.inside.lens.items in
+    let octets = drop c.self.inside.taken c.self.inside.octets.items in
+    let view : OutboxView = record { waiting = datagrams_in lens octets; lost = c.self.inside.lost } in
+    let room : length (datagrams_in lens octets) < 256 = omega (arith, as_many lens octets, c.self.invariant.1, c.in-Ok.ensures.variant.0 refl) in
+    ap (λ (w : List (List ℕ)). record view { waiting = w }) (has_put c).datagrams
+    ∙ put_fits view datagram room
+    ∙ ap (λ (o : OutboxView). put o (datagram ∷ [])) c.self.view_is
 
 pub returns-in-Err : goal.returns-in-Err
 returns-in-Err c =
-    let count = length c.self.inside.lens.items in
-    let capacity = c.self.inside.lens.capacity in
-    let full = full_at count capacity (ltb count capacity) refl c.in-Err.ensures.variant.1 in
-    let waiting = drop c.self.inside.taken c.self.inside.octets.items in
-    let many = as_many c.self.inside.lens.items waiting in
-    ap (λ (b : Buffer ℕ). datagrams_in b.items waiting) c.in-Err.ensures.err.1 ∙ c.self.view_is
-    ∙ put_full c.args.self.now ((c.args.front.now ++ c.args.back.now) ∷ [])
-    (omega (arith, ap length c.self.view_is, many, c.self.invariant.4.few))
-    (omega (arith, ap length c.self.view_is, many, c.self.invariant.1, full))
+    let front : List ℕ = c.args.front.now in
+    let back : List ℕ = c.args.back.now in
+    let lens = c.self.inside.lens.items in
+    let octets = drop c.self.inside.taken c.self.inside.octets.items in
+    let view : OutboxView = record { waiting = datagrams_in lens octets; lost = c.self.inside.lost } in
+    let full = full_at (length lens) c.self.inside.lens.capacity (ltb (length lens) c.self.inside.lens.capacity) refl c.in-Err.ensures.variant.1 in
+    let short : length (datagrams_in lens octets) ≤ 256 = omega (arith, as_many lens octets, c.self.invariant.4.few) in
+    let long : 256 ≤ length (datagrams_in lens octets) = omega (arith, as_many lens octets, c.self.invariant.1, full) in
+    ap (λ (b : Buffer ℕ). record { waiting = datagrams_in b.items octets; lost = c.with-self-inside.result }) c.in-Err.ensures.err.1
+    ∙ ap (λ (l : Losses). record view { lost = l }) (c.with-self-inside.ensures
+        ∙ (λ i. with_lost c.self.inside.lost (sym (get_or_append_left front back 0 0 (omega (arith, c.requires.first))) i)
+            (sym (get_or_append_left front back 0 1 (omega (arith, c.requires.first))) i)))
+    ∙ put_full view (front ++ back) short long
+    ∙ ap (λ (o : OutboxView). put o ((front ++ back) ∷ [])) c.self.view_is

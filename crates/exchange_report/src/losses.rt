@@ -1,0 +1,40 @@
+//! What is lost on the way to a peer.
+ghost use Rattle.std.specs.Prelude.{◌≡◌, ◌<◌, length};
+
+use exchange_core::{Exchange, NoGate, Pass};
+use peer_lock::{Losses, Naming};
+use std::sync::Wait;
+
+/// What was lost on the way to a peer, because too much waited, since the exchange was opened.
+#[derive(Clone, Copy, Debug, Default, PartialEq, Eq)]
+pub struct PeerLosses {
+    /// Frames for which its outbox had no room.
+    pub outbox: Losses,
+    /// Octets of media for which its trunk queue had no room: dropped, and not because the peer wanted none.
+    pub queue: u64,
+}
+
+impl PeerLosses {
+    /// The frames of each kind that its outbox lost, together, modulo 2^64.
+    pub fn frames(&self) -> u64 {
+        let Losses { full, mini, trunk } = self.outbox;
+        full.wrapping_add(mini).wrapping_add(trunk)
+    }
+}
+
+/// What was lost on the way to the peer at this place of the plan.
+pub fn losses_of<J: Naming, R: Wait>(
+    rt: &R,
+    exchange: &Exchange<NoGate, J>,
+    pass: &mut Pass<J>,
+    peer: u16,
+) -> PeerLosses
+    requires { peer < length exchange.now.peers }
+    ensures { pass.new ≡ pass.old }
+{
+    let sums = exchange.sums(rt, pass, peer);
+    PeerLosses {
+        outbox: exchange.lost(rt, pass, peer),
+        queue: sums.dropped - sums.quelched,
+    }
+}
