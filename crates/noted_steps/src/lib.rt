@@ -8,6 +8,7 @@ mod octets;
 mod pass;
 mod peer_steps;
 mod seen;
+mod stepped_peers;
 pub mod trail;
 
 pub use made::Made;

@@ -56,7 +56,7 @@ impl NotedBook {
     ///
     /// Refusals are looked for in this order: `SerialsSpent` where the next serial would be 2^64 - 1, `NoNumber` where no number
     /// of the peer is free, or the book doesn't know the peer.
-    #[tactic(auto, using(crate::proofs::Counted::steps_in_longer))]
+    #[tactic(auto, using(crate::proofs::Counted::steps_in_longer, crate::proofs::Stepping::with_longer))]
     pub fn reserve<J: Naming>(
         &mut self,
         pass: &mut Pass<J>,
@@ -76,7 +76,7 @@ impl NotedBook {
     }
 
     /// The partner of a name; `None` where the book hasn't the name, or it isn't bridged. It is noted.
-    #[tactic(auto, using(crate::proofs::Counted::steps_in_longer))]
+    #[tactic(auto, using(crate::proofs::Counted::steps_in_longer, crate::proofs::Stepping::with_longer))]
     pub fn partner<J: Naming>(&self, pass: &mut Pass<J>, name: LegName) -> Option<LegName>
         ensures partner { result ≡ partner_of self.now name }
         ensures noted { pass.new ≡ note (mades.Partner name result) pass.old }
@@ -92,7 +92,7 @@ impl NotedBook {
     ///
     /// Refusals are looked for in this order: `Same` where they are one name, `Stale` where the book hasn't one of them,
     /// `Bridged` where one has a partner already; then the book is as before.
-    #[tactic(auto, using(crate::proofs::Counted::steps_in_longer))]
+    #[tactic(auto, using(crate::proofs::Counted::steps_in_longer, crate::proofs::Stepping::with_longer))]
     pub fn bridge<J: Naming>(
         &mut self,
         pass: &mut Pass<J>,
@@ -115,7 +115,7 @@ impl NotedBook {
     /// Gives the former partner. It is noted.
     ///
     /// `Stale` comes exactly where the book hasn't the name; the lease comes back, and the book is as before.
-    #[tactic(auto, using(crate::proofs::Counted::steps_in_longer))]
+    #[tactic(auto, using(crate::proofs::Counted::steps_in_longer, crate::proofs::Stepping::with_longer))]
     pub fn release<J: Naming>(
         &mut self,
         pass: &mut Pass<J>,

@@ -3,6 +3,7 @@ ghost use Rattle.std.specs.Prelude.{◌≡◌, ◌+◌, []};
 ghost use Rattle.peer_accounts.specs.HandedUp.{IsNothing};
 
 use crate::made::{Made, push};
+use crate::stepped_peers::SteppedPeers;
 use crate::trail::Trail;
 use media_ledger::Share;
 use peer_lock::{Naming, Onwards, Pass as Credits};
@@ -16,6 +17,7 @@ use std::marker::Model;
 pub struct Pass<J: Naming> {
     pub(crate) credits: Credits<J>,
     pub(crate) made: Trail,
+    pub(crate) stepped: SteppedPeers,
 }
 
 // (Written out, so that whoever owns one proves a call where it is dropped, and not the drop of each field.)
@@ -24,6 +26,7 @@ impl<J: Naming> Drop for Pass<J> {
         let Pass {
             credits: _,
             made: _,
+            stepped: _,
         } = self;
     }
 }
@@ -31,16 +34,19 @@ impl<J: Naming> Drop for Pass<J> {
 impl<J: Naming> Model for Pass<J> {
     ghost use Rattle.std.specs.Prelude.{◌≡◌, ◌+◌};
     ghost use Rattle.noted_steps.specs.Notes.{Noted, steps_in};
+    ghost use Rattle.noted_steps.specs.Stepped.{no_peers, with_all};
 
     ghost Value = { Noted };
 
     ghost view = { λ p. record { credit = p.credits; begun = p.made.begun; made = p.made.items } };
 
-    ghost invariant = { λ p. p.credits.steps ≡ p.made.begun + steps_in p.made.items };
+    ghost invariant = { λ p. (p.credits.steps ≡ p.made.begun + steps_in p.made.items) ×
+        (p.stepped.unticked ≡ with_all no_peers p.made.items) };
 }
 
 impl<J: Naming> Pass<J> {
     ghost use Rattle.noted_steps.specs.Notes.{note, steps_in};
+    ghost use Rattle.noted_steps.specs.Stepped.{is_unticked};
     ghost use Rattle.noted_steps.specs.declared.made.Made.TheVariants as mades;
 
     /// A pass with this credit, under which nothing was made.
@@ -52,7 +58,11 @@ impl<J: Naming> Pass<J> {
     {
         let credits = Credits::new(octets, steps);
         let made = Trail::new(&credits.steps());
-        Pass { credits, made }
+        Pass {
+            credits,
+            made,
+            stepped: SteppedPeers::none(),
+        }
     }
 
     /// The media octets for which it has credit: those that peers accepted and that aren't carried yet.
@@ -85,8 +95,24 @@ impl<J: Naming> Pass<J> {
         self.credits.keep(onwards);
     }
 
+    /// Whether a step was made at the peer at this place of the plan since its last tick under this pass, whatever it was
+    /// answered. A place past the 32nd has no peer.
+    pub fn is_unticked(&self, peer: u16) -> bool
+        ensures { result ≡ is_unticked self.now peer }
+    {
+        self.stepped.is_unticked(peer)
+    }
+
+    /// Whether a step, or a tick, was made at the peer at this place of the plan under this pass since this was asked about it
+    /// last.
+    pub fn take_unasked(&mut self, peer: u16) -> bool
+        ensures same { self.new ≡ self.old }
+    {
+        self.stepped.take_unasked(peer)
+    }
+
     /// Notes that a step was answered without asking a locked state.
-    #[tactic(auto, using(crate::proofs::Counted::steps_in_longer))]
+    #[tactic(auto, using(crate::proofs::Counted::steps_in_longer, crate::proofs::Stepping::with_longer))]
     pub fn note_unasked(&mut self)
         ensures { self.new ≡ note mades.Unasked self.old }
     {
@@ -100,7 +126,11 @@ impl<J: Naming> Pass<J> {
         ensures steps { result.1 ≡ self.credit.steps }
         ensures noted { self.credit.steps ≡ self.begun + steps_in self.made }
     {
-        let Pass { credits, made: _ } = self;
+        let Pass {
+            credits,
+            made: _,
+            stepped: _,
+        } = self;
         credits.part()
     }
 }

@@ -62,7 +62,7 @@ impl<J: Naming> NotedPeer<J> {
     ///
     /// Refusals are looked for in the order of `PeerError`. `Memory` comes only where memory was refused. Then the peer and the
     /// credit are as before.
-    #[tactic(auto, using(crate::proofs::Counted::steps_in_longer))]
+    #[tactic(auto, using(crate::proofs::Counted::steps_in_longer, crate::proofs::Stepping::with_longer))]
     pub fn datagram_read(
         &mut self,
         pass: &mut Pass<J>,
@@ -94,6 +94,7 @@ impl<J: Naming> NotedPeer<J> {
         let octets = Octets::of(datagram.octets());
         let made = Made::Datagram(self.number, octets, now, answer, handed);
         push(&mut pass.made, made);
+        pass.stepped.step(self.number);
         answer
     }
 
@@ -103,7 +104,7 @@ impl<J: Naming> NotedPeer<J> {
     ///
     /// Refusals are looked for in this order: `StepsSpent`, `NumberBusy`, `RemoteBusy`, `Memory`. `Memory` comes only where
     /// memory was refused. The lease comes back, and the peer and the credit are as before.
-    #[tactic(auto, using(crate::proofs::Counted::steps_in_longer))]
+    #[tactic(auto, using(crate::proofs::Counted::steps_in_longer, crate::proofs::Stepping::with_longer))]
     pub fn open_in(
         &mut self,
         pass: &mut Pass<J>,
@@ -147,6 +148,7 @@ impl<J: Naming> NotedPeer<J> {
             handed,
         );
         push(&mut pass.made, made);
+        pass.stepped.step(self.number);
         answer
     }
 
@@ -155,7 +157,7 @@ impl<J: Naming> NotedPeer<J> {
     ///
     /// Refusals are looked for in this order: `StepsSpent`, `NumberBusy`, `Memory`. `Memory` comes only where memory was refused.
     /// The lease comes back, and the peer and the credit are as before.
-    #[tactic(auto, using(crate::proofs::Counted::steps_in_longer))]
+    #[tactic(auto, using(crate::proofs::Counted::steps_in_longer, crate::proofs::Stepping::with_longer))]
     pub fn open_out(
         &mut self,
         pass: &mut Pass<J>,
@@ -191,6 +193,7 @@ impl<J: Naming> NotedPeer<J> {
             told(&answer),
         );
         push(&mut pass.made, made);
+        pass.stepped.step(self.number);
         answer
     }
 
@@ -200,7 +203,7 @@ impl<J: Naming> NotedPeer<J> {
     ///
     /// Refusals are looked for in this order: `StepsSpent`, `Gone`, `WrongStage`, `WindowFull`, `RecordFull`, `Memory`. `Memory`
     /// comes only where memory was refused. Then the peer and the credit are as before.
-    #[tactic(auto, using(crate::proofs::Counted::steps_in_longer))]
+    #[tactic(auto, using(crate::proofs::Counted::steps_in_longer, crate::proofs::Stepping::with_longer))]
     pub fn order(
         &mut self,
         pass: &mut Pass<J>,
@@ -234,6 +237,7 @@ impl<J: Naming> NotedPeer<J> {
             answer,
         );
         push(&mut pass.made, made);
+        pass.stepped.step(self.number);
         answer
     }
 
@@ -241,7 +245,7 @@ impl<J: Naming> NotedPeer<J> {
     /// is packed while the outbox has room. Tells, too, whether a leg is to be finished then. It is noted, with the answer.
     ///
     /// `StepsSpent` comes exactly where the peer has no step credit left; then the peer and the credit are as before.
-    #[tactic(auto, using(crate::proofs::Counted::steps_in_longer))]
+    #[tactic(auto, using(crate::proofs::Counted::steps_in_longer, crate::proofs::Stepping::with_longer))]
     pub fn tick(&mut self, pass: &mut Pass<J>, now: u64) -> Result<TickReport, StepsSpent>
         ensures noted { Notes (mades.Tick self.old.number now result) pass.old pass.new }
         ensures number { self.new.number ≡ self.old.number }
@@ -254,11 +258,12 @@ impl<J: Naming> NotedPeer<J> {
     {
         let answer = self.state.tick(&mut pass.credits, now);
         push(&mut pass.made, Made::Tick(self.number, now, answer));
+        pass.stepped.tick(self.number);
         answer
     }
 
     /// How the leg of a local number stands; `None` where there is none. It is noted, and is no step of the peer.
-    #[tactic(auto, using(crate::proofs::Counted::steps_in_longer))]
+    #[tactic(auto, using(crate::proofs::Counted::steps_in_longer, crate::proofs::Stepping::with_longer))]
     pub fn look(&self, pass: &mut Pass<J>, number: u16) -> Option<Status>
         ensures status { result ≡ option_map status_of (leg_at self.now.state.legs number) }
         ensures noted { pass.new ≡ note (mades.Look self.now.number number result) pass.old }
@@ -272,7 +277,7 @@ impl<J: Naming> NotedPeer<J> {
     /// media of its call goes out before, in plan format 4. It is noted, and is no step of the peer.
     ///
     /// `None` exactly where no such leg has that name; then the peer is as before.
-    #[tactic(auto, using(crate::proofs::Counted::steps_in_longer))]
+    #[tactic(auto, using(crate::proofs::Counted::steps_in_longer, crate::proofs::Stepping::with_longer))]
     pub fn retire(&mut self, pass: &mut Pass<J>, name: LegName) -> Option<(Lease, EndedLeg)>
         ensures noted { pass.new ≡ note (mades.Retire self.old.number name (given_up result)) pass.old }
         ensures number { self.new.number ≡ self.old.number }
@@ -290,6 +295,7 @@ impl<J: Naming> NotedPeer<J> {
         let answer = self.state.retire(name);
         let made = Made::Retire(self.number, name, seen_of(&answer));
         push(&mut pass.made, made);
+        pass.stepped.step(self.number);
         answer
     }
 }

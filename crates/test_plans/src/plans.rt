@@ -8,7 +8,17 @@ pub const ONE_WORKER: &str = west_and_east!(
     east;
 );
 
-/// The same; two workers or callers may act at once.
+/// The same, beside a third peer, which sends nothing and is sent nothing.
+pub const SILENT_THIRD: &str = plan!(
+    format 1;
+    worker "127.0.0.1" 4569;
+    peer "west" 5001 worker 0 "trunk = true" "trunk_timestamps = true" "numbers = 4";
+    peer "east" 5002 worker 0 "numbers = 4";
+    peer "north" 5003 worker 0 "numbers = 4";
+    route "3" "east";
+);
+
+/// As `ONE_WORKER`; two workers or callers may act at once.
 pub const TWO_PASSES: &str = west_and_east!(
     format 1 "passes = 2";
     west "trunk = true" "trunk_timestamps = true";

@@ -1,5 +1,5 @@
 -- What a turn takes in, and what it leaves for the next one.
-use Rattle.std.specs.Prelude.{◌≡◌, ℕ, ◌+◌, ◌≤◌, ◌⊎◌, ◌==◌, ◌&&◌, Bool, List, [], ◌∷◌, length, min, nat_le, sum_by, if◌then◌else◌, Option, None, Some, true, false}
+use Rattle.std.specs.Prelude.{◌≡◌, ℕ, ◌+◌, ◌≤◌, ◌⊎◌, ◌==◌, ◌&&◌, not, Bool, List, [], ◌∷◌, length, min, nat_le, sum_by, if◌then◌else◌, Option, None, Some, true, false}
 use Rattle.call_signals.specs.Codes.{FRAME_IAX, FRAME_VOICE, IAX_VNAK}
 use Rattle.exchange_core.specs.Traces.{IsHeard, moment}
 use Rattle.iax_frames.specs.Datagram.{IsFrame, Spells}
@@ -11,7 +11,7 @@ use Rattle.noted_steps.specs.Notes.{Noted}
 use Rattle.peer_plan.specs.Plan.{PlanView}
 use Rattle.peer_plan.specs.declared.endpoint.Endpoint.{Endpoint}
 use Rattle.udp_workers.specs.Draining.{IsTurnedAway}
-use Rattle.udp_workers.specs.Ticked.{TicksAll}
+use Rattle.udp_workers.specs.Ticked.{TicksDue}
 use Rattle.udp_workers.specs.declared.intake.Intake.{Intake}
 use Rattle.udp_workers.specs.declared.intake.Intake.TheVariants.{Whole, Bounded}
 use Rattle.udp_workers.specs.declared.intake.Weight.{Weight}
@@ -125,6 +125,18 @@ pub record TurnView : Type 0 where
   pub now : ℕ
   pub challenge : List ℕ
 
+-- Whether a turn has to tick all peers of its worker, by the moment of the turn before it: it may leave out some only if it is
+-- bounded and has that moment too.
+abbrev pub ticks_all : Intake → Option ℕ → ℕ → Bool
+ticks_all Whole before now = true
+ticks_all Bounded None now = true
+ticks_all Bounded (Some before) now = not (before == now)
+
+-- the moment of the last of these turns, which stands first
+abbrev pub last_moment : List TurnView → Option ℕ
+last_moment [] = None
+last_moment (turn ∷ before) = Some turn.now
+
 -- a datagram was taken: it was turned away, or the exchange heard it
 pub record IsTaken (plan : PlanView) (turn : TurnView) (arrival : Arrival) (old new : Noted) : Type 0 where
   pub away : IsTurnedAway turn.stage arrival.octets → new ≡ old
@@ -149,19 +161,20 @@ pub record TakesIn (intake : Intake) (plan : PlanView) (turn : TurnView) (was le
   pub leaves : Leaves intake arrivals left
   pub taken : TakesAll plan turn arrivals old new
 
--- a turn: it took in datagrams, and then time went on at each of these peers
-pub record MakesTurn (intake : Intake) (plan : PlanView) (peers : List ℕ) (turn : TurnView) (was left : Option Arrival) (counted now_counted : ℕ) (old new : Noted) : Type 0 where
+-- a turn: it took in datagrams, and then time went on at all of these peers, or at each that was due
+pub record MakesTurn (intake : Intake) (plan : PlanView) (peers : List ℕ) (all : Bool) (turn : TurnView) (was left : Option Arrival) (counted now_counted : ℕ) (old new : Noted) : Type 0 where
   pub mid : Noted
   pub takes : TakesIn intake plan turn was left counted now_counted old mid
-  pub ticks : TicksAll plan turn.now peers mid new
+  pub ticks : TicksDue plan turn.now all peers mid new
 
--- these turns were made one after another, the last of them first, and none else; nothing was left to the first of them, and the
--- last left that
+-- These turns were made one after another, the last of them first, and none else; nothing was left to the first of them, and the
+-- last left that. Each ticked all peers that it had to.
 abbrev pub MakesAllTurns : Intake → PlanView → List ℕ → List TurnView → Option Arrival → ℕ → Noted → Noted → Type 0
 MakesAllTurns intake plan peers [] left received old new = (left ≡ None) × (received ≡ 0) × (new ≡ old)
 MakesAllTurns intake plan peers (turn ∷ before) left received old new =
-    (mid : Noted) × (was : Option Arrival) × (counted : ℕ) × MakesAllTurns intake plan peers before was counted old mid ×
-    MakesTurn intake plan peers turn was left counted received mid new
+    (mid : Noted) × (was : Option Arrival) × (counted : ℕ) × (all : Bool) × MakesAllTurns intake plan peers before was counted old mid ×
+    (ticks_all intake (last_moment before) turn.now ≡ true → all ≡ true) ×
+    MakesTurn intake plan peers all turn was left counted received mid new
 
 -- a run received so many datagrams, turn by turn; what its last turn left is lost
 pub record RunsTurns (intake : Intake) (plan : PlanView) (peers : List ℕ) (received : ℕ) (old new : Noted) : Type 0 where

@@ -1,9 +1,10 @@
 -- What a turn notes under the pass of its worker.
-use Rattle.std.specs.Prelude.{◌≡◌, ℕ, List, [], ◌∷◌, ◌++◌}
+use Rattle.std.specs.Prelude.{◌≡◌, ℕ, ◌||◌, Bool, true, false, List, [], ◌∷◌, ◌++◌}
 use Rattle.call_steps.specs.Work.{of_tick}
 use Rattle.call_steps.specs.WorkState.{begun}
 use Rattle.exchange_core.specs.Traces.{MakesAll, moment}
 use Rattle.noted_steps.specs.Notes.{Noted}
+use Rattle.noted_steps.specs.Stepped.{is_unticked}
 use Rattle.noted_steps.specs.declared.made.Made.{Made}
 use Rattle.peer_plan.specs.Plan.{PlanView, counts_of, range_of}
 
@@ -21,3 +22,19 @@ Ticks plan now peer old new =
 abbrev pub TicksAll : PlanView → ℕ → List ℕ → Noted → Noted → Type 0
 TicksAll plan now [] old new = new ≡ old
 TicksAll plan now (peer ∷ rest) old new = (mid : Noted) × Ticks plan now peer old mid × TicksAll plan now rest mid new
+
+-- whether a turn ticks a peer: it ticks all, or a step was made at the peer under the pass since its last tick
+abbrev pub is_due : Bool → ℕ → Noted → Bool
+is_due all peer pass = all || is_unticked pass peer
+
+-- time went on at one peer if it was due; otherwise nothing was noted
+pub record TicksIfDue (plan : PlanView) (now : ℕ) (all : Bool) (peer : ℕ) (old new : Noted) : Type 0 where
+  pub due : is_due all peer old ≡ true → Ticks plan now peer old new
+  pub left_out : is_due all peer old ≡ false → new ≡ old
+
+-- time went on at each of these peers that was due when its place in their order came, at one and the same moment: a tick of each
+-- of those, and none else
+abbrev pub TicksDue : PlanView → ℕ → Bool → List ℕ → Noted → Noted → Type 0
+TicksDue plan now all [] old new = new ≡ old
+TicksDue plan now all (peer ∷ rest) old new =
+    (mid : Noted) × TicksIfDue plan now all peer old mid × TicksDue plan now all rest mid new

@@ -20,13 +20,13 @@ const FULL_ENTRIES: u64 = 4;
 // The longest media.
 const MEDIA_OCTETS: usize = 1380;
 
-/// How much a turn takes in, beside 64 datagrams at most.
+/// How much a turn takes in, beside 64 datagrams at most, and which peers it ticks.
 #[derive(Clone, Copy, Debug, PartialEq, Eq)]
 pub enum Intake {
-    /// Whatever comes.
+    /// Whatever comes. All peers are ticked.
     Whole,
     /// As much as an empty trunk queue and an empty outbox have room for: 256 entries and 16,384 octets of media, or one
-    /// datagram.
+    /// datagram. All peers are ticked, or at the moment of the turn before those that are due (`Worker::run_until`).
     Bounded,
 }
 

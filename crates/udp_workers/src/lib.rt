@@ -15,6 +15,7 @@ mod tally;
 mod threads;
 mod turning;
 mod unwatched;
+mod waking;
 mod worker;
 
 pub use intake::Intake;

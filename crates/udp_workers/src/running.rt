@@ -1,9 +1,9 @@
 //! Turns one after another.
-ghost use Rattle.std.specs.Prelude.{◌≡◌, ◌+◌, ◌*◌, ◌^◌, ◌≤◌, if◌then◌else◌, length, min, option_and_then, slice_get};
+ghost use Rattle.std.specs.Prelude.{◌≡◌, ◌+◌, ◌*◌, ◌^◌, ◌≤◌, ◌||◌, if◌then◌else◌, length, min, option_and_then, slice_get};
 ghost use Rattle.udp_wires.specs.Counts.{RisesBy};
 ghost use Rattle.udp_workers.specs.Events.{MakesTurns, Tells};
 ghost use Rattle.udp_workers.specs.Handed.{GivesAll};
-ghost use Rattle.udp_workers.specs.Intake.{RunsTurns, longest_wait};
+ghost use Rattle.udp_workers.specs.Intake.{RunsTurns, longest_wait, ticks_all};
 ghost use Rattle.udp_workers.specs.Served.{AreEndpoints, peers_of};
 ghost use Rattle.udp_workers.specs.Ticked.{IsLater};
 
@@ -12,7 +12,7 @@ use crate::intake::Intake;
 use crate::report::TurnReport;
 use crate::sources::{Challenges, Moments};
 use crate::tally::Tally;
-use crate::turning::Turn;
+use crate::turning::{Turn, TurnEnd};
 use crate::unwatched::Unwatched;
 use crate::worker::Worker;
 use exchange_core::{Exchange, Gate, Pass};
@@ -24,6 +24,9 @@ use worker_watch::{ServiceStage, Watch};
 
 // How long a worker waits for a datagram between two turns, in milliseconds.
 const WAIT_MS: u64 = 20;
+
+// How long it waits after a turn that left out a peer: until the next millisecond, at which it ticks all.
+const SHORT_WAIT_MS: u64 = 1;
 
 /// How many turns a worker makes at most until a service ends: 2^48, so that no sum passes 64 bits, since a turn gives the wire
 /// 8,192 datagrams at most. At ten microseconds a turn these are eighty-nine years.
@@ -55,21 +58,38 @@ fn longest_wait(intake: Intake, trunk_ms: Option<u64>) -> u64
     }
 }
 
-// How long a worker waits at most, in milliseconds: not at all if the last turn left a datagram.
-fn wait_ms(is_left: bool, longest: u64) -> u64
-    ensures { result ≡ (if is_left then 0 else longest) }
+// How long a worker waits at most, in milliseconds: not at all if the last turn left a datagram, and not for long if it left out a
+// peer, whose outbox another worker may have filled since.
+fn wait_ms(is_left: bool, has_left_out: bool, longest: u64) -> u64
+    ensures { result ≡ (if is_left then 0 else if has_left_out then min longest 1 else longest) }
 {
-    if is_left { 0 } else { longest }
+    if is_left {
+        0
+    } else if has_left_out {
+        longest.min(SHORT_WAIT_MS)
+    } else {
+        longest
+    }
 }
 
 // Waits for a datagram, except before the first turn and if one was left.
-fn pause<W: Wire>(wire: &mut W, turn: u64, is_left: bool, longest: u64)
+fn pause<W: Wire>(wire: &mut W, turn: u64, is_left: bool, has_left_out: bool, longest: u64)
     ensures given { W.given wire.new ≡ W.given wire.old }
     ensures failures { W.failures wire.new ≡ W.failures wire.old }
     ensures peers { W.peers wire.new ≡ W.peers wire.old }
 {
     if turn > 0 {
-        wire.wait(wait_ms(is_left, longest));
+        wire.wait(wait_ms(is_left, has_left_out, longest));
+    }
+}
+
+// Whether a turn ticks all peers, by its moment, that of the turn before it, and whether that one found an outbox full.
+fn ticks_all(intake: Intake, before: Option<u64>, time: u64, was_full: bool) -> bool
+    ensures { result ≡ (ticks_all intake before time || was_full) }
+{
+    match (intake, before) {
+        (Intake::Whole, _) | (Intake::Bounded, None) => true,
+        (Intake::Bounded, Some(before)) => before != time || was_full,
     }
 }
 
@@ -125,6 +145,13 @@ impl Worker {
     /// entry, a full frame is four, a VNAK 128. A datagram that doesn't fit any more ends the receiving of its turn. The next
     /// turn follows without a pause, takes it first and counts it then; what the last turn left is lost.
     /// A bounded run waits no longer than the plan's `trunk_ms` between two turns, unless that is 0.
+    ///
+    /// A bounded turn ticks all peers if it is the first or has another moment than the turn before it. Otherwise it leaves out
+    /// each peer at which no step was made under the pass since its last tick, whose tick at the same moment would find nothing to
+    /// do, and sends only what is in the outboxes of peers at which a step was made since. It ticks all as well if the turn before
+    /// it took 256 datagrams out of one outbox. After a turn that left out a peer the worker waits at most 1 ms.
+    ///
+    /// At the end of a turn the watch is told to wake each other worker at whose peers steps were made in it.
     pub fn run_until<W: Wire, V: Watch, G: Gate, J: Naming, M: Moments, C: Challenges, R: Wait>(
         &mut self,
         rt: &R,
@@ -152,7 +179,7 @@ impl Worker {
         ensures steps { pass.old.credit.steps + result.received ≤ pass.new.credit.steps + result.refused }
         ensures later { IsLater pass.old pass.new }
         // Turn by turn: what it took in, which was within its bound, with the datagram that the turn before left as the first;
-        // then a tick of each of its peers, and nothing else.
+        // then a tick of all its peers, or of each that was due, and nothing else.
         ensures intake { RunsTurns intake exchange.now self.old.peers result.received pass.old pass.new }
         ensures place { self.new.place ≡ self.old.place }
         ensures peers { self.new.peers ≡ self.old.peers }
@@ -160,21 +187,26 @@ impl Worker {
         let longest = longest_wait(intake, trunk_ms(exchange.plan()));
         let mut inbox = Inbox::new();
         let mut tally = Tally::new(watch, self.place);
+        let mut before = None;
+        let mut end = TurnEnd::nothing();
         for made in 0..turns.min(MOST_TURNS) {
-            pause(wire, made, inbox.is_full(), longest);
+            pause(wire, made, inbox.is_full(), end.has_left_out, longest);
             let stage = watch.stage();
             if stage == ServiceStage::Ended {
                 return tally.report;
             }
+            let time = moments.now();
             let turn = Turn {
                 rt,
                 exchange,
                 stage,
                 intake,
-                time: moments.now(),
+                time,
+                all: ticks_all(intake, before, time, end.was_full),
                 challenge: &challenges.draw(),
             };
-            self.turn_at(&turn, wire, &mut inbox, pass, &mut tally);
+            end = self.turn_at(&turn, wire, &mut inbox, pass, &mut tally);
+            before = Some(time);
         }
         tally.report
     }

@@ -55,8 +55,8 @@ fn send_frame<W: Wire, V: Watch>(
 }
 
 // Takes up to 256 frames from the outbox of a peer, one after another into the place that is lent, and sends each to its
-// endpoint. What the wire doesn't take is lost.
-pub(crate) fn send_all<W: Wire, V: Watch, G: Gate, J: Naming, R: Wait>(
+// endpoint. What the wire doesn't take is lost. Returns whether it took 256.
+fn send_all<W: Wire, V: Watch, G: Gate, J: Naming, R: Wait>(
     turn: &Turn<'_, G, J, R>,
     wire: &mut W,
     pass: &mut Pass<J>,
@@ -64,7 +64,7 @@ pub(crate) fn send_all<W: Wire, V: Watch, G: Gate, J: Naming, R: Wait>(
     peer: u16,
     to: Endpoint,
     out: &mut Out,
-)
+) -> bool
     requires peer { peer < length turn.now.exchange.now.peers }
     requires to { Contains (W.peers wire.old) to }
     requires room { HasRoom 257 tally.old.report }
@@ -86,8 +86,46 @@ pub(crate) fn send_all<W: Wire, V: Watch, G: Gate, J: Naming, R: Wait>(
 {
     for _ in 0..FRAMES {
         if !turn.exchange.take_into(turn.rt, pass, peer, out) {
-            return;
+            return false;
         }
         send_frame(wire, tally, peer, to, out.octets());
     }
+    true
+}
+
+// The same, if the turn empties all outboxes, or a step was made at the peer, or a tick, since it was sent to last. Returns whether
+// the outbox gave all that a turn takes out of it.
+pub(crate) fn send_if_due<W: Wire, V: Watch, G: Gate, J: Naming, R: Wait>(
+    turn: &Turn<'_, G, J, R>,
+    wire: &mut W,
+    pass: &mut Pass<J>,
+    tally: &mut Tally<'_, V>,
+    peer: u16,
+    to: Endpoint,
+    out: &mut Out,
+) -> bool
+    requires peer { peer < length turn.now.exchange.now.peers }
+    requires to { Contains (W.peers wire.old) to }
+    requires room { HasRoom 257 tally.old.report }
+    ensures given { RiseAlike (W.given wire.old) (W.given wire.new) (tally.old.report.sent + tally.old.report.lost)
+        (tally.new.report.sent + tally.new.report.lost) }
+    ensures to { RiseAlike (W.given_to wire.old to) (W.given_to wire.new to) (tally.old.report.sent + tally.old.report.lost)
+        (tally.new.report.sent + tally.new.report.lost) }
+    ensures others { (other : Endpoint) → other ≢ to → W.given_to wire.new other ≡ W.given_to wire.old other }
+    ensures failures { RiseAlike (W.failures wire.old) (W.failures wire.new) tally.old.report.faults tally.new.report.faults }
+    ensures peers { W.peers wire.new ≡ W.peers wire.old }
+    ensures more { tally.old.report.sent + tally.old.report.lost ≤ tally.new.report.sent + tally.new.report.lost }
+    ensures emptied { tally.new.report.sent + tally.new.report.lost ≤ tally.old.report.sent + tally.old.report.lost + 256 }
+    ensures some_lost { tally.new.report.faults + tally.old.report.lost ≤ tally.old.report.faults + tally.new.report.lost }
+    ensures few_faults { tally.new.report.faults ≤ tally.old.report.faults + 256 }
+    ensures received { tally.new.report.received ≡ tally.old.report.received }
+    ensures refused { tally.new.report.refused ≡ tally.old.report.refused }
+    ensures watch { tally.new.watch ≡ tally.old.watch }
+    ensures pass { pass.new ≡ pass.old }
+{
+    let is_due = pass.take_unasked(peer);
+    if !turn.all && !is_due {
+        return false;
+    }
+    send_all(turn, wire, pass, tally, peer, to, out)
 }

@@ -7,15 +7,16 @@ ghost use Rattle.udp_workers.specs.Events.{HasRoom, OnlyRetires};
 ghost use Rattle.udp_workers.specs.Handed.{GivesAll};
 ghost use Rattle.udp_workers.specs.Intake.{MakesTurn};
 ghost use Rattle.udp_workers.specs.Served.{AreEndpoints, peers_of};
-ghost use Rattle.udp_workers.specs.Ticked.{IsLater, TicksAll};
+ghost use Rattle.udp_workers.specs.Ticked.{IsLater, Ticks, TicksAll, TicksDue, TicksIfDue, is_due};
 
 use crate::inbox::Inbox;
 use crate::intake::Intake;
 use crate::receiving::receive_all;
 use crate::report::TurnReport;
-use crate::sending::send_all;
+use crate::sending::send_if_due;
 use crate::tally::Tally;
 use crate::unwatched::Unwatched;
+use crate::waking::wake_others;
 use crate::worker::Worker;
 use call_auth::Challenge;
 use exchange_core::{Exchange, Gate, Pass};
@@ -35,7 +36,28 @@ pub(crate) struct Turn<'x, G: Gate, J: Naming, R: Wait> {
     pub(crate) intake: Intake,
     // Its moment, in milliseconds since the exchange was opened.
     pub(crate) time: u64,
+    // Whether it ticks all peers, and empties the outboxes of all.
+    pub(crate) all: bool,
     pub(crate) challenge: &'x Challenge,
+}
+
+// What a turn left to the next one.
+#[derive(Clone, Copy)]
+pub(crate) struct TurnEnd {
+    // A peer wasn't ticked.
+    pub(crate) has_left_out: bool,
+    // An outbox gave all that a turn takes out of it: it may have more, or have been too full for what a tick packs.
+    pub(crate) was_full: bool,
+}
+
+impl TurnEnd {
+    // No turn was made.
+    pub(crate) fn nothing() -> TurnEnd {
+        TurnEnd {
+            has_left_out: false,
+            was_full: false,
+        }
+    }
 }
 
 impl Worker {
@@ -80,13 +102,15 @@ impl Worker {
             stage: ServiceStage::Serving,
             intake: Intake::Whole,
             time: now,
+            all: true,
             challenge,
         };
         self.turn_at(&turn, wire, &mut Inbox::new(), pass, &mut tally);
         tally.report
     }
 
-    // Makes a turn, with the datagram that the one before it left.
+    // Makes a turn, with the datagram that the one before it left. It ticks all peers and empties their outboxes, or those that are
+    // due. Returns what is left to the next turn.
     pub(crate) fn turn_at<W: Wire, V: Watch, G: Gate, J: Naming, R: Wait>(
         &mut self,
         turn: &Turn<'_, G, J, R>,
@@ -94,7 +118,7 @@ impl Worker {
         inbox: &mut Inbox,
         pass: &mut Pass<J>,
         tally: &mut Tally<'_, V>,
-    )
+    ) -> TurnEnd
         requires peers { self.old.peers ≡ peers_of turn.now.exchange.now self.old.place }
         requires wire { AreEndpoints turn.now.exchange.now self.old.peers (W.peers wire.old) }
         requires asked { V.answered tally.old.watch.now turn.now.stage }
@@ -117,8 +141,8 @@ impl Worker {
             tally.new.report.refused + tally.old.report.received }
         ensures handed { GivesAll (V.given tally.old.watch.now) pass.old pass.new }
         ensures ticked { (mid : Noted) × IsLater pass.old mid ×
-            TicksAll turn.now.exchange.now turn.now.time self.old.peers mid pass.new }
-        ensures turn { MakesTurn turn.now.intake turn.now.exchange.now self.old.peers
+            TicksDue turn.now.exchange.now turn.now.time turn.now.all self.old.peers mid pass.new }
+        ensures turn { MakesTurn turn.now.intake turn.now.exchange.now self.old.peers turn.now.all
             (record { stage = turn.now.stage; now = turn.now.time; challenge = turn.now.challenge.now }) inbox.old.datagram inbox.new.datagram
             tally.old.report.received tally.new.report.received pass.old pass.new }
         ensures place { self.new.place ≡ self.old.place }
@@ -131,41 +155,98 @@ impl Worker {
         self.turns = self.turns.wrapping_add(1);
         receive_all(turn, wire, inbox, pass, tally);
         let peers = self.peers.as_slice();
-        tick_all(turn, pass, tally, peers);
-        empty_all(turn, wire, pass, tally, peers, &mut self.out);
+        let has_left_out = tick_due(turn, pass, tally, peers);
+        let was_full = empty_due(turn, wire, pass, tally, peers, &mut self.out);
+        wake_others(turn, pass, tally.watch, peers, self.place);
+        TurnEnd {
+            has_left_out,
+            was_full,
+        }
     }
 }
 
-// Time goes on at each of these peers.
-fn tick_all<V: Watch, G: Gate, J: Naming, R: Wait>(
+// Time goes on at a peer.
+fn tick_peer<V: Watch, G: Gate, J: Naming, R: Wait>(
     turn: &Turn<'_, G, J, R>,
     pass: &mut Pass<J>,
     tally: &mut Tally<'_, V>,
-    peers: &[u16],
+    peer: u16,
 )
-    requires peers { All (λ peer. peer < length turn.now.exchange.now.peers) peers.now }
+    requires peer { peer < length turn.now.exchange.now.peers }
     requires room { HasRoom 1 tally.old.report }
     ensures steps { pass.old.credit.steps ≤ pass.new.credit.steps }
-    ensures ticked { TicksAll turn.now.exchange.now turn.now.time peers.now pass.old pass.new }
+    ensures ticked { Ticks turn.now.exchange.now turn.now.time peer pass.old pass.new }
     ensures handed { GivesAll (V.given tally.old.watch.now) pass.old pass.new }
     ensures only { OnlyRetires tally.old.report tally.new.report }
     ensures watch { tally.new.watch ≡ tally.old.watch }
 {
-    for &peer in peers {
-        let answer = turn.exchange.tick(turn.rt, pass, peer, turn.time);
-        tally.tell_retired(&answer.retired);
-    }
+    let answer = turn.exchange.tick(turn.rt, pass, peer, turn.time);
+    tally.tell_retired(&answer.retired);
 }
 
-// Sends what is in the outboxes of these peers.
-fn empty_all<W: Wire, V: Watch, G: Gate, J: Naming, R: Wait>(
+// Whether a turn ticks a peer.
+fn is_due<G: Gate, J: Naming, R: Wait>(turn: &Turn<'_, G, J, R>, pass: &Pass<J>, peer: u16) -> bool
+    ensures { result ≡ is_due turn.now.all peer pass.now }
+{
+    turn.all || pass.is_unticked(peer)
+}
+
+// Time goes on at a peer, if it is due. Returns whether it is.
+#[tactic(auto, using(crate::proofs::TickLaws::if_ticked, crate::proofs::TickLaws::if_left_out, crate::proofs::HandingLaws::gives_none))]
+fn tick_if_due<V: Watch, G: Gate, J: Naming, R: Wait>(
+    turn: &Turn<'_, G, J, R>,
+    pass: &mut Pass<J>,
+    tally: &mut Tally<'_, V>,
+    peer: u16,
+) -> bool
+    requires peer { peer < length turn.now.exchange.now.peers }
+    requires room { HasRoom 1 tally.old.report }
+    ensures steps { pass.old.credit.steps ≤ pass.new.credit.steps }
+    ensures ticked { TicksIfDue turn.now.exchange.now turn.now.time turn.now.all peer pass.old pass.new }
+    ensures handed { GivesAll (V.given tally.old.watch.now) pass.old pass.new }
+    ensures only { OnlyRetires tally.old.report tally.new.report }
+    ensures watch { tally.new.watch ≡ tally.old.watch }
+{
+    if !is_due(turn, pass, peer) {
+        return false;
+    }
+    tick_peer(turn, pass, tally, peer);
+    true
+}
+
+// Time goes on at each of these peers that is due when its place in their order comes: so also at one that the tick of a peer
+// before it hangs up. Returns whether it left out a peer.
+fn tick_due<V: Watch, G: Gate, J: Naming, R: Wait>(
+    turn: &Turn<'_, G, J, R>,
+    pass: &mut Pass<J>,
+    tally: &mut Tally<'_, V>,
+    peers: &[u16],
+) -> bool
+    requires peers { All (λ peer. peer < length turn.now.exchange.now.peers) peers.now }
+    requires room { HasRoom 1 tally.old.report }
+    ensures steps { pass.old.credit.steps ≤ pass.new.credit.steps }
+    ensures ticked { TicksDue turn.now.exchange.now turn.now.time turn.now.all peers.now pass.old pass.new }
+    ensures handed { GivesAll (V.given tally.old.watch.now) pass.old pass.new }
+    ensures only { OnlyRetires tally.old.report tally.new.report }
+    ensures watch { tally.new.watch ≡ tally.old.watch }
+{
+    let mut has_left_out = false;
+    for &peer in peers {
+        let is_ticked = tick_if_due(turn, pass, tally, peer);
+        has_left_out |= !is_ticked;
+    }
+    has_left_out
+}
+
+// Sends what is in the outboxes of these peers, or of those that are due. Returns whether one gave all that a turn takes out of it.
+fn empty_due<W: Wire, V: Watch, G: Gate, J: Naming, R: Wait>(
     turn: &Turn<'_, G, J, R>,
     wire: &mut W,
     pass: &mut Pass<J>,
     tally: &mut Tally<'_, V>,
     peers: &[u16],
     out: &mut Out,
-)
+) -> bool
     requires few { length peers.now ≤ 32 }
     requires peers { All (λ peer. peer < length turn.now.exchange.now.peers) peers.now }
     requires wire { AreEndpoints turn.now.exchange.now peers.now (W.peers wire.old) }
@@ -184,8 +265,11 @@ fn empty_all<W: Wire, V: Watch, G: Gate, J: Naming, R: Wait>(
     ensures watch { tally.new.watch ≡ tally.old.watch }
     ensures pass { pass.new ≡ pass.old }
 {
+    let mut was_full = false;
     for &peer in peers {
         let to = turn.exchange.plan().endpoint(peer);
-        send_all(turn, wire, pass, tally, peer, to, out);
+        let is_full = send_if_due(turn, wire, pass, tally, peer, to, out);
+        was_full |= is_full;
     }
+    was_full
 }

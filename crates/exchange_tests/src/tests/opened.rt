@@ -8,7 +8,9 @@ use crate::tests::recovery::{Sums, ended};
 use crate::tests::same::holds;
 use crate::tests::storm::storm_and_end;
 use crate::tests::two_peers::Progress;
-use crate::tests::wires::{Burst, Played, Rejection, call_first, play_burst, play_call, turn_on};
+use crate::tests::wires::{
+    Burst, Played, Rejection, Taken, call_first, play_burst, play_call, play_waking, turn_on,
+};
 use exchange_core::{Exchange, Gate, NoGate, Pass};
 use media_ledger::Blank;
 use peer_lock::{Naming, Service};
@@ -42,8 +44,10 @@ pub enum Play<'a> {
     TwoTicks(&'a Progress),
     /// The only worker of a plan plays a whole call, over a wire that fails at its call of this place; at 0 never.
     WholeCall(u64, &'a mut Option<Played>),
-    /// The only worker of a plan is given a burst of trunk frames: how many it received.
-    Burst(Burst, &'a mut u64),
+    /// The only worker of a plan is given a burst of trunk frames.
+    Burst(Burst, &'a mut Taken),
+    /// Media comes to the second worker of a plan for a peer of the first: how often either was woken.
+    Waking(&'a mut (u64, u64)),
     /// Each worker of a plan makes one turn: how many made theirs.
     OneTurn(&'a mut u64),
     /// A socket calls a number that leads nowhere.
@@ -102,7 +106,8 @@ fn play_any<
         Play::Tickers => play_pair(rt, exchange, passes, None),
         Play::TwoTicks(progress) => play_pair(rt, exchange, passes, Some(progress)),
         Play::WholeCall(at, played) => *played = Some(play_call(rt, alloc, at, exchange, passes)),
-        Play::Burst(burst, received) => *received = play_burst(rt, alloc, burst, exchange, passes),
+        Play::Burst(burst, taken) => *taken = play_burst(rt, alloc, burst, exchange, passes),
+        Play::Waking(woken) => *woken = play_waking(rt, alloc, exchange, passes),
         Play::OneTurn(turns) => *turns = turn_on::<G, J, P, R>(rt, alloc, exchange, passes),
         Play::CallFor200(called) => *called = Some(call_first(rt, alloc, exchange, passes)),
     }

@@ -5,9 +5,11 @@ mod burst;
 mod failing_wire;
 mod loopback;
 mod memory_wire;
+mod waking;
 mod whole_call;
 
 pub use crate::tests::wires::both_at_once::turn_on;
-pub use crate::tests::wires::burst::{Burst, play_burst};
+pub use crate::tests::wires::burst::{Burst, Taken, play_burst};
 pub use crate::tests::wires::loopback::{Rejection, call_first};
+pub use crate::tests::wires::waking::play_waking;
 pub use crate::tests::wires::whole_call::{Played, play_call};

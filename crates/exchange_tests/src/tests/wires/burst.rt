@@ -15,7 +15,7 @@ use std::alloc::{AllocError, Global};
 use std::process::Abort;
 use std::sync::Wait;
 use std::test::*;
-use test_plans::plans::ONE_WORKER;
+use test_plans::plans::SILENT_THIRD;
 use udp_workers::{Intake, Unwatched, Worker};
 
 // How many trunk frames come at once.
@@ -26,6 +26,15 @@ const FRAMES: u64 = 64;
 pub enum Burst {
     Run(u32),
     Bounded(u64),
+}
+
+/// What a worker did with a burst.
+#[derive(Clone, Copy, Debug, Default, PartialEq, Eq)]
+pub struct Taken {
+    /// How many datagrams it received.
+    pub received: u64,
+    /// How many steps of peers were made.
+    pub steps: u64,
 }
 
 // A trunk frame from the east: eight entries of its call, each of 160 octets.
@@ -60,14 +69,14 @@ fn play_up<G: Gate, J: Naming, R: Wait>(
     }
 }
 
-/// The only worker of a plan has a call that is up, and is given 64 trunk frames at once. How many it received.
+/// The only worker of a plan has a call that is up, and is given 64 trunk frames at once.
 pub fn play_burst<G: Gate, J: Naming, R: Abort + Wait>(
     rt: &R,
     alloc: Global,
     burst: Burst,
     exchange: &Exchange<G, J>,
     passes: &mut [Pass<J>],
-) -> u64 {
+) -> Taken {
     let pass = passes.first_mut().expect(rt, "a pass");
     let challenge = Challenge::new(b"0").expect(rt, "a challenge");
     let _workers = exchange.plan().workers();
@@ -76,6 +85,7 @@ pub fn play_burst<G: Gate, J: Naming, R: Abort + Wait>(
     play_up(rt, exchange, pass, &mut worker, &mut wire, &challenge);
     wire.put_often(EAST, trunk_frame(alloc).expect(rt, "a frame"), FRAMES);
     let mut zero = Zero(challenge);
+    let first = pass.steps();
     let report = match burst {
         Burst::Run(turns) => worker.run(
             rt,
@@ -98,28 +108,50 @@ pub fn play_burst<G: Gate, J: Naming, R: Abort + Wait>(
             &mut zero,
         ),
     };
-    report.received
+    Taken {
+        received: report.received,
+        steps: pass.steps().wrapping_sub(first),
+    }
 }
 
-// How a burst is taken in, how many datagrams are received so, and how many octets of their media are packed and dropped.
-static ROWS: [(Burst, u64, u64, u64); 4] = [
-    // Twelve frames of 1,280 octets of media fit 16,384.
-    (Burst::Bounded(1), 12, 12 * 1280, 0),
-    (Burst::Bounded(5), 60, 60 * 1280, 0),
-    (Burst::Bounded(6), 64, 64 * 1280, 0),
+// How a burst is taken in, how many datagrams are received so and how many steps are made, and how many octets of their media are
+// packed and dropped. All turns have one moment.
+static ROWS: [(Burst, u64, u64, u64, u64); 6] = [
+    // Twelve frames of 1,280 octets of media fit 16,384. Each is a step at the east and eight at the west, and then all three peers
+    // are ticked.
+    (Burst::Bounded(1), 12, 12 * 9 + 3, 12 * 1280, 0),
+    // The silent peer isn't ticked again, the others are.
+    (Burst::Bounded(5), 60, 60 * 9 + 3 + 4 * 2, 60 * 1280, 0),
+    (Burst::Bounded(6), 64, 64 * 9 + 3 + 5 * 2, 64 * 1280, 0),
+    // Where nothing comes, no peer is.
+    (Burst::Bounded(9), 64, 64 * 9 + 3 + 5 * 2, 64 * 1280, 0),
     // A trunk queue takes 102 entries of 160 octets.
-    (Burst::Run(1), 64, 102 * 160, 64 * 1280 - 102 * 160),
+    (
+        Burst::Run(1),
+        64,
+        64 * 9 + 3,
+        102 * 160,
+        64 * 1280 - 102 * 160,
+    ),
+    // Turns of `run` tick each peer.
+    (
+        Burst::Run(3),
+        64,
+        64 * 9 + 3 * 3,
+        102 * 160,
+        64 * 1280 - 102 * 160,
+    ),
 ];
 
 #[test]
 fn bounded_turns_lose_nothing(rt: HostRuntime) {
     for row in &ROWS {
-        let (burst, count, packed, dropped) = *row;
-        let mut received = 0;
-        let played = Play::Burst(burst, &mut received);
-        let sums = play_with(&rt, rt.alloc(), ONE_WORKER, NoGate, played);
+        let (burst, received, steps, packed, dropped) = *row;
+        let mut taken = Taken::default();
+        let played = Play::Burst(burst, &mut taken);
+        let sums = play_with(&rt, rt.alloc(), SILENT_THIRD, NoGate, played);
         let sums = sums.expect(&rt, "an exchange");
-        same(&rt, &received, &count);
+        same(&rt, &taken, &Taken { received, steps });
         // An octet of voice went before.
         same(&rt, &(sums.packed, sums.dropped), &(packed + 1, dropped));
     }

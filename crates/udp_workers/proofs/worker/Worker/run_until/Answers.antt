@@ -3,14 +3,15 @@ use Rattle.udp_workers.specs.Handed.{GivesAll}
 use Rattle.udp_workers.specs.Intake.{InboxView, MakesTurn, TurnView}
 use Rattle.udp_workers.specs.declared.report.TurnReport.{TurnReport}
 use Rattle.udp_workers.proofs.HandingLaws.{gives_none, gives_on}
-use Rattle.udp_workers.proofs.TickLaws.{later_same, turn_later}
+use Rattle.udp_workers.proofs.TickLaws.{later_same, must_tick, turn_later}
 use Rattle.udp_workers.proofs.worker.Worker.run_until.Goals as goal
 
 pub loop-made-preserved : goal.loop-made-preserved
 loop-made-preserved g c =
     let l = c.loop-made in
-    let made = c.turn_at in
-    let view : TurnView = record { stage = c.stage-stage.result; now = c.now.result; challenge = c.draw.result } in
+    let made = c.turn_at-end in
+    let all = c.ticks_all.result in
+    let view : TurnView = record { stage = c.stage-stage.result; now = c.now-time.result; challenge = c.draw.result } in
     let few : length l.self.peers ≤ 32 = subst (λ (peers : List ℕ). length peers ≤ 32) made.ensures.peers made.ensures.few in
     record {
       received = omega arith;
@@ -22,7 +23,7 @@ loop-made-preserved g c =
       failures = omega arith;
       wire = made.ensures.wire ∙ c.pause.ensures.peers ∙ l.invariant.wire;
       steps = omega arith;
-      later = turn_later c.args.exchange.now c.now.result l.self.peers c.args.pass.now l.pass made.new.pass l.invariant.later made.ensures.ticked;
+      later = turn_later c.args.exchange.now c.now-time.result all l.self.peers c.args.pass.now l.pass made.new.pass l.invariant.later made.ensures.ticked;
       handed =
           gives_on (g.V.Watch.given c.args.watch.now) c.args.pass.now l.pass made.new.pass l.invariant.handed
           (subst (λ (watch : g.row.V.Denot). GivesAll (g.V.Watch.given watch) l.pass made.new.pass) l.invariant.watch made.ensures.handed);
@@ -34,10 +35,13 @@ loop-made-preserved g c =
           l.pass,
           l.inbox.datagram,
           l.tally.report.received,
+          all,
           l.invariant.intake.1,
-          subst (λ peers. MakesTurn c.args.intake c.args.exchange.now peers view l.inbox.datagram made.new.inbox.datagram l.tally.report.received made.new.tally.report.received l.pass made.new.pass)
+          must_tick c.args.intake l.before c.now-time.result l.end.was_full all l.invariant.intake.0 l.invariant.intake.2 c.ticks_all.ensures,
+          subst (λ peers. MakesTurn c.args.intake c.args.exchange.now peers all view l.inbox.datagram made.new.inbox.datagram l.tally.report.received made.new.tally.report.received l.pass made.new.pass)
               l.invariant.peers made.ensures.turn,
         ),
+        refl,
       );
       turns = omega arith;
     }
@@ -64,15 +68,15 @@ loop-made-init g c =
       handed = gives_none (g.V.Watch.given c.args.watch.now) c.args.pass.now;
       place = refl;
       peers = refl;
-      intake = ([], (ap (λ (inbox : InboxView). inbox.datagram) c.new-inbox.ensures, received, refl));
+      intake = ([], (ap (λ (inbox : InboxView). inbox.datagram) c.new-inbox.ensures, received, refl), refl);
       turns = omega arith;
     }
 
 pub returns-then-eq-clause-turns : goal.returns-then-eq-clause-turns
 returns-then-eq-clause-turns c = search rules
 
-pub turn_at-requires-clause-going : goal.turn_at-requires-clause-going
-turn_at-requires-clause-going c = search rules
+pub turn_at-end-requires-clause-going : goal.turn_at-end-requires-clause-going
+turn_at-end-requires-clause-going c = search rules
 
 pub returns-then-eq-clause-given : goal.returns-then-eq-clause-given
 returns-then-eq-clause-given c = search rules
@@ -80,8 +84,8 @@ returns-then-eq-clause-given c = search rules
 pub returns-then-eq-clause-faults : goal.returns-then-eq-clause-faults
 returns-then-eq-clause-faults c = search rules
 
-pub turn_at-requires-clause-asked : goal.turn_at-requires-clause-asked
-turn_at-requires-clause-asked c = search rules
+pub turn_at-end-requires-clause-asked : goal.turn_at-end-requires-clause-asked
+turn_at-end-requires-clause-asked c = search rules
 
 pub returns-clause-turns : goal.returns-clause-turns
 returns-clause-turns c = search rules

@@ -1,7 +1,7 @@
 use Rattle.std.proofs.Common.{◌≡◌, ◌+◌, ◌*◌, ◌≤◌, List}
 use Rattle.udp_wires.specs.Counts.{RisesBy}
 use Rattle.udp_workers.specs.Handed.{GivesAll}
-use Rattle.udp_workers.specs.Intake.{MakesAllTurns, TurnView}
+use Rattle.udp_workers.specs.Intake.{MakesAllTurns, TurnView, last_moment}
 use Rattle.udp_workers.specs.Ticked.{IsLater}
 use Rattle.udp_workers.proofs.worker.Worker.run_until.Given as goal
 
@@ -20,6 +20,6 @@ invariant-loop-made g l = record {
   handed : GivesAll (g.V.Watch.given l.watch) l.fn.pass l.pass;
   place : l.self.place ≡ l.fn.self.place;
   peers : l.self.peers ≡ l.fn.self.peers;
-  intake : (turns : List TurnView) × MakesAllTurns l.intake l.exchange l.fn.self.peers turns l.inbox.datagram l.tally.report.received l.fn.pass l.pass;
+  intake : (turns : List TurnView) × MakesAllTurns l.intake l.exchange l.fn.self.peers turns l.inbox.datagram l.tally.report.received l.fn.pass l.pass × (l.before ≡ last_moment turns);
   turns : RisesBy l.fn.self.turns l.self.turns l.made;
 }

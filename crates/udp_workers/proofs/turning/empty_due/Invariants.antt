@@ -2,7 +2,7 @@ use Rattle.std.proofs.Common.{◌≡◌, ◌+◌, ◌*◌, ◌≤◌, length}
 use Rattle.std.specs.List.{AllWithin}
 use Rattle.peer_plan.specs.declared.endpoint.Endpoint.{Endpoint}
 use Rattle.udp_wires.specs.Counts.{RiseAlike, RisesByAtMost}
-use Rattle.udp_workers.proofs.turning.empty_all.Given as goal
+use Rattle.udp_workers.proofs.turning.empty_due.Given as goal
 
 abbrev pub invariant-loop-peer : goal.invariant-loop-peer
 invariant-loop-peer g l = record {

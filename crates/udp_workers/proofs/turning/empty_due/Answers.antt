@@ -4,10 +4,10 @@ use Rattle.std.specs.Prelude.{Contains, slice_get}
 use Rattle.udp_workers.specs.Served.{endpoint_at}
 use Rattle.udp_workers.proofs.CountLaws.{ahead_next, by_as_much, each_next}
 use Rattle.udp_workers.proofs.ServedLaws.{endpoint_among, endpoint_there}
-use Rattle.udp_workers.proofs.turning.empty_all.Goals as goal
+use Rattle.udp_workers.proofs.turning.empty_due.Goals as goal
 
-pub send_all-requires-clause-to : goal.send_all-requires-clause-to
-send_all-requires-clause-to g c κs within =
+pub send_if_due-is_full-requires-clause-to : goal.send_if_due-is_full-requires-clause-to
+send_if_due-is_full-requires-clause-to g c κs within =
     let l = c.loop-peer in
     let peers = c.args.peers.now in
     let to = c.endpoint-to.result in
@@ -17,7 +17,7 @@ send_all-requires-clause-to g c κs within =
 pub loop-peer-preserved : goal.loop-peer-preserved
 loop-peer-preserved g c =
     let l = c.loop-peer in
-    let gone = c.send_all in
+    let gone = c.send_if_due-is_full in
     let peers = c.args.peers.now in
     let ends = g.W.Wire.peers c.args.wire.now in
     let to = c.endpoint-to.result in

@@ -1,0 +1,48 @@
+//! What a turn led to at the peers of other workers.
+ghost use Rattle.std.specs.Prelude.{◌≡◌};
+
+use crate::turning::Turn;
+use exchange_core::{Gate, Pass};
+use peer_lock::Naming;
+use std::sync::Wait;
+use worker_watch::Watch;
+
+// A plan has at most so many workers.
+const WORKERS: usize = 8;
+
+// Tells the watch to wake a worker, unless it was told so already.
+fn wake_once<V: Watch>(watch: &V, worker: u16, woken: &mut [bool; WORKERS]) {
+    let place = usize::from(worker);
+    if place >= WORKERS || woken[place] {
+        return;
+    }
+    woken[place] = true;
+    watch.wake(worker);
+}
+
+// Tells the watch to wake each other worker at whose peers steps were made under the pass since this was done last: they may have
+// put datagrams into outboxes that only that worker empties. The worker at this place of the plan, which serves these peers, makes
+// the turn.
+pub(crate) fn wake_others<V: Watch, G: Gate, J: Naming, R: Wait>(
+    turn: &Turn<'_, G, J, R>,
+    pass: &mut Pass<J>,
+    watch: &V,
+    peers: &[u16],
+    place: u16,
+)
+    ensures { pass.new ≡ pass.old }
+{
+    let plan = turn.exchange.plan();
+    // A worker that serves all peers is the only one.
+    if peers.len() == usize::from(plan.peer_count()) {
+        return;
+    }
+    let mut woken = [false; WORKERS];
+    for peer in 0..plan.peer_count() {
+        let is_unasked = pass.take_unasked(peer);
+        let worker = plan.worker(peer);
+        if is_unasked && worker != place {
+            wake_once(watch, worker, &mut woken);
+        }
+    }
+}
