@@ -20,7 +20,6 @@ use std::random::RandomSource;
 use std::sync::Wait;
 use std::thread;
 use std::time::{Clock, Instant};
-use trace_writer::Trace;
 use udp_workers::{Intake, MOST_TURNS, Post, TurnReport, WatchedExchange};
 use worker_seats::{ServiceError, ServiceSeat, lane_of, reports_of, seats_of};
 
@@ -40,7 +39,7 @@ pub(crate) fn serve_seats<J: Naming, P: Post + Send + Sync, R: ServiceSystem>(
     })
 }
 
-// The seats of the workers. The log tells the start, and what room their sockets have.
+// The seats of the workers, whose wakers the watch keeps. The log tells the start, and what room their sockets have.
 fn told_seats<'r, J: Naming, P: Post, R: Clock + Eprint + Net + RandomSource + Wait>(
     rt: &'r R,
     alloc: Global,
@@ -48,7 +47,7 @@ fn told_seats<'r, J: Naming, P: Post, R: Clock + Eprint + Net + RandomSource + W
     passes: &mut Vec<Pass<J>>,
     settings: &Settings<'_>,
     opened: Instant,
-    trace: Option<&'r Trace>,
+    watch: &'r ServiceWatch,
 ) -> Result<Vec<ServiceSeat<'r, R, J, P>>, ServiceError>
     requires plan { plan.now ≡ P.plan }
     requires enough { length plan.now.workers + 1 ≤ vec_len passes.old }
@@ -60,9 +59,15 @@ fn told_seats<'r, J: Naming, P: Post, R: Clock + Eprint + Net + RandomSource + W
         level: settings.level,
     };
     tell_start(&log, plan, settings.version, settings.plan_path);
-    let sockets = ServiceSockets { log: &log };
+    let sockets = ServiceSockets { log: &log, watch };
     seats_of::<J, P, R, ServiceSockets<'_, Journal<'_, R>>>(
-        rt, alloc, plan, passes, opened, &sockets, trace,
+        rt,
+        alloc,
+        plan,
+        passes,
+        opened,
+        &sockets,
+        watch.trace(),
     )
 }
 
@@ -141,7 +146,7 @@ pub(crate) fn serve_watched<J: Naming, P: Post + Send + Sync, R: ServiceSystem, 
     requires enough { length exchange.now.workers + 1 ≤ vec_len passes.old }
 {
     let (alloc, plan, settings) = (control.alloc, exchange.plan(), control.settings);
-    let seats = told_seats::<J, P, R>(rt, alloc, plan, passes, settings, opened, watch.trace());
+    let seats = told_seats::<J, P, R>(rt, alloc, plan, passes, settings, opened, watch);
     let seats = match seats {
         Ok(seats) => seats,
         Err(error) => return Err(error),

@@ -1,15 +1,18 @@
-//! Sockets of workers as a service has them: those of one endpoint share it, and the system keeps more room for datagrams that
-//! wait.
+//! Sockets of workers as a service has them: those of one endpoint share it, the system keeps more room for datagrams that wait,
+//! and each has a waker.
 use libc::net as system;
-use log::{Log, info};
+use log::{Log, info, warn};
+use service_watch::ServiceWatch;
 use std::os::fd::RawFd;
+use udp_wires::WireWaker;
 use worker_seats::Sockets;
 
 /// Workers of one endpoint share it; at each socket its share of the room is asked for, and how much there is at a worker's own is
-/// logged: those that are connected to its peers have as much.
+/// logged: those that are connected to its peers have as much. The watch keeps the wakers.
 #[derive(Drop)]
 pub(crate) struct ServiceSockets<'l, L> {
     pub(crate) log: &'l L,
+    pub(crate) watch: &'l ServiceWatch,
 }
 
 // The room of a socket in octets, after so much was asked for: the system gives as much as its `net.core.rmem_max` lets it, and
@@ -52,5 +55,17 @@ impl<'l, L: Log> Sockets for ServiceSockets<'l, L> {
 
     fn set_up_link(&self, descriptor: RawFd, room: u32) {
         let _given = room_of(descriptor, room);
+    }
+
+    fn are_woken(&self) -> bool {
+        true
+    }
+
+    fn keep_waker(&self, place: u16, waker: Option<WireWaker>) {
+        match waker {
+            Some(waker) => self.watch.keep_waker(place, waker),
+            None =>
+                warn!(self.log; "worker {place} isn't woken by others: the system gives no eventfd"),
+        }
     }
 }

@@ -175,7 +175,9 @@ impl<'x, J: Naming> Desk<'x, J> {
         name: LegName,
         now: u64,
     ) -> Result<Answer, AllocError> {
-        match self.hang_up(rt, name, now) {
+        let hung_up = self.hang_up(rt, name, now);
+        self.watch.wake_all();
+        match hung_up {
             Ok(()) => named(alloc, Status::Ok, name),
             Err(why) => Answer::error(alloc, Status::Conflict, why),
         }
@@ -219,6 +221,7 @@ impl<'x, J: Naming> Desk<'x, J> {
         if let Some(lane) = &mut self.lane {
             lane.end_order(rt);
         }
+        self.watch.wake_all();
         match called {
             Ok(name) => named(alloc, Status::Created, name),
             Err(CallError::BadNumber) => {

@@ -31,7 +31,7 @@ fn tell_retired(watch: &ServiceWatch, workers: usize, legs: &[Retired]) {
 }
 
 impl<'x, J: Naming> Desk<'x, J> {
-    /// Hangs up a leg. `Err` is the name of what refuses it.
+    /// Hangs up a leg; its caller wakes the workers. `Err` is the name of what refuses it.
     pub(crate) fn hang_up<R: Wait>(
         &mut self,
         rt: &R,
@@ -73,6 +73,9 @@ impl<'x, J: Naming> Desk<'x, J> {
                     let _ = self.hang_up(rt, leg.name, now);
                 }
             }
+        }
+        if legs > 0 {
+            self.watch.wake_all();
         }
         legs
     }

@@ -1,6 +1,7 @@
 //! What the workers of a service ask, and what they tell of each peer.
 ghost use Rattle.std.specs.Prelude.{◌≡◌};
 
+use crate::waker_table::WakerTable;
 use call_writer::CallOutlets;
 use exchange_core::{Refusal, Retired};
 use exchange_report::call_row;
@@ -10,6 +11,7 @@ use std::mem;
 use std::sync::atomic::{AtomicU64, Ordering};
 use std::sync::{Mutex, Wait};
 use trace_writer::Trace;
+use udp_wires::WireWaker;
 use worker_watch::{Event, ServiceStage, Watch};
 
 const SERVING: u64 = 0;
@@ -84,6 +86,7 @@ pub struct ServiceWatch {
     faults: AtomicU64,
     // The strangers that the log hasn't taken yet.
     seen: Mutex<Vec<Endpoint>>,
+    wakers: WakerTable,
     // Where the rows of ended legs go, if they are wanted.
     calls: Option<CallOutlets>,
     // Where it is noted what the exchange is given, if that is wanted.
@@ -99,6 +102,7 @@ impl Drop for ServiceWatch {
             strangers: _,
             faults: _,
             seen: _,
+            wakers: _,
             calls: _,
             trace: _,
         } = self;
@@ -156,8 +160,11 @@ impl PeerMarks {
     }
 }
 
-// The peers of a plan, of which nothing was heard, and room for strangers.
-fn room_of(alloc: Global, plan: &Plan) -> Result<(Vec<PeerMarks>, Vec<Endpoint>), AllocError> {
+// The peers of a plan, of which nothing was heard, room for strangers, and for the wakers of the workers.
+fn room_of(
+    alloc: Global,
+    plan: &Plan,
+) -> Result<(Vec<PeerMarks>, Vec<Endpoint>, WakerTable), AllocError> {
     let mut peers = Vec::new(alloc);
     for peer in 0..plan.peer_count() {
         let marks = PeerMarks::new(alloc, plan.worker(peer))?;
@@ -166,7 +173,8 @@ fn room_of(alloc: Global, plan: &Plan) -> Result<(Vec<PeerMarks>, Vec<Endpoint>)
         }
     }
     let seen = Vec::with_capacity(alloc, STRANGERS)?;
-    Ok((peers, seen))
+    let wakers = WakerTable::new(alloc, plan.workers().len())?;
+    Ok((peers, seen, wakers))
 }
 
 fn count_one(count: &AtomicU64) {
@@ -184,13 +192,14 @@ impl ServiceWatch {
         calls: Option<CallOutlets>,
         trace: Option<Trace>,
     ) -> Result<ServiceWatch, AllocError> {
-        let (peers, seen) = room_of(alloc, plan)?;
+        let (peers, seen, wakers) = room_of(alloc, plan)?;
         Ok(ServiceWatch {
             stage: AtomicU64::new(SERVING),
             peers,
             strangers: AtomicU64::new(0),
             faults: AtomicU64::new(0),
             seen: Mutex::new(seen),
+            wakers,
             calls,
             trace,
         })
@@ -241,6 +250,16 @@ impl ServiceWatch {
     pub fn take_strangers<R: Wait>(&self, rt: &R, spare: Vec<Endpoint>) -> Vec<Endpoint> {
         let mut seen = self.seen.lock(rt);
         mem::replace(&mut *seen, spare)
+    }
+
+    /// Keeps the waker of the worker at this place of the plan, unless it has one.
+    pub fn keep_waker(&self, worker: u16, waker: WireWaker) {
+        self.wakers.keep(worker, waker);
+    }
+
+    /// Wakes each worker that has a waker, after an order that may have filled outboxes of any peer.
+    pub fn wake_all(&self) {
+        self.wakers.wake_all();
     }
 
     /// Has the service drain; where it drains already, has its workers end.
@@ -359,5 +378,7 @@ impl Watch for ServiceWatch {
         self.end();
     }
 
-    fn wake(&self, _worker: u16) {}
+    fn wake(&self, worker: u16) {
+        self.wakers.wake(worker);
+    }
 }

@@ -1,5 +1,5 @@
 -- What is known of a bound socket.
-use Rattle.std.specs.Prelude.{ℕ, List}
+use Rattle.std.specs.Prelude.{Bool, ℕ, List}
 use Rattle.peer_plan.specs.declared.endpoint.Endpoint.{Endpoint}
 use Rattle.udp_wires.specs.PeerCounts.{count_of}
 use Rattle.udp_wires.specs.declared.mio_wire.MioWire as code
@@ -19,3 +19,7 @@ failures_of wire = wire.failures
 -- the endpoints that it may send to
 abbrev pub peers_of : code.MioWire → List Endpoint
 peers_of wire = wire.peers.endpoints.items
+
+-- whether a wait takes 2 ms at most, whatever it is told
+abbrev pub waits_short : code.MioWire → Bool
+waits_short wire = wire.waits_short

@@ -11,10 +11,12 @@ mod shared_port;
 mod sharing;
 mod socket_set;
 mod sockets;
+mod waker;
 mod wire;
 
 pub use bind_error::BindError;
 pub use mio_wire::MioWire;
 pub use peer_counts::PeerCounts;
 pub use sharing::Sharing;
+pub use waker::WireWaker;
 pub use wire::{Wire, WireFault};

@@ -1,5 +1,5 @@
 //! A wire over UDP sockets of the system.
-ghost use Rattle.std.specs.Prelude.{◌≡◌, ◌≢◌, Contains, IfOk, position};
+ghost use Rattle.std.specs.Prelude.{◌≡◌, ◌≢◌, ◌↔◌, Contains, IfOk, IsFalse, IsNone, IsSome, IsTrue, position};
 ghost use Rattle.peer_plan.specs.Reading.{is_endpoint};
 ghost use Rattle.peer_plan.specs.declared.endpoint.Endpoint.{Endpoint};
 ghost use Rattle.udp_wires.specs.Counts.{RisesBy};
@@ -9,13 +9,14 @@ use crate::bind_error::BindError;
 use crate::peer_counts::PeerCounts;
 use crate::sharing::Sharing;
 use crate::sockets::Sockets;
+use crate::waker::WireWaker;
 use crate::wire::{Wire, WireFault};
 use peer_plan::Endpoint;
 use std::alloc::Global;
 use std::net::Net;
 use std::os::fd::RawFd;
 
-// How long it waits at most where another worker may have taken a datagram that these peers are answered.
+// The longest wait, in milliseconds, while another worker may fill outboxes of these peers without waking this one.
 const SHARED_MS: u64 = 2;
 
 /// UDP sockets of the system that are bound to an IPv4 endpoint: a worker's own, and where it may be, one for each peer that is
@@ -25,8 +26,8 @@ const SHARED_MS: u64 = 2;
 /// comes meanwhile to another one it knows once `wait` was called, or once it has found none.
 pub struct MioWire {
     sockets: Sockets,
-    // Whether a worker that shares its endpoint takes datagrams of these peers, too.
-    shared: bool,
+    // Whether a wait takes `SHARED_MS` at most.
+    waits_short: bool,
     peers: PeerCounts,
     given: u64,
     failures: u64,
@@ -37,7 +38,7 @@ impl Drop for MioWire {
     fn drop(self) {
         let MioWire {
             sockets: _,
-            shared: _,
+            waits_short: _,
             peers: _,
             given: _,
             failures: _,
@@ -45,26 +46,26 @@ impl Drop for MioWire {
     }
 }
 
-// How long it waits at most: not where it may have a datagram, and where its endpoint is shared, a short time.
-fn pause_of(empty: bool, shared: bool, ms: u64) -> u64
-    ensures { result ≡ pause_of empty shared ms }
+// How long it waits at most: not where it may have a datagram.
+fn pause_of(empty: bool, short: bool, ms: u64) -> u64
+    ensures { result ≡ pause_of empty short ms }
 {
     if !empty {
         return 0;
     }
-    if shared { ms.min(SHARED_MS) } else { ms }
+    if short { ms.min(SHARED_MS) } else { ms }
 }
 
 impl MioWire {
-    ghost use Rattle.udp_wires.specs.MioWire.{given_of, given_to_of, failures_of, peers_of};
+    ghost use Rattle.udp_wires.specs.MioWire.{given_of, given_to_of, failures_of, peers_of, waits_short};
 
     /// A UDP socket that is bound to this IPv4 endpoint and may send to these peers. Nothing was given to it yet, and no call
     /// failed.
     ///
     /// The socket doesn't block; the system tells of what comes where it is polled. `Alone`: it is bound with no option set, so
     /// nobody else can be bound there. `First`: it is bound so, and then `SO_REUSEPORT` is set. `Beside`: `SO_REUSEPORT` is set
-    /// before it is bound. Contracts speak of the peers and of the counts alone: of the endpoint, the options, the sockets and
-    /// the polling they say nothing.
+    /// before it is bound. Contracts speak of the peers, of the counts and of whether its waits are short: of the endpoint, the
+    /// options, the sockets and the polling they say nothing.
     ///
     /// `Alone`, at an address and a port that aren't 0: each of the first 32 peers gets a socket there too, which is connected
     /// to it, so that the system needn't look up the way for each datagram. `SO_REUSEPORT` is set only while these are bound,
@@ -72,7 +73,8 @@ impl MioWire {
     /// is 0, is served by the worker's own.
     ///
     /// Workers of one endpoint are bound in the order of their places: what comes from one sender then comes to one of them,
-    /// whichever the system chooses.
+    /// whichever the system chooses. Until such a wire has given a waker, it waits 2 ms at most: another worker may have filled
+    /// outboxes of its peers.
     ///
     /// `Memory`: a request for memory was refused. `Bind`: the system gives no socket or no poll, doesn't set the option, doesn't
     /// bind the socket to that endpoint, or doesn't take `SO_REUSEPORT` back. At an `Err` the list is dropped.
@@ -87,6 +89,7 @@ impl MioWire {
         ensures given { IfOk result (λ wire. given_of wire ≡ 0) }
         ensures given_to { IfOk result (λ wire. (to : Endpoint) → given_to_of wire to ≡ 0) }
         ensures failures { IfOk result (λ wire. failures_of wire ≡ 0) }
+        ensures short { IfOk result (λ wire. IsTrue (waits_short wire) ↔ (sharing ≢ Sharing.Alone)) }
     {
         let peers = PeerCounts::new(alloc, peers)?;
         let sockets = Sockets::bound(rt, alloc, at, &peers.endpoints, sharing)?;
@@ -104,15 +107,35 @@ impl MioWire {
         self.sockets.link_descriptor(peer)
     }
 
+    /// Gives a waker, by which any thread ends its waits. From then on a wait takes as long as it is told to, with a shared
+    /// endpoint, too: callers that fill outboxes of its peers have to wake it.
+    ///
+    /// `None`: the system gives no eventfd, and waits are as before.
+    pub fn waker(&mut self) -> Option<WireWaker>
+        ensures given { given_of self.new ≡ given_of self.old }
+        ensures given_to { (to : Endpoint) → given_to_of self.new to ≡ given_to_of self.old to }
+        ensures failures { failures_of self.new ≡ failures_of self.old }
+        ensures peers { peers_of self.new ≡ peers_of self.old }
+        ensures whole { IsSome result → IsFalse (waits_short self.new) }
+        ensures as_before { IsNone result → waits_short self.new ≡ waits_short self.old }
+    {
+        let waker = self.sockets.waker();
+        if waker.is_some() {
+            self.waits_short = false;
+        }
+        waker
+    }
+
     // Over sockets that are bound and polled.
     fn over(sockets: Sockets, peers: PeerCounts, sharing: Sharing) -> MioWire
         ensures peers { result.peers ≡ peers }
         ensures given { given_of result ≡ 0 }
         ensures failures { failures_of result ≡ 0 }
+        ensures short { IsTrue (waits_short result) ↔ (sharing ≢ Sharing.Alone) }
     {
         MioWire {
             sockets,
-            shared: sharing != Sharing::Alone,
+            waits_short: sharing != Sharing::Alone,
             peers,
             given: 0,
             failures: 0,
@@ -167,7 +190,7 @@ impl Wire for MioWire {
     }
 
     fn wait(&mut self, ms: u64) {
-        let pause = pause_of(self.sockets.are_empty(), self.shared, ms);
+        let pause = pause_of(self.sockets.are_empty(), self.waits_short, ms);
         self.sockets.look(pause);
     }
 

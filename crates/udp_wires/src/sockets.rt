@@ -11,9 +11,10 @@ use crate::own_socket::{bound, received, sent};
 use crate::shared_port::share;
 use crate::sharing::Sharing;
 use crate::socket_set::SocketSet;
+use crate::waker::WireWaker;
 use crate::wire::WireFault;
 use mio::net::UdpSocket;
-use mio::{Events, Interest, Poll, Token};
+use mio::{Events, Interest, Poll, Token, Waker};
 use peer_plan::Endpoint;
 use std::alloc::{AllocError, Global};
 use std::net::Net;
@@ -29,7 +30,7 @@ const SOCKETS: u32 = 33;
 // The place of the worker's own socket. That of a link is the place of its peer and one more.
 const OWN: u32 = 0;
 
-// How many places a set of sockets has.
+// How many places a set of sockets has. The first number behind them is the token of a waker.
 const PLACES: usize = 64;
 
 /// The sockets of a wire, where they are polled.
@@ -152,7 +153,8 @@ impl Sockets {
         sharing: Sharing,
     ) -> Result<Sockets, BindError> {
         let poll = Poll::new(rt)?;
-        let events = Events::with_capacity(alloc, 1 + LINKS)?;
+        // One for each socket, and one for a waker.
+        let events = Events::with_capacity(alloc, 2 + LINKS)?;
         let own = readable(rt, &poll, at, sharing)?;
         let links = links_of(alloc, &own, &poll, at, peers, sharing)?;
         Ok(Sockets {
@@ -178,6 +180,14 @@ impl Sockets {
         }
     }
 
+    /// A waker, which ends `look` from any thread. None: the system gives no eventfd.
+    pub(crate) fn waker(&self) -> Option<WireWaker> {
+        match Waker::new(self.poll.registry(), Token(PLACES)) {
+            Ok(waker) => Some(WireWaker::over(waker)),
+            Err(_) => None,
+        }
+    }
+
     /// Whether none may have a datagram.
     pub(crate) fn are_empty(&self) -> bool
         ensures { IsTrue result ↔ IsEmpty self.now.ready }
@@ -185,8 +195,8 @@ impl Sockets {
         self.ready.is_empty()
     }
 
-    /// Asks the system which sockets have a datagram, and waits for one, at most so many milliseconds. Where it doesn't tell,
-    /// each may have one.
+    /// Asks the system which sockets have a datagram, and waits for one, or until it is woken, at most so many milliseconds. Where
+    /// it doesn't tell, each may have one.
     pub(crate) fn look(&mut self, ms: u64) {
         let wait = Duration::from_millis(ms);
         let polled = self.poll.poll(&mut self.events, Some(wait));

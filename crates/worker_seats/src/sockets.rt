@@ -8,7 +8,7 @@ use peer_plan::Plan;
 use std::alloc::Global;
 use std::net::Net;
 use std::os::fd::RawFd;
-use udp_wires::{MioWire, Sharing, Wire};
+use udp_wires::{MioWire, Sharing, Wire, WireWaker};
 use udp_workers::Worker;
 
 // So many octets are asked for at the sockets of a worker together.
@@ -29,9 +29,16 @@ pub trait Sockets {
 
     /// A socket at that worker's endpoint which is connected to one of its peers has this descriptor, and the same share.
     fn set_up_link(&self, descriptor: RawFd, room: u32);
+
+    /// Whether a worker is woken once others have filled outboxes of its peers. If not, its wire gives no waker.
+    fn are_woken(&self) -> bool;
+
+    /// Keeps the waker of the worker at this place of the plan. None: the system gives no eventfd, and the wire waits as one that
+    /// gave no waker.
+    fn keep_waker(&self, place: u16, waker: Option<WireWaker>);
 }
 
-/// Each is bound alone, and nothing is done with it.
+/// Each is bound alone, and nothing is done with it. No worker is woken.
 #[derive(Clone, Copy, Drop)]
 pub struct PlainSockets;
 
@@ -45,6 +52,12 @@ impl Sockets for PlainSockets {
     }
 
     fn set_up_link(&self, _descriptor: RawFd, _room: u32) {}
+
+    fn are_woken(&self) -> bool {
+        false
+    }
+
+    fn keep_waker(&self, _place: u16, _waker: Option<WireWaker>) {}
 }
 
 /// The share of a worker's room for datagrams that wait which each of its sockets has, in octets: the worker has its own socket,
@@ -67,14 +80,19 @@ fn links_of(wire: &MioWire) -> u32 {
     links
 }
 
-// Sets up the sockets of a wire.
-fn set_up_all<S: Sockets>(sockets: &S, place: u16, wire: &MioWire) {
+// Sets up the sockets of a wire, and has its waker kept if workers are woken.
+fn set_up_all<S: Sockets>(sockets: &S, place: u16, wire: &mut MioWire)
+    ensures { wires.peers_of wire.new ≡ wires.peers_of wire.old }
+{
     let room = room_of(links_of(wire));
     let _waiting = sockets.set_up(place, wire.descriptor(), room);
     for peer in 0..wire.peers().len() {
         if let Some(descriptor) = wire.link_descriptor(peer) {
             sockets.set_up_link(descriptor, room);
         }
+    }
+    if sockets.are_woken() {
+        sockets.keep_waker(place, wire.waker());
     }
 }
 
@@ -101,7 +119,7 @@ pub(crate) fn wire_of<N: Net, S: Sockets>(
     } else {
         Sharing::Alone
     };
-    let wire = MioWire::bind(rt, alloc, workers[usize::from(place)], endpoints, sharing)?;
-    set_up_all(sockets, place, &wire);
+    let mut wire = MioWire::bind(rt, alloc, workers[usize::from(place)], endpoints, sharing)?;
+    set_up_all(sockets, place, &mut wire);
     Ok(wire)
 }

@@ -7,6 +7,7 @@ mod loopback;
 mod memory_wire;
 mod waking;
 mod whole_call;
+mod woken_wire;
 
 pub use crate::tests::wires::both_at_once::turn_on;
 pub use crate::tests::wires::burst::{Burst, Taken, play_burst};

@@ -1,0 +1,50 @@
+//! The wakers of a service's workers.
+use std::alloc::{AllocError, Global};
+use std::sync::OnceLock;
+use udp_wires::WireWaker;
+
+/// The waker of each worker that has one, by the worker's place in the plan. All threads share it, and none waits for another.
+#[derive(Drop)]
+pub(crate) struct WakerTable {
+    slots: Vec<OnceLock<WireWaker>>,
+}
+
+impl WakerTable {
+    /// No worker has a waker yet.
+    ///
+    /// `AllocError`: a request for memory was refused.
+    pub(crate) fn new(alloc: Global, workers: usize) -> Result<WakerTable, AllocError> {
+        let mut slots = Vec::with_capacity(alloc, workers)?;
+        for _ in 0..workers {
+            if slots.push(OnceLock::new()).is_err() {
+                return Err(AllocError);
+            }
+        }
+        Ok(WakerTable { slots })
+    }
+
+    /// Keeps the waker of the worker at this place, unless it has one.
+    pub(crate) fn keep(&self, worker: u16, waker: WireWaker) {
+        if let Some(slot) = self.slots.get(usize::from(worker)) {
+            let _kept = slot.try_set(waker);
+        }
+    }
+
+    /// Wakes the worker at this place, if it has a waker.
+    pub(crate) fn wake(&self, worker: u16) {
+        if let Some(slot) = self.slots.get(usize::from(worker)) {
+            if let Some(waker) = slot.get() {
+                waker.wake();
+            }
+        }
+    }
+
+    /// Wakes each worker that has a waker.
+    pub(crate) fn wake_all(&self) {
+        for slot in &self.slots {
+            if let Some(waker) = slot.get() {
+                waker.wake();
+            }
+        }
+    }
+}
