@@ -99,6 +99,9 @@ pub struct PeerRules {
     pub carries_cause: bool,
     /// Whether the format of an offered call is chosen when it is routed, among all that are common; else it is chosen before.
     pub routes_format: bool,
+    /// Whether legs are hardened against peers that break the rules or forge frames: a doomed leg takes no digits, a VNAK that
+    /// repeats is answered by the oldest held frame alone, and an INVAL ends only a leg that it names.
+    pub is_hardened: bool,
 }
 
 impl PeerRules {
@@ -123,6 +126,7 @@ impl PeerRules {
             carries_caller: self.carries_caller,
             carries_cause: self.carries_cause,
             routes_format: self.routes_format,
+            is_hardened: self.is_hardened,
         }
     }
 }

@@ -204,7 +204,9 @@ refusal_is legs name act kind order_errors.Gone scene called sees is same r =
     (λ before e. r before (sym (sees name.number) ∙ ap (λ (peer : ℕ). option_map look_of (leg_at scene.legs peer name.number)) (sym is) ∙ e)) in
     nothing_changed scene (needs.Order name act) called legs (replies.Order (Err order_errors.Gone)) Goes sees
     (ap (λ (l : Option Leg). at_leg scene (act_kind act) l Goes) none)
-refusal_is legs name act kind order_errors.WrongStage scene called sees is same r =
+refusal_is legs name act kind order_errors.WrongStage scene called sees is same (true, r) =
+    no_room legs name act kind order_errors.WrongStage scene called sees is same r refl
+refusal_is legs name act kind order_errors.WrongStage scene called sees is same (false, r) =
     let there = refused_there legs name act kind order_errors.WrongStage false scene sees is same r in
     let none : stage_after (act_kind act) there.0.seen.stage ≡ None = no_stage (stage_after (act_kind act) there.0.seen.stage) there.2 in
     nothing_changed scene (needs.Order name act) called legs (replies.Order (Err order_errors.WrongStage)) Goes sees

@@ -15,8 +15,8 @@ use Rattle.leg_machine.specs.Leg.{LegState}
 use Rattle.leg_machine.specs.Media.{IsMediaOf}
 use Rattle.call_signals.specs.Message.{message_of, is_numbered}
 use Rattle.call_signals.specs.Stage.{is_over}
-use Rattle.leg_machine.specs.Steps.{Step, full_step, vnak_step, resend_step, nothing_sent, asking, not_asking, numbered_step, judged_step, taken, answered, no_room, prepared}
-use Rattle.leg_machine.specs.Working.{counts, wants_vnak}
+use Rattle.leg_machine.specs.Steps.{Step, full_step, vnak_step, nothing_sent, asking, not_asking, numbered_step, judged_step, taken, answered, no_room, prepared}
+use Rattle.leg_machine.specs.Working.{wants_vnak}
 use Rattle.call_signals.specs.declared.cause.Cause.TheVariants.{CallRejected}
 use Rattle.call_signals.specs.declared.effects.Answering.TheVariants.{Acknowledged, Answered, Silent}
 use Rattle.call_signals.specs.declared.effects.Effect.{Effect}
@@ -27,7 +27,7 @@ use Rattle.call_signals.specs.declared.reply.Reply.{Reply}
 use Rattle.call_signals.specs.declared.signal.Signal.TheVariants as signals
 use Rattle.call_signals.specs.declared.stage.Stage.{Stage}
 use Rattle.call_signals.specs.declared.stage.Stage.TheVariants as stages
-use Rattle.leg_machine.proofs.Tied.{either, either_by, of-full-step}
+use Rattle.leg_machine.proofs.Tied.{either, either_by, of-full-step, of-vnak-step}
 
 -- ---- the rows
 
@@ -114,11 +114,11 @@ numbered-media leg frame message now =
     let judged = judged_number leg.window.history frame.head.oseqno in
     either (HandsUpMedia frame) (is_numbered message) (judged_step judged leg frame message now) (nothing_sent leg) (judged-media judged leg frame message now) tt
 
-vnak-media : (j : Judgement) (leg : LegState) (frame : FullFrame) (now : ℕ) → HandsUpMedia frame (vnak_step j leg now)
-vnak-media j leg frame now = either (HandsUpMedia frame) (counts j) (resend_step leg now) (nothing_sent leg) tt tt
+vnak-media : (j : Judgement) (leg : LegState) (frame : FullFrame) (number now : ℕ) → HandsUpMedia frame (vnak_step j leg number now)
+vnak-media j leg frame number now = of-vnak-step (HandsUpMedia frame) j leg number now tt tt tt
 
 pub frame-media : (leg : LegState) (frame : FullFrame) (now : ℕ) → IsMediaOf frame (full_step leg frame now).signal
 frame-media leg frame now =
     let mid = prepared leg frame in
-    of-full-step (HandsUpMedia frame) leg frame now (unless-row frame leg.stage)
-    (vnak-media (judged_acknowledgement leg.window.history frame.head.iseqno) mid frame now) (numbered-media mid frame (message_of frame.head) now)
+    of-full-step (HandsUpMedia frame) leg frame now (unless-row frame leg.stage) tt
+    (vnak-media (judged_acknowledgement leg.window.history frame.head.iseqno) mid frame frame.head.iseqno now) (numbered-media mid frame (message_of frame.head) now)

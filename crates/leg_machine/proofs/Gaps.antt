@@ -12,13 +12,13 @@ use Rattle.leg_machine.specs.Effects.{is_reply}
 use Rattle.leg_machine.specs.LegTable.{effect_of}
 use Rattle.leg_machine.specs.Leg.{LegState}
 use Rattle.leg_machine.specs.Replies.{vnak}
-use Rattle.leg_machine.specs.Steps.{Step, full_step, resend_step, nothing_sent, asking, not_asking, judged_step, taken, replied, answered, no_room, prepared}
-use Rattle.leg_machine.specs.Working.{counts, is_past, wants_vnak}
+use Rattle.leg_machine.specs.Steps.{Step, full_step, nothing_sent, asking, not_asking, judged_step, taken, replied, answered, no_room, prepared}
+use Rattle.leg_machine.specs.Working.{is_past, wants_vnak}
 use Rattle.call_signals.specs.Message.{message_of, is_numbered}
 use Rattle.call_signals.specs.declared.effects.Answering.{Answering}
 use Rattle.call_signals.specs.declared.effects.Answering.TheVariants.{Acknowledged, Answered, Silent}
 use Rattle.call_signals.specs.declared.message.Message.{Message}
-use Rattle.leg_machine.proofs.Tied.{either, of-full-step, prepared-history, taken-acks}
+use Rattle.leg_machine.proofs.Tied.{either, of-full-step, of-vnak-step, prepared-history, taken-acks}
 
 -- ---- without `vnak_ms`
 
@@ -67,8 +67,9 @@ pub full-anew : (leg : LegState) (frame : FullFrame) (now : ℕ) → AsksAnew le
 full-anew leg frame now =
     let message = message_of frame.head in
     let mid = prepared leg frame in
-    let counted = counts (judged_acknowledgement leg.window.history frame.head.iseqno) in
+    let counted = judged_acknowledgement leg.window.history frame.head.iseqno in
     let judged = judged_number mid.window.history frame.head.oseqno in
-    of-full-step (AsksAnew leg) leg frame now (λ ne. absurd (ne refl))
-    (either (AsksAnew leg) counted (resend_step mid now) (nothing_sent mid) (λ ne. absurd (ne (same-count leg frame))) (λ ne. absurd (ne (same-count leg frame))))
+    of-full-step (AsksAnew leg) leg frame now (λ ne. absurd (ne refl)) (λ ne. absurd (ne refl))
+    (of-vnak-step (AsksAnew leg) counted mid frame.head.iseqno now (λ ne. absurd (ne (same-count leg frame))) (λ ne. absurd (ne (same-count leg frame)))
+    (λ ne. absurd (ne (same-count leg frame))))
     (either (AsksAnew leg) (is_numbered message) (judged_step judged mid frame message now) (nothing_sent mid) (judged-anew judged leg frame message now) (λ ne. absurd (ne (same-count leg frame))))

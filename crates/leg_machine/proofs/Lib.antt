@@ -4,6 +4,7 @@ pub mod Finished
 pub mod FrameMedia
 pub mod Gaps
 pub mod Growth
+pub mod Hardened
 pub mod Idle
 pub mod OneTry
 pub mod Opened

@@ -1,5 +1,5 @@
 -- One more try.
-use Rattle.std.proofs.Common.{◌≡◌, ℕ, suc, ◌≤◌, ◌++◌, true, refl, ap, arith}
+use Rattle.std.proofs.Common.{◌≡◌, ℕ, suc, ◌≤◌, ◌++◌, true, false, refl, ap, arith}
 use Rattle.seq_window.specs.Window.{WindowState, resent, after_resent, entry_count}
 use Rattle.seq_window.specs.declared.judgements.Resent.TheVariants as resents
 use Rattle.seq_window.specs.declared.judgements.Resent.{Resent}
@@ -14,6 +14,10 @@ pub tries-again : (more : ℕ) (leg : LegState) (now place : ℕ) → resent leg
       spent = (tries more (after_try leg place now) now).spent;
     }
 tries-again more leg now place is = rw is refl
+
+pub tries-nothing : (more : ℕ) (leg : LegState) (now : ℕ) → resent leg.window now leg.rules.retry_ms leg.rules.max_retries ≡ resents.Nothing
+    → tries (suc more) leg now ≡ tried leg false
+tries-nothing more leg now is = rw is refl
 
 pub tries-spent : (more : ℕ) (leg : LegState) (now : ℕ) → resent leg.window now leg.rules.retry_ms leg.rules.max_retries ≡ resents.Spent
     → tries (suc more) leg now ≡ tried leg true

@@ -15,8 +15,8 @@ use Rattle.leg_machine.specs.Leg.{LegState, entered}
 use Rattle.call_signals.specs.Message.{message_of, is_numbered}
 use Rattle.leg_machine.specs.Seen.{SeenLeg, SeenEffect, seen, moved, SeenFrame, Plain, ProvesItself, FailsToProve, AcceptsCall, RejectsCall, BreaksOff, Indicates, AnswersCall, Dials, Speaks, HangsUp, AcknowledgesAll, seen_effect, frame_effect, IsSeenFrame}
 use Rattle.call_signals.specs.Stage.{is_over, is_closing}
-use Rattle.leg_machine.specs.Steps.{Step, heard_of, full_step, vnak_step, resend_step, nothing_sent, asking, not_asking, numbered_step, judged_step, taken_step, taken, replied, answered, no_room, prepared}
-use Rattle.leg_machine.specs.Working.{learnt, acknowledged, counts, wants_vnak, end_noted}
+use Rattle.leg_machine.specs.Steps.{Step, heard_of, full_step, vnak_step, nothing_sent, asking, not_asking, numbered_step, judged_step, taken_step, taken, replied, answered, no_room, prepared}
+use Rattle.leg_machine.specs.Working.{learnt, acknowledged, wants_vnak, end_noted}
 use Rattle.call_signals.specs.declared.cause.Cause.TheVariants.{CallRejected, NormalClearing}
 use Rattle.call_signals.specs.declared.effects.Answering.{Answering}
 use Rattle.call_signals.specs.declared.effects.Answering.TheVariants.{Acknowledged, Answered, Silent}
@@ -33,7 +33,7 @@ use Rattle.call_signals.specs.declared.signal.Signal.{Signal}
 use Rattle.call_signals.specs.declared.signal.Signal.TheVariants as signals
 use Rattle.call_signals.specs.declared.stage.Stage.{Stage}
 use Rattle.call_signals.specs.declared.stage.Stage.TheVariants as stages
-use Rattle.leg_machine.proofs.Tied.{either, either_by, of-full-step}
+use Rattle.leg_machine.proofs.Tied.{either, either_by, of-full-step, of-vnak-step}
 
 -- ---- the rows
 
@@ -180,9 +180,9 @@ numbered-seen leg frame message now =
     either (λ (s : Step). IsSeenFrame (seen leg) (seen s.leg) s.signal) (is_numbered message)
     (judged_step judged leg frame message now) (nothing_sent leg) (judged-seen judged leg frame message now) (plain leg)
 
-vnak-seen : (j : Judgement) (leg : LegState) (now : ℕ) → let s = vnak_step j leg now in IsSeenFrame (seen leg) (seen s.leg) s.signal
-vnak-seen j leg now =
-    either (λ (s : Step). IsSeenFrame (seen leg) (seen s.leg) s.signal) (counts j) (resend_step leg now) (nothing_sent leg) (plain leg) (plain leg)
+vnak-seen : (j : Judgement) (leg : LegState) (number now : ℕ) → let s = vnak_step j leg number now in IsSeenFrame (seen leg) (seen s.leg) s.signal
+vnak-seen j leg number now =
+    of-vnak-step (λ (s : Step). IsSeenFrame (seen leg) (seen s.leg) s.signal) j leg number now (plain leg) (plain leg) (plain leg)
 
 -- ---- the working order
 
@@ -231,11 +231,11 @@ frame-seen leg frame now =
     let message = message_of frame.head in
     let mid = prepared leg frame in
     let judged = judged_acknowledgement leg.window.history frame.head.iseqno in
-    let vnak = vnak_step judged mid now in
+    let vnak = vnak_step judged mid frame.head.iseqno now in
     let numbered = numbered_step mid frame message now in
     let ends = hung-up-row leg.stage in
-    of-full-step (λ (s : Step). IsSeenFrame (seen leg) (seen s.leg) s.signal) leg frame now (ends.0, ap (moved (seen leg)) ends.1, ends.2)
-    (prepared-seen leg frame (seen vnak.leg) vnak.signal (vnak-seen judged mid now))
+    of-full-step (λ (s : Step). IsSeenFrame (seen leg) (seen s.leg) s.signal) leg frame now (ends.0, ap (moved (seen leg)) ends.1, ends.2) (plain leg)
+    (prepared-seen leg frame (seen vnak.leg) vnak.signal (vnak-seen judged mid frame.head.iseqno now))
     (prepared-seen leg frame (seen numbered.leg) numbered.signal (numbered-seen mid frame message now))
 
 -- what a call answers of it

@@ -1,11 +1,11 @@
 -- What callers at once see of a leg that gets an order.
-use Rattle.std.specs.Prelude.{◌↔◌, not, nat_le, OnOk, IfErr, Result, Ok, Err}
+use Rattle.std.specs.Prelude.{◌↔◌, ◌&&◌, not, nat_le, OnOk, IfErr, Result, Ok, Err}
 use Rattle.std.proofs.Common.{◌≡◌, ℕ, Bool, true, false, cond, List, Option, None, Some, refl, ap, ◌∙◌}
 use Rattle.seq_window.specs.Window.{held_count}
 use Rattle.leg_machine.specs.Leg.{LegState, is_short_of_entries}
 use Rattle.leg_machine.specs.Media.{media_sent, after_media}
-use Rattle.leg_machine.specs.OrderTable.{when, row_refused, row_carried, order_refused, order_carried, media_refused, media_refused_as, sending_refused, IsRefusal}
-use Rattle.leg_machine.specs.Seen.{seen, moved, ordered, kind_of, stage_after, IsSeenOrder}
+use Rattle.leg_machine.specs.OrderTable.{when, refuses_digits, row_refused, row_carried, order_refused, order_carried, media_refused, media_refused_as, sending_refused, IsRefusal}
+use Rattle.leg_machine.specs.Seen.{seen, moved, ordered, kind_of, stage_after, stage_ordered, IsSeenOrder}
 use Rattle.call_signals.specs.Stage.{is_offered, is_linked, is_talking, is_over}
 use Rattle.call_signals.specs.declared.cause.Cause.{Cause}
 use Rattle.call_signals.specs.declared.format.Format.{Format}
@@ -69,6 +69,15 @@ row-seen : (leg : LegState) (kind : OrderKind) (right : Bool) (row : Ordered) (n
 row-seen leg kind true row now leads moves unrefused = (row.stage, leads, moves)
 row-seen leg kind false row now leads moves unrefused = cc
 
+-- a digit goes out where the leg talks and doesn't refuse it
+digit-seen : (leg : LegState) (digit : ℕ) (talks refuses : Bool) (row : Ordered) (now : ℕ) → LeadsTo (kinds.Dtmf digit) leg.stage talks row.stage
+    → row_refused leg (when (talks && not refuses) row) ≡ None
+    → moved (seen leg) row.stage ≡ ordered (kinds.Dtmf digit) (seen leg) row.stage
+    → IsSeenOrder (kinds.Dtmf digit) (seen leg) (seen (row_carried leg (when (talks && not refuses) row) now).leg)
+digit-seen leg digit true false row now leads unrefused moves = row-seen leg (kinds.Dtmf digit) true row now leads moves unrefused
+digit-seen leg digit true true row now leads unrefused moves = cc
+digit-seen leg digit false refuses row now leads unrefused moves = cc
+
 seen-media : (sent : MediaSent) (leg : LegState) (octets : List ℕ) (now : ℕ) → seen (after_media sent leg octets now) ≡ seen leg
 seen-media media.Quelched leg octets now = refl
 seen-media media.Voice leg octets now = refl
@@ -97,7 +106,7 @@ order-seen leg (orders.Accept format) now unrefused = row-seen leg (kinds.Accept
 order-seen leg (orders.Reject cause) now unrefused = row-seen leg (kinds.Reject cause) (is_offered leg.stage) _ now (reject cause leg.stage) refl unrefused
 order-seen leg (orders.Indicate i) now unrefused = row-seen leg (kinds.Indicate i) (is_linked leg.stage) _ now (indicate i leg.stage) refl unrefused
 order-seen leg orders.Answer now unrefused = row-seen leg kinds.Answer (is_linked leg.stage) _ now (answer leg.stage) refl unrefused
-order-seen leg (orders.Dtmf digit) now unrefused = row-seen leg (kinds.Dtmf digit) (is_talking leg.stage) _ now (dtmf digit leg.stage) refl unrefused
+order-seen leg (orders.Dtmf digit) now unrefused = digit-seen leg digit (is_talking leg.stage) (refuses_digits leg) _ now (dtmf digit leg.stage) unrefused refl
 order-seen leg (orders.Media octets) now unrefused = media-seen leg octets.now now unrefused
 order-seen leg (orders.Hangup cause) now unrefused = row-seen leg (kinds.Hangup cause) (not (is_over leg.stage)) _ now (hangup cause leg.stage) refl unrefused
 order-seen leg (orders.Doom cause) now unrefused = (leg.stage, refl, refl)
@@ -134,12 +143,19 @@ media-wrong leg now =
     (λ e. absurd (media-right (media_sent leg now) leg e), λ e. cc))
     (λ talks. (λ e. media-stage leg.stage ∙ ap (λ (b : Bool). cond b (Some leg.stage) None) talks, λ e. refl))
 
-pub order-wrong : (leg : LegState) (order : Order) (now : ℕ) → WrongTogether (order_refused leg order now) (stage_after (kind_of order) leg.stage)
+digit-wrong : (leg : LegState) (digit : ℕ) (talks refuses : Bool) (row : Ordered) → LeadsTo (kinds.Dtmf digit) leg.stage talks row.stage
+    → WrongTogether (row_refused leg (when (talks && not refuses) row)) (cond refuses None (stage_after (kinds.Dtmf digit) leg.stage))
+digit-wrong leg digit true false row leads = row-wrong leg (kinds.Dtmf digit) true row leads
+digit-wrong leg digit true true row leads = (λ e. refl, λ e. refl)
+digit-wrong leg digit false false row leads = row-wrong leg (kinds.Dtmf digit) false row leads
+digit-wrong leg digit false true row leads = (λ e. refl, λ e. refl)
+
+pub order-wrong : (leg : LegState) (order : Order) (now : ℕ) → WrongTogether (order_refused leg order now) (stage_ordered leg (kind_of order))
 order-wrong leg (orders.Accept format) now = row-wrong leg (kinds.Accept format) (is_offered leg.stage) _ (accept format leg.stage)
 order-wrong leg (orders.Reject cause) now = row-wrong leg (kinds.Reject cause) (is_offered leg.stage) _ (reject cause leg.stage)
 order-wrong leg (orders.Indicate i) now = row-wrong leg (kinds.Indicate i) (is_linked leg.stage) _ (indicate i leg.stage)
 order-wrong leg orders.Answer now = row-wrong leg kinds.Answer (is_linked leg.stage) _ (answer leg.stage)
-order-wrong leg (orders.Dtmf digit) now = row-wrong leg (kinds.Dtmf digit) (is_talking leg.stage) _ (dtmf digit leg.stage)
+order-wrong leg (orders.Dtmf digit) now = digit-wrong leg digit (is_talking leg.stage) (refuses_digits leg) _ (dtmf digit leg.stage)
 order-wrong leg (orders.Media octets) now = media-wrong leg now
 order-wrong leg (orders.Hangup cause) now = row-wrong leg (kinds.Hangup cause) (not (is_over leg.stage)) _ (hangup cause leg.stage)
 order-wrong leg (orders.Doom cause) now = (λ e. cc, λ e. cc)

@@ -22,11 +22,11 @@ use Rattle.leg_machine.specs.Openings.{leg_for_call, open_out_step}
 use Rattle.leg_machine.specs.OrderTable.{row_carried}
 use Rattle.leg_machine.specs.Replies.{reply_frame, voice_frame, new_frame, outgoing, next_byte, ack, vnak, sent_again}
 use Rattle.call_signals.specs.Stage.{is_ended}
-use Rattle.leg_machine.specs.Steps.{Step, full_step, inval_step, resend_step, nothing_sent, asking, not_asking, judged_step, taken_step, taken, replied, answers, answered, no_room, prepared}
+use Rattle.leg_machine.specs.Steps.{Step, full_step, invalidated, oldest_step, resend_step, nothing_sent, asking, not_asking, judged_step, taken_step, taken, replied, answers, answered, no_room, prepared}
 use Rattle.leg_machine.specs.Ticks.{Tick, quiet, sends_if, must_hang_up, must_ping, pinged, last_step, due_frames, tick_step}
 use Rattle.leg_machine.specs.Tie.{IsNumberedFrame, SendsNumbered, IsSendingOf, IsSending, IsSendingOrMini, HasSent, HasSentOrMini}
 use Rattle.leg_machine.specs.Tries.{Tried, tries, one_try, after_try, frames_again}
-use Rattle.leg_machine.specs.Working.{stored, counts, wants_vnak, asked, agreed}
+use Rattle.leg_machine.specs.Working.{stored, wants_vnak, asked, agreed, vnak_noted}
 use Rattle.call_signals.specs.declared.failure.Failure.TheVariants as failures
 use Rattle.call_signals.specs.declared.effects.Answering.{Answering}
 use Rattle.call_signals.specs.declared.effects.Answering.TheVariants.{Acknowledged, Answered, Silent}
@@ -41,7 +41,7 @@ use Rattle.call_signals.specs.declared.reply.Reply.TheVariants as replies
 use Rattle.call_signals.specs.declared.rules.PeerRules.{PeerRules}
 use Rattle.call_signals.specs.declared.stage.Stage.TheVariants as stages
 use Rattle.leg_machine.proofs.Sendings.{reply-numbered, voice-numbered, new-sending, ack-sending, vnak-sending, held-all, all-at, IsHeldIn, Extends, extends-itself, extends-push, again-sending, AllSent, none-sent, one-sent}
-use Rattle.leg_machine.proofs.Tied.{either, of-full-step, prepared-history, taken-history}
+use Rattle.leg_machine.proofs.Tied.{either, of-full-step, of-vnak-step, prepared-history, taken-history}
 use Rattle.leg_machine.proofs.TiedSends.{kept-tries, last-none}
 
 -- ---- a full frame
@@ -115,16 +115,31 @@ resend-sent leg now all =
           (held_frames leg.window) (held-all leg.window));
     }
 
+again-all : (leg : LegState) (place : ℕ) (now : ℕ) (final : List Entry) → Extends leg.window.history final → SendsNumbered leg
+    → All (IsSendingOf final) (frames_again leg place)
+again-all leg place now final extends all = each (held_at leg.window place) refl
+  where
+    each : (h : Option (Held Frame)) → held_at leg.window place ≡ h → All (IsSendingOf final) (option_to_list (option_map (sent_again leg) h))
+    each None is = All-nil (IsSendingOf final)
+    each (Some held) is =
+        All-cons (IsSendingOf final) (sent_again leg held) []
+        (again-sending leg held final extends all (all-at (IsHeldIn leg.window.history) (held_frames leg.window) place held (held-all leg.window) is))
+        (All-nil (IsSendingOf final))
+
+oldest-sent : (leg : LegState) (now : ℕ) → SendsNumbered leg → AllSent (oldest_step leg now).leg (oldest_step leg now).replies
+oldest-sent leg now all = record { numbered = all; sendings = again-all leg 0 now leg.window.history (extends-itself leg.window.history) all }
+
 pub full-sent : (leg : LegState) (frame : FullFrame) (now : ℕ) → SendsNumbered leg → let s = full_step leg frame now in AllSent s.leg s.replies
 full-sent leg frame now all =
     let message = message_of frame.head in
     let mid = prepared leg frame in
     let numbered = numbered-prepared leg frame all in
-    let counted = counts (judged_acknowledgement leg.window.history frame.head.iseqno) in
+    let counted = judged_acknowledgement leg.window.history frame.head.iseqno in
+    let noted = vnak_noted mid frame.head.iseqno now in
     let judged = judged_number mid.window.history frame.head.oseqno in
     let Sends : Step → Type 0 = λ s. AllSent s.leg s.replies in
-    of-full-step Sends leg frame now (none-sent leg (inval_step leg).leg refl all)
-    (either Sends counted (resend_step mid now) (nothing_sent mid) (resend-sent mid now numbered) (stays mid numbered))
+    of-full-step Sends leg frame now (none-sent leg (invalidated leg).leg refl all) (stays leg all)
+    (of-vnak-step Sends counted mid frame.head.iseqno now (oldest-sent noted now numbered) (resend-sent noted now numbered) (stays mid numbered))
     (either Sends (is_numbered message) (judged_step judged mid frame message now) (nothing_sent mid) (judged-sent judged mid frame message now numbered) (stays mid numbered))
 
 -- ---- what a call answers
@@ -186,17 +201,6 @@ opened-written effect leg new frame now before datagrams ends spelt empty first 
     (spelt ∙ ap (λ (outs : List (List ℕ)). outs ++ map spelling step.replies) empty)
 
 -- ---- a tick
-
-again-all : (leg : LegState) (place : ℕ) (now : ℕ) (final : List Entry) → Extends leg.window.history final → SendsNumbered leg
-    → All (IsSendingOf final) (frames_again leg place)
-again-all leg place now final extends all = each (held_at leg.window place) refl
-  where
-    each : (h : Option (Held Frame)) → held_at leg.window place ≡ h → All (IsSendingOf final) (option_to_list (option_map (sent_again leg) h))
-    each None is = All-nil (IsSendingOf final)
-    each (Some held) is =
-        All-cons (IsSendingOf final) (sent_again leg held) []
-        (again-sending leg held final extends all (all-at (IsHeldIn leg.window.history) (held_frames leg.window) place held (held-all leg.window) is))
-        (All-nil (IsSendingOf final))
 
 try-sent : (r : Resent) (leg : LegState) (now : ℕ) (rest : LegState → Tried) (final : List Entry) → Extends leg.window.history final → SendsNumbered leg
     → ((l : LegState) → Extends l.window.history final → SendsNumbered l → All (IsSendingOf final) (rest l).replies)

@@ -16,9 +16,9 @@ use Rattle.leg_machine.specs.LegTable.{effect_of}
 use Rattle.leg_machine.specs.Leg.{LegState, entered}
 use Rattle.call_signals.specs.Message.{message_of, is_numbered, is_inval, is_vnak}
 use Rattle.leg_machine.specs.Replies.{reply_frame}
-use Rattle.leg_machine.specs.Steps.{Step, full_step, inval_step, vnak_step, resend_step, nothing_sent, asking, not_asking, numbered_step, judged_step, taken_step, taken as taken_leg, replied, answered, no_room, prepared}
+use Rattle.leg_machine.specs.Steps.{Step, full_step, inval_step, invalidated, oldest_step, answer_step, vnak_step, resend_step, nothing_sent, asking, not_asking, numbered_step, judged_step, taken_step, taken as taken_leg, replied, answered, no_room, prepared}
 use Rattle.leg_machine.specs.Tie.{TakesTurn, numbered_frame}
-use Rattle.leg_machine.specs.Working.{stored, settled, acknowledged, learnt, counts, wants_vnak, asked, end_noted}
+use Rattle.leg_machine.specs.Working.{stored, settled, acknowledged, learnt, counts, wants_vnak, asked, end_noted, brings_oldest, vnak_noted, heeds_inval}
 use Rattle.call_signals.specs.declared.effects.Answering.{Answering}
 use Rattle.call_signals.specs.declared.effects.Answering.TheVariants.{Acknowledged, Answered, Silent}
 use Rattle.call_signals.specs.declared.effects.Effect.{Effect}
@@ -130,24 +130,37 @@ numbered-turn leg frame now =
     (λ numbered. judged-turn (judged_number mid.window.history frame.head.oseqno) leg frame message now numbered)
     (λ _. acknowledges leg frame mid (prepared-history leg frame))
 
-vnak-turn : (leg : LegState) (frame : FullFrame) (j : Judgement) (now : ℕ) → TakesTurn leg frame (vnak_step j (prepared leg frame) now).leg
+-- what holds where a VNAK brings the oldest frame alone, where it brings all, and where it is ignored, holds of its step
+pub of-vnak-step : (P : Step → Type 0) (j : Judgement) (leg : LegState) (number now : ℕ) → P (oldest_step (vnak_noted leg number now) now)
+    → P (resend_step (vnak_noted leg number now) now) → P (nothing_sent leg) → P (vnak_step j leg number now)
+of-vnak-step P j leg number now oldest all none =
+    let noted = vnak_noted leg number now in
+    either P (counts j) (answer_step leg number now) (nothing_sent leg)
+    (either P (brings_oldest leg number now) (oldest_step noted now) (resend_step noted now) oldest all) none
+
+vnak-turn : (leg : LegState) (frame : FullFrame) (j : Judgement) (now : ℕ)
+    → TakesTurn leg frame (vnak_step j (prepared leg frame) frame.head.iseqno now).leg
 vnak-turn leg frame j now =
     let mid = prepared leg frame in
-    either (λ (s : Step). TakesTurn leg frame s.leg) (counts j) (resend_step mid now) (nothing_sent mid)
-    (acknowledges leg frame (resend_step mid now).leg (prepared-history leg frame)) (acknowledges leg frame mid (prepared-history leg frame))
+    let noted = vnak_noted mid frame.head.iseqno now in
+    of-vnak-step (λ (s : Step). TakesTurn leg frame s.leg) j mid frame.head.iseqno now
+    (acknowledges leg frame (oldest_step noted now).leg (prepared-history leg frame))
+    (acknowledges leg frame (resend_step noted now).leg (prepared-history leg frame))
+    (acknowledges leg frame mid (prepared-history leg frame))
 
--- what holds of the step of an INVAL, of a VNAK and of any other frame holds of that of a full frame
-pub of-full-step : (P : Step → Type 0) (leg : LegState) (frame : FullFrame) (now : ℕ) → P (inval_step leg)
-    → P (vnak_step (judged_acknowledgement leg.window.history frame.head.iseqno) (prepared leg frame) now)
+-- what holds of the steps of an INVAL, heeded or not, of a VNAK and of any other frame holds of that of a full frame
+pub of-full-step : (P : Step → Type 0) (leg : LegState) (frame : FullFrame) (now : ℕ) → P (invalidated leg) → P (nothing_sent leg)
+    → P (vnak_step (judged_acknowledgement leg.window.history frame.head.iseqno) (prepared leg frame) frame.head.iseqno now)
     → P (numbered_step (prepared leg frame) frame (message_of frame.head) now) → P (full_step leg frame now)
-of-full-step P leg frame now inval vnak other =
+of-full-step P leg frame now inval none vnak other =
     let message = message_of frame.head in
-    let vnak_one = vnak_step (judged_acknowledgement leg.window.history frame.head.iseqno) (prepared leg frame) now in
+    let vnak_one = vnak_step (judged_acknowledgement leg.window.history frame.head.iseqno) (prepared leg frame) frame.head.iseqno now in
     let other_one = numbered_step (prepared leg frame) frame message now in
-    either P (is_inval message) (inval_step leg) (cond (is_vnak message) vnak_one other_one) inval
+    either P (is_inval message) (inval_step leg frame) (cond (is_vnak message) vnak_one other_one)
+    (either P (heeds_inval leg frame) (invalidated leg) (nothing_sent leg) inval none)
     (either P (is_vnak message) vnak_one other_one vnak other)
 
 pub full-turn : (leg : LegState) (frame : FullFrame) (now : ℕ) → TakesTurn leg frame (full_step leg frame now).leg
 full-turn leg frame now =
-    of-full-step (λ (s : Step). TakesTurn leg frame s.leg) leg frame now (same leg frame (inval_step leg).leg refl)
+    of-full-step (λ (s : Step). TakesTurn leg frame s.leg) leg frame now (same leg frame (invalidated leg).leg refl) (same leg frame leg refl)
     (vnak-turn leg frame (judged_acknowledgement leg.window.history frame.head.iseqno) now) (numbered-turn leg frame now)

@@ -5,9 +5,11 @@ use Rattle.call_signals.specs.declared.cause.Cause.{Cause}
 use Rattle.call_signals.specs.Endings.{failure_cause}
 use Rattle.call_signals.specs.declared.failure.Failure.{Failure}
 use Rattle.call_signals.specs.declared.format.Format.{Format}
+use Rattle.call_signals.specs.declared.format.Formats.{Formats}
 use Rattle.call_signals.specs.declared.rules.PeerRules.{PeerRules}
 use Rattle.call_signals.specs.declared.stage.Stage.{Stage}
 use Rattle.call_signals.specs.declared.stage.Stage.TheVariants.{Ended}
+use Rattle.leg_machine.specs.declared.machine.AnsweredVnak.{AnsweredVnak}
 use Rattle.leg_machine.specs.declared.machine.Machine.{Machine}
 use Rattle.call_signals.specs.Stage.{is_ended, is_over}
 
@@ -32,14 +34,16 @@ pub record LegState : Type 0 where
   pub challenge : Option (List ℕ)
   -- an AUTHREQ was answered
   pub authenticated : Bool
-  -- a voice frame of the format was taken
-  pub voice_taken : Bool
+  -- the formats of which a voice frame was taken, in whatever stage
+  pub voice_taken : Formats
   -- the timestamp of the last voice frame that was sent
   pub voice_sent : Option ℕ
   -- the moment of the last PING, or of the opening
   pub pinged : ℕ
   -- the moment of the last VNAK, until a frame is taken: what is missing then is another one
   pub vnak_sent : Option ℕ
+  -- the VNAK of the other side that was answered last
+  pub vnak_answered : Option AnsweredVnak
   -- why it ended, where no HANGUP or REJECT did that
   pub failure : Option Failure
   -- so many full frames went out again, modulo 2 ^ 64
@@ -71,6 +75,7 @@ leg_of m = record {
   voice_sent = m.voice_sent;
   pinged = m.pinged;
   vnak_sent = m.vnak_sent;
+  vnak_answered = m.vnak_answered;
   failure = m.failure;
   resent = m.resent;
   window = m.window.state;

@@ -5,6 +5,7 @@ use Rattle.iax_frames.specs.FullFrame.{FullFrame}
 use Rattle.leg_machine.specs.LegTable.{is_media}
 use Rattle.leg_machine.specs.Leg.{LegState}
 use Rattle.leg_machine.specs.Replies.{present_of, voice_frame, outgoing, next_byte}
+use Rattle.call_signals.specs.Format.{has_format}
 use Rattle.call_signals.specs.Signal.{span_len}
 use Rattle.call_signals.specs.Stage.{is_talking}
 use Rattle.leg_machine.specs.Working.{sent}
@@ -14,9 +15,13 @@ use Rattle.call_signals.specs.declared.signal.MediaSpan.{MediaSpan}
 use Rattle.call_signals.specs.declared.signal.Signal.{Signal}
 use Rattle.call_signals.specs.declared.signal.Signal.TheVariants as signals
 
--- media of the other side counts in a talking leg that took voice of its format
+-- a voice frame of the format that the call has now was taken
+abbrev pub took_voice : LegState → Bool
+took_voice leg = has_format leg.voice_taken leg.format
+
+-- media of the other side counts in a talking leg that took voice of the call's format
 abbrev pub accepts_media : LegState → MediaSpan → Bool
-accepts_media leg span = is_talking leg.stage && leg.voice_taken && is_media (span_len span)
+accepts_media leg span = is_talking leg.stage && took_voice leg && is_media (span_len span)
 
 -- media that a full frame hands up is all of its data, 1 to 1,380 octets behind the head's twelve
 abbrev pub IsMediaOf : FullFrame → Option Signal → Type 0

@@ -9,7 +9,7 @@ use Rattle.seq_window.specs.Entry.{Entry, Sent, Acked, Taken}
 use Rattle.leg_machine.specs.Leg.{LegState}
 use Rattle.leg_machine.specs.Replies.{new_frame, outgoing, next_byte}
 use Rattle.leg_machine.specs.Steps.{Step, taken_step}
-use Rattle.leg_machine.specs.Working.{sent}
+use Rattle.leg_machine.specs.Working.{no_formats, sent}
 use Rattle.call_signals.specs.Caller.{caller_by}
 use Rattle.call_signals.specs.NewElements.{new_elements}
 use Rattle.call_signals.specs.declared.cause.Cause.TheVariants.{NormalClearing}
@@ -37,10 +37,11 @@ leg_for_call rules number format now = record {
   quelched = false;
   challenge = None;
   authenticated = false;
-  voice_taken = false;
+  voice_taken = no_formats;
   voice_sent = None;
   pinged = now;
   vnak_sent = None;
+  vnak_answered = None;
   failure = None;
   resent = 0;
   window = record { history = []; width = rules.window; limit = rules.record_limit; sendings = [] };

@@ -30,13 +30,18 @@ ordered reply stage most = record { reply = reply; stage = stage; most = most }
 abbrev pub when : Bool → Ordered → Option Ordered
 when holds row = if holds then Some row else None
 
--- The rows in which a numbered frame goes out; none: the stage is a wrong one.
+-- A doomed leg sends no more digits: one that found no room would leave a gap before those that come after it.
+abbrev pub refuses_digits : LegState → Bool
+refuses_digits leg = leg.rules.is_hardened && leg.doomed
+
+-- The rows in which a numbered frame goes out; none: the stage is a wrong one, or the leg refuses digits.
 abbrev pub order_row : LegState → Order → Option Ordered
 order_row leg (Accept format) = when (is_offered leg.stage) (ordered (replies.Accept format) stages.Linked leg.window.width)
 order_row leg (Reject cause) = when (is_offered leg.stage) (ordered (replies.Reject cause) stages.Closing leg.window.width)
 order_row leg (Indicate i) = when (is_linked leg.stage) (ordered (replies.Indicate i) stages.Linked (local_room leg.window.width))
 order_row leg Answer = when (is_linked leg.stage) (ordered replies.Answer stages.Up (local_room leg.window.width))
-order_row leg (Dtmf digit) = when (is_talking leg.stage) (ordered (replies.Dtmf digit) leg.stage (local_room leg.window.width))
+order_row leg (Dtmf digit) =
+    when (is_talking leg.stage && not (refuses_digits leg)) (ordered (replies.Dtmf digit) leg.stage (local_room leg.window.width))
 order_row leg (Hangup cause) = when (not (is_over leg.stage)) (ordered (replies.Hangup cause) stages.Closing leg.window.width)
 order_row leg (Media media) = None
 order_row leg (Doom cause) = None

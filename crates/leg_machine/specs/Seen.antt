@@ -3,6 +3,7 @@
 pub use Rattle.call_signals.specs.Order.{kind_of}
 use Rattle.std.specs.Prelude.{◌≡◌, ℕ, ◌||◌, ◌&&◌, not, ◌⊎◌, Bool, false, Option, None, Some, if◌then◌else◌}
 use Rattle.leg_machine.specs.Leg.{LegState}
+use Rattle.leg_machine.specs.OrderTable.{refuses_digits}
 use Rattle.call_signals.specs.Stage.{is_over}
 use Rattle.call_signals.specs.declared.signal.Indication.{Indication}
 use Rattle.call_signals.specs.declared.openings.Opening.{Opening}
@@ -116,6 +117,11 @@ stage_after (kinds.Hangup cause) stage = Some stages.Closing
 stage_after (kinds.Doom cause) stage = Some stage
 stage_after kinds.Paid stage = Some stage
 stage_after kind stage = None
+
+-- the stage of this leg after an order; none: the stage is a wrong one, or the leg is doomed and refuses the digit
+abbrev pub stage_ordered : LegState → OrderKind → Option Stage
+stage_ordered leg (kinds.Dtmf digit) = if refuses_digits leg then None else stage_after (kinds.Dtmf digit) leg.stage
+stage_ordered leg kind = stage_after kind leg.stage
 
 -- a leg that is carried to this stage by an order
 abbrev pub ordered : OrderKind → SeenLeg → Stage → SeenLeg

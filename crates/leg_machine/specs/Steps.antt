@@ -4,13 +4,16 @@ use Rattle.iax_frames.specs.FullFrame.{FullFrame}
 use Rattle.seq_window.specs.declared.judgements.Acknowledged.{Acknowledged as Judgement}
 use Rattle.seq_window.specs.declared.judgements.Received.{Received}
 use Rattle.seq_window.specs.declared.judgements.Received.TheVariants as received
-use Rattle.seq_window.specs.Window.{held_count, held_frames, is_full, judged_number, judged_acknowledgement, after_touching_all}
+use Rattle.seq_window.specs.Window.{held_count, held_frames, is_full, judged_number, judged_acknowledgement}
+use Rattle.seq_window.specs.Window.{after_touching, after_touching_all}
 use Rattle.leg_machine.specs.Effects.{marked, unless_over, is_reply}
 use Rattle.leg_machine.specs.LegTable.{effect_of}
 use Rattle.leg_machine.specs.Leg.{LegState, entered, failed, resent_by, with_window}
 use Rattle.call_signals.specs.Message.{message_of, is_numbered, is_inval, is_vnak}
 use Rattle.leg_machine.specs.Replies.{reply_frame, outgoing, next_byte, ack, vnak, sent_again}
+use Rattle.leg_machine.specs.Tries.{frames_again}
 use Rattle.leg_machine.specs.Working.{learnt, acknowledged, counts, settled, end_noted, recorded, heard, wants_vnak, asked, sent}
+use Rattle.leg_machine.specs.Working.{brings_oldest, vnak_noted, heeds_inval}
 use Rattle.call_signals.specs.declared.effects.Answering.{Answering}
 use Rattle.call_signals.specs.declared.effects.Answering.TheVariants.{Acknowledged, Answered, Silent}
 use Rattle.call_signals.specs.declared.effects.Effect.{Effect}
@@ -47,9 +50,26 @@ resend_step leg now = record {
   signal = None;
 }
 
+-- the oldest held frame alone goes out again, and is counted; that is no try either
+abbrev pub oldest_step : LegState → ℕ → Step
+oldest_step leg now = record {
+  leg = resent_by (with_window leg (after_touching leg.window 0 now)) 1;
+  replies = frames_again leg 0;
+  judged = judged.Unnumbered;
+  signal = None;
+}
+
+-- a VNAK for this number is answered
+abbrev pub answer_step : LegState → ℕ → ℕ → Step
+answer_step leg number now =
+    if brings_oldest leg number now
+    then oldest_step (vnak_noted leg number now) now
+    else resend_step (vnak_noted leg number now) now
+
 -- a VNAK has an effect where its acknowledgement counts
-abbrev pub vnak_step : Judgement → LegState → ℕ → Step
-vnak_step acknowledgement leg now = if counts acknowledgement then resend_step leg now else nothing_sent leg
+abbrev pub vnak_step : Judgement → LegState → ℕ → ℕ → Step
+vnak_step acknowledgement leg number now =
+    if counts acknowledgement then answer_step leg number now else nothing_sent leg
 
 -- ---- a taken frame
 
@@ -117,9 +137,9 @@ numbered_step leg frame message now =
 abbrev pub prepared : LegState → FullFrame → LegState
 prepared leg frame = settled (acknowledged (learnt leg frame.head.source) frame.head.iseqno)
 
--- an INVAL ends the leg; it neither acknowledges nor teaches
-abbrev pub inval_step : LegState → Step
-inval_step leg =
+-- an INVAL that is heeded ends the leg
+abbrev pub invalidated : LegState → Step
+invalidated leg =
     record {
       leg = failed leg failures.Inval;
       replies = [];
@@ -127,11 +147,15 @@ inval_step leg =
       signal = unless_over leg.stage signals.Hangup;
     }
 
+-- an INVAL neither acknowledges nor teaches
+abbrev pub inval_step : LegState → FullFrame → Step
+inval_step leg frame = if heeds_inval leg frame then invalidated leg else nothing_sent leg
+
 abbrev pub message_step : Message → LegState → FullFrame → ℕ → Step
 message_step message leg frame now =
-    if is_inval message then inval_step leg
+    if is_inval message then inval_step leg frame
     else if is_vnak message
-    then vnak_step (judged_acknowledgement leg.window.history frame.head.iseqno) (prepared leg frame) now
+    then vnak_step (judged_acknowledgement leg.window.history frame.head.iseqno) (prepared leg frame) frame.head.iseqno now
     else numbered_step (prepared leg frame) frame message now
 
 -- a full frame comes

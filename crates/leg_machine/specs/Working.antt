@@ -1,5 +1,5 @@
 -- The small changes of which a leg's steps are made.
-use Rattle.std.specs.Prelude.{ℕ, ◌-◌, ◌&&◌, ◌||◌, ◌==◌, not, Bool, true, false, nat_le, Option, None, Some, unwrap_or}
+use Rattle.std.specs.Prelude.{ℕ, ◌-◌, ◌&&◌, ◌||◌, ◌==◌, not, min, Bool, true, false, nat_le, nat_lt, Option, None, Some, unwrap_or}
 use Rattle.std.specs.Prelude.{if◌then◌else◌}
 use Rattle.iax_frames.specs.FullFrame.{FullFrame}
 use Rattle.iax_frames.specs.declared.stored_frame.Frame.{Frame}
@@ -7,10 +7,13 @@ use Rattle.seq_window.specs.declared.judgements.Acknowledged.{Acknowledged}
 use Rattle.seq_window.specs.declared.judgements.Acknowledged.TheVariants.{Acked, Ignored}
 use Rattle.seq_window.specs.Window.{held_count, after_acknowledgement, after_receiving, after_sending}
 use Rattle.leg_machine.specs.Leg.{LegState, entered, with_window}
+use Rattle.leg_machine.specs.declared.machine.AnsweredVnak.{AnsweredVnak}
 use Rattle.call_signals.specs.Endings.{ending_cause}
 use Rattle.call_signals.specs.Message.{is_voice_in}
 use Rattle.call_signals.specs.Stage.{is_closing, is_over}
 use Rattle.call_signals.specs.declared.format.Format.{Format}
+use Rattle.call_signals.specs.declared.format.Format.TheVariants.{Gsm, Ulaw, Alaw}
+use Rattle.call_signals.specs.declared.format.Formats.{Formats}
 use Rattle.call_signals.specs.declared.message.Message.{Message}
 use Rattle.call_signals.specs.declared.reply.Reply.{Reply}
 use Rattle.call_signals.specs.declared.reply.Reply.TheVariants.{Accept}
@@ -55,9 +58,20 @@ agreed_format reply before = before
 abbrev pub agreed : LegState → Reply → LegState
 agreed leg reply = record leg { format = agreed_format reply leg.format }
 
--- in whatever stage voice of the format is taken
+abbrev pub no_formats : Formats
+no_formats = record { gsm = false; ulaw = false; alaw = false }
+
+-- the formats with that of a frame that is voice
+abbrev pub with_voice : Formats → Message → Formats
+with_voice formats message = record {
+  gsm = formats.gsm || is_voice_in Gsm message;
+  ulaw = formats.ulaw || is_voice_in Ulaw message;
+  alaw = formats.alaw || is_voice_in Alaw message;
+}
+
+-- In whatever stage voice is taken, its format is noted: that of the call may still change.
 abbrev pub heard : LegState → Message → LegState
-heard leg message = record leg { voice_taken = leg.voice_taken || is_voice_in leg.format message }
+heard leg message = record leg { voice_taken = with_voice leg.voice_taken message }
 
 -- a moment is so many milliseconds ago or more, or there is none
 abbrev pub is_past : ℕ → ℕ → Option ℕ → Bool
@@ -71,6 +85,31 @@ wants_vnak leg now = is_past leg.rules.vnak_ms now leg.vnak_sent
 -- a VNAK goes out
 abbrev pub asked : LegState → ℕ → LegState
 asked leg now = record leg { vnak_sent = Some now }
+
+-- A VNAK repeats the one that was answered last: it asks for the same number, less than so many milliseconds after it.
+abbrev pub is_repetition : Option AnsweredVnak → ℕ → ℕ → ℕ → Bool
+is_repetition None number now within = false
+is_repetition (Some last) number now within = (last.number == number) && nat_lt (now - last.at) within
+
+-- A VNAK that repeats, within the lesser of `retry_ms` and 100 milliseconds, brings the oldest held frame alone, if one is held.
+abbrev pub brings_oldest : LegState → ℕ → ℕ → Bool
+brings_oldest leg number now =
+    leg.rules.is_hardened
+    && nat_lt 0 (held_count leg.window)
+    && is_repetition leg.vnak_answered number now (min leg.rules.retry_ms 100)
+
+-- a VNAK for this number is answered
+abbrev pub vnak_noted : LegState → ℕ → ℕ → LegState
+vnak_noted leg number now = record leg { vnak_answered = Some (record { number = number; at = now }) }
+
+-- A frame bears the leg's number, and that of the other side, if that is known.
+abbrev pub names_leg : LegState → FullFrame → Bool
+names_leg leg frame =
+    (frame.head.destination == leg.number) && (unwrap_or leg.remote frame.head.source == frame.head.source)
+
+-- an INVAL has an effect
+abbrev pub heeds_inval : LegState → FullFrame → Bool
+heeds_inval leg frame = not leg.rules.is_hardened || names_leg leg frame
 
 -- a numbered frame goes out
 abbrev pub sent : LegState → Frame → ℕ → LegState

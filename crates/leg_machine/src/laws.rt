@@ -1,27 +1,31 @@
 //! The laws of a leg.
 
-ghost use Rattle.std.specs.Prelude.{◌≡◌, ◌≢◌, [], ◌∷◌, ◌⊎◌, ◌↔◌, ◌≤◌, ◌<◌, ◌^◌, ℕ, Bool, true, List, Option, None, Some, map};
+ghost use Rattle.std.specs.Prelude.{◌≡◌, ◌≢◌, [], ◌∷◌, ◌⊎◌, ◌↔◌, ◌≤◌, ◌<◌, ◌^◌, ◌||◌, ℕ, Bool, true, false, List, length, min, Option, None, Some, map};
 ghost use Rattle.iax_frames.specs.FullFrame.{FullFrame, spelling};
 ghost use Rattle.seq_window.specs.History.{taken_count};
-ghost use Rattle.seq_window.specs.Window.{held_count};
+ghost use Rattle.seq_window.specs.Window.{held_count, held_frames};
 ghost use Rattle.seq_window.specs.declared.judgements.Received.TheVariants.{Gap};
 ghost use Rattle.leg_machine.specs.Leg.{LegState};
-ghost use Rattle.leg_machine.specs.Media.{IsMediaOf};
+ghost use Rattle.leg_machine.specs.Media.{IsMediaOf, accepts_media};
 ghost use Rattle.leg_machine.specs.Openings.{open_in_step, open_out_step};
-ghost use Rattle.leg_machine.specs.OrderTable.{order_refused, order_carried};
-ghost use Rattle.leg_machine.specs.Seen.{seen, kind_of, stage_after, fresh_leg, IsSeenFrame, IsSeenOpening, IsSeenOrder};
+ghost use Rattle.leg_machine.specs.OrderTable.{order_refused, order_carried, refuses_digits};
+ghost use Rattle.leg_machine.specs.Seen.{seen, kind_of, stage_ordered, fresh_leg, IsSeenFrame, IsSeenOpening, IsSeenOrder};
 ghost use Rattle.leg_machine.specs.Seen.{IsSeenTick};
-ghost use Rattle.leg_machine.specs.Replies.{vnak};
-ghost use Rattle.leg_machine.specs.Steps.{full_step, judged_step};
+ghost use Rattle.leg_machine.specs.Replies.{vnak, sent_again};
+ghost use Rattle.leg_machine.specs.Steps.{full_step, judged_step, answer_step, inval_step, invalidated, nothing_sent};
 ghost use Rattle.leg_machine.specs.Ticks.{quiet, hang_up_step, tick_step, is_idle};
 ghost use Rattle.leg_machine.specs.Tie.{TakesTurn, SendsAtMostOne, TakesFirstTurn, HasSentAtMostOne, SendsNumbered, HasSent};
 ghost use Rattle.leg_machine.specs.Tie.{HasSentOrMini};
 ghost use Rattle.leg_machine.specs.Tries.{tries, NoneDue, IsFinished};
+ghost use Rattle.leg_machine.specs.Working.{heard, is_repetition, names_leg};
+ghost use Rattle.call_signals.specs.Format.{has_format};
+ghost use Rattle.call_signals.specs.Message.{message_of, is_inval, is_voice_in};
 ghost use Rattle.call_signals.specs.declared.format.Format.{Format};
 ghost use Rattle.call_signals.specs.declared.message.Message.{Message};
 ghost use Rattle.call_signals.specs.declared.order.Order.{Order};
 ghost use Rattle.call_signals.specs.declared.order.OrderError.TheVariants.{WrongStage};
 ghost use Rattle.call_signals.specs.declared.rules.PeerRules.{PeerRules};
+ghost use Rattle.call_signals.specs.declared.signal.MediaSpan.{MediaSpan};
 ghost use Rattle.call_signals.specs.declared.stage.Stage.TheVariants.{Waiting, Ended};
 
 /// A tick tries as often as is due: its turns, as many as frames were held when it began, never run out before a frame is
@@ -47,6 +51,17 @@ pub fn media_is_the_frames()
     ensures { (leg : LegState) (frame : FullFrame) (now : ℕ) → IsMediaOf frame (full_step leg frame now).signal }
 {}
 
+/// Media is judged by the format that the call has, though it may be chosen after voice was taken: mini frames and trunk entries
+/// are accepted only if a voice frame of that format was taken.
+pub fn media_is_of_the_calls_format()
+    ensures accepted { (leg : LegState) (span : MediaSpan) → accepts_media leg span ≡ true →
+        has_format leg.voice_taken leg.format ≡ true }
+    // A taken frame adds its own format and no other, whatever the call's is. So in a leg whose format never changes a note of
+    // voice of that format alone would say the same.
+    ensures noted { (leg : LegState) (message : Message) (format : Format) →
+        has_format (heard leg message).voice_taken format ≡ (has_format leg.voice_taken format || is_voice_in format message) }
+{}
+
 /// Where the plan has no `vnak_ms`, each gap is answered by a VNAK. Where it has, silence waits for the frame that the last VNAK
 /// asked for and for no other: a leg that has come to expect another one has no VNAK that counts.
 pub fn gaps_are_answered()
@@ -57,6 +72,22 @@ pub fn gaps_are_answered()
         (full_step leg frame now).leg.vnak_sent ≡ None }
 {}
 
+/// What a forged frame can make of a leg whose rules harden it: a VNAK that repeats brings one frame at most, and an INVAL that
+/// doesn't name the leg changes nothing and brings nothing.
+pub fn hardening_is_by_the_rules()
+    ensures vnaks { (leg : LegState) (number : ℕ) (now : ℕ) → leg.rules.is_hardened ≡ true →
+        is_repetition leg.vnak_answered number now (min leg.rules.retry_ms 100) ≡ true →
+        length (answer_step leg number now).replies ≤ 1 }
+    ensures invals { (leg : LegState) (frame : FullFrame) (now : ℕ) → leg.rules.is_hardened ≡ true →
+        is_inval (message_of frame.head) ≡ true → names_leg leg frame ≡ false → full_step leg frame now ≡ nothing_sent leg }
+    // By other rules each VNAK brings all held frames, each INVAL ends the leg, and a doomed leg takes digits.
+    ensures all_vnaks { (leg : LegState) (number : ℕ) (now : ℕ) → leg.rules.is_hardened ≡ false →
+        (answer_step leg number now).replies ≡ map (sent_again leg) (held_frames leg.window) }
+    ensures all_invals { (leg : LegState) (frame : FullFrame) → leg.rules.is_hardened ≡ false →
+        inval_step leg frame ≡ invalidated leg }
+    ensures all_digits { (leg : LegState) → leg.rules.is_hardened ≡ false → refuses_digits leg ≡ false }
+{}
+
 /// Seen only by its stage, whether it is doomed, whether it owes and what it hands up, each step of a leg is one that callers at
 /// once reckon with: that of a frame, an order, a tick or an opening.
 pub fn steps_are_seen()
@@ -64,9 +95,9 @@ pub fn steps_are_seen()
         IsSeenFrame (seen leg) (seen (full_step leg frame now).leg) (full_step leg frame now).signal }
     ensures orders { (leg : LegState) (order : Order) (now : ℕ) → order_refused leg order now ≡ None →
         IsSeenOrder (kind_of order) (seen leg) (seen (order_carried leg order now).leg) }
-    // An order is refused for the stage exactly where it leads nowhere from there.
+    // An order is refused for the stage exactly where it leads nowhere from there, or is a digit that a doomed leg refuses.
     ensures wrong_stages { (leg : LegState) (order : Order) (now : ℕ) →
-        (order_refused leg order now ≡ Some WrongStage) ↔ (stage_after (kind_of order) leg.stage ≡ None) }
+        (order_refused leg order now ≡ Some WrongStage) ↔ (stage_ordered leg (kind_of order) ≡ None) }
     ensures ticks { (grown : Bool) (leg : LegState) (now : ℕ) → IsSeenTick (seen leg) (seen (tick_step grown leg now).leg) }
     ensures calls_in { (rules : PeerRules) (number : ℕ) (frame : FullFrame) (now : ℕ) (challenge : List ℕ) → 1 ≤ rules.window →
         IsSeenOpening (seen (open_in_step rules number frame now challenge).leg)

@@ -8,7 +8,7 @@ ghost use Rattle.leg_machine.specs.Openings.{open_in_step, open_out_step};
 ghost use Rattle.leg_machine.specs.OrderTable.{order_refused, media_refused, is_voice, wants_memory, IsRefusal, IsShortMedia};
 ghost use Rattle.leg_machine.specs.OrderTable.{order_carried};
 ghost use Rattle.call_signals.specs.PeerRules.{IsPeerRules};
-ghost use Rattle.leg_machine.specs.Seen.{seen, kind_of, stage_after, fresh_leg, IsSeenFrame, IsSeenOpening, IsSeenOrder};
+ghost use Rattle.leg_machine.specs.Seen.{seen, kind_of, stage_after, stage_ordered, fresh_leg, IsSeenFrame, IsSeenOpening, IsSeenOrder};
 ghost use Rattle.leg_machine.specs.Seen.{IsSeenTick};
 ghost use Rattle.leg_machine.specs.Steps.{full_step, heard_of};
 ghost use Rattle.leg_machine.specs.Ticks.{tick_step};
@@ -208,9 +208,10 @@ impl Leg {
     /// An order is carried out, at the moment `now`, in milliseconds; media has 1 to 1,380 octets. What is sent is written to the
     /// empty list.
     ///
-    /// Refusals are looked for in this order: `WrongStage` where the leg's stage has no such order; then, only of what goes out
-    /// as a full frame, `WindowFull`, `RecordFull` where fewer than four entries of the record are free, and `Memory`, which
-    /// never comes with a spare entry. Then nothing is changed or written. Doom and Paid are never refused.
+    /// Refusals are looked for in this order: `WrongStage` where the leg's stage has no such order, or the leg is doomed and refuses
+    /// the digit; then, only of what goes out as a full frame, `WindowFull`, `RecordFull` where fewer than four entries of the
+    /// record are free, and `Memory`, which never comes with a spare entry. Then nothing is changed or written. Doom and Paid are
+    /// never refused.
     pub fn order_into(
         &mut self,
         order: &Order,
@@ -228,8 +229,7 @@ impl Leg {
         ensures refused { IfErr result (IsRefusal (order_refused self.old.state order.now now)) }
         ensures memory { result ≡ Err OrderError.Memory → wants_memory self.old.state order.now now ≡ true }
         ensures spare { result ≡ Err OrderError.Memory → self.old.spare ≡ 0 }
-        ensures wrong_stage { (result ≡ Err OrderError.WrongStage) ↔
-            (stage_after (kind_of order.now) self.old.state.stage ≡ None) }
+        ensures wrong_stage { (result ≡ Err OrderError.WrongStage) ↔ (stage_ordered self.old.state (kind_of order.now) ≡ None) }
         ensures err { OnErr result (self.new ≡ self.old) }
         ensures none_sent { OnErr result (replies.new ≡ replies.old) }
         ensures capacity { capacity_of self.old ≤ capacity_of self.new }

@@ -23,14 +23,15 @@ use info_elements::{CALLED_NUMBER, CALLING_NUMBER, last_in};
 use seq_window::{EntryView, Record, Window};
 
 impl Leg {
-    /// Whether media of the other side counts now ("Mini Frames"): `Accepted` where the leg is talking, took voice of its format,
-    /// and the span has 1 to 1,380 octets, else `NotYet`.
+    /// Whether media of the other side counts now ("Mini Frames"): `Accepted` where the leg is talking, took voice of the format
+    /// that the call has now, and the span has 1 to 1,380 octets, else `NotYet`.
     pub fn media_in(&self, span: MediaSpan) -> MediaIn
         ensures { result ≡ (if accepts_media self.now.state span then MediaIn.Accepted else MediaIn.NotYet) }
     {
         let machine = &self.machine;
         let is_media = is_media(span.len());
-        if machine.stage.is_talking() && machine.voice_taken && is_media {
+        let took_voice = machine.voice_taken.contains(machine.format);
+        if machine.stage.is_talking() && took_voice && is_media {
             MediaIn::Accepted
         } else {
             MediaIn::NotYet
@@ -163,6 +164,7 @@ impl Leg {
             voice_sent: _,
             pinged: _,
             vnak_sent: _,
+            vnak_answered: _,
             failure: _,
             resent: _,
             window,

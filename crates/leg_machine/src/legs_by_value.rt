@@ -9,7 +9,7 @@ ghost use Rattle.leg_machine.specs.Openings.{open_in_step, open_out_step};
 ghost use Rattle.leg_machine.specs.OrderTable.{order_refused, wants_memory, IsRefusal, IsShortMedia, order_carried};
 ghost use Rattle.call_signals.specs.Caller.{numbered};
 ghost use Rattle.call_signals.specs.PeerRules.{IsPeerRules};
-ghost use Rattle.leg_machine.specs.Seen.{seen, kind_of, stage_after, fresh_leg, IsSeenFrame, IsSeenOpening, IsSeenOrder};
+ghost use Rattle.leg_machine.specs.Seen.{seen, kind_of, stage_ordered, fresh_leg, IsSeenFrame, IsSeenOpening, IsSeenOrder};
 ghost use Rattle.leg_machine.specs.Seen.{IsSeenTick};
 ghost use Rattle.leg_machine.specs.Steps.{full_step};
 ghost use Rattle.leg_machine.specs.Ticks.{tick_step};
@@ -166,8 +166,7 @@ impl Leg {
         ensures refused { IfErr result (IsRefusal (order_refused self.old.state order.now now)) }
         ensures memory { result ≡ Err OrderError.Memory → wants_memory self.old.state order.now now ≡ true }
         ensures spare { result ≡ Err OrderError.Memory → self.old.spare ≡ 0 }
-        ensures wrong_stage { (result ≡ Err OrderError.WrongStage) ↔
-            (stage_after (kind_of order.now) self.old.state.stage ≡ None) }
+        ensures wrong_stage { (result ≡ Err OrderError.WrongStage) ↔ (stage_ordered self.old.state (kind_of order.now) ≡ None) }
         ensures err { OnErr result (self.new ≡ self.old) }
         ensures capacity { capacity_of self.old ≤ capacity_of self.new }
     {

@@ -12,12 +12,21 @@ ghost use Rattle.leg_machine.specs.Working as steps;
 use call_auth::Challenge;
 use call_signals::codes::{FRAME_IAX, IAX_ACK, IAX_VNAK};
 use call_signals::{
-    Cause, Failure, Format, LocalNumber, Message, PeerRules, Replies, Reply, Stage, StepError,
-    ending_cause,
+    Cause, Failure, Format, Formats, LocalNumber, Message, PeerRules, Replies, Reply, Stage,
+    StepError, ending_cause,
 };
 use iax_frames::{CallNumber, Full, FullHead, Payload};
 use seq_window::{Acknowledged, FrameView, Window};
 use std::alloc::{AllocError, Global};
+
+/// The VNAK of the other side that a leg answered last ("IAX Frames").
+#[derive(Clone, Copy)]
+pub struct AnsweredVnak {
+    /// The octet of the number that it asked for: its ISeqno.
+    pub number: u8,
+    /// When it came, in milliseconds.
+    pub at: u64,
+}
 
 /// A leg's fields. Its steps never fail: who calls one has made room for its entries before.
 #[derive(Drop)]
@@ -34,10 +43,11 @@ pub struct Machine {
     pub quelched: bool,
     pub challenge: Option<Challenge>,
     pub authenticated: bool,
-    pub voice_taken: bool,
+    pub voice_taken: Formats,
     pub voice_sent: Option<u32>,
     pub pinged: u64,
     pub vnak_sent: Option<u64>,
+    pub vnak_answered: Option<AnsweredVnak>,
     pub failure: Option<Failure>,
     pub resent: u64,
     pub window: Window,
@@ -87,10 +97,15 @@ impl Machine {
             quelched: false,
             challenge: None,
             authenticated: false,
-            voice_taken: false,
+            voice_taken: Formats {
+                gsm: false,
+                ulaw: false,
+                alaw: false,
+            },
             voice_sent: None,
             pinged: now,
             vnak_sent: None,
+            vnak_answered: None,
             failure: None,
             resent: 0,
             window,
@@ -209,12 +224,16 @@ impl Machine {
         self.vnak_sent = None;
     }
 
-    /// Notes that voice of the leg's format was taken, where the message is such voice.
+    /// Notes the format of a voice frame that was taken; another message changes nothing. The call's own format may still change.
     pub fn hear(&mut self, message: &Message)
         ensures leg { leg_of self.new ≡ steps.heard (leg_of self.old) message.now }
         ensures window { self.new.window ≡ self.old.window }
     {
-        self.voice_taken = self.voice_taken || message.is_voice_in(self.format);
+        self.voice_taken = Formats {
+            gsm: self.voice_taken.gsm || message.is_voice_in(Format::Gsm),
+            ulaw: self.voice_taken.ulaw || message.is_voice_in(Format::Ulaw),
+            alaw: self.voice_taken.alaw || message.is_voice_in(Format::Alaw),
+        };
     }
 
     /// Writes a frame as this leg sends it, with the octet of its number, behind fewer than 128 others; `again` says that it is

@@ -30,7 +30,15 @@ fn when(holds: bool, reply: Reply, stage: Stage, most: usize) -> Option<Ordered>
 impl Machine {
     ghost use Rattle.leg_machine.specs.Leg.{leg_of, whole_leg, capacity_of, HasRoom};
 
-    /// The row of an order that sends a numbered frame; `None` where the stage is a wrong one, and of the other orders.
+    // A doomed leg sends no more digits: one that found no room would leave a gap before those that come after it.
+    fn refuses_digits(&self) -> bool
+        ensures { result ≡ orders.refuses_digits (leg_of self.now) }
+    {
+        self.rules.is_hardened && self.doomed
+    }
+
+    /// The row of an order that sends a numbered frame; `None` if the stage is a wrong one, of a digit that the leg refuses because
+    /// it is doomed, and of the other orders.
     pub fn order_row(&self, order: &Order) -> Option<Ordered>
         ensures row { result ≡ orders.order_row (leg_of self.now) order.now }
         ensures most { IfSome result (λ row. row.most ≤ self.now.window.state.width) }
@@ -58,7 +66,12 @@ impl Machine {
                 room,
             ),
             Order::Answer => when(stage.is_linked(), Reply::Answer, Stage::Up, room),
-            Order::Dtmf(digit) => when(stage.is_talking(), Reply::Dtmf(*digit), stage, room),
+            Order::Dtmf(digit) => when(
+                stage.is_talking() && !self.refuses_digits(),
+                Reply::Dtmf(*digit),
+                stage,
+                room,
+            ),
             Order::Hangup(cause) => when(
                 !stage.is_over(),
                 Reply::Hangup(*cause),

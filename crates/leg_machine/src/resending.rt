@@ -1,14 +1,25 @@
 //! Frames that go out again ("Message Transport").
-ghost use Rattle.std.specs.Prelude.{◌≡◌, ◌+◌, ◌<◌, ◌≤◌, ◌++◌, [], length, map};
+ghost use Rattle.std.specs.Prelude.{◌≡◌, ◌+◌, ◌<◌, ◌≤◌, ◌++◌, [], true, length, map};
 ghost use Rattle.iax_frames.specs.FullFrame.{spelling};
 ghost use Rattle.seq_window.specs.Window.{held_count, held_frames};
 ghost use Rattle.leg_machine.specs.Replies as replies;
 ghost use Rattle.leg_machine.specs.Steps as steps;
 ghost use Rattle.leg_machine.specs.Tries as tries;
+ghost use Rattle.leg_machine.specs.Working as working;
 
-use crate::machine::Machine;
+use crate::machine::{AnsweredVnak, Machine};
 use call_signals::{Heard, Judged, Replies};
 use seq_window::Resent;
+
+// A VNAK repeats the one that was answered last: it asks for the same number, less than so many milliseconds after it.
+fn is_repetition(last: Option<AnsweredVnak>, number: u8, now: u64, within: u64) -> bool
+    ensures { result ≡ working.is_repetition last number now within }
+{
+    match last {
+        Some(last) => last.number == number && now.saturating_sub(last.at) < within,
+        None => false,
+    }
+}
 
 impl Machine {
     ghost use Rattle.leg_machine.specs.Leg.{leg_of, whole_leg, capacity_of, HasRoom};
@@ -63,9 +74,8 @@ impl Machine {
         false
     }
 
-    /// All held frames go out again at the moment `now`, in milliseconds, the oldest first, and are counted, which is no try. The
-    /// list is empty before.
-    pub fn resend(&mut self, now: u64, outs: &mut Replies) -> Heard
+    // All held frames go out again at the moment `now`, in milliseconds, the oldest first, and are counted, which is no try.
+    fn resend(&mut self, now: u64, outs: &mut Replies) -> Heard
         requires { outs.old ≡ [] }
         ensures leg { leg_of self.new ≡ (steps.resend_step (leg_of self.old) now).leg }
         ensures replies { outs.new ≡ map spelling (steps.resend_step (leg_of self.old) now).replies }
@@ -78,6 +88,57 @@ impl Machine {
         Heard {
             judged: Judged::Unnumbered,
             signal: None,
+        }
+    }
+
+    // The oldest held frame alone goes out again at the moment `now`, in milliseconds, and is counted, which is no try.
+    fn resend_oldest(&mut self, now: u64, outs: &mut Replies) -> Heard
+        requires held { 0 < held_count self.old.window.state }
+        requires empty { outs.old ≡ [] }
+        ensures leg { leg_of self.new ≡ (steps.oldest_step (leg_of self.old) now).leg }
+        ensures replies { outs.new ≡ map spelling (steps.oldest_step (leg_of self.old) now).replies }
+        ensures heard { result ≡ steps.heard_of (steps.oldest_step (leg_of self.old) now) }
+        ensures capacity { capacity_of (whole_leg self.old) ≤ capacity_of (whole_leg self.new) }
+    {
+        self.again(0, outs);
+        self.resent = self.resent.wrapping_add(1);
+        self.window.touch(0, now);
+        Heard {
+            judged: Judged::Unnumbered,
+            signal: None,
+        }
+    }
+
+    // A VNAK for this number, at the moment `now`, in milliseconds, brings the oldest held frame alone, because it repeats the one
+    // that was answered last. Otherwise a forged one would bring all that is held, as often as it comes.
+    fn brings_oldest(&self, number: u8, now: u64) -> bool
+        ensures oldest { result ≡ working.brings_oldest (leg_of self.now) number now }
+        ensures held { result ≡ true → 0 < held_count self.now.window.state }
+    {
+        let repeats = is_repetition(
+            self.vnak_answered,
+            number,
+            now,
+            self.rules.retry_ms.min(100),
+        );
+        self.rules.is_hardened && 0 < self.window.held_len() && repeats
+    }
+
+    /// A VNAK whose acknowledgement counts, and which asks for this number, is answered at the moment `now`, in milliseconds: all
+    /// held frames go out again, the oldest first, or the oldest alone, and are counted, which is no try. The list is empty before.
+    pub fn answer_vnak(&mut self, number: u8, now: u64, outs: &mut Replies) -> Heard
+        requires { outs.old ≡ [] }
+        ensures leg { leg_of self.new ≡ (steps.answer_step (leg_of self.old) number now).leg }
+        ensures replies { outs.new ≡ map spelling (steps.answer_step (leg_of self.old) number now).replies }
+        ensures heard { result ≡ steps.heard_of (steps.answer_step (leg_of self.old) number now) }
+        ensures capacity { capacity_of (whole_leg self.old) ≤ capacity_of (whole_leg self.new) }
+    {
+        let brings_oldest = self.brings_oldest(number, now);
+        self.vnak_answered = Some(AnsweredVnak { number, at: now });
+        if brings_oldest {
+            self.resend_oldest(now, outs)
+        } else {
+            self.resend(now, outs)
         }
     }
 }

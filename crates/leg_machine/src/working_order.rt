@@ -4,7 +4,7 @@ ghost use Rattle.iax_frames.specs.FullFrame.{spelling};
 ghost use Rattle.seq_window.specs.Window.{held_count, judged_number, judged_acknowledgement};
 ghost use Rattle.leg_machine.specs.Effects.{is_reply, marked};
 ghost use Rattle.leg_machine.specs.Steps as steps;
-ghost use Rattle.leg_machine.specs.Working.{counts, wants_vnak};
+ghost use Rattle.leg_machine.specs.Working.{counts, wants_vnak, names_leg, heeds_inval};
 
 use crate::machine::Machine;
 use call_signals::effects::unless_over;
@@ -162,12 +162,36 @@ impl Machine {
         }
     }
 
-    // An INVAL comes.
-    fn invalidate(&mut self) -> Heard
-        ensures leg { leg_of self.new ≡ (steps.inval_step (leg_of self.old)).leg }
-        ensures heard { result ≡ steps.heard_of (steps.inval_step (leg_of self.old)) }
+    // A frame bears the leg's number, and that of the other side, if that is known.
+    fn names_leg(&self, frame: &Full) -> bool
+        ensures { result ≡ names_leg (leg_of self.now) frame.now }
+    {
+        let is_to = frame.destination() == self.number.get();
+        let is_from = self.remote.unwrap_or(frame.source()) == frame.source();
+        is_to && is_from
+    }
+
+    // An INVAL has an effect: a hardened leg heeds only one that names it.
+    fn heeds_inval(&self, frame: &Full) -> bool
+        ensures { result ≡ heeds_inval (leg_of self.now) frame.now }
+    {
+        let names_leg = self.names_leg(frame);
+        !self.rules.is_hardened || names_leg
+    }
+
+    // An INVAL comes; it is never answered.
+    fn invalidate(&mut self, frame: &Full) -> Heard
+        ensures leg { leg_of self.new ≡ (steps.inval_step (leg_of self.old) frame.now).leg }
+        ensures silent { (steps.inval_step (leg_of self.old) frame.now).replies ≡ [] }
+        ensures heard { result ≡ steps.heard_of (steps.inval_step (leg_of self.old) frame.now) }
         ensures capacity { capacity_of (whole_leg self.old) ≤ capacity_of (whole_leg self.new) }
     {
+        if !self.heeds_inval(frame) {
+            return Heard {
+                judged: Judged::Unnumbered,
+                signal: None,
+            };
+        }
         let signal = unless_over(self.stage, Signal::Hangup);
         self.fail(Failure::Inval);
         Heard {
@@ -225,14 +249,14 @@ impl Machine {
     {
         let message = Message::of(frame);
         if message.is_inval() {
-            return self.invalidate();
+            return self.invalidate(frame);
         }
         let counts = self.prepare(frame);
         if !message.is_vnak() {
             return self.numbered(frame, &message, now, outs);
         }
         if counts {
-            return self.resend(now, outs);
+            return self.answer_vnak(frame.iseqno(), now, outs);
         }
         Heard {
             judged: Judged::Unnumbered,

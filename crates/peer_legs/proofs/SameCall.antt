@@ -13,11 +13,11 @@ use Rattle.leg_machine.specs.Leg.{LegState, entered, failed, is_short_of_entries
 use Rattle.leg_machine.specs.Media.{after_media, media_sent}
 use Rattle.leg_machine.specs.Message.{message_of, is_inval, is_vnak}
 use Rattle.leg_machine.specs.OrderTable.{order_row, row_carried, order_carried}
-use Rattle.leg_machine.specs.Steps.{Step, nothing_sent, resend_step, taken, replied, taken_step, asking, not_asking, judged_step, numbered_step, vnak_step, prepared, inval_step, message_step, full_step}
+use Rattle.leg_machine.specs.Steps.{Step, nothing_sent, answer_step, oldest_step, invalidated, resend_step, taken, replied, taken_step, asking, not_asking, judged_step, numbered_step, vnak_step, prepared, inval_step, message_step, full_step}
 use Rattle.leg_machine.specs.Stage.{is_closing, is_ended}
 use Rattle.leg_machine.specs.Ticks.{Tick, quiet, hang_up_step, ping_step, last_step, due_frames, tick_step}
 use Rattle.leg_machine.specs.Tries.{Tried, tries, one_try, after_try}
-use Rattle.leg_machine.specs.Working.{learnt, settled, acknowledged, counts, wants_vnak, end_noted}
+use Rattle.leg_machine.specs.Working.{learnt, settled, acknowledged, counts, wants_vnak, end_noted, brings_oldest, vnak_noted, heeds_inval}
 use Rattle.call_signals.specs.declared.failure.Failure.TheVariants.{RecordFull}
 use Rattle.call_signals.specs.declared.effects.Answering.{Answering}
 use Rattle.call_signals.specs.declared.effects.Answering.TheVariants.{Acknowledged as Acks, Answered, Silent}
@@ -102,9 +102,14 @@ same_numbered : (leg : LegState) (frame : FullFrame) (message : Message) (now : 
 same_numbered leg frame message now =
     chosen (λ (s : Step). IsSameCall leg s.leg) _ _ _ (same_judged _ leg frame message now) (same leg)
 
-same_vnak : (judged : Acknowledged) (leg : LegState) (now : ℕ) → IsSameCall leg (vnak_step judged leg now).leg
-same_vnak judged leg now =
-    chosen (λ (s : Step). IsSameCall leg s.leg) (counts judged) (resend_step leg now) (nothing_sent leg) (record { number = refl; remote = refl; ruled = record { rules = refl; width = refl; limit = refl } }) (same leg)
+same_vnak : (judged : Acknowledged) (leg : LegState) (number now : ℕ) → IsSameCall leg (vnak_step judged leg number now).leg
+same_vnak judged leg number now =
+    let noted = vnak_noted leg number now in
+    chosen (λ (s : Step). IsSameCall leg s.leg) (counts judged) (answer_step leg number now) (nothing_sent leg)
+    (chosen (λ (s : Step). IsSameCall leg s.leg) (brings_oldest leg number now) (oldest_step noted now) (resend_step noted now)
+    (record { number = refl; remote = refl; ruled = record { rules = refl; width = refl; limit = refl } })
+    (record { number = refl; remote = refl; ruled = record { rules = refl; width = refl; limit = refl } }))
+    (same leg)
 
 same_settled : (leg : LegState) → IsSameCall leg (settled leg)
 same_settled leg = chosen (IsSameCall leg) (is_closing leg.stage && (held_count leg.window == 0)) (entered leg Ended) leg (record { number = refl; remote = refl; ruled = record { rules = refl; width = refl; limit = refl } }) (same leg)
@@ -116,21 +121,23 @@ same_prepared leg frame =
 abbrev taught_step : Message → LegState → FullFrame → ℕ → Step
 taught_step message leg frame now =
     if is_vnak message
-    then vnak_step (judged_acknowledgement leg.window.history frame.head.iseqno) (prepared leg frame) now
+    then vnak_step (judged_acknowledgement leg.window.history frame.head.iseqno) (prepared leg frame) frame.head.iseqno now
     else numbered_step (prepared leg frame) frame message now
 
 same_taught : (message : Message) (leg : LegState) (frame : FullFrame) (now : ℕ) → IsSameCall (prepared leg frame) (taught_step message leg frame now).leg
 same_taught message leg frame now =
     let judged = judged_acknowledgement leg.window.history frame.head.iseqno in
-    chosen (λ (s : Step). IsSameCall (prepared leg frame) s.leg) (is_vnak message) (vnak_step judged (prepared leg frame) now) (numbered_step (prepared leg frame) frame message now)
-    (same_vnak judged (prepared leg frame) now) (same_numbered (prepared leg frame) frame message now)
+    chosen (λ (s : Step). IsSameCall (prepared leg frame) s.leg) (is_vnak message) (vnak_step judged (prepared leg frame) frame.head.iseqno now) (numbered_step (prepared leg frame) frame message now)
+    (same_vnak judged (prepared leg frame) frame.head.iseqno now) (same_numbered (prepared leg frame) frame message now)
 
 -- an INVAL teaches nothing
 message_learns : (message : Message) (leg : LegState) (frame : FullFrame) (now : ℕ) → MayLearn frame.head.source leg (message_step message leg frame now).leg
 message_learns message leg frame now =
     let learning = both_same (learnt leg frame.head.source) (prepared leg frame) (taught_step message leg frame now).leg (same_prepared leg frame) (same_taught message leg frame now) in
-    chosen (λ (s : Step). MayLearn frame.head.source leg s.leg) (is_inval message) (inval_step leg) (taught_step message leg frame now)
-    (record { number = refl; remote = inl refl; ruled = record { rules = refl; width = refl; limit = refl } }) (record { number = learning.number; remote = inr learning.remote; ruled = record { rules = learning.ruled.rules; width = learning.ruled.width; limit = learning.ruled.limit } })
+    chosen (λ (s : Step). MayLearn frame.head.source leg s.leg) (is_inval message) (inval_step leg frame) (taught_step message leg frame now)
+    (chosen (λ (s : Step). MayLearn frame.head.source leg s.leg) (heeds_inval leg frame) (invalidated leg) (nothing_sent leg)
+    (record { number = refl; remote = inl refl; ruled = record { rules = refl; width = refl; limit = refl } })
+    (record { number = refl; remote = inl refl; ruled = record { rules = refl; width = refl; limit = refl } })) (record { number = learning.number; remote = inr learning.remote; ruled = record { rules = learning.ruled.rules; width = learning.ruled.width; limit = learning.ruled.limit } })
 
 pub full_learns : (leg : LegState) (frame : FullFrame) (now : ℕ) → MayLearn frame.head.source leg (full_step leg frame now).leg
 full_learns leg frame now = message_learns (message_of frame.head) leg frame now

@@ -11,7 +11,7 @@ use Rattle.iax_frames.specs.declared.datagram.Datagram.{Datagram}
 use Rattle.iax_frames.specs.declared.datagram.Datagram.TheVariants.{Full, Mini, Video, Trunk}
 use Rattle.leg_machine.specs.LegTable.{is_media}
 use Rattle.leg_machine.specs.Leg.{LegState}
-use Rattle.leg_machine.specs.Media.{accepts_media, IsMediaOf}
+use Rattle.leg_machine.specs.Media.{accepts_media, took_voice, IsMediaOf}
 use Rattle.leg_machine.specs.Signal.{span_len}
 use Rattle.leg_machine.specs.Stage.{is_talking}
 use Rattle.leg_machine.specs.Steps.{full_step}
@@ -93,7 +93,7 @@ media_carries : (len first accepted : ℕ) (o : Option NamedLeg) (span : MediaSp
 media_carries len first accepted None span ordered inside = none len
 media_carries len first accepted (Some named) span ordered inside = elim (cases_Bool (accepts_media named.leg span)) [
   | inr e ↦ rw e (none len)
-  | inl e ↦ rw e (piece len first accepted named.name span ordered inside (last_of (is_talking named.leg.stage && named.leg.voice_taken) (is_media (span_len span)) e))
+  | inl e ↦ rw e (piece len first accepted named.name span ordered inside (last_of (is_talking named.leg.stage && took_voice named.leg) (is_media (span_len span)) e))
 ]
 
 nothing : (all m n : ℕ) → 0 ≡ m → all ≡ n → all ≡ m + n

@@ -10,7 +10,7 @@ use Rattle.iax_frames.specs.declared.datagram.Datagram.TheVariants.{Full, Mini, 
 use Rattle.iax_frames.specs.TrunkFrame.{entry_item, is_timed}
 use Rattle.iax_frames.specs.declared.full_frame.FullHead.{FullHead}
 use Rattle.leg_machine.specs.Leg.{LegState}
-use Rattle.leg_machine.specs.Media.{accepts_media}
+use Rattle.leg_machine.specs.Media.{accepts_media, took_voice}
 use Rattle.leg_machine.specs.Message.{message_of, is_numbered}
 use Rattle.leg_machine.specs.Seen.{SeenLeg, SeenFrame, Plain, ProvesItself, FailsToProve, AcceptsCall, RejectsCall, BreaksOff, Indicates, AnswersCall, Dials, Speaks, HangsUp, AcknowledgesAll, seen, moved, frame_effect, IsSeenFrame}
 use Rattle.leg_machine.specs.LegTable.{is_media}
@@ -164,7 +164,7 @@ and_first false b e = cc
 
 talks : (leg : LegState) (span : MediaSpan) → accepts_media leg span ≡ true → is_talking leg.stage ≡ true
 talks leg span e =
-    and_first (is_talking leg.stage) leg.voice_taken (and_first (is_talking leg.stage && leg.voice_taken) (is_media (span_len span)) e)
+    and_first (is_talking leg.stage) (took_voice leg) (and_first (is_talking leg.stage && took_voice leg) (is_media (span_len span)) e)
 
 one_media : (legs : PeerLegs) (named : NamedLeg) (span : MediaSpan) → leg_at legs named.name.number ≡ Some named → is_talking named.leg.stage ≡ true
     → IsMedia legs ((named.name, signals.Media span) ∷ [])

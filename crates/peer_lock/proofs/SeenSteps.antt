@@ -1,6 +1,6 @@
 -- What is seen of an opening, an order, a tick, and of a leg that is taken out.
 use Rattle.std.specs.Prelude.{◌&&◌, not, option_map, nat_lt, ◌↔◌, is_some, if◌then◌else◌}
-use Rattle.std.proofs.Common.{◌≡◌, ◌≢◌, ℕ, zero, suc, ◌+◌, ◌<◌, ◌≤◌, ◌==◌, nat_le, Bool, true, false, inl, inr, List, [], ◌∷◌, length, Option, Some, None, slice_get, refl, sym, ap, subst, ◌∙◌, ◌-◌}
+use Rattle.std.proofs.Common.{◌≡◌, ◌≢◌, ℕ, zero, suc, ◌+◌, ◌<◌, ◌≤◌, ◌==◌, nat_le, Bool, true, false, cond, inl, inr, List, [], ◌∷◌, length, Option, Some, None, slice_get, refl, sym, ap, subst, ◌∙◌, ◌-◌}
 use Rattle.std.proofs.lemmas.Bool.{cases_Bool, eqb-true, leb-true, ltb-true}
 use Rattle.call_book.specs.declared.leg_name.LegName.{LegName}
 use Rattle.iax_frames.specs.FullFrame.{FullFrame}
@@ -8,8 +8,8 @@ use Rattle.iax_frames.specs.MiniFrame.{mini_spelling}
 use Rattle.leg_machine.specs.Leg.{LegState}
 use Rattle.leg_machine.specs.Media.{media_sent}
 use Rattle.leg_machine.specs.Openings.{open_in_step, open_out_step}
-use Rattle.leg_machine.specs.OrderTable.{order_refused, order_carried, wants_memory}
-use Rattle.leg_machine.specs.Seen.{SeenLeg, seen, kind_of, stage_after, fresh_leg, IsSeenOpening, IsSeenOrder, IsSeenTick}
+use Rattle.leg_machine.specs.OrderTable.{order_refused, order_carried, wants_memory, refuses_digits}
+use Rattle.leg_machine.specs.Seen.{SeenLeg, seen, kind_of, stage_after, stage_ordered, fresh_leg, IsSeenOpening, IsSeenOrder, IsSeenTick}
 use Rattle.leg_machine.specs.Ticks.{tick_step}
 use Rattle.call_signals.specs.declared.format.Format.{Format}
 use Rattle.leg_machine.specs.declared.media.MediaSent.{MediaSent}
@@ -212,14 +212,30 @@ right_stage : (there : Option Stage) → there ≢ None → is_some there ≡ tr
 right_stage None some = absurd (some refl)
 right_stage (Some stage) some = refl
 
-module _ (law : (leg : LegState) (order : Order) (now : ℕ) → (order_refused leg order now ≡ Some leg_errors.WrongStage) ↔ (stage_after (kind_of order) leg.stage ≡ None)) where
+-- an order that leads nowhere from a stage leads no leg of that stage anywhere
+none_ordered : (leg : LegState) (kind : OrderKind) → stage_after kind leg.stage ≡ None → stage_ordered leg kind ≡ None
+none_ordered leg (kinds.Dtmf digit) none = either_way (refuses_digits leg)
+  where
+    either_way : (b : Bool) → cond b None (stage_after (kinds.Dtmf digit) leg.stage) ≡ None
+    either_way true = refl
+    either_way false = none
+none_ordered leg kind none = none
+
+-- what leads a leg nowhere though the stage is a right one is a digit
+digit_refused : (leg : LegState) (kind : OrderKind) → stage_ordered leg kind ≡ None → is_some (stage_after kind leg.stage) ≡ true
+    → refuses_order kind errors.WrongStage ≡ true
+digit_refused leg (kinds.Dtmf digit) none right = refl
+digit_refused leg kind none right =
+    let never : is_some (stage_after kind leg.stage) ≡ false = ap is_some none in cc
+
+module _ (law : (leg : LegState) (order : Order) (now : ℕ) → (order_refused leg order now ≡ Some leg_errors.WrongStage) ↔ (stage_ordered leg (kind_of order) ≡ None)) where
   -- a leg that is there refuses an order at a right stage
   there : (legs : PeerLegs) (name : LegName) (named : NamedLeg) (order : Order) (now : ℕ) (error : OrderError) → leg_named legs name ≡ Some named
       → order_refused named.leg order now ≢ Some leg_errors.WrongStage → refuses_order (kind_of order) error ≡ true → Refuses legs name (kind_of order) error true
   there legs name named order now error is right refuses = record {
     before = seen named.leg;
     at = seen_of_name legs name named (named_at legs name named is);
-    right = right_stage (stage_after (kind_of order) named.leg.stage) (λ none. right ((law named.leg order now).1 none));
+    right = right_stage (stage_after (kind_of order) named.leg.stage) (λ none. right ((law named.leg order now).1 (none_ordered named.leg (kind_of order) none)));
     refuses = λ e. refuses;
   }
 
@@ -230,11 +246,11 @@ module _ (law : (leg : LegState) (order : Order) (now : ℕ) → (order_refused 
       rw refused (there legs name named order now errors.Memory is (λ wrong. let never : None ≡ Some leg_errors.WrongStage = sym none ∙ wrong in cc)
       (unsure named.leg order now (wants refused named is)))
   due_seen legs name named order now error (Some leg_errors.WrongStage) is due refused wants =
-      rw refused (record {
+      rw refused (is_some (stage_after (kind_of order) named.leg.stage), record {
         before = seen named.leg;
         at = seen_of_name legs name named (named_at legs name named is);
-        right = ap is_some ((law named.leg order now).0 due);
-        refuses = λ never. cc;
+        right = refl;
+        refuses = digit_refused named.leg (kind_of order) ((law named.leg order now).0 due);
       })
   due_seen legs name named order now error (Some leg_errors.WindowFull) is due refused wants =
       rw refused (there legs name named order now errors.WindowFull is (λ wrong. let never : Some leg_errors.WindowFull ≡ Some leg_errors.WrongStage = sym due ∙ wrong in cc)

@@ -107,6 +107,8 @@ refuses_order kinds.Paid error = false
 refuses_order kind errors.WindowFull = true
 refuses_order kind errors.RecordFull = true
 refuses_order kind errors.Memory = true
+-- a doomed leg takes no digits
+refuses_order (kinds.Dtmf digit) errors.WrongStage = true
 refuses_order kind error = false
 
 -- the leg of the name is there, and its stage is a right one or not
@@ -120,7 +122,7 @@ pub record Refuses (legs : PeerLegs) (name : LegName) (kind : OrderKind) (error 
 abbrev pub IsSeenRefusal : PeerLegs → LegName → OrderKind → OrderError → Type 0
 IsSeenRefusal legs name kind errors.StepsSpent = Unit {0}
 IsSeenRefusal legs name kind errors.Gone = IsGone legs name
-IsSeenRefusal legs name kind errors.WrongStage = Refuses legs name kind errors.WrongStage false
+IsSeenRefusal legs name kind errors.WrongStage = (is_right : Bool) × Refuses legs name kind errors.WrongStage is_right
 IsSeenRefusal legs name kind error = Refuses legs name kind error true
 
 -- ---- ticks

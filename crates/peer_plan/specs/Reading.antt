@@ -137,7 +137,8 @@ window_in format ms = if nat_le 2 format then value ms key.Window (Ok 64) (numbe
 abbrev pub poke_in : ℕ → Members → Result Bool PlanError
 poke_in format ms = if format == 4 then value ms key.Poke (Ok true) as_bool else Ok false
 
--- who calls and why a call ended are carried on, and a call's format is chosen as it is routed, in format 4 alone
+-- in format 4 alone who calls and why a call ended are carried on, a call's format is chosen as it is routed, and legs are
+-- hardened
 abbrev pub rules_from : ℕ → Limits → Credentials → Media → ℕ → Bool → PeerRules
 rules_from format limits credentials media window poke =
     record {
@@ -157,6 +158,7 @@ rules_from format limits credentials media window poke =
       carries_caller = format == 4;
       carries_cause = format == 4;
       routes_format = format == 4;
+      is_hardened = format == 4;
     }
 
 unfoldable pub peer_in : ℕ → Limits → ℕ → Members → Result Peer PlanError

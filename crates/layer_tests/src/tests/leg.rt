@@ -42,6 +42,7 @@ pub fn rules(ping_ms: u16) -> PeerRules
         carries_caller: false,
         carries_cause: false,
         routes_format: false,
+        is_hardened: false,
     }
 }
 

@@ -80,6 +80,7 @@ fn peer(table: &Table, format: u64, limits: Limits, workers: u64) -> Result<Peer
             carries_caller: format == 4,
             carries_cause: format == 4,
             routes_format: format == 4,
+            is_hardened: format == 4,
         },
         numbers: numbers as u16,
     })
