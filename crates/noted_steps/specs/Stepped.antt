@@ -1,14 +1,21 @@
 -- At which peers steps were made under a pass since their last tick.
-use Rattle.std.specs.Prelude.{ℕ, List, [], ◌∷◌, Bool, true, false, get_or, replicate, set}
+use Rattle.std.specs.Prelude.{ℕ, List, [], ◌∷◌, Bool, true, false, nat_lt, Result, Ok, Err, get_or, replicate, set}
 use Rattle.noted_steps.specs.Notes.{Noted}
 use Rattle.noted_steps.specs.declared.made.Made.{Made}
 use Rattle.noted_steps.specs.declared.made.Made.TheVariants as mades
+use Rattle.peer_lock.specs.declared.errors.StepsSpent.{StepsSpent}
+use Rattle.peer_lock.specs.declared.steps.TickReport.{TickReport}
 
 -- for each place of a plan, which has at most 32, that its peer isn't one of them
 abbrev pub no_peers : List Bool
 no_peers = replicate 32 false
 
--- What was asked of a peer adds it, whatever was answered, and a tick takes it out. A look changes nothing at the peer, and what
+-- a tick found no memory for a frame, so it is to be made again
+abbrev pub has_skipped : Result TickReport StepsSpent → Bool
+has_skipped (Ok report) = nat_lt 0 report.skipped
+has_skipped (Err spent) = false
+
+-- What was asked of a peer adds it, whatever was answered, and a tick takes it out, unless it is to be made again. A look changes nothing at the peer, and what
 -- is asked of the book isn't asked of a peer.
 abbrev pub with_made : Made → List Bool → List Bool
 with_made (mades.Datagram peer octets now answer onwards) peers = set peers peer true
@@ -16,7 +23,7 @@ with_made (mades.OpenIn peer name head payload now challenge answer onwards) pee
 with_made (mades.OpenOut peer name called caller format now answer) peers = set peers peer true
 with_made (mades.Order peer name order media now answer) peers = set peers peer true
 with_made (mades.Retire peer name leg) peers = set peers peer true
-with_made (mades.Tick peer now answer) peers = set peers peer false
+with_made (mades.Tick peer now answer) peers = set peers peer (has_skipped answer)
 with_made made peers = peers
 
 -- the same after each of these in turn
@@ -24,6 +31,6 @@ abbrev pub with_all : List Bool → List Made → List Bool
 with_all peers [] = peers
 with_all peers (made ∷ rest) = with_all (with_made made peers) rest
 
--- whether a step was made at a peer under the pass since its last tick
+-- whether a step was made at a peer under the pass since its last tick, or that tick is to be made again
 abbrev pub is_unticked : Noted → ℕ → Bool
 is_unticked pass peer = get_or (with_all no_peers pass.made) peer false

@@ -96,7 +96,7 @@ impl<J: Naming> Pass<J> {
     }
 
     /// Whether a step was made at the peer at this place of the plan since its last tick under this pass, whatever it was
-    /// answered. A place past the 32nd has no peer.
+    /// answered, or that tick found no memory for a frame. A place past the 32nd has no peer.
     pub fn is_unticked(&self, peer: u16) -> bool
         ensures { result ≡ is_unticked self.now peer }
     {

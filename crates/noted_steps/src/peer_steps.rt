@@ -27,6 +27,7 @@ use crate::noted_peer::NotedPeer;
 use crate::octets::Octets;
 use crate::pass::Pass;
 use crate::seen::Seen;
+use crate::stepped_peers::has_skipped;
 use call_auth::Challenge;
 use call_book::{Lease, LegName};
 use iax_frames::Full;
@@ -258,7 +259,7 @@ impl<J: Naming> NotedPeer<J> {
     {
         let answer = self.state.tick(&mut pass.credits, now);
         push(&mut pass.made, Made::Tick(self.number, now, answer));
-        pass.stepped.tick(self.number);
+        pass.stepped.tick(self.number, has_skipped(answer));
         answer
     }
 

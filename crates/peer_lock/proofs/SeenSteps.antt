@@ -246,12 +246,15 @@ module _ (law : (leg : LegState) (order : Order) (now : ℕ) → (order_refused 
       rw refused (there legs name named order now errors.Memory is (λ wrong. let never : None ≡ Some leg_errors.WrongStage = sym none ∙ wrong in cc)
       (unsure named.leg order now (wants refused named is)))
   due_seen legs name named order now error (Some leg_errors.WrongStage) is due refused wants =
-      rw refused (is_some (stage_after (kind_of order) named.leg.stage), record {
-        before = seen named.leg;
-        at = seen_of_name legs name named (named_at legs name named is);
-        right = refl;
-        refuses = digit_refused named.leg (kind_of order) ((law named.leg order now).0 due);
-      })
+      rw refused (
+        is_some (stage_after (kind_of order) named.leg.stage),
+        record {
+          before = seen named.leg;
+          at = seen_of_name legs name named (named_at legs name named is);
+          right = refl;
+          refuses = digit_refused named.leg (kind_of order) ((law named.leg order now).0 due);
+        },
+      )
   due_seen legs name named order now error (Some leg_errors.WindowFull) is due refused wants =
       rw refused (there legs name named order now errors.WindowFull is (λ wrong. let never : Some leg_errors.WindowFull ≡ Some leg_errors.WrongStage = sym due ∙ wrong in cc)
       ((alike (kind_of order)).0 ∙ refusable named.leg order now _ due))

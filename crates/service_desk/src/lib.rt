@@ -4,6 +4,7 @@
 mod desk;
 mod drain;
 mod legs;
+mod lost_frames;
 mod scraping;
 mod showing;
 

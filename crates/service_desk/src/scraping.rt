@@ -2,10 +2,11 @@
 ghost use Rattle.std.specs.Prelude.{◌<◌, length};
 
 use crate::desk::Desk;
+use crate::lost_frames::push_losses;
 use control_requests::{Answer, Methods, Request, Status};
 use exchange_core::{Exchange, NoGate, Pass};
-use exchange_report::{PeerLosses, count_legs, losses_of, refusal_name};
-use peer_lock::{Losses, Naming};
+use exchange_report::{count_legs, refusal_name};
+use peer_lock::Naming;
 use peer_plan::Plan;
 use service_report::{
     Family, Figure, Kind, Label, Labels, Metrics, PeerFigures, Sample, Scrape, scrape_of,
@@ -39,10 +40,10 @@ const GET: Methods = Methods {
 };
 
 // What is told of a family.
-struct Told {
-    kind: Kind,
-    name: &'static str,
-    help: &'static str,
+pub(crate) struct Told {
+    pub(crate) kind: Kind,
+    pub(crate) name: &'static str,
+    pub(crate) help: &'static str,
 }
 
 const OF_SERVICE: [Told; 2] = [
@@ -62,12 +63,6 @@ const REFUSED: Told = Told {
     kind: Kind::Counter,
     name: "iax_datagrams_refused_total",
     help: "Datagrams of the peer that did nothing, by the name of the refusal.",
-};
-
-const OUTBOX_LOST: Told = Told {
-    kind: Kind::Counter,
-    name: "iax_outbox_frames_lost_total",
-    help: "Frames to the peer that were lost because 256 others waited to be sent.",
 };
 
 const DROPPED: Told = Told {
@@ -147,7 +142,7 @@ fn figures_of<'x, J: Naming, R: Wait>(
 }
 
 // A family of which this is told.
-fn push_family(
+pub(crate) fn push_family(
     alloc: Global,
     metrics: &mut Metrics,
     told: &Told,
@@ -232,45 +227,6 @@ fn push_refusals_of<'x>(
         samples.push(Sample { labels, value })?;
     }
     Ok(())
-}
-
-// The frames that the outbox of a peer lost, by kind.
-fn push_losses_of<'x>(
-    samples: &mut Vec<Sample<'x>>,
-    losses: PeerLosses,
-    name: &'x str,
-) -> Result<(), AllocError> {
-    let of_peer = Label {
-        name: "peer",
-        value: name,
-    };
-    let Losses { full, mini, trunk } = losses.outbox;
-    for (kind, value) in [("full", full), ("mini", mini), ("trunk", trunk)] {
-        let of_kind = Label {
-            name: "frame",
-            value: kind,
-        };
-        let labels = Labels::Two(of_peer, of_kind);
-        samples.push(Sample { labels, value })?;
-    }
-    Ok(())
-}
-
-// The frames that outboxes lost.
-fn push_losses<J: Naming, R: Wait>(
-    rt: &R,
-    alloc: Global,
-    metrics: &mut Metrics,
-    exchange: &Exchange<NoGate, J>,
-    pass: &mut Pass<J>,
-) -> Result<(), AllocError> {
-    let plan = exchange.plan();
-    let mut samples = Vec::new(alloc);
-    for peer in 0..plan.peer_count() {
-        let losses = losses_of(rt, exchange, pass, peer);
-        push_losses_of(&mut samples, losses, plan.name(peer))?;
-    }
-    push_family(alloc, metrics, &OUTBOX_LOST, &samples)
 }
 
 fn push_refusals(

@@ -3,6 +3,7 @@
 
 mod calls_told;
 mod lines;
+mod peer_told;
 mod start_told;
 mod strangers;
 mod telling;

@@ -2,16 +2,15 @@
 ghost use Rattle.std.specs.Prelude.{◌<◌, length};
 
 use crate::lines::{more_than, tell, tell_count};
+use crate::peer_told::PeerTold;
 use crate::strangers::Strangers;
 use crate::writer_told::WriterTold;
 use call_files::{Fault, Trouble};
-use exchange_report::{PeerLosses, refusal_name};
+use exchange_report::PeerLosses;
 use log::{Level, Log, log_enabled};
 use peer_plan::{Endpoint, Plan};
-use service_report::{Hearing, News, Rounds, news_of};
-use service_watch::{
-    DropCount, PeerMarksRead, REFUSALS, STRANGERS, ServiceWatch, SocketTable, drop_counts,
-};
+use service_report::{News, Rounds};
+use service_watch::{DropCount, STRANGERS, ServiceWatch, SocketTable, drop_counts};
 use std::alloc::{AllocError, Global};
 use std::sync::Wait;
 use std::{iter, mem};
@@ -25,23 +24,6 @@ const REFUSALS_MS: u64 = 10_000;
 
 // After so many times its `ping_ms` a peer is silent.
 const PINGS: u64 = 3;
-
-// What was told of a peer, and what is told of it next.
-#[derive(Clone, Copy)]
-struct PeerTold {
-    hearing: Hearing,
-    news: Option<News>,
-    legs: u64,
-    legs_ended: u64,
-    // The legs that it has, and those that had ended when these were counted.
-    legs_now: u16,
-    legs_ended_now: u64,
-    turned_away: u64,
-    lost: PeerLosses,
-    lost_now: PeerLosses,
-    // In the order of `REFUSALS`.
-    refused: [u64; REFUSALS.len()],
-}
 
 /// What was told of a service.
 #[derive(Drop)]
@@ -63,95 +45,6 @@ pub struct Told<'s> {
     spare: Vec<Endpoint>,
     legs: Rounds,
     refusals: Rounds,
-}
-
-impl PeerTold {
-    // Nothing was told.
-    fn new() -> PeerTold {
-        PeerTold {
-            hearing: Hearing::Never,
-            news: None,
-            legs: 0,
-            legs_ended: 0,
-            legs_now: 0,
-            legs_ended_now: 0,
-            turned_away: 0,
-            lost: PeerLosses::default(),
-            lost_now: PeerLosses::default(),
-            refused: [0; REFUSALS.len()],
-        }
-    }
-
-    // What was counted of it at a moment. Whether it has fallen silent.
-    fn see(&mut self, marks: PeerMarksRead, now: u64, limit: u64) -> bool {
-        let (hearing, news) = news_of(self.hearing, marks.heard, now, limit);
-        self.hearing = hearing;
-        self.news = news;
-        self.legs_ended_now = marks.legs_ended;
-        match news {
-            Some(News::Silent(_)) => true,
-            _ => false,
-        }
-    }
-
-    // How many legs began and how many ended, in a round. A leg that began and ended in it is one of both.
-    fn tell_legs<L: Log>(&mut self, log: &L, name: &str) {
-        let legs = u64::from(self.legs_now);
-        let ended = more_than(&mut self.legs_ended, self.legs_ended_now);
-        let begun = legs.saturating_add(ended).saturating_sub(self.legs);
-        self.legs = legs;
-        if begun > 0 {
-            tell(
-                log,
-                Level::Info,
-                &format_args!("legs of {name} that began: {begun}"),
-            );
-        }
-        if ended > 0 {
-            tell(
-                log,
-                Level::Info,
-                &format_args!("legs of {name} that ended: {ended}"),
-            );
-        }
-    }
-
-    // What was lost on the way to it, in a round of so many seconds.
-    fn tell_losses<L: Log>(&mut self, log: &L, name: &str, seconds: u64) {
-        let (told, now) = (&mut self.lost, self.lost_now);
-        let kinds = [
-            ("full", more_than(&mut told.outbox.full, now.outbox.full)),
-            ("mini", more_than(&mut told.outbox.mini, now.outbox.mini)),
-            ("trunk", more_than(&mut told.outbox.trunk, now.outbox.trunk)),
-        ];
-        for (kind, lost) in kinds {
-            let what = format_args!("{kind} frames to {name} lost by a full outbox");
-            tell_count(log, Level::Warn, &what, lost, seconds);
-        }
-        let dropped = more_than(&mut told.queue, now.queue);
-        let what = format_args!("octets of media to {name} dropped by a full trunk queue");
-        tell_count(log, Level::Warn, &what, dropped, seconds);
-    }
-
-    // How many datagrams were refused for each reason, and how many were turned away, in a round of so many seconds.
-    fn tell_refusals<L: Log>(
-        &mut self,
-        log: &L,
-        watch: &ServiceWatch,
-        peer: u16,
-        name: &str,
-        seconds: u64,
-    ) {
-        for (told, refusal) in iter::zip(self.refused.iter_mut(), &REFUSALS) {
-            let refused = more_than(told, watch.refused_for(peer, *refusal));
-            let refusal = refusal_name(*refusal);
-            let what = format_args!("refused {refusal} from {name}");
-            tell_count(log, Level::Warn, &what, refused, seconds);
-        }
-        let turned_away = more_than(&mut self.turned_away, watch.marks(peer).turned_away);
-        let what = format_args!("turned away from {name}");
-        tell_count(log, Level::Info, &what, turned_away, seconds);
-    }
 }
 
 // How long a peer may keep silent, in milliseconds. One that isn't pinged may do so for ever.

@@ -18,6 +18,13 @@ pub const SILENT_THIRD: &str = plan!(
     route "3" "east";
 );
 
+/// As `ONE_WORKER`, but the west takes no trunk frames.
+pub const NO_TRUNKS: &str = west_and_east!(
+    format 1;
+    west;
+    east;
+);
+
 /// As `ONE_WORKER`; two workers or callers may act at once.
 pub const TWO_PASSES: &str = west_and_east!(
     format 1 "passes = 2";

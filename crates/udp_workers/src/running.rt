@@ -148,8 +148,8 @@ impl Worker {
     ///
     /// A bounded turn ticks all peers if it is the first or has another moment than the turn before it. Otherwise it leaves out
     /// each peer at which no step was made under the pass since its last tick, whose tick at the same moment would find nothing to
-    /// do, and sends only what is in the outboxes of peers at which a step was made since. It ticks all as well if the turn before
-    /// it took 256 datagrams out of one outbox. After a turn that left out a peer the worker waits at most 1 ms.
+    /// do, and sends only what is in the outboxes of peers at which a step was made since. A tick that found no memory for a frame
+    /// is made again. It ticks all as well if the turn before it took 256 datagrams out of one outbox. After a turn that left out a peer the worker waits at most 1 ms.
     ///
     /// At the end of a turn the watch is told to wake each other worker at whose peers steps were made in it.
     pub fn run_until<W: Wire, V: Watch, G: Gate, J: Naming, M: Moments, C: Challenges, R: Wait>(

@@ -10,12 +10,12 @@ use crate::tests::wires::both_at_once::{AtOnce, Zero};
 use crate::tests::wires::memory_wire::{MemoryWire, wire_of};
 use call_auth::Challenge;
 use exchange_core::{Exchange, Gate, NoGate, Pass};
-use peer_lock::Naming;
+use peer_lock::{Losses, Naming};
 use std::alloc::{AllocError, Global};
 use std::process::Abort;
 use std::sync::Wait;
 use std::test::*;
-use test_plans::plans::SILENT_THIRD;
+use test_plans::plans::{NO_TRUNKS, SILENT_THIRD};
 use udp_workers::{Intake, Unwatched, Worker};
 
 // How many trunk frames come at once.
@@ -35,6 +35,8 @@ pub struct Taken {
     pub received: u64,
     /// How many steps of peers were made.
     pub steps: u64,
+    /// What the outbox of the west lost.
+    pub lost: Losses,
 }
 
 // A trunk frame from the east: eight entries of its call, each of 160 octets.
@@ -80,6 +82,7 @@ pub fn play_burst<G: Gate, J: Naming, R: Abort + Wait>(
     let pass = passes.first_mut().expect(rt, "a pass");
     let challenge = Challenge::new(b"0").expect(rt, "a challenge");
     let _workers = exchange.plan().workers();
+    let _peers = exchange.plan().peer_count();
     let mut worker = Worker::new(exchange.plan(), 0);
     let mut wire = wire_of(rt, alloc, exchange.plan(), &worker, 0);
     play_up(rt, exchange, pass, &mut worker, &mut wire, &challenge);
@@ -111,6 +114,7 @@ pub fn play_burst<G: Gate, J: Naming, R: Abort + Wait>(
     Taken {
         received: report.received,
         steps: pass.steps().wrapping_sub(first),
+        lost: exchange.lost(rt, pass, 0),
     }
 }
 
@@ -147,12 +151,40 @@ static ROWS: [(Burst, u64, u64, u64, u64); 6] = [
 fn bounded_turns_lose_nothing(rt: HostRuntime) {
     for row in &ROWS {
         let (burst, received, steps, packed, dropped) = *row;
+        let lost = Losses::default();
         let mut taken = Taken::default();
         let played = Play::Burst(burst, &mut taken);
         let sums = play_with(&rt, rt.alloc(), SILENT_THIRD, NoGate, played);
         let sums = sums.expect(&rt, "an exchange");
-        same(&rt, &taken, &Taken { received, steps });
+        let expected = Taken {
+            received,
+            steps,
+            lost,
+        };
+        same(&rt, &taken, &expected);
         // An octet of voice went before.
         same(&rt, &(sums.packed, sums.dropped), &(packed + 1, dropped));
+    }
+}
+
+// How a burst is taken in, and how many of its 512 mini frames to the west are lost.
+static MINI_ROWS: [(Burst, u64); 2] = [(Burst::Run(1), 512 - 256), (Burst::Bounded(6), 0)];
+
+#[test]
+fn a_full_outbox_counts_what_it_loses(rt: HostRuntime) {
+    for row in &MINI_ROWS {
+        let (burst, mini) = *row;
+        let mut taken = Taken::default();
+        let played = Play::Burst(burst, &mut taken);
+        let sums = play_with(&rt, rt.alloc(), NO_TRUNKS, NoGate, played);
+        let sums = sums.expect(&rt, "an exchange");
+        let lost = Losses {
+            full: 0,
+            mini,
+            trunk: 0,
+        };
+        same(&rt, &(taken.received, taken.lost), &(64, lost));
+        // What was packed stays packed. An octet of voice went before.
+        same(&rt, &(sums.packed, sums.dropped), &(64 * 1280 + 1, 0));
     }
 }

@@ -68,7 +68,7 @@ returns-in-Err c =
     let long : 256 ≤ length (datagrams_in lens octets) = omega (arith, as_many lens octets, c.self.invariant.1, full) in
     ap (λ (b : Buffer ℕ). record { waiting = datagrams_in b.items octets; lost = c.with-self-inside.result }) c.in-Err.ensures.err.1
     ∙ ap (λ (l : Losses). record view { lost = l }) (c.with-self-inside.ensures
-        ∙ (λ i. with_lost c.self.inside.lost (sym (get_or_append_left front back 0 0 (omega (arith, c.requires.first))) i)
-            (sym (get_or_append_left front back 0 1 (omega (arith, c.requires.first))) i)))
+    ∙ (λ i. with_lost c.self.inside.lost (sym (get_or_append_left front back 0 0 (omega (arith, c.requires.first))) i)
+    (sym (get_or_append_left front back 0 1 (omega (arith, c.requires.first))) i)))
     ∙ put_full view (front ++ back) short long
     ∙ ap (λ (o : OutboxView). put o ((front ++ back) ∷ [])) c.self.view_is
