@@ -1,6 +1,7 @@
 """What the parts of the gate share that run the program: peers on loopback, clients of a service, and the service itself.
 
 They need the program as `rt ci` has built it. What isn't as it should be ends a part, with its name and a sentence."""
+import hashlib
 import itertools
 import json
 import os
@@ -52,6 +53,27 @@ def write_plan(file, worker, west, east):
     secret = ('user = "exchange"', 'secret = "a secret of the west"')
     with open(file, "w", encoding="utf-8") as it:
         it.write(plan_text([(LOOPBACK, worker)], [("west", west.port, 0, 4, *secret), ("east", east.port, 0, 4)], "format = 1\nrecord_limit = 65536"))
+
+
+def element_of(frame, wanted):
+    """The value of an information element of a full frame."""
+    at = 12
+    while at + 2 <= len(frame):
+        end = at + 2 + frame[at + 1]
+        if frame[at] == wanted:
+            return frame[at + 2:end]
+        at = end
+    raise SystemExit(f"{PART}: no element {wanted:#x} in {frame.hex()}")
+
+
+def challenge_of(frame):
+    """The challenge of an AUTHREQ."""
+    return element_of(frame, 0x0F)
+
+
+def answer_to(challenge, secret):
+    """The element MD5 RESULT that answers a challenge."""
+    return b"\x10\x20" + hashlib.md5(challenge + secret).hexdigest().encode()
 
 
 def source_of(frame):

@@ -5,7 +5,7 @@ from exchange import rows_of
 # those that a peer hung up as well, so that the HANGUPs crossed: its exchange sent one before it had taken one.
 ENDED = {"cut": 1, "inval": 0, "stuck": 0, "rejected": 0, "hangups_back": 2}
 # How a leg ends by itself. An INVAL is no reason: it says that the leg of the other exchange is gone, which has one.
-BY_ITSELF = ("retries_spent", "record_full")
+BY_ITSELF = ("retries_spent", "record_full", "challenge_timeout")
 HUNG_UP = "hung_up_here"
 # The causes of an exchange that hangs up, and of one that has no number left.
 CLEARING, NO_NUMBER = "16", "34"

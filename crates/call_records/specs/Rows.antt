@@ -2,7 +2,7 @@
 use Rattle.std.specs.Prelude.{ℕ, List, [], ◌∷◌, Option, None, Some, codes, decimal, option_map, unwrap_or}
 use Rattle.std.specs.Str.Lossy.{utf8_lossy}
 use Rattle.call_signals.specs.declared.failure.Failure.{Failure}
-use Rattle.call_signals.specs.declared.failure.Failure.TheVariants.{RetriesSpent, RecordFull, Inval}
+use Rattle.call_signals.specs.declared.failure.Failure.TheVariants.{RetriesSpent, RecordFull, ChallengeTimeout, Inval}
 use Rattle.call_signals.specs.declared.format.Format.{Format}
 use Rattle.call_signals.specs.declared.format.Format.TheVariants.{Gsm, Ulaw, Alaw}
 use Rattle.call_records.specs.declared.side.Side.{Side}
@@ -34,6 +34,7 @@ abbrev pub failure_text : Option Failure → List ℕ
 failure_text None = []
 failure_text (Some RetriesSpent) = codes "retries_spent"
 failure_text (Some RecordFull) = codes "record_full"
+failure_text (Some ChallengeTimeout) = codes "challenge_timeout"
 failure_text (Some Inval) = codes "inval"
 
 -- a text, and nothing where there is none

@@ -93,6 +93,7 @@ pub(crate) fn failure_name(failure: Option<Failure>) -> &'static str
     match failure {
         Some(Failure::RetriesSpent) => "retries_spent",
         Some(Failure::RecordFull) => "record_full",
+        Some(Failure::ChallengeTimeout) => "challenge_timeout",
         Some(Failure::Inval) => "inval",
         None => "",
     }

@@ -11,12 +11,12 @@ use Rattle.call_steps.specs.declared.need.Need.TheVariants as needs
 use Rattle.call_steps.specs.declared.reply.Reply.{Reply}
 use Rattle.call_steps.specs.declared.reply.Reply.TheVariants as replies
 use Rattle.peer_lock.specs.Arrivals.{datagram_step}
-use Rattle.peer_lock.specs.Openings.{is_free_name, opens_in, opens_out}
+use Rattle.peer_lock.specs.Openings.{is_free_name, opens_in, opens_out, rejects_new as rejected}
 use Rattle.peer_lock.specs.Peer.{PeerView}
 use Rattle.peer_lock.specs.Seen.{SeenNamed, seen_named}
 use Rattle.peer_lock.specs.declared.errors.OpenError.{OpenError}
 use Rattle.call_runs.specs.Stored.{Stored, ArePeers, AreSeenIn}
-use Rattle.call_runs.specs.StoredSteps.{heard_of, TakesDatagram, TakesNew, SendsNew, Obeys, Disobeys, TakesOrder, TakesTick, GivesUp, AtPeer, leases_after}
+use Rattle.call_runs.specs.StoredSteps.{heard_of, TakesDatagram, RejectsNew, TakesNew, SendsNew, Obeys, Disobeys, TakesOrder, TakesTick, GivesUp, AtPeer, leases_after}
 use Rattle.call_steps.proofs.WorldLegs.{found_seen}
 use Rattle.call_runs.proofs.Names.{done_there}
 use Rattle.call_runs.proofs.Places.{seen_set}
@@ -62,6 +62,21 @@ module _ (laws : PeersSteps) (old new : Stored) (scene : Scene) (called : Bool) 
       subst (ComesOut scene (needs.Datagram place) called new) (sym d.answers)
       (at_peer (needs.Datagram place) (replies.Datagram (Ok (heard_of s d.room))) place a.before a.after seen scene.leases a.at
       a.peers a.book left refl refl)
+
+  pub rejects_new : (place : ℕ) (reply : Reply) → AtPeer place RejectsNew old new reply
+      → ComesOut scene (needs.RejectNew place) called new reply
+  rejects_new place reply a =
+      let d = a.does in
+      let s = rejected a.before d.frame in
+      let seen : Reply = replies.RejectNew (Ok tt) in
+      let mine = are place a.before a.at in
+      let step = laws.rejected_calls a.before d.frame scene called (of.legs.sees place a.before a.at) in
+      let here = subst (λ (n : ℕ). IsWorldStep scene (needs.RejectNew n) called a.before.legs s.peer.legs seen scene.leases)
+      mine.place_is step in
+      let left = subst (λ (p : PeerView). IsWorldStep scene (needs.RejectNew place) called a.before.legs p.legs seen scene.leases)
+      (sym d.becomes) here in
+      subst (ComesOut scene (needs.RejectNew place) called new) (sym d.answers)
+      (at_peer (needs.RejectNew place) seen place a.before a.after seen scene.leases a.at a.peers a.book left refl refl)
 
   pub takes_new : (name : LegName) (reply : Reply) → is_leased scene.leases name ≡ true
       → AtPeer name.peer (TakesNew name) old new reply

@@ -14,7 +14,7 @@ use Rattle.call_signals.specs.declared.stage.Stage.{Stage}
 use Rattle.leg_machine.specs.Seen.{Lapse, SeenFrame, stage_after}
 use Rattle.call_steps.specs.Act.{act_kind}
 use Rattle.call_steps.specs.Law.{times}
-use Rattle.call_steps.specs.Scene.{Leg, Scene, Choice, RefusesDatagram, RefusesOpening, RefusesOrder, RefusesTick, KeepsLeg, Brings, Lapses, Opens, LeadsTo, Answer, answered, is_call, leg_at, if_named, leg_named, replaced, without, brought, brings, let_lapse, lapsed_at, all_lapsed, can_open, opens_in, busy_in, opens_out, busy_out, carried, obeys, at_leg, at_order, refused, is_done, retires, keeps, reserves, bridges, is_leased, releases, is_stale}
+use Rattle.call_steps.specs.Scene.{Leg, Scene, Choice, RefusesDatagram, RefusesRejecting, RefusesOpening, RefusesOrder, RefusesTick, KeepsLeg, Brings, Lapses, Opens, LeadsTo, Answer, answered, is_call, leg_at, if_named, leg_named, replaced, without, brought, brings, let_lapse, lapsed_at, all_lapsed, can_open, opens_in, busy_in, opens_out, busy_out, carried, obeys, at_leg, at_order, refused, is_done, retires, keeps, reserves, bridges, is_leased, releases, is_stale}
 use Rattle.call_steps.specs.SeenReply.{seen_reply}
 use Rattle.call_steps.specs.Work.{next_at}
 use Rattle.call_steps.specs.declared.need.Need.{Need}
@@ -158,6 +158,8 @@ module _ (names : List LegName) where
     answered_called (needs.Datagram peer) called (Brings number frame) given =
         brought_called peer number frame (leg_at scene.legs peer number) refl
     answered_called (needs.Datagram peer) called choice given = are
+    answered_called (needs.RejectNew peer) called (RefusesRejecting error) given = are
+    answered_called (needs.RejectNew peer) called choice given = are
     answered_called (needs.OpenIn name) called (RefusesOpening error) given = are
     answered_called (needs.OpenIn name) called (Opens opening) given = opened_called name opening
     answered_called (needs.OpenIn name) called choice given = opened_called name Offers

@@ -4,7 +4,7 @@ use Rattle.std.proofs.Common.{◌≡◌, ℕ, Bool, true, false, List, ◌++◌,
 use Rattle.call_book.specs.declared.leg_name.LegName.{LegName}
 use Rattle.call_steps.specs.Law.{is_spent as is_spent_choice, NoneIsBusy, NoneIsStale, NumbersServeOne, OnlyWhatIsSeenCounts}
 use Rattle.call_steps.specs.Leases.{lease_needed}
-use Rattle.call_steps.specs.Scene.{Leg, Scene, Choice, RefusesDatagram, RefusesOpening, RefusesTick, LeadsTo, Answer, answered, is_call, is_leased, leg_at, without}
+use Rattle.call_steps.specs.Scene.{Leg, Scene, Choice, RefusesDatagram, RefusesRejecting, RefusesOpening, RefusesTick, LeadsTo, Answer, answered, is_call, is_leased, leg_at, without}
 use Rattle.call_steps.specs.SeenReply.{seen_reply}
 use Rattle.call_steps.specs.Sees.{Sees}
 use Rattle.call_steps.specs.Work.{next_of, after_told}
@@ -21,7 +21,7 @@ use Rattle.call_runs.specs.Spent.{is_spent, called_at}
 use Rattle.call_runs.specs.Stored.{Stored, ArePeers, AreSeenIn, IsSeenIn}
 use Rattle.call_runs.specs.StoredSteps.{Makes, leases_after}
 use Rattle.call_runs.proofs.AtBooks.{refuses, keeps, is_gone, looks, partners, reserved, bridged_so, released_so}
-use Rattle.call_runs.proofs.AtPeers.{takes_datagram, takes_new, sends_new, takes_order, takes_tick, gives_up}
+use Rattle.call_runs.proofs.AtPeers.{takes_datagram, rejects_new, takes_new, sends_new, takes_order, takes_tick, gives_up}
 use Rattle.call_runs.proofs.Called.{more, answered_called, called_now}
 use Rattle.call_runs.proofs.Spent.{plain, spent_seen}
 use Rattle.call_runs.proofs.Places.{at_set, none_at_set}
@@ -38,6 +38,10 @@ module _ (laws : PeersSteps) (old new : Stored) (scene : Scene) (called : Bool) 
   comes_out (needs.Datagram place) reply leased (inr made) =
       refuses laws old new scene called are of (needs.Datagram place) reply (λ error. replies.Datagram (Err error))
       RefusesDatagram (λ error. refl) (λ error. refl) made
+  comes_out (needs.RejectNew place) reply leased (inl made) = rejects_new laws old new scene called are of place reply made
+  comes_out (needs.RejectNew place) reply leased (inr made) =
+      refuses laws old new scene called are of (needs.RejectNew place) reply (λ error. replies.RejectNew (Err error))
+      RefusesRejecting (λ error. refl) (λ error. refl) made
   comes_out (needs.OpenIn name) reply leased (inl made) =
       takes_new laws old new scene called are of name reply (leased name refl) made
   comes_out (needs.OpenIn name) reply leased (inr made) =

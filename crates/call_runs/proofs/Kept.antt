@@ -10,12 +10,12 @@ use Rattle.call_steps.specs.declared.need.Need.TheVariants as needs
 use Rattle.call_steps.specs.declared.reply.Reply.{Reply}
 use Rattle.peer_lock.specs.Outbox.{OutboxView, with_waiting}
 use Rattle.peer_lock.specs.Legs.{leg_named}
-use Rattle.peer_lock.specs.Openings.{opens_in, opens_out}
+use Rattle.peer_lock.specs.Openings.{opens_in, opens_out, rejects_new}
 use Rattle.peer_lock.specs.Peer.{PeerView}
 use Rattle.peer_lock.specs.SoundPeer.{IsSoundPeer}
 use Rattle.call_runs.specs.Runs.{Changes, ByBeginning, ByStep, ByTakingOut}
 use Rattle.call_runs.specs.Stored.{Stored, IsPeerAt, ArePeers, HasRange, HaveRanges}
-use Rattle.call_runs.specs.StoredSteps.{after_bridge, after_release, TakesDatagram, TakesNew, SendsNew, TakesOrder, TakesTick, GivesUp, AtPeer, Makes}
+use Rattle.call_runs.specs.StoredSteps.{after_bridge, after_release, TakesDatagram, RejectsNew, TakesNew, SendsNew, TakesOrder, TakesTick, GivesUp, AtPeer, Makes}
 use Rattle.call_runs.proofs.Places.{at_set}
 use Rattle.call_runs.proofs.Shapes.{IsShapedAs, itself, placed, of_datagram, of_order, of_tick}
 
@@ -33,6 +33,9 @@ becomes before after left is shaped = subst (λ (p : PeerView). IsShapedAs befor
 
 datagram : (before after : PeerView) (reply : Reply) → TakesDatagram before after reply → IsShapedAs before.legs after.legs
 datagram before after reply d = becomes before after _ d.becomes (of_datagram d.first before d.datagram d.now)
+
+no_new : (before after : PeerView) (reply : Reply) → RejectsNew before after reply → IsShapedAs before.legs after.legs
+no_new before after reply d = becomes before after (rejects_new before d.frame).peer d.becomes (itself before.legs)
 
 new_in : (name : LegName) (before after : PeerView) (reply : Reply) → TakesNew name before after reply
     → IsShapedAs before.legs after.legs
@@ -71,6 +74,8 @@ module _ (P : ℕ → PeerView → Type 0) (stays : IsOfShape P) where
   made : (need : Need) (old new : Stored) (reply : Reply) → EachPeer P old.peers → Makes need old new reply → EachPeer P new.peers
   made (needs.Datagram place) old new reply all (inl a) = at_peer old new reply place TakesDatagram datagram all a
   made (needs.Datagram place) old new reply all (inr r) = same old new r.unchanged.peers all
+  made (needs.RejectNew place) old new reply all (inl a) = at_peer old new reply place RejectsNew no_new all a
+  made (needs.RejectNew place) old new reply all (inr r) = same old new r.unchanged.peers all
   made (needs.OpenIn name) old new reply all (inl a) = at_peer old new reply name.peer (TakesNew name) (new_in name) all a
   made (needs.OpenIn name) old new reply all (inr r) = same old new r.unchanged.peers all
   made (needs.OpenOut name) old new reply all (inl a) = at_peer old new reply name.peer (SendsNew name) (new_out name) all a
@@ -132,6 +137,8 @@ released_counts book name false = refl
 counts_made : (need : Need) (old new : Stored) (reply : Reply) → Makes need old new reply → new.book.counts ≡ old.book.counts
 counts_made (needs.Datagram place) old new reply (inl a) = ap (λ (b : Book). b.counts) a.book
 counts_made (needs.Datagram place) old new reply (inr r) = ap (λ (b : Book). b.counts) r.unchanged.becomes
+counts_made (needs.RejectNew place) old new reply (inl a) = ap (λ (b : Book). b.counts) a.book
+counts_made (needs.RejectNew place) old new reply (inr r) = ap (λ (b : Book). b.counts) r.unchanged.becomes
 counts_made (needs.OpenIn name) old new reply (inl a) = ap (λ (b : Book). b.counts) a.book
 counts_made (needs.OpenIn name) old new reply (inr r) = ap (λ (b : Book). b.counts) r.unchanged.becomes
 counts_made (needs.OpenOut name) old new reply (inl a) = ap (λ (b : Book). b.counts) a.book

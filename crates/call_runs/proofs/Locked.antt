@@ -10,7 +10,7 @@ use Rattle.peer_lock.specs.Legs.{leg_at}
 use Rattle.peer_lock.specs.Peer.{PeerView}
 use Rattle.peer_lock.specs.SoundPeer.{IsSoundPeer}
 use Rattle.peer_lock.specs.Statuses.{status_of}
-use Rattle.call_runs.specs.PeerCalls.{Stays, HearsDatagram, HearsNew, Calls, GoesOn, Retires, with_peer, IsStepAt}
+use Rattle.call_runs.specs.PeerCalls.{Stays, HearsDatagram, HearsNewWithoutNumber, HearsNew, Calls, GoesOn, Retires, with_peer, IsStepAt}
 use Rattle.call_runs.specs.Stored.{Stored}
 use Rattle.call_runs.specs.StoredSteps.{AtPeer, Answers, Makes, TakesOrder, look_at}
 
@@ -37,6 +37,11 @@ pub datagrams : (place : ℕ) → IsStepAt place (needs.Datagram place) HearsDat
 datagrams place old before after reply there sound (inl d) = inl (at place _ old before after reply there sound d)
 datagrams place old before after reply there sound (inr s) =
     inr (record { error = s.0; unchanged = stays place old before after reply (replies.Datagram (Err s.0)) there s.1 })
+
+pub rejected_calls : (place : ℕ) → IsStepAt place (needs.RejectNew place) HearsNewWithoutNumber
+rejected_calls place old before after reply there sound (inl d) = inl (at place _ old before after reply there sound d)
+rejected_calls place old before after reply there sound (inr s) =
+    inr (record { error = s.0; unchanged = stays place old before after reply (replies.RejectNew (Err s.0)) there s.1 })
 
 pub calls_in : (name : LegName) → IsStepAt name.peer (needs.OpenIn name) (HearsNew name)
 calls_in name old before after reply there sound (inl d) = inl (at name.peer _ old before after reply there sound d)

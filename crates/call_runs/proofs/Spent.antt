@@ -4,7 +4,7 @@ use Rattle.std.proofs.Common.{◌≡◌, Bool, true, false, Option, Some, None, 
 use Rattle.call_signals.specs.declared.order.OrderKind.{OrderKind}
 use Rattle.call_steps.specs.Act.{act_kind}
 use Rattle.call_steps.specs.Law.{is_spent as is_spent_choice}
-use Rattle.call_steps.specs.Scene.{Leg, Scene, Choice, Goes, RefusesDatagram, RefusesOpening, RefusesOrder, RefusesTick, Answer, answered, at_leg, leg_named}
+use Rattle.call_steps.specs.Scene.{Leg, Scene, Choice, Goes, RefusesDatagram, RefusesRejecting, RefusesOpening, RefusesOrder, RefusesTick, Answer, answered, at_leg, leg_named}
 use Rattle.call_steps.specs.SeenReply.{seen_reply}
 use Rattle.call_steps.specs.declared.need.Need.{Need}
 use Rattle.call_steps.specs.declared.need.Need.TheVariants as needs
@@ -13,6 +13,7 @@ use Rattle.call_steps.specs.declared.reply.Reply.TheVariants as replies
 use Rattle.peer_lock.specs.declared.errors.OpenError.TheVariants as open_errors
 use Rattle.peer_lock.specs.declared.errors.OrderError.TheVariants as order_errors
 use Rattle.peer_lock.specs.declared.errors.PeerError.TheVariants as peer_errors
+use Rattle.peer_lock.specs.declared.errors.RejectError.TheVariants as reject_errors
 use Rattle.call_runs.specs.Spent.{is_spent}
 
 -- a refusal that is for another step plays no part
@@ -25,6 +26,11 @@ at_datagram : (scene : Scene) (kind : OrderKind) (o : Option Leg)
     → at_leg scene kind o (RefusesDatagram peer_errors.StepsSpent) ≡ at_leg scene kind o Goes
 at_datagram scene kind None = refl
 at_datagram scene kind (Some leg) = refl
+
+at_rejecting : (scene : Scene) (kind : OrderKind) (o : Option Leg)
+    → at_leg scene kind o (RefusesRejecting reject_errors.StepsSpent) ≡ at_leg scene kind o Goes
+at_rejecting scene kind None = refl
+at_rejecting scene kind (Some leg) = refl
 
 at_opening : (scene : Scene) (kind : OrderKind) (o : Option Leg)
     → at_leg scene kind o (RefusesOpening open_errors.StepsSpent) ≡ at_leg scene kind o Goes
@@ -40,6 +46,12 @@ of_datagram : (scene : Scene) (need : Need) (called : Bool)
 of_datagram scene (needs.Datagram peer) called = inl refl
 of_datagram scene (needs.Order name act) called = inr (at_datagram scene (act_kind act) (leg_named scene.legs name))
 of_datagram scene need called = inr refl
+
+of_rejecting : (scene : Scene) (need : Need) (called : Bool)
+    → PlaysNoPart scene need called (RefusesRejecting reject_errors.StepsSpent)
+of_rejecting scene (needs.RejectNew peer) called = inl refl
+of_rejecting scene (needs.Order name act) called = inr (at_rejecting scene (act_kind act) (leg_named scene.legs name))
+of_rejecting scene need called = inr refl
 
 of_opening : (scene : Scene) (need : Need) (called : Bool) → PlaysNoPart scene need called (RefusesOpening open_errors.StepsSpent)
 of_opening scene (needs.OpenIn name) called = inl refl
@@ -59,6 +71,7 @@ of_tick scene need called = inr refl
 plays : (scene : Scene) (need : Need) (called : Bool) (choice : Choice) → is_spent_choice choice ≡ true
     → PlaysNoPart scene need called choice
 plays scene need called (RefusesDatagram peer_errors.StepsSpent) e = of_datagram scene need called
+plays scene need called (RefusesRejecting reject_errors.StepsSpent) e = of_rejecting scene need called
 plays scene need called (RefusesOpening open_errors.StepsSpent) e = of_opening scene need called
 plays scene need called (RefusesOrder order_errors.StepsSpent) e = of_order scene need called
 plays scene need called RefusesTick e = of_tick scene need called

@@ -19,7 +19,7 @@ use Rattle.leg_machine.specs.OrderTable.{wants_memory}
 use Rattle.leg_machine.specs.Seen.{kind_of}
 use Rattle.peer_lock.specs.Arrivals.{datagram_step}
 use Rattle.peer_lock.specs.Legs.{AreLegs, PeerLegs, NamedLeg, leg_at, leg_named, with_place}
-use Rattle.peer_lock.specs.Openings.{is_free_name, opens_in, opens_out}
+use Rattle.peer_lock.specs.Openings.{is_free_name, opens_in, opens_out, rejects_new}
 use Rattle.peer_lock.specs.Orders.{order_refused_by, ordered_step, IsOrderRefusal}
 use Rattle.peer_lock.specs.Peer.{PeerView}
 use Rattle.peer_lock.specs.Statuses.{is_done, status_of}
@@ -37,6 +37,9 @@ pub record PeersSteps : Type 0 where
       → IsWorldStep scene (needs.Datagram peer.legs.peer) called peer.legs (datagram_step first peer datagram now).peer.legs
       (replies.Datagram (Ok (heard (datagram_step first peer datagram now).step.touched
       (datagram_step first peer datagram now).signals))) scene.leases
+  pub rejected_calls : (peer : PeerView) (frame : FullFrame) (scene : Scene) (called : Bool) → Sees scene.legs peer.legs
+      → IsWorldStep scene (needs.RejectNew peer.legs.peer) called peer.legs (rejects_new peer frame).peer.legs
+      (replies.RejectNew (Ok tt)) scene.leases
   pub calls_in : (peer : PeerView) (name : LegName) (frame : FullFrame) (now : ℕ) (challenge : List ℕ) (scene : Scene)
       (called : Bool) → AreLegs peer.legs
       → 1 ≤ peer.rules.window → is_free_name peer.legs name ≡ true → Sees scene.legs peer.legs

@@ -10,9 +10,10 @@ use Rattle.peer_lock.specs.Peer.{PeerView}
 use Rattle.peer_lock.specs.SoundPeer.{IsSoundPeer}
 use Rattle.peer_lock.specs.declared.errors.OpenError.{OpenError}
 use Rattle.peer_lock.specs.declared.errors.PeerError.{PeerError}
+use Rattle.peer_lock.specs.declared.errors.RejectError.{RejectError}
 use Rattle.peer_lock.specs.declared.errors.StepsSpent.{StepsSpent}
 use Rattle.call_runs.specs.Stored.{Stored}
-use Rattle.call_runs.specs.StoredSteps.{TakesDatagram, TakesNew, SendsNew, TakesTick, GivesUp, Makes}
+use Rattle.call_runs.specs.StoredSteps.{TakesDatagram, RejectsNew, TakesNew, SendsNew, TakesTick, GivesUp, Makes}
 
 -- that is answered, and the peer stays as it is
 pub record Stays (answer : Reply) (old new : PeerView) (reply : Reply) : Type 0 where
@@ -23,6 +24,11 @@ pub record Stays (answer : Reply) (old new : PeerView) (reply : Reply) : Type 0 
 abbrev pub HearsDatagram : PeerView → PeerView → Reply → Type 0
 HearsDatagram old new reply =
     TakesDatagram old new reply ⊎ ((error : PeerError) × Stays (replies.Datagram (Err error)) old new reply)
+
+-- a NEW comes for which no number is free
+abbrev pub HearsNewWithoutNumber : PeerView → PeerView → Reply → Type 0
+HearsNewWithoutNumber old new reply =
+    RejectsNew old new reply ⊎ ((error : RejectError) × Stays (replies.RejectNew (Err error)) old new reply)
 
 -- a NEW comes for which a name was given out
 abbrev pub HearsNew : LegName → PeerView → PeerView → Reply → Type 0

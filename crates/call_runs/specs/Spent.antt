@@ -8,12 +8,14 @@ use Rattle.call_steps.specs.declared.reply.Reply.TheVariants as replies
 use Rattle.peer_lock.specs.declared.errors.OpenError.TheVariants as open_errors
 use Rattle.peer_lock.specs.declared.errors.OrderError.TheVariants as order_errors
 use Rattle.peer_lock.specs.declared.errors.PeerError.TheVariants as peer_errors
+use Rattle.peer_lock.specs.declared.errors.RejectError.TheVariants as reject_errors
 use Rattle.call_runs.specs.Runs.{Changes, ByStep, IsRun}
 use Rattle.call_runs.specs.Stored.{Stored}
 
 -- the step is refused because the peer's steps are spent
 abbrev pub is_spent : Reply → Bool
 is_spent (replies.Datagram (Err peer_errors.StepsSpent)) = true
+is_spent (replies.RejectNew (Err reject_errors.StepsSpent)) = true
 is_spent (replies.OpenIn (Err open_errors.StepsSpent)) = true
 is_spent (replies.OpenOut (Err open_errors.StepsSpent)) = true
 is_spent (replies.Order (Err order_errors.StepsSpent)) = true

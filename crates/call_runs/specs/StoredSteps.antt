@@ -24,7 +24,7 @@ use Rattle.leg_machine.specs.OrderTable.{wants_memory}
 use Rattle.leg_machine.specs.Seen.{kind_of}
 use Rattle.peer_lock.specs.Arrivals.{datagram_step}
 use Rattle.peer_lock.specs.Legs.{NamedLeg, leg_at, leg_named}
-use Rattle.peer_lock.specs.Openings.{open_in_refused, open_out_refused, opens_in, opens_out}
+use Rattle.peer_lock.specs.Openings.{open_in_refused, open_out_refused, opens_in, opens_out, reject_new_refused, rejects_new}
 use Rattle.peer_lock.specs.Orders.{order_refused_by, ordered_step, IsOrderRefusal}
 use Rattle.peer_lock.specs.Peer.{PeerView, PeerStep, without_leg}
 use Rattle.peer_lock.specs.SoundPeer.{IsSoundPeer}
@@ -38,10 +38,11 @@ use Rattle.call_runs.specs.Stored.{Stored}
 
 -- ---- what one peer becomes, and what it answers
 
--- what a step touched and handed up, in a list with so much room
+-- what a step touched, rejected and handed up, in a list with so much room
 abbrev pub heard_of : PeerStep → ℕ → Heard
 heard_of step room = record {
   touched = step.step.touched;
+  rejected = step.step.rejected;
   onwards = record { signals = step.signals; offer = step.offer; room = room };
 }
 
@@ -64,6 +65,14 @@ pub record TakesNew (name : LegName) (old new : PeerView) (reply : Reply) : Type
   pub unrefused : open_in_refused old credit name frame.head.source ≡ None
   pub becomes : new ≡ (opens_in old name frame now challenge).peer
   pub answers : reply ≡ replies.OpenIn (Ok (heard_of (opens_in old name frame now challenge) room))
+
+-- a NEW is rejected
+pub record RejectsNew (old new : PeerView) (reply : Reply) : Type 0 where
+  pub credit : ℕ
+  pub frame : FullFrame
+  pub unrefused : reject_new_refused old credit frame.head.source ≡ None
+  pub becomes : new ≡ (rejects_new old frame).peer
+  pub answers : reply ≡ replies.RejectNew (Ok tt)
 
 -- a call goes out under this name
 pub record SendsNew (name : LegName) (old new : PeerView) (reply : Reply) : Type 0 where
@@ -181,6 +190,8 @@ pub record IsNobodys (place : ℕ) (old new : Stored) (reply : Reply) : Type 0 w
 abbrev pub Makes : Need → Stored → Stored → Reply → Type 0
 Makes (needs.Datagram place) old new reply =
     AtPeer place TakesDatagram old new reply ⊎ IsRefused (λ error. replies.Datagram (Err error)) old new reply
+Makes (needs.RejectNew place) old new reply =
+    AtPeer place RejectsNew old new reply ⊎ IsRefused (λ error. replies.RejectNew (Err error)) old new reply
 Makes (needs.OpenIn name) old new reply =
     AtPeer name.peer (TakesNew name) old new reply ⊎ IsRefused (λ error. replies.OpenIn (Err error)) old new reply
 Makes (needs.OpenOut name) old new reply =

@@ -14,7 +14,7 @@ ghost use Rattle.call_steps.specs.declared.reply.Reply.TheVariants as replies;
 ghost use Rattle.peer_lock.specs.Legs.{leg_at};
 ghost use Rattle.peer_lock.specs.Peer.{PeerView};
 ghost use Rattle.peer_lock.specs.Statuses.{status_of};
-ghost use Rattle.call_runs.specs.PeerCalls.{HearsDatagram, HearsNew, Calls, GoesOn, Retires, IsStepAt, with_book};
+ghost use Rattle.call_runs.specs.PeerCalls.{HearsDatagram, HearsNewWithoutNumber, HearsNew, Calls, GoesOn, Retires, IsStepAt, with_book};
 ghost use Rattle.call_runs.specs.StoredSteps.{Makes, TakesOrder, after_bridge, after_release, release_answer};
 ghost use Rattle.call_runs.specs.Runs.{Begins, Steps, TakesOut, Changes, IsRun, last_of};
 ghost use Rattle.call_runs.specs.LookedAfter.{InEveryRunWithinSteps, AllAreLookedAfter, AllHavePartners};
@@ -50,6 +50,7 @@ pub fn stored_changes_are_the_worlds()
 pub fn locked_calls_are_steps()
     // That the peer is sound after the call, the type says (`PeerState::look`).
     ensures datagrams { (place : ℕ) → IsStepAt place (needs.Datagram place) HearsDatagram }
+    ensures rejected_calls { (place : ℕ) → IsStepAt place (needs.RejectNew place) HearsNewWithoutNumber }
     ensures calls_in { (name : LegName) → IsStepAt name.peer (needs.OpenIn name) (HearsNew name) }
     ensures calls_out { (name : LegName) → IsStepAt name.peer (needs.OpenOut name) (Calls name) }
     ensures orders { (name : LegName) (act : Act) → IsStepAt name.peer (needs.Order name act) (TakesOrder name act) }

@@ -8,7 +8,7 @@ ghost use Rattle.leg_machine.specs.Seen.{kind_of};
 ghost use Rattle.peer_accounts.specs.HandedUp.{IsNothing};
 ghost use Rattle.peer_lock.specs.Openings.{IsOpening};
 ghost use Rattle.peer_lock.specs.Orders.{order_octets};
-ghost use Rattle.call_runs.specs.PeerCalls.{HearsDatagram, HearsNew, Calls, GoesOn, Retires, leases_in};
+ghost use Rattle.call_runs.specs.PeerCalls.{HearsDatagram, HearsNewWithoutNumber, HearsNew, Calls, GoesOn, Retires, leases_in};
 ghost use Rattle.call_runs.specs.StoredSteps.{TakesOrder, leases_after};
 
 use call_auth::Challenge;
@@ -33,9 +33,26 @@ pub fn hear<J: Naming>(
     match peer.datagram(pass, octets, now, &mut onwards) {
         Ok(step) => Reply::Datagram(Ok(Heard {
             touched: step.touched,
+            rejected: step.rejected,
             onwards,
         })),
         Err(error) => Reply::Datagram(Err(error)),
+    }
+}
+
+/// A NEW that came is rejected by a peer, since no number is free for its leg. It is one that a datagram's call answers by
+/// `NeedsNumber`. The answer has the refusals of `PeerState::reject_new`.
+pub fn hear_new_without_number<J: Naming>(
+    peer: &mut PeerState<J>,
+    pass: &mut Pass<J>,
+    frame: &Full,
+) -> Reply
+    requires { IsOpening frame.now }
+    ensures { HearsNewWithoutNumber peer.old peer.new result }
+{
+    match peer.reject_new(pass, frame) {
+        Ok(_) => Reply::RejectNew(Ok(())),
+        Err(error) => Reply::RejectNew(Err(error)),
     }
 }
 
@@ -59,6 +76,7 @@ pub fn hear_new<J: Naming>(
         Ok(step) => {
             let heard = Heard {
                 touched: step.touched,
+                rejected: step.rejected,
                 onwards,
             };
             (Reply::OpenIn(Ok(heard)), None)

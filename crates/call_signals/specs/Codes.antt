@@ -70,6 +70,15 @@ IAX_LAGRQ = 0x0b
 abbrev pub IAX_LAGRP : ℕ
 IAX_LAGRP = 0x0c
 
+abbrev pub IAX_REGREQ : ℕ
+IAX_REGREQ = 0x0d
+
+abbrev pub IAX_REGREJ : ℕ
+IAX_REGREJ = 0x10
+
+abbrev pub IAX_REGREL : ℕ
+IAX_REGREL = 0x11
+
 abbrev pub IAX_VNAK : ℕ
 IAX_VNAK = 0x12
 

@@ -8,7 +8,7 @@ use Rattle.call_signals.specs.FrameElements.{element_in}
 use Rattle.call_signals.specs.declared.cause.Cause.{Cause}
 use Rattle.call_signals.specs.declared.cause.Cause.TheVariants.{NormalClearing, UserBusy, NoUserResponding, Congestion}
 use Rattle.call_signals.specs.declared.failure.Failure.{Failure}
-use Rattle.call_signals.specs.declared.failure.Failure.TheVariants.{RetriesSpent, RecordFull, Inval}
+use Rattle.call_signals.specs.declared.failure.Failure.TheVariants.{RetriesSpent, RecordFull, ChallengeTimeout, Inval}
 use Rattle.call_signals.specs.declared.message.Message.{Message}
 use Rattle.call_signals.specs.declared.message.Message.TheVariants.{Hangup, Reject, ClearsCall}
 
@@ -33,4 +33,5 @@ ending_cause frame message = NormalClearing
 abbrev pub failure_cause : Failure → Cause
 failure_cause RetriesSpent = NoUserResponding
 failure_cause RecordFull = NormalClearing
+failure_cause ChallengeTimeout = NormalClearing
 failure_cause Inval = NormalClearing

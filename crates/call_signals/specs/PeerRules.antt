@@ -8,11 +8,14 @@ IsWithin least most n = (least ≤ n) × (n ≤ most)
 
 pub record IsPeerRules (rules : PeerRules) : Type 0 where
   pub secret_of_user : IsSome rules.secret → IsSome rules.user
+  pub outbound_secret_of_user : IsSome rules.outbound_secret → IsSome rules.user
+  pub challenge_ms : IfSome rules.challenge_ms (IsWithin 1000 60000)
   pub some_format : IsSome (lowest_format rules.formats)
   pub trunk_ms : IfSome rules.trunk_ms (λ ms. ms ≤ 60)
   pub retry_ms : IsWithin 1 60000 rules.retry_ms
   pub max_retries : rules.max_retries ≤ 20
   pub ping_ms : rules.ping_ms ≤ 600000
   pub record_limit : IsWithin 64 65536 rules.record_limit
+  pub record_octets : IfSome rules.record_octets (IsWithin 65536 268435456)
   pub window : IsWithin 1 127 rules.window
   pub vnak_ms : rules.vnak_ms ≤ 60000

@@ -49,6 +49,12 @@ pub const IAX_INVAL: u8 = 0x0a;
 pub const IAX_LAGRQ: u8 = 0x0b;
 /// The answer to a LAGRQ.
 pub const IAX_LAGRP: u8 = 0x0c;
+/// The sender asks to be registered at its address.
+pub const IAX_REGREQ: u8 = 0x0d;
+/// A registration, or its end, is refused.
+pub const IAX_REGREJ: u8 = 0x10;
+/// The sender asks for its registration to end.
+pub const IAX_REGREL: u8 = 0x11;
 /// What is from ISeqno on is to be sent again.
 pub const IAX_VNAK: u8 = 0x12;
 /// The other side of a transfer can be reached.

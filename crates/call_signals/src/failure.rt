@@ -9,8 +9,10 @@ use crate::cause::Cause;
 pub enum Failure {
     /// A frame was sent again as often as the peer's rules let it be, and wasn't acknowledged ("Message Transport").
     RetriesSpent,
-    /// Fewer than four entries of the leg's record were free.
+    /// The leg's record had no room for another frame and what answers it.
     RecordFull,
+    /// The leg's challenge wasn't answered in time.
+    ChallengeTimeout,
     /// The other side knows no such call (INVAL, "IAX Frames").
     Inval,
 }
@@ -23,6 +25,7 @@ impl Failure {
         match self {
             Failure::RetriesSpent => Cause::NoUserResponding,
             Failure::RecordFull => Cause::NormalClearing,
+            Failure::ChallengeTimeout => Cause::NormalClearing,
             Failure::Inval => Cause::NormalClearing,
         }
     }

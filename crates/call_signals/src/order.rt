@@ -71,7 +71,7 @@ pub enum OrderError {
     WrongStage,
     /// Too many frames are held for this one.
     WindowFull,
-    /// Fewer than four entries of the record are free.
+    /// The record has no room for one more full frame and its answer.
     RecordFull,
     /// A request for memory was refused.
     Memory,

@@ -55,7 +55,7 @@ pub enum MediaIn {
 /// Why a full frame is refused, in the order in which causes are looked for.
 #[derive(Clone, Copy, Debug, PartialEq, Eq)]
 pub enum StepError {
-    /// Fewer than four entries of the record are free.
+    /// The record has no room for one more full frame and its answer.
     RecordFull,
     /// A request for memory was refused.
     Memory,

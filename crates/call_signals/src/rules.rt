@@ -5,6 +5,7 @@ ghost use Rattle.call_signals.specs.Credential.{IsCredential, is_printable};
 
 use crate::format::Formats;
 use arrayvec::ArrayVec;
+use call_auth::Challenge;
 use std::marker::Model;
 
 /// A user's name or a secret: 1 to 64 octets 0x20 ..= 0x7e. Contracts see its octets.
@@ -68,8 +69,16 @@ fn are_printable(octets: &[u8]) -> bool
 pub struct PeerRules {
     /// The name that goes out as USERNAME.
     pub user: Option<Credential>,
-    /// The secret of MD5 challenges, both ways. There is a user where there is a secret.
+    /// The secret by which the peer answers MD5 challenges. If there is one, there is a user.
     pub secret: Option<Credential>,
+    /// The secret by which the peer's MD5 challenges are answered. If there is one, there is a user.
+    pub outbound_secret: Option<Credential>,
+    /// What the challenges of this exchange begin with, if it draws them so. A hardened leg answers no such challenge: it would
+    /// serve whoever was asked it.
+    pub challenge_prefix: Option<Challenge>,
+    /// How long after its opening a leg that waits for the answer to its challenge ends: 1,000 ..= 60,000 milliseconds. Until then
+    /// its record has at most 32 entries and 4,096 octets of data. `None` sets neither limit.
+    pub challenge_ms: Option<u64>,
     /// The formats that the peer may use, at least one.
     pub formats: Formats,
     /// Whether media goes to the peer in trunk frames.
@@ -86,6 +95,8 @@ pub struct PeerRules {
     pub ping_ms: u64,
     /// How many entries a leg's record has at most: 64 ..= 65,536.
     pub record_limit: u32,
+    /// How many octets of data the frames of a leg's record have at most: 65,536 ..= 268,435,456; `None` sets no limit.
+    pub record_octets: Option<u32>,
     /// How many frames a leg holds at most: 1 ..= 127.
     pub window: u8,
     /// How long a leg that asked for a missing frame by VNAK waits before it asks for the same one again: 0 ..= 60,000
@@ -100,7 +111,8 @@ pub struct PeerRules {
     /// Whether the format of an offered call is chosen when it is routed, among all that are common; else it is chosen before.
     pub routes_format: bool,
     /// Whether legs are hardened against peers that break the rules or forge frames: a doomed leg takes no digits, a VNAK that
-    /// repeats is answered by the oldest held frame alone, and an INVAL ends only a leg that it names.
+    /// repeats is answered by the oldest held frame alone, an INVAL ends only a leg that it names, and a challenge of this exchange
+    /// that comes back isn't answered.
     pub is_hardened: bool,
 }
 
@@ -112,6 +124,12 @@ impl PeerRules {
         PeerRules {
             user: copied(&self.user),
             secret: copied(&self.secret),
+            outbound_secret: copied(&self.outbound_secret),
+            challenge_prefix: match &self.challenge_prefix {
+                Some(prefix) => Some(prefix.copied()),
+                None => None,
+            },
+            challenge_ms: self.challenge_ms,
             formats: self.formats,
             trunk: self.trunk,
             trunk_timestamps: self.trunk_timestamps,
@@ -120,6 +138,7 @@ impl PeerRules {
             max_retries: self.max_retries,
             ping_ms: self.ping_ms,
             record_limit: self.record_limit,
+            record_octets: self.record_octets,
             window: self.window,
             vnak_ms: self.vnak_ms,
             poke: self.poke,

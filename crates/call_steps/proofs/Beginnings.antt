@@ -3,6 +3,7 @@ use Rattle.std.proofs.Common.{◌≡◌, Some, None, Bool, true, false, refl}
 use Rattle.std.specs.Prelude.{Ok, Err}
 use Rattle.std.proofs.lemmas.Bool.{cond_both}
 use Rattle.call_book.specs.Book.{is_same}
+use Rattle.call_book.specs.declared.errors.ReserveError.TheVariants as reserve_errors
 use Rattle.call_book.specs.declared.leg_name.LegName.{LegName}
 use Rattle.call_signals.specs.declared.cause.Cause.{Cause}
 use Rattle.peer_lock.specs.declared.errors.OrderError.TheVariants as order_errors
@@ -115,6 +116,7 @@ over_makes_none work reply h answers = unmade_at work.place reply h answers
 made_at : (place : Place) (reply : Reply) (rest : Rest) → is_answer (next_at place) reply ≡ true → is_made reply ≡ true → beginning_at (told_at place reply rest).place ≡ None
 made_at (places.Datagram peer) (replies.Datagram (Ok heard)) rest answers made = heard_past heard rest
 made_at (places.OpenIn name) (replies.OpenIn (Ok heard)) rest answers made = heard_past heard rest
+made_at (places.RejectNew peer) (replies.RejectNew (Ok done)) rest answers made = refl
 made_at (places.Tick peer) (replies.Tick (Ok false)) rest answers made = goes rest
 made_at (places.Tick peer) (replies.Tick (Ok true)) rest answers made = refl
 made_at (places.Tick peer) (replies.Tick (Err spent)) rest answers made = absurd (cc)
@@ -123,6 +125,7 @@ made_at (places.OpenCall name) (replies.OpenOut (Ok done)) rest answers made = r
 made_at (places.Datagram peer) reply rest answers made = absurd (cc)
 made_at (places.ReserveIn peer) (replies.Reserve result) rest answers made = absurd (cc)
 made_at (places.ReserveIn peer) reply rest answers made = absurd (cc)
+made_at (places.RejectNew peer) reply rest answers made = absurd (cc)
 made_at (places.OpenIn name) reply rest answers made = absurd (cc)
 made_at (places.Tick peer) reply rest answers made = absurd (cc)
 made_at (places.HangUp name) reply rest answers made = absurd (cc)
@@ -134,11 +137,13 @@ made_at place reply rest answers made = told_past place reply rest refl
 pub made_is_past : (work : Work) (reply : Reply) → is_answer (next_of work) reply ≡ true → is_made reply ≡ true → beginning_at (after_told work reply).place ≡ None
 made_is_past work reply answers made = made_at work.place reply work.rest answers made
 
-refused_at : (place : Place) (reply : Reply) (rest : Rest) (begun : Beginning) → is_answer (next_at place) reply ≡ true → beginning_at place ≡ Some begun → is_refusal reply ≡ true
+refused_at : (place : Place) (reply : Reply) (rest : Rest) (begun : Beginning) → is_answer (next_at place) reply ≡ true → beginning_at place ≡ Some begun → is_refusal place reply ≡ true
     → is_over (told_at place reply rest).place ≡ true
 refused_at (places.Datagram peer) (replies.Datagram (Err peer_errors.NeedsNumber)) rest begun answers first refusal = absurd (cc)
 refused_at (places.Datagram peer) (replies.Datagram (Err error)) rest begun answers first refusal = refl
+refused_at (places.ReserveIn peer) (replies.Reserve (Err reserve_errors.NoNumber)) rest begun answers first refusal = absurd (cc)
 refused_at (places.ReserveIn peer) (replies.Reserve (Err error)) rest begun answers first refusal = refl
+refused_at (places.RejectNew peer) (replies.RejectNew (Err error)) rest begun answers first refusal = refl
 refused_at (places.OpenIn name) (replies.OpenIn (Err error)) rest begun answers first refusal = refl
 refused_at (places.Tick peer) (replies.Tick (Err spent)) rest begun answers first refusal = refl
 refused_at (places.HangUp name) (replies.Order (Err error)) rest begun answers first refusal = refl
@@ -146,15 +151,17 @@ refused_at (places.ReserveCall peer) (replies.Reserve (Err error)) rest begun an
 refused_at (places.OpenCall name) (replies.OpenOut (Err error)) rest begun answers first refusal = refl
 refused_at place reply rest begun answers first refusal = absurd (cc)
 
-pub refused_is_over : (work : Work) (reply : Reply) (begun : Beginning) → is_answer (next_of work) reply ≡ true → beginning_at work.place ≡ Some begun → is_refusal reply ≡ true
+pub refused_is_over : (work : Work) (reply : Reply) (begun : Beginning) → is_answer (next_of work) reply ≡ true → beginning_at work.place ≡ Some begun → is_refusal work.place reply ≡ true
     → is_over (after_told work reply).place ≡ true
 refused_is_over work reply begun answers first refusal = refused_at work.place reply work.rest begun answers first refusal
 
-goes_on_at : (place : Place) (reply : Reply) (rest : Rest) (begun : Beginning) → is_answer (next_at place) reply ≡ true → beginning_at place ≡ Some begun → is_made reply ≡ false → is_refusal reply ≡ false
+goes_on_at : (place : Place) (reply : Reply) (rest : Rest) (begun : Beginning) → is_answer (next_at place) reply ≡ true → beginning_at place ≡ Some begun → is_made reply ≡ false → is_refusal place reply ≡ false
     → beginning_at (told_at place reply rest).place ≡ Some begun
 goes_on_at (places.Datagram peer) (replies.Datagram (Ok heard)) rest begun answers first unmade kept = absurd (cc)
 goes_on_at (places.Datagram peer) (replies.Datagram (Err peer_errors.NeedsNumber)) rest begun answers first unmade kept = first
 goes_on_at (places.ReserveIn peer) (replies.Reserve (Ok name)) rest begun answers first unmade kept = first
+goes_on_at (places.ReserveIn peer) (replies.Reserve (Err reserve_errors.NoNumber)) rest begun answers first unmade kept = first
+goes_on_at (places.RejectNew peer) (replies.RejectNew (Ok done)) rest begun answers first unmade kept = absurd (cc)
 goes_on_at (places.OpenIn name) (replies.OpenIn (Ok heard)) rest begun answers first unmade kept = absurd (cc)
 goes_on_at (places.Tick peer) (replies.Tick (Ok quiet)) rest begun answers first unmade kept = absurd (cc)
 goes_on_at (places.HangUp name) (replies.Order (Ok done)) rest begun answers first unmade kept = absurd (cc)
@@ -162,7 +169,7 @@ goes_on_at (places.ReserveCall peer) (replies.Reserve (Ok name)) rest begun answ
 goes_on_at (places.OpenCall name) (replies.OpenOut (Ok done)) rest begun answers first unmade kept = absurd (cc)
 goes_on_at place reply rest begun answers first unmade kept = absurd (cc)
 
-pub first_goes_on : (work : Work) (reply : Reply) (begun : Beginning) → is_answer (next_of work) reply ≡ true → beginning_at work.place ≡ Some begun → is_made reply ≡ false → is_refusal reply ≡ false
+pub first_goes_on : (work : Work) (reply : Reply) (begun : Beginning) → is_answer (next_of work) reply ≡ true → beginning_at work.place ≡ Some begun → is_made reply ≡ false → is_refusal work.place reply ≡ false
     → beginning_at (after_told work reply).place ≡ Some begun
 first_goes_on work reply begun answers first unmade kept = goes_on_at work.place reply work.rest begun answers first unmade kept
 

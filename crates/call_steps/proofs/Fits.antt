@@ -5,6 +5,7 @@ use Rattle.std.proofs.lemmas.Bool.{cond_both, cases_Bool, true≢false}
 use Rattle.call_book.specs.Book.{Book, has_name, is_same, reserve_answer, bridge_answer, partner_of}
 use Rattle.call_book.specs.declared.errors.BridgeError.{BridgeError}
 use Rattle.call_book.specs.declared.errors.ReserveError.{ReserveError}
+use Rattle.call_book.specs.declared.errors.ReserveError.TheVariants as reserve_errors
 use Rattle.call_book.specs.declared.leg_name.LegName.{LegName}
 use Rattle.call_book.proofs.Changes.{IsReserved, reserved, IsBridged, bridged_by, release_keeps, lost}
 use Rattle.call_signals.specs.declared.cause.Cause.{Cause}
@@ -36,7 +37,7 @@ use Rattle.call_steps.specs.declared.reply.Heard.{Heard}
 use Rattle.call_steps.specs.declared.reply.Reply.TheVariants as replies
 use Rattle.call_steps.specs.SeenReply.{heard}
 use Rattle.call_steps.specs.Work.{Rest, next_at, go_on, after_heard, after_refused_datagram, after_no_room, after_status, told_at, in_hand}
-use Rattle.call_steps.specs.Scene.{Leg, Scene, Choice, RefusesDatagram, RefusesOpening, RefusesOrder, RefusesTick, KeepsLeg, Brings, HasMedia, Lapses, Opens, LeadsTo, leg_at, leg_named, replaced, without, Answer, answer, heard_of, nothing_heard, brought, brings, all_media, at_datagram, all_lapsed, at_tick, is_leased, dropped, can_open, opened, opens_in, busy_in, at_open_in, opens_out, busy_out, at_open_out, refuses_order, carried, refused, obeys, at_leg, at_order, status_of, told_cause, is_done, retires, keeps, at_retire, reserves, bridges, releases, is_stale, at_release, answered, is_call}
+use Rattle.call_steps.specs.Scene.{Leg, Scene, Choice, RefusesDatagram, RefusesRejecting, RefusesOpening, RefusesOrder, RefusesTick, KeepsLeg, Brings, HasMedia, Lapses, Opens, LeadsTo, leg_at, leg_named, replaced, without, Answer, answer, heard_of, nothing_heard, brought, brings, all_media, at_datagram, all_lapsed, at_tick, at_reject_new, is_leased, dropped, can_open, opened, opens_in, busy_in, at_open_in, opens_out, busy_out, at_open_out, refuses_order, carried, refused, obeys, at_leg, at_order, status_of, told_cause, is_done, retires, keeps, at_retire, reserves, bridges, releases, is_stale, at_release, answered, is_call}
 use Rattle.call_steps.specs.Law.{times, names_of}
 use Rattle.call_book.proofs.NameLaws.{is_same_itself, same_name, bit, has_name_is}
 use Rattle.call_steps.proofs.Onward.{onward_holds}
@@ -111,6 +112,10 @@ module _ (others : LegName → ℕ) where
     tick_fits peer rest choice h = record { held = h; leases = sym (go_on_hand rest) }
 
     -- ---- openings
+    reject_fits : (peer : ℕ) (rest : Rest) (choice : Choice) → IsHeld others (scene book legs []) → Fits (places.RejectNew peer) rest (at_reject_new (scene book legs []) choice)
+    reject_fits peer rest (RefusesRejecting error) h = record { held = h; leases = refl }
+    reject_fits peer rest choice h = record { held = h; leases = refl }
+
     opened_held : (name : LegName) (stage : Stage) (called : Bool) → IsHeld others (scene book legs (name ∷ [])) → IsHeld others (opened (scene book legs (name ∷ [])) name stage called)
     opened_held name stage called h =
         record {
@@ -246,7 +251,12 @@ module _ (others : LegName → ℕ) where
 
   pub place_fits : (book : Book) (legs : List Leg) (place : Place) (rest : Rest) (choice : Choice) → IsHeld others (scene book legs (in_hand place)) → FitsIf book legs place rest choice (next_at place)
   place_fits book legs (places.Datagram peer) rest choice h = datagram_fits book legs peer rest choice h
-  place_fits book legs (places.ReserveIn peer) rest choice h = reserves_fits book legs (places.ReserveIn peer) rest peer (reserve_answer book peer) refl h (λ _. refl) (λ _. refl)
+  place_fits book legs (places.ReserveIn peer) rest choice h = reserves_fits book legs (places.ReserveIn peer) rest peer (reserve_answer book peer) refl h (λ _. refl) hand
+    where
+      hand : (error : ReserveError) → [] ≡ in_hand (told_at (places.ReserveIn peer) (replies.Reserve (Err error)) rest).place
+      hand reserve_errors.NoNumber = refl
+      hand error = refl
+  place_fits book legs (places.RejectNew peer) rest choice h = reject_fits book legs peer rest choice h
   place_fits book legs (places.OpenIn name) rest choice h = open_in_fits book legs name rest choice h
   place_fits book legs (places.GiveBack name) rest choice h = release_fits book legs (places.GiveBack name) rest name h (λ _. refl)
   place_fits book legs (places.Routing offered) rest choice h = route_fits choice

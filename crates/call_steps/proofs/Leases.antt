@@ -3,6 +3,7 @@ use Rattle.std.proofs.Common.{◌≡◌, [], Some, None, true, false, refl, ap}
 use Rattle.std.specs.Prelude.{Ok, Err}
 use Rattle.std.proofs.lemmas.Bool.{cond_both}
 use Rattle.call_book.specs.Book.{is_same}
+use Rattle.call_book.specs.declared.errors.ReserveError.TheVariants as reserve_errors
 use Rattle.call_book.specs.declared.leg_name.LegName.{LegName}
 use Rattle.peer_lock.specs.declared.errors.OrderError.TheVariants as order_errors
 use Rattle.peer_lock.specs.declared.errors.PeerError.TheVariants as peer_errors
@@ -44,7 +45,9 @@ told_after (places.Datagram peer) (replies.Datagram (Ok heard)) rest = none _ (h
 told_after (places.Datagram peer) (replies.Datagram (Err peer_errors.NeedsNumber)) rest = refl
 told_after (places.Datagram peer) reply rest = refl
 told_after (places.ReserveIn peer) (replies.Reserve (Ok name)) rest = refl
+told_after (places.ReserveIn peer) (replies.Reserve (Err reserve_errors.NoNumber)) rest = refl
 told_after (places.ReserveIn peer) reply rest = refl
+told_after (places.RejectNew peer) reply rest = refl
 told_after (places.OpenIn name) (replies.OpenIn (Ok heard)) rest = none _ (heard_hand heard rest)
 told_after (places.OpenIn name) reply rest = refl
 told_after (places.GiveBack name) reply rest = refl

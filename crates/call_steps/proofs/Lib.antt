@@ -25,5 +25,7 @@ mod PeerSteps
 mod PeerTicks
 mod Numbers
 mod MediaLeft
+mod DatagramsLeft
+mod DatagramsBring
 mod Leases
 mod Beginnings

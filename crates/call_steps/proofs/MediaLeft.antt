@@ -4,6 +4,7 @@ use Rattle.std.specs.Prelude.{Ok, Err}
 use Rattle.std.specs.List.{AllByRecursion}
 use Rattle.std.proofs.lemmas.Bool.{cond_both}
 use Rattle.call_book.specs.Book.{is_same}
+use Rattle.call_book.specs.declared.errors.ReserveError.TheVariants as reserve_errors
 use Rattle.call_book.specs.declared.leg_name.LegName.{LegName}
 use Rattle.call_signals.specs.declared.cause.Cause.{Cause}
 use Rattle.call_signals.specs.declared.signal.Signal.{Signal}
@@ -122,7 +123,9 @@ told_keeps (places.Datagram peer) (replies.Datagram (Ok heard)) rest =
 told_keeps (places.Datagram peer) (replies.Datagram (Err peer_errors.NeedsNumber)) rest = plain (places.Datagram peer) _ rest _ refl refl (stays (places.ReserveIn peer) rest refl)
 told_keeps (places.Datagram peer) reply rest = plain (places.Datagram peer) reply rest _ refl refl (ends rest)
 told_keeps (places.ReserveIn peer) (replies.Reserve (Ok name)) rest = plain (places.ReserveIn peer) _ rest _ refl refl (stays (places.OpenIn name) rest refl)
+told_keeps (places.ReserveIn peer) (replies.Reserve (Err reserve_errors.NoNumber)) rest = plain (places.ReserveIn peer) _ rest _ refl refl (stays (places.RejectNew peer) rest refl)
 told_keeps (places.ReserveIn peer) reply rest = plain (places.ReserveIn peer) reply rest _ refl refl (ends rest)
+told_keeps (places.RejectNew peer) reply rest = plain (places.RejectNew peer) reply rest _ refl refl (ends rest)
 told_keeps (places.OpenIn name) (replies.OpenIn (Ok heard)) rest =
     hears (places.OpenIn name) (replies.OpenIn (Ok heard)) rest _ refl (goes (record { onward = heard.onwards.signals; touched = heard.touched; looks = rest.looks }))
 told_keeps (places.OpenIn name) reply rest = plain (places.OpenIn name) reply rest _ refl refl (stays (places.GiveBack name) rest refl)

@@ -20,7 +20,7 @@ use Rattle.peer_lock.specs.declared.errors.OrderError.TheVariants as order_error
 use Rattle.call_steps.specs.Act.{act_kind}
 use Rattle.call_steps.specs.declared.need.Need.{Need}
 use Rattle.call_steps.specs.declared.need.Need.TheVariants as needs
-use Rattle.call_steps.specs.Scene.{Leg, Scene, Choice, RefusesDatagram, RefusesOpening, RefusesOrder, RefusesTick, KeepsLeg, Brings, HasMedia, Lapses, Opens, LeadsTo, leg_at, leg_named, replaced, Answer, brought, brings, at_datagram, let_lapse, lapsed_at, all_lapsed, at_tick, is_leased, can_open, opens_in, busy_in, at_open_in, opens_out, busy_out, at_open_out, refuses_order, carried, refused, obeys, at_leg, at_order, is_done, retires, keeps, at_retire, reserves, bridges, releases, is_stale, at_release, at_route, answered}
+use Rattle.call_steps.specs.Scene.{Leg, Scene, Choice, RefusesDatagram, RefusesRejecting, RefusesOpening, RefusesOrder, RefusesTick, KeepsLeg, Brings, HasMedia, Lapses, Opens, LeadsTo, leg_at, leg_named, replaced, Answer, brought, brings, at_datagram, let_lapse, lapsed_at, all_lapsed, at_tick, at_reject_new, is_leased, can_open, opens_in, busy_in, at_open_in, opens_out, busy_out, at_open_out, refuses_order, carried, refused, obeys, at_leg, at_order, is_done, retires, keeps, at_retire, reserves, bridges, releases, is_stale, at_release, at_route, answered}
 use Rattle.call_book.proofs.NameLaws.{same_name, bit, has_name_is}
 use Rattle.call_steps.proofs.Held.{found_if}
 use Rattle.call_steps.proofs.Safe.{all_replaced, all_without, all_found, and_second, lapsed_name, some_bit}
@@ -222,6 +222,10 @@ module _ (p : LegName) (s : Scene) where
     bridge_not_pending a b (Ok done) h = h
     bridge_not_pending a b (Err error) h = h
 
+    reject_keeps : (choice : Choice) → Keeps p false s (at_reject_new s choice)
+    reject_keeps (RefusesRejecting error) = stays false s.leases _ refl
+    reject_keeps choice = stays false s.leases _ refl
+
     route_keeps : (choice : Choice) → Keeps p false s (at_route s choice)
     route_keeps (LeadsTo route) = stays false s.leases _ refl
     route_keeps choice = stays false s.leases _ refl
@@ -230,6 +234,7 @@ module _ (p : LegName) (s : Scene) where
 
     pub need_keeps : (need : Need) (called : Bool) (choice : Choice) → is_bridge need ≡ false → Keeps p (opens_name p need) s (answered s need called choice)
     need_keeps (needs.Datagram peer) called choice apart = datagram_keeps peer choice
+    need_keeps (needs.RejectNew peer) called choice apart = reject_keeps choice
     need_keeps (needs.OpenIn name) called choice apart = open_in_keeps name choice
     need_keeps (needs.OpenOut name) called choice apart = open_out_keeps name called choice
     need_keeps (needs.Order name act) called choice apart = order_keeps name (act_kind act) choice

@@ -1,7 +1,10 @@
 -- The step of each place is safe.
 use Rattle.std.proofs.Common.{◌≡◌, ◌≤◌, [], Option, Some, None, Bool, true, false, cond, refl, ap, sym, ◌∙◌, arith, inl, inr, is_some}
+use Rattle.std.specs.Prelude.{Err}
 use Rattle.std.proofs.lemmas.Bool.{cond_both, cases_Bool}
 use Rattle.call_book.specs.Book.{is_same, partner_of}
+use Rattle.call_book.specs.declared.errors.ReserveError.{ReserveError}
+use Rattle.call_book.specs.declared.errors.ReserveError.TheVariants as reserve_errors
 use Rattle.call_book.specs.declared.leg_name.LegName.{LegName}
 use Rattle.call_signals.specs.declared.cause.Cause.{Cause}
 use Rattle.call_signals.specs.declared.cause.Cause.TheVariants.{UnallocatedNumber, NormalClearing, CallRejected, NoChannelAvailable}
@@ -15,8 +18,8 @@ use Rattle.call_steps.specs.declared.need.Route.TheVariants as routes
 use Rattle.call_steps.specs.declared.place.Place.{Place}
 use Rattle.call_steps.specs.declared.place.Place.TheVariants as places
 use Rattle.call_steps.specs.declared.reply.Reply.TheVariants as replies
-use Rattle.call_steps.specs.Work.{Rest, at, ended, next_at, go_on, after_status, in_hand}
-use Rattle.call_steps.specs.Scene.{Choice, LeadsTo, leg_at, answer, status_of, told_cause, answered, is_call}
+use Rattle.call_steps.specs.Work.{Rest, at, ended, next_at, go_on, after_status, told_at, in_hand}
+use Rattle.call_steps.specs.Scene.{Choice, RefusesRejecting, LeadsTo, leg_at, answer, status_of, told_cause, answered, is_call}
 use Rattle.call_book.proofs.NameLaws.{same_name, bit}
 use Rattle.call_steps.proofs.Held.{scene}
 use Rattle.call_steps.proofs.Weights.{care, offers, go_on_care}
@@ -43,7 +46,19 @@ module _ (around : Surroundings) where
   place_safe (places.Datagram peer) rest choice seen_to b = datagram_safe around peer rest choice b
   place_safe (places.ReserveIn peer) rest choice seen_to b =
       reserves_safe around (places.ReserveIn peer) rest peer b refl (λ name. (refl, (λ x. omega arith), (λ x. omega arith)))
-      (λ e. quiet (places.ReserveIn peer) rest ended refl (λ x. omega arith) (λ x. omega arith))
+      refused
+    where
+      refused : (error : ReserveError) → Flows (places.ReserveIn peer) rest (told_at (places.ReserveIn peer) (replies.Reserve (Err error)) rest)
+      refused reserve_errors.NoNumber = quiet (places.ReserveIn peer) rest (at (places.RejectNew peer) rest) refl (λ x. omega arith) (λ x. omega arith)
+      refused error = quiet (places.ReserveIn peer) rest ended refl (λ x. omega arith) (λ x. omega arith)
+  place_safe (places.RejectNew peer) rest choice seen_to b = rejected choice
+    where
+      ends : Flows (places.RejectNew peer) rest ended
+      ends = quiet (places.RejectNew peer) rest ended refl (λ x. omega arith) (λ x. omega arith)
+
+      rejected : (choice : Choice) → SafeIf (places.RejectNew peer) rest choice (Some (needs.RejectNew peer))
+      rejected (RefusesRejecting error) = flows_safe around (places.RejectNew peer) rest [] ended b ends
+      rejected choice = flows_safe around (places.RejectNew peer) rest [] ended b ends
   place_safe (places.OpenIn name) rest choice seen_to b = open_in_safe around name rest choice b
   place_safe (places.GiveBack name) rest choice seen_to b = give_back_safe around name rest b
   place_safe (places.Routing offered) rest choice seen_to b = route choice

@@ -5,6 +5,7 @@ use Rattle.std.proofs.lemmas.Bool.{cond_both, cases_Bool, true≢false}
 use Rattle.std.specs.List.{AllByRecursion}
 use Rattle.call_book.specs.Book.{has_name, is_same, bridge_answer, bridged, released, partner_of}
 use Rattle.call_book.specs.declared.errors.BridgeError.{BridgeError}
+use Rattle.call_book.specs.declared.errors.ReserveError.TheVariants as reserve_errors
 use Rattle.call_book.specs.declared.leg_name.LegName.{LegName}
 use Rattle.call_book.proofs.Changes.{IsBridged, bridged_by, partner_has, bridged_first, bridged_before, released_gone}
 use Rattle.call_signals.specs.declared.format.Format.{Format}
@@ -170,13 +171,14 @@ module _ (around : Surroundings) (others_opening : LegName → ℕ) (few_opening
       go (RefusesOrder order_errors.StepsSpent) = tt
       go choice = at_leg_asks (leg_named legs offered) choice refl
 
-  reserve_in_asks : (P : LegName → Type 0) (reply : Reply) (rest : Rest) → Asks P (after_reserve_in reply rest).place
-  reserve_in_asks P (replies.Reserve (Ok name)) rest = tt
-  reserve_in_asks P (replies.Reserve (Err error)) rest = tt
-  reserve_in_asks P reply rest = tt
+  reserve_in_asks : (P : LegName → Type 0) (reply : Reply) (peer : ℕ) (rest : Rest) → Asks P (after_reserve_in reply peer rest).place
+  reserve_in_asks P (replies.Reserve (Ok name)) peer rest = tt
+  reserve_in_asks P (replies.Reserve (Err reserve_errors.NoNumber)) peer rest = tt
+  reserve_in_asks P (replies.Reserve (Err error)) peer rest = tt
+  reserve_in_asks P reply peer rest = tt
 
   after_asks : (place : Place) (rest : Rest) (need : Need) (choice : Choice) → next_at place ≡ Some need → Talks place rest → Asks (SettledAfter place rest need choice) (to place rest need choice)
-  after_asks (places.ReserveIn peer) rest need choice is b = reserve_in_asks (SettledAfter (places.ReserveIn peer) rest need choice) (made (places.ReserveIn peer) need choice).reply rest
+  after_asks (places.ReserveIn peer) rest need choice is b = reserve_in_asks (SettledAfter (places.ReserveIn peer) rest need choice) (made (places.ReserveIn peer) need choice).reply peer rest
   after_asks (places.Finding name act) rest need choice is b =
       let e : needs.Partner name ≡ need = cc in
       subst (λ n. Asks (SettledAfter (places.Finding name act) rest n choice) (to (places.Finding name act) rest n choice)) e (finding_asks name act rest choice b)

@@ -32,6 +32,7 @@ care_at (places.Dooming name cause) rest x = bit (is_same name x) + offers x res
 care_at (places.Checking target) rest x = bit (is_same target x) + offers x rest.onward
 care_at (places.Datagram peer) rest x = 0
 care_at (places.ReserveIn peer) rest x = 0
+care_at (places.RejectNew peer) rest x = 0
 care_at (places.OpenIn name) rest x = 0
 care_at (places.GiveBack name) rest x = 0
 care_at (places.Tick peer) rest x = 0

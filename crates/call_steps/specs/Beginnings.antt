@@ -1,5 +1,7 @@
 -- How a call begins: what it is until its first step of a peer is made, and what is left of it where that is refused.
 use Rattle.std.specs.Prelude.{Bool, true, false, Option, None, Some, Ok, Err}
+use Rattle.call_book.specs.declared.errors.ReserveError.{ReserveError}
+use Rattle.call_book.specs.declared.errors.ReserveError.TheVariants as reserve_errors
 use Rattle.peer_lock.specs.declared.errors.PeerError.TheVariants as peer_errors
 use Rattle.call_steps.specs.declared.need.Need.{Need}
 use Rattle.call_steps.specs.declared.need.Need.TheVariants as needs
@@ -18,6 +20,7 @@ pub data Beginning : Type 0 where
 abbrev pub beginning_at : Place → Option Beginning
 beginning_at (places.Datagram peer) = Some OfDatagram
 beginning_at (places.ReserveIn peer) = Some OfDatagram
+beginning_at (places.RejectNew peer) = Some OfDatagram
 beginning_at (places.OpenIn name) = Some OfDatagram
 beginning_at (places.Tick peer) = Some OfTick
 beginning_at (places.HangUp name) = Some OfHangUp
@@ -34,6 +37,7 @@ is_over place = false
 -- the answer is one to that step
 abbrev pub is_answer : Option Need → Reply → Bool
 is_answer (Some (needs.Datagram peer)) (replies.Datagram result) = true
+is_answer (Some (needs.RejectNew peer)) (replies.RejectNew result) = true
 is_answer (Some (needs.OpenIn name)) (replies.OpenIn result) = true
 is_answer (Some (needs.OpenOut name)) (replies.OpenOut result) = true
 is_answer (Some (needs.Order name act)) (replies.Order result) = true
@@ -50,19 +54,26 @@ is_answer need reply = false
 -- it says that a step of a peer was made
 abbrev pub is_made : Reply → Bool
 is_made (replies.Datagram (Ok heard)) = true
+is_made (replies.RejectNew (Ok done)) = true
 is_made (replies.OpenIn (Ok heard)) = true
 is_made (replies.OpenOut (Ok done)) = true
 is_made (replies.Order (Ok done)) = true
 is_made (replies.Tick (Ok quiet)) = true
 is_made reply = false
 
--- it says that the step was refused; a datagram that needs a number isn't
-abbrev pub is_refusal : Reply → Bool
-is_refusal (replies.Datagram (Err peer_errors.NeedsNumber)) = false
-is_refusal (replies.Datagram (Err error)) = true
-is_refusal (replies.OpenIn (Err error)) = true
-is_refusal (replies.OpenOut (Err error)) = true
-is_refusal (replies.Order (Err error)) = true
-is_refusal (replies.Tick (Err spent)) = true
-is_refusal (replies.Reserve (Err error)) = true
-is_refusal reply = false
+-- a NEW for which no number is free isn't refused yet
+abbrev pub refuses_name : Place → ReserveError → Bool
+refuses_name (places.ReserveIn peer) reserve_errors.NoNumber = false
+refuses_name place error = true
+
+-- it says that the step of this place was refused; a datagram that needs a number isn't
+abbrev pub is_refusal : Place → Reply → Bool
+is_refusal place (replies.Datagram (Err peer_errors.NeedsNumber)) = false
+is_refusal place (replies.Datagram (Err error)) = true
+is_refusal place (replies.RejectNew (Err error)) = true
+is_refusal place (replies.OpenIn (Err error)) = true
+is_refusal place (replies.OpenOut (Err error)) = true
+is_refusal place (replies.Order (Err error)) = true
+is_refusal place (replies.Tick (Err spent)) = true
+is_refusal place (replies.Reserve (Err error)) = refuses_name place error
+is_refusal place reply = false

@@ -11,8 +11,9 @@ use Rattle.call_signals.specs.declared.stage.Stage.TheVariants as stages
 use Rattle.peer_lock.specs.declared.errors.OpenError.TheVariants as open_errors
 use Rattle.peer_lock.specs.declared.errors.OrderError.TheVariants as order_errors
 use Rattle.peer_lock.specs.declared.errors.PeerError.TheVariants as peer_errors
-use Rattle.call_steps.specs.Scene.{Leg, Choice, RefusesDatagram, RefusesOpening, RefusesOrder, RefusesTick, is_leased, leg_at}
-use Rattle.call_steps.specs.Scene.{leg_named, without}
+use Rattle.peer_lock.specs.declared.errors.RejectError.TheVariants as reject_errors
+use Rattle.call_steps.specs.Scene.{Leg, Choice, RefusesDatagram, RefusesRejecting, RefusesOpening, RefusesOrder, RefusesTick}
+use Rattle.call_steps.specs.Scene.{is_leased, leg_at, leg_named, without}
 use Rattle.call_steps.specs.SeenReply.{seen_reply}
 use Rattle.call_steps.specs.Work.{Work, next_of, after_told, ended}
 use Rattle.call_steps.specs.World.{World, Caller, Event, Starts, Steps, run}
@@ -42,6 +43,7 @@ InEveryRun Holds = (world : World) → IsOpened world → (events : List Event) 
 -- the step is refused because the peer's steps are spent
 abbrev pub is_spent : Choice → Bool
 is_spent (RefusesDatagram peer_errors.StepsSpent) = true
+is_spent (RefusesRejecting reject_errors.StepsSpent) = true
 is_spent (RefusesOpening open_errors.StepsSpent) = true
 is_spent (RefusesOrder order_errors.StepsSpent) = true
 is_spent RefusesTick = true

@@ -7,6 +7,7 @@ pub mod Sees
 pub mod Scene
 pub mod World
 pub mod MediaLeft
+pub mod DatagramsLeft
 pub mod Leases
 pub mod Beginnings
 pub mod Law

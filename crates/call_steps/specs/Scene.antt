@@ -25,6 +25,7 @@ use Rattle.peer_lock.specs.declared.errors.OpenError.TheVariants as open_errors
 use Rattle.peer_lock.specs.declared.errors.OrderError.{OrderError}
 use Rattle.peer_lock.specs.declared.errors.OrderError.TheVariants as order_errors
 use Rattle.peer_lock.specs.declared.errors.PeerError.{PeerError}
+use Rattle.peer_lock.specs.declared.errors.RejectError.{RejectError}
 use Rattle.peer_lock.specs.declared.steps.Status.{Status}
 use Rattle.call_steps.specs.Act.{act_kind}
 use Rattle.call_steps.specs.SeenReply.{heard}
@@ -56,6 +57,7 @@ pub data Choice : Type 0 where
   Goes : Choice
   -- refusals that depend on more than is seen here, as want of memory
   RefusesDatagram : (error : PeerError) → Choice
+  RefusesRejecting : (error : RejectError) → Choice
   RefusesOpening : (error : OpenError) → Choice
   RefusesOrder : (error : OrderError) → Choice
   RefusesTick : Choice
@@ -164,6 +166,11 @@ at_tick scene peer (Lapses lapses quiet) =
 at_tick scene peer choice = answer scene (replies.Tick (Ok false))
 
 -- ---- openings
+
+-- a NEW is rejected
+abbrev pub at_reject_new : Scene → Choice → Answer
+at_reject_new scene (RefusesRejecting error) = answer scene (replies.RejectNew (Err error))
+at_reject_new scene choice = answer scene (replies.RejectNew (Ok tt))
 
 abbrev pub is_leased : List LegName → LegName → Bool
 is_leased [] name = false
@@ -297,6 +304,7 @@ at_route scene choice = answer scene (replies.Route routes.Nowhere)
 -- a step, on what it finds; called: a leg that it opens is opened by a call from outside
 abbrev pub answered : Scene → Need → Bool → Choice → Answer
 answered scene (needs.Datagram peer) called choice = at_datagram scene peer choice
+answered scene (needs.RejectNew peer) called choice = at_reject_new scene choice
 answered scene (needs.OpenIn name) called choice = at_open_in scene name choice
 answered scene (needs.OpenOut name) called choice = at_open_out scene name called choice
 answered scene (needs.Order name act) called choice = at_order scene name (act_kind act) choice

@@ -1,6 +1,7 @@
 -- The steps of one call of the exchange: where it stands, which step it needs next, and where each answer leads.
 use Rattle.std.specs.Prelude.{ℕ, suc, zero, ◌+◌, Bool, true, false, List, [], ◌∷◌, Option, None, Some, Ok, Err, if◌then◌else◌}
 use Rattle.call_book.specs.Book.{is_same}
+use Rattle.call_book.specs.declared.errors.ReserveError.TheVariants as reserve_errors
 use Rattle.call_book.specs.declared.leg_name.LegName.{LegName}
 use Rattle.call_signals.specs.declared.cause.Cause.{Cause}
 use Rattle.call_signals.specs.declared.cause.Cause.TheVariants.{UnallocatedNumber, NormalClearing, CallRejected}
@@ -68,6 +69,7 @@ of_hang_up name = at (places.HangUp name) (record nothing_left { touched = Some 
 abbrev pub next_at : Place → Option Need
 next_at (places.Datagram peer) = Some (needs.Datagram peer)
 next_at (places.ReserveIn peer) = Some (needs.Reserve peer)
+next_at (places.RejectNew peer) = Some (needs.RejectNew peer)
 next_at (places.OpenIn name) = Some (needs.OpenIn name)
 next_at (places.GiveBack name) = Some (needs.Release name)
 next_at (places.Routing offered) = Some (needs.Route offered)
@@ -147,9 +149,11 @@ after_datagram (replies.Datagram (Ok heard)) peer rest = after_heard heard rest
 after_datagram (replies.Datagram (Err error)) peer rest = after_refused_datagram error peer rest
 after_datagram reply peer rest = ended
 
-abbrev pub after_reserve_in : Reply → Rest → Work
-after_reserve_in (replies.Reserve (Ok name)) rest = at (places.OpenIn name) rest
-after_reserve_in reply rest = ended
+-- a NEW for which no number is free is rejected
+abbrev pub after_reserve_in : Reply → ℕ → Rest → Work
+after_reserve_in (replies.Reserve (Ok name)) peer rest = at (places.OpenIn name) rest
+after_reserve_in (replies.Reserve (Err reserve_errors.NoNumber)) peer rest = at (places.RejectNew peer) rest
+after_reserve_in reply peer rest = ended
 
 abbrev pub after_open_in : Reply → LegName → Rest → Work
 after_open_in (replies.OpenIn (Ok heard)) name rest = after_heard heard rest
@@ -252,7 +256,8 @@ after_open_call reply name rest = at (places.GiveBack name) rest
 
 abbrev pub told_at : Place → Reply → Rest → Work
 told_at (places.Datagram peer) reply rest = after_datagram reply peer rest
-told_at (places.ReserveIn peer) reply rest = after_reserve_in reply rest
+told_at (places.ReserveIn peer) reply rest = after_reserve_in reply peer rest
+told_at (places.RejectNew peer) reply rest = ended
 told_at (places.OpenIn name) reply rest = after_open_in reply name rest
 told_at (places.GiveBack name) reply rest = ended
 told_at (places.Routing offered) reply rest = after_route reply offered rest

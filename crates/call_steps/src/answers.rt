@@ -8,7 +8,7 @@ use crate::need::Route;
 use crate::place::Place;
 use crate::reply::Reply;
 use crate::work::Work;
-use call_book::LegName;
+use call_book::{LegName, ReserveError};
 use leg_machine::{Cause, Format};
 use peer_lock::{OrderError, PeerError, Status};
 
@@ -45,7 +45,8 @@ impl Work {
         match place {
             // (not asked for)
             Place::Datagram(_) | Place::OpenIn(_) => self.end(),
-            Place::ReserveIn(_) => self.after_reserve_in(reply),
+            Place::ReserveIn(peer) => self.after_reserve_in(reply, peer),
+            Place::RejectNew(_) => self.end(),
             Place::GiveBack(_) => self.end(),
             Place::Routing(offered) => self.after_route(reply, offered),
             Place::Rejecting(offered, _) => self.after_reject(reply, offered),
@@ -80,11 +81,12 @@ impl Work {
         }
     }
 
-    fn after_reserve_in(&mut self, reply: &Reply)
-        ensures { self.new ≡ record self.old { work = work.after_reserve_in reply.now self.old.work.rest } }
+    fn after_reserve_in(&mut self, reply: &Reply, peer: u16)
+        ensures { self.new ≡ record self.old { work = work.after_reserve_in reply.now peer self.old.work.rest } }
     {
         match reply {
             Reply::Reserve(Ok(name)) => self.go_to(Place::OpenIn(*name)),
+            Reply::Reserve(Err(ReserveError::NoNumber)) => self.go_to(Place::RejectNew(peer)),
             _ => self.end(),
         }
     }

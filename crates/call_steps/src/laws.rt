@@ -1,17 +1,22 @@
 //! What holds of many calls at once, in whatever order their steps come.
-ghost use Rattle.std.specs.Prelude.{◌≡◌, ◌≤◌, ◌+◌, ℕ, true, false, Bool, List, ◌∷◌, Option, None, Some, Ok, Err, option_map};
+ghost use Rattle.std.specs.Prelude.{◌≡◌, ◌≤◌, ◌+◌, ℕ, true, false, Bool, List, ◌∷◌, length, Option, None, Some, Ok, Err, option_map};
 ghost use Rattle.std.specs.List.{AllByRecursion};
 ghost use Rattle.call_book.specs.declared.leg_name.LegName.{LegName};
 ghost use Rattle.iax_frames.specs.FullFrame.{FullFrame};
+ghost use Rattle.iax_frames.specs.MiniFrame.{MiniFrame};
+ghost use Rattle.iax_frames.specs.TrunkFrame.{TrunkFrame};
+ghost use Rattle.iax_frames.specs.VideoFrame.{VideoFrame};
 ghost use Rattle.iax_frames.specs.declared.datagram.Datagram.{Datagram};
+ghost use Rattle.iax_frames.specs.declared.datagram.Datagram.TheVariants.{Full, Mini, Video, Trunk};
 ghost use Rattle.leg_machine.specs.OrderTable.{wants_memory};
 ghost use Rattle.leg_machine.specs.Seen.{kind_of};
+ghost use Rattle.call_signals.specs.Message.{is_vnak, message_of};
 ghost use Rattle.call_signals.specs.declared.format.Format.{Format};
 ghost use Rattle.call_signals.specs.declared.order.Order.{Order};
 ghost use Rattle.peer_lock.specs.Arrivals.{datagram_step};
 ghost use Rattle.peer_lock.specs.CarriedMedia.{LiesWithin, handed_octets};
 ghost use Rattle.peer_lock.specs.Legs.{AreLegs, PeerLegs, NamedLeg, leg_at, leg_named, with_place};
-ghost use Rattle.peer_lock.specs.Openings.{is_free_name, opens_in, opens_out};
+ghost use Rattle.peer_lock.specs.Openings.{is_free_name, opens_in, opens_out, rejects_new};
 ghost use Rattle.peer_lock.specs.Orders.{order_refused_by, ordered_step, IsOrderRefusal};
 ghost use Rattle.peer_lock.specs.Peer.{PeerView};
 ghost use Rattle.peer_lock.specs.Statuses.{is_done, status_of};
@@ -20,9 +25,11 @@ ghost use Rattle.peer_lock.specs.declared.errors.OpenError.{OpenError};
 ghost use Rattle.peer_lock.specs.declared.errors.OrderError.{OrderError};
 ghost use Rattle.peer_lock.specs.declared.errors.OrderError.TheVariants.{Memory};
 ghost use Rattle.peer_lock.specs.declared.errors.PeerError.{PeerError};
+ghost use Rattle.peer_lock.specs.declared.errors.RejectError.{RejectError};
 ghost use Rattle.peer_lock.specs.declared.steps.TickReport.{TickReport};
 ghost use Rattle.call_steps.specs.Act.{act_kind};
 ghost use Rattle.call_steps.specs.Beginnings.{Beginning, beginning_at, is_over, is_answer, is_made, is_refusal};
+ghost use Rattle.call_steps.specs.DatagramsLeft.{OpensFew, brought_by, datagrams_left, is_first, need_puts, step_puts};
 ghost use Rattle.call_steps.specs.Leases.{lease_in, lease_needed, lease_after};
 ghost use Rattle.call_steps.specs.MediaLeft.{media_left, media_needed, handed_by};
 ghost use Rattle.call_steps.specs.Scene.{Scene, is_leased, dropped, leg_at as world_leg_at, without};
@@ -86,6 +93,11 @@ pub fn peers_steps_are_the_worlds()
     ensures refused_calls_in { (legs : PeerLegs) (name : LegName) (error : OpenError) (scene : Scene) (called : Bool) →
         Sees scene.legs legs →
         IsWorldStep scene (needs.OpenIn name) called legs legs (replies.OpenIn (Err error)) scene.leases }
+    ensures rejected_calls { (peer : PeerView) (frame : FullFrame) (scene : Scene) (called : Bool) → Sees scene.legs peer.legs →
+        IsWorldStep scene (needs.RejectNew peer.legs.peer) called peer.legs (rejects_new peer frame).peer.legs
+        (replies.RejectNew (Ok tt)) scene.leases }
+    ensures unrejected_calls { (legs : PeerLegs) (error : RejectError) (scene : Scene) (called : Bool) → Sees scene.legs legs →
+        IsWorldStep scene (needs.RejectNew legs.peer) called legs legs (replies.RejectNew (Err error)) scene.leases }
     ensures calls_out { (peer : PeerView) (name : LegName) (number : List ℕ) (caller : List ℕ) (format : Format) (now : ℕ)
         (scene : Scene) (called : Bool) →
         AreLegs peer.legs → is_free_name peer.legs name ≡ true → Sees scene.legs peer.legs → is_leased scene.leases name ≡ true →
@@ -146,6 +158,32 @@ pub fn media_is_carried_once()
     ensures covered { (work : Work) → handed_octets (media_needed (next_of work)) ≤ handed_octets (media_left work) }
 {}
 
+/// How many datagrams a call puts out, through its steps: an answer leaves no more than what was left and what a datagram brings,
+/// less what the step put. So a full frame leads to four at most, its own answer among them.
+pub fn calls_put_few_datagrams()
+    ensures steps { (work : Work) (reply : Reply) → OpensFew reply →
+        datagrams_left (after_told work reply) + need_puts (next_of work) ≤ datagrams_left work + brought_by reply }
+    // Datagrams and ticks begin calls, and no answer leads to another.
+    ensures first { (work : Work) (reply : Reply) → is_first (after_told work reply).place ≡ false }
+{}
+
+/// What a datagram hands up, and the leg that it touches, lead to few datagrams: those of a full frame to three at most, those of a
+/// VNAK to one, and media to one for each entry.
+pub fn datagrams_bring_few()
+    ensures full { (first : ℕ) (peer : PeerView) (frame : FullFrame) (now : ℕ) →
+        step_puts (datagram_step first peer (Full frame) now) ≤ 3 }
+    ensures vnaks { (first : ℕ) (peer : PeerView) (frame : FullFrame) (now : ℕ) → is_vnak (message_of frame.head) ≡ true →
+        step_puts (datagram_step first peer (Full frame) now) ≤ 1 }
+    ensures mini { (first : ℕ) (peer : PeerView) (frame : MiniFrame) (now : ℕ) →
+        step_puts (datagram_step first peer (Mini frame) now) ≤ 1 }
+    ensures video { (first : ℕ) (peer : PeerView) (frame : VideoFrame) (now : ℕ) →
+        step_puts (datagram_step first peer (Video frame) now) ≤ 0 }
+    ensures trunk { (first : ℕ) (peer : PeerView) (frame : TrunkFrame) (now : ℕ) →
+        step_puts (datagram_step first peer (Trunk frame) now) ≤ length frame.entries }
+    ensures calls_in { (peer : PeerView) (name : LegName) (frame : FullFrame) (now : ℕ) (challenge : List ℕ) →
+        step_puts (opens_in peer name frame now challenge) ≤ 3 }
+{}
+
 /// The lease that a call has in its hand is the one that its steps name: each step that takes a lease names the one in hand, and
 /// after each answer the call has the lease that the step left.
 pub fn leases_are_as_named()
@@ -163,12 +201,12 @@ pub fn refused_calls_end()
         beginning_at (after_told work reply).place ≡ None }
     ensures goes_on { (work : Work) (reply : Reply) (begun : Beginning) → is_answer (next_of work) reply ≡ true →
         beginning_at work.place ≡ Some begun →
-        is_made reply ≡ false → is_refusal reply ≡ false → beginning_at (after_told work reply).place ≡ Some begun }
+        is_made reply ≡ false → is_refusal work.place reply ≡ false → beginning_at (after_told work reply).place ≡ Some begun }
     ensures past { (work : Work) (reply : Reply) → beginning_at work.place ≡ None →
         beginning_at (after_told work reply).place ≡ None }
     ensures refused { (work : Work) (reply : Reply) (begun : Beginning) → is_answer (next_of work) reply ≡ true →
         beginning_at work.place ≡ Some begun →
-        is_refusal reply ≡ true → is_over (after_told work reply).place ≡ true }
+        is_refusal work.place reply ≡ true → is_over (after_told work reply).place ≡ true }
     // Nothing follows.
     ensures over { (work : Work) (reply : Reply) → is_over work.place ≡ true → is_over (after_told work reply).place ≡ true }
     ensures nothing { (work : Work) (reply : Reply) → is_over work.place ≡ true → is_answer (next_of work) reply ≡ true →

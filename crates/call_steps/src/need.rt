@@ -22,6 +22,8 @@ pub enum Need {
     Datagram(u16),
     /// A leg is opened by the NEW that came, under a lease on this name.
     OpenIn(LegName),
+    /// The NEW that came is rejected by this peer.
+    RejectNew(u16),
     /// A leg is opened by a NEW of ours, under a lease on this name.
     OpenOut(LegName),
     /// The leg of this name gets an order.

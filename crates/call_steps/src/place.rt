@@ -12,6 +12,8 @@ pub enum Place {
     Datagram(u16),
     /// The datagram needs a number for its leg.
     ReserveIn(u16),
+    /// No number is free for the NEW: it is rejected.
+    RejectNew(u16),
     /// The leg of the NEW is opened under this name.
     OpenIn(LegName),
     /// The opening was refused; the name was never bridged.

@@ -2,12 +2,15 @@
 
 use crate::need::Route;
 use call_book::{BridgeError, LegName, ReserveError, Stale};
-use peer_lock::{Onwards, OpenError, OrderError, PeerError, Status, StepsSpent};
+use peer_lock::{
+    Onwards, OpenError, OrderError, PeerError, RejectError, Rejection, Status, StepsSpent,
+};
 
-/// What a step of a peer tells: the leg concerned, and what was handed up.
+/// What a step of a peer tells: the leg concerned, what was rejected, and what was handed up.
 #[derive(Drop)]
 pub struct Heard {
     pub touched: Option<LegName>,
+    pub rejected: Option<Rejection>,
     pub onwards: Onwards,
 }
 
@@ -18,6 +21,8 @@ pub enum Reply {
     Datagram(Result<Heard, PeerError>),
     /// What the opening by the NEW that came told.
     OpenIn(Result<Heard, OpenError>),
+    /// Whether the NEW that came was rejected.
+    RejectNew(Result<(), RejectError>),
     /// Whether a leg was opened by a NEW of ours.
     OpenOut(Result<(), OpenError>),
     /// Whether the leg obeyed.

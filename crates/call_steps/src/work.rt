@@ -108,6 +108,7 @@ impl Work {
             Place::ReserveIn(peer) | Place::ReserveOut(_, peer, _) | Place::ReserveCall(peer) => {
                 Some(Need::Reserve(peer))
             }
+            Place::RejectNew(peer) => Some(Need::RejectNew(peer)),
             Place::OpenIn(name) => Some(Need::OpenIn(name)),
             Place::OpenOut(_, name) | Place::OpenCall(name) => Some(Need::OpenOut(name)),
             Place::GiveBack(name) | Place::Undoing(_, name) | Place::Freeing(name, _) => {
@@ -166,7 +167,8 @@ impl Work {
         ensures { result ≡ is_some (beginning_at self.now.work.place) }
     {
         match self.place {
-            Place::Datagram(_) | Place::ReserveIn(_) | Place::OpenIn(_) => true,
+            Place::Datagram(_) | Place::ReserveIn(_) => true,
+            Place::RejectNew(_) | Place::OpenIn(_) => true,
             Place::Tick(_) | Place::HangUp(_) => true,
             Place::ReserveCall(_) | Place::OpenCall(_) => true,
             _ => false,
@@ -203,7 +205,11 @@ impl Work {
         ensures work { self.new.work ≡ work.after_heard heard self.old.work.rest }
         ensures onwards { self.new.onwards ≡ Some heard.onwards }
     {
-        let Heard { touched, onwards } = heard;
+        let Heard {
+            touched,
+            rejected: _,
+            onwards,
+        } = heard;
         self.signals_left = onwards.len();
         self.onwards = Some(onwards);
         self.touched = touched;

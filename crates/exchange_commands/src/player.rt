@@ -19,6 +19,8 @@ use std::sync::Wait;
 pub struct Player {
     now: u64,
     challenge: Challenge,
+    // Whether a line asked for something.
+    has_begun: bool,
     // Whether what goes out waits for a line that sends it.
     holds: bool,
     // Those that the viewer was told.
@@ -51,6 +53,7 @@ impl Player {
         Some(Player {
             now: 0,
             challenge,
+            has_begun: false,
             holds: false,
             stages: Stages::new(alloc, plan).ok()?,
             retired: Vec::new(alloc),
@@ -60,20 +63,22 @@ impl Player {
     /// Does what a line asks for, and tells the viewer what came of it. An empty line and `settle` do nothing here.
     ///
     /// `Script`: no peer has the name that the line gives, `at` goes back or `back` goes on, what should be a challenge, an
-    /// endpoint, a datagram or a list of numbers is none, or a stranger's endpoint is a peer's. `Memory`: a request for memory
+    /// endpoint, a datagram or a list of numbers is none, a stranger's endpoint is a peer's, or `prefix` isn't the first line. `Memory`: a request for memory
     /// was refused. What the viewer answers by `Err` is handed on.
     pub(crate) fn line<J: Naming, R: Wait, V: Viewer>(
         &mut self,
         desk: &mut Desk<'_, R, J, V>,
         line: &Line<'_>,
     ) -> Result<(), Stop> {
-        match self.begin(line, desk.viewer) {
+        let worked = match self.begin(line, desk.viewer) {
             Ok(sends) => match self.work(desk, line) {
                 Ok(()) if sends => self.send(desk, &Line::Send),
                 worked => worked,
             },
             Err(stop) => Err(stop),
-        }
+        };
+        self.has_begun = true;
+        worked
     }
 
     // A line is begun, which the viewer is told of what happens at the exchange. Whether what that makes goes out at once.
@@ -117,6 +122,10 @@ impl Player {
                 Some(challenge) => self.challenge = challenge,
                 None => return Err(Stop::Script),
             },
+            // (the exchange was opened with it)
+            Line::Prefix(text) if self.has_begun || Challenge::new(text).is_none() => {
+                return Err(Stop::Script);
+            }
             Line::Hold => self.holds = true,
             _ => {}
         }

@@ -5,6 +5,7 @@ use crate::desk::Desk;
 use crate::player::Player;
 use crate::printing::Printer;
 use crate::viewer::{Stop, Viewer};
+use call_auth::Challenge;
 use exchange_core::{Exchange, NoGate, Pass};
 use exchange_report::closed_accounts;
 use media_ledger::Blank;
@@ -190,6 +191,26 @@ pub fn replay_with<R: Wait, V: Viewer>(
     }
 }
 
+// What a script says that the challenges of its exchange begin with: by its first line that isn't empty and no comment.
+fn prefix_of(script: &[u8]) -> Option<Challenge> {
+    for line in script.split(|octet| *octet == b'\n') {
+        match line_of(line) {
+            Some(Line::Nothing) => {}
+            Some(Line::Prefix(text)) => return Challenge::new(text),
+            _ => return None,
+        }
+    }
+    None
+}
+
+// The plan, by the first line of a script.
+fn plan_for(plan: Plan, script: &[u8]) -> Plan {
+    match prefix_of(script) {
+        Some(prefix) => plan.with_challenge_prefix(&prefix),
+        None => plan,
+    }
+}
+
 // The same, of a plan that is right.
 fn play_plan<R: Wait, V: Viewer>(
     rt: &R,
@@ -198,6 +219,7 @@ fn play_plan<R: Wait, V: Viewer>(
     script: &[u8],
     viewer: &mut V,
 ) -> Result<(), ReplayError> {
+    let plan = plan_for(plan, script);
     let mut player = match player_of(alloc, &plan, viewer) {
         Ok(player) => player,
         Err(stop) => return Err(stopped_at(0, stop)),

@@ -13,7 +13,7 @@ use Rattle.call_steps.specs.declared.place.Place.TheVariants as places
 use Rattle.call_steps.specs.declared.reply.Reply.{Reply}
 use Rattle.call_steps.specs.declared.reply.Reply.TheVariants as replies
 use Rattle.exchange_core.specs.Denial.{Denies, denial_of, noted}
-use Rattle.exchange_core.specs.FirstSteps.{StartsInPlan, InPlan, IsOpened, IsOpenedOut, IsOpeningDue, KeepsPeer, CallIsMade, named_after}
+use Rattle.exchange_core.specs.FirstSteps.{StartsInPlan, InPlan, IsOfNew, IsOpenedOut, IsOpeningDue, KeepsPeer, CallIsMade, named_after}
 use Rattle.exchange_core.specs.declared.denial.Denial.{Denial}
 
 -- the laws of how a call begins
@@ -23,14 +23,14 @@ MadeIsPast = (work : Work) (reply : Reply) → is_answer (next_of work) reply �
 abbrev pub GoesOn : Type 0
 GoesOn =
     (work : Work) (reply : Reply) (begun : Beginning) → is_answer (next_of work) reply ≡ true → beginning_at work.place ≡ Some begun → is_made reply ≡ false
-    → is_refusal reply ≡ false → beginning_at (after_told work reply).place ≡ Some begun
+    → is_refusal work.place reply ≡ false → beginning_at (after_told work reply).place ≡ Some begun
 
 abbrev pub PastStays : Type 0
 PastStays = (work : Work) (reply : Reply) → beginning_at work.place ≡ None → beginning_at (after_told work reply).place ≡ None
 
 abbrev pub RefusedIsOver : Type 0
 RefusedIsOver =
-    (work : Work) (reply : Reply) (begun : Beginning) → is_answer (next_of work) reply ≡ true → beginning_at work.place ≡ Some begun → is_refusal reply ≡ true
+    (work : Work) (reply : Reply) (begun : Beginning) → is_answer (next_of work) reply ≡ true → beginning_at work.place ≡ Some begun → is_refusal work.place reply ≡ true
     → is_over (after_told work reply).place ≡ true
 
 abbrev pub OverStays : Type 0
@@ -43,31 +43,23 @@ OverMakesNone = (work : Work) (reply : Reply) → is_over work.place ≡ true �
 
 made_denies_nothing : (reply : Reply) → is_made reply ≡ true → denial_of reply ≡ None
 made_denies_nothing (replies.Datagram (Ok heard)) made = refl
+made_denies_nothing (replies.RejectNew (Ok done)) made = refl
 made_denies_nothing (replies.OpenIn (Ok heard)) made = refl
 made_denies_nothing (replies.OpenOut (Ok done)) made = refl
 made_denies_nothing (replies.Order (Ok done)) made = refl
 made_denies_nothing (replies.Tick (Ok quiet)) made = refl
 made_denies_nothing reply made = absurd (cc)
 
-denial_refuses : (reply : Reply) (why : Denial) → denial_of reply ≡ Some why → is_refusal reply ≡ true
-denial_refuses (replies.Datagram (Err peer_errors.NeedsNumber)) why is = absurd (cc)
-denial_refuses (replies.Datagram (Err error)) why is = refl
-denial_refuses (replies.OpenIn (Err error)) why is = refl
-denial_refuses (replies.OpenOut (Err error)) why is = refl
-denial_refuses (replies.Order (Err error)) why is = refl
-denial_refuses (replies.Tick (Err spent)) why is = refl
-denial_refuses (replies.Reserve (Err error)) why is = refl
-denial_refuses reply why is = absurd (cc)
-
-no_denial_goes_on : (reply : Reply) → denial_of reply ≡ None → is_refusal reply ≡ false
-no_denial_goes_on (replies.Datagram (Err peer_errors.NeedsNumber)) is = refl
-no_denial_goes_on (replies.Datagram (Err error)) is = absurd (cc)
-no_denial_goes_on (replies.OpenIn (Err error)) is = absurd (cc)
-no_denial_goes_on (replies.OpenOut (Err error)) is = absurd (cc)
-no_denial_goes_on (replies.Order (Err error)) is = absurd (cc)
-no_denial_goes_on (replies.Tick (Err spent)) is = absurd (cc)
-no_denial_goes_on (replies.Reserve (Err error)) is = absurd (cc)
-no_denial_goes_on reply is = refl
+no_denial_goes_on : (place : Place) (reply : Reply) → denial_of reply ≡ None → is_refusal place reply ≡ false
+no_denial_goes_on place (replies.Datagram (Err peer_errors.NeedsNumber)) is = refl
+no_denial_goes_on place (replies.Datagram (Err error)) is = absurd (cc)
+no_denial_goes_on place (replies.RejectNew (Err error)) is = absurd (cc)
+no_denial_goes_on place (replies.OpenIn (Err error)) is = absurd (cc)
+no_denial_goes_on place (replies.OpenOut (Err error)) is = absurd (cc)
+no_denial_goes_on place (replies.Order (Err error)) is = absurd (cc)
+no_denial_goes_on place (replies.Tick (Err spent)) is = absurd (cc)
+no_denial_goes_on place (replies.Reserve (Err error)) is = absurd (cc)
+no_denial_goes_on place reply is = refl
 
 abbrev MayDeny : Option Beginning → Option Denial → Type 0
 MayDeny begun denial = MatchOption denial (Unit {0}) (Denies begun)
@@ -79,6 +71,8 @@ may_deny (places.Datagram peer) (replies.Datagram (Err peer_errors.NeedsNumber))
 may_deny (places.Datagram peer) (replies.Datagram (Err error)) begun answers first no_remote = tt
 may_deny (places.ReserveIn peer) (replies.Reserve (Ok name)) begun answers first no_remote = tt
 may_deny (places.ReserveIn peer) (replies.Reserve (Err error)) begun answers first no_remote = tt
+may_deny (places.RejectNew peer) (replies.RejectNew (Ok done)) begun answers first no_remote = tt
+may_deny (places.RejectNew peer) (replies.RejectNew (Err error)) begun answers first no_remote = tt
 may_deny (places.OpenIn name) (replies.OpenIn (Ok heard)) begun answers first no_remote = tt
 may_deny (places.OpenIn name) (replies.OpenIn (Err error)) begun answers first no_remote = tt
 may_deny (places.Tick peer) (replies.Tick (Ok quiet)) begun answers first no_remote = tt
@@ -97,9 +91,9 @@ may_deny place reply begun answers first no_remote = absurd (cc)
 
 -- ---- how far a call is
 
--- of a call that began here with so much credit
+-- of a call that began here with so much credit; what denies it counts once the beginning is past
 pub record IsUnderWay (start : Place) (first now : Credit) (place : Place) (denial : Option Denial) : Type 0 where
-  pub before : (begun : Beginning) → beginning_at place ≡ Some begun → (beginning_at start ≡ Some begun) × (now ≡ first) × (denial ≡ None)
+  pub before : (begun : Beginning) → beginning_at place ≡ Some begun → (beginning_at start ≡ Some begun) × (now ≡ first)
   pub past : beginning_at place ≡ None
       → MatchOption denial (first.steps + 1 ≤ now.steps) (λ why. (now ≡ first) × (is_over place ≡ true) × Denies (beginning_at start) why)
 
@@ -130,23 +124,32 @@ pub under_way : MadeIsPast → GoesOn → PastStays → RefusedIsOver → OverSt
 under_way made_past goes_on past_stays refused_over over_stays over_none start first old new work after reply denial after_denial answers made unmade no_remote told is h =
     rw told (rw is (go (beginning_at work.place) refl))
   where
-    -- a step that was refused, or made, or that leads on
-    refused : (begun : Beginning) → beginning_at work.place ≡ Some begun → is_made reply ≡ false → (o : Option Denial) → denial_of reply ≡ o
+    -- a step that leads on, that was refused, or that was made
+    leads_on : (begun : Beginning) → beginning_at work.place ≡ Some begun → is_made reply ≡ false → is_refusal work.place reply ≡ false → (o : Option Denial)
         → IsUnderWay start first new (after_told work reply).place o
-    refused begun began none None kept =
-        let on = goes_on work reply begun answers began none (no_denial_goes_on reply kept) in
+    leads_on begun began none further o =
+        let on = goes_on work reply begun answers began none further in
         record {
-          before = λ now_begun is_begun. (sym (sym is_begun ∙ on ∙ sym (h.before begun began).0), unmade none ∙ (h.before begun began).1, refl);
+          before = λ now_begun is_begun. (sym (sym is_begun ∙ on ∙ sym (h.before begun began).0), unmade none ∙ (h.before begun began).1);
           past = λ past. absurd (cc);
         }
-    refused begun began none (Some why) denied =
-        let over = refused_over work reply begun answers began (denial_refuses reply why denied) in
+
+    denied_so : (begun : Beginning) → beginning_at work.place ≡ Some begun → is_made reply ≡ false → (why : Denial) → denial_of reply ≡ Some why
+        → (b : Bool) → is_refusal work.place reply ≡ b → IsUnderWay start first new (after_told work reply).place (Some why)
+    denied_so begun began none why denied false further = leads_on begun began none further (Some why)
+    denied_so begun began none why denied true refusal =
+        let over = refused_over work reply begun answers began refusal in
         is_past start first new (after_told work reply).place (Some why) (over_is_past _ over) (
           unmade none ∙ (h.before begun began).1,
           over,
           subst (λ b. Denies b why) (began ∙ sym (h.before begun began).0)
               (subst (λ o. MayDeny (beginning_at work.place) o) denied (may_deny work.place reply begun answers began no_remote)),
         )
+
+    refused : (begun : Beginning) → beginning_at work.place ≡ Some begun → is_made reply ≡ false → (o : Option Denial) → denial_of reply ≡ o
+        → IsUnderWay start first new (after_told work reply).place o
+    refused begun began none None kept = leads_on begun began none (no_denial_goes_on work.place reply kept) None
+    refused begun began none (Some why) denied = denied_so begun began none why denied (is_refusal work.place reply) refl
 
     stepped : (begun : Beginning) → beginning_at work.place ≡ Some begun → is_made reply ≡ true → IsUnderWay start first new (after_told work reply).place (denial_of reply)
     stepped begun began is_made =
@@ -178,6 +181,7 @@ under_way made_past goes_on past_stays refused_over over_stays over_none start f
 abbrev pub PlaceInPlan : ℕ → Place → Type 0
 PlaceInPlan peers (places.Datagram peer) = peer < peers
 PlaceInPlan peers (places.ReserveIn peer) = peer < peers
+PlaceInPlan peers (places.RejectNew peer) = peer < peers
 PlaceInPlan peers (places.OpenIn name) = name.peer < peers
 PlaceInPlan peers (places.Tick peer) = peer < peers
 PlaceInPlan peers place = Unit {0}
@@ -191,6 +195,7 @@ start_in_plan peers place within = absurd within
 
 pub next_in_plan : (peers : ℕ) (place : Place) → PlaceInPlan peers place → InPlan peers (next_at place)
 next_in_plan peers (places.Datagram peer) within = within
+next_in_plan peers (places.RejectNew peer) within = within
 next_in_plan peers (places.OpenIn name) within = within
 next_in_plan peers (places.Tick peer) within = within
 next_in_plan peers place within = tt
@@ -198,6 +203,7 @@ next_in_plan peers place within = tt
 past_in_plan : (peers : ℕ) (place : Place) → beginning_at place ≡ None → PlaceInPlan peers place
 past_in_plan peers (places.Datagram peer) past = absurd (cc)
 past_in_plan peers (places.ReserveIn peer) past = absurd (cc)
+past_in_plan peers (places.RejectNew peer) past = absurd (cc)
 past_in_plan peers (places.OpenIn name) past = absurd (cc)
 past_in_plan peers (places.Tick peer) past = absurd (cc)
 past_in_plan peers place past = tt
@@ -209,7 +215,9 @@ told_in_plan made past peers (places.Datagram peer) (replies.Datagram (Ok heard)
 told_in_plan made past peers (places.Datagram peer) (replies.Datagram (Err peer_errors.NeedsNumber)) rest within keeps = within
 told_in_plan made past peers (places.Datagram peer) reply rest within keeps = tt
 told_in_plan made past peers (places.ReserveIn peer) (replies.Reserve (Ok name)) rest within keeps = subst (λ p. p < peers) (sym keeps) within
+told_in_plan made past peers (places.ReserveIn peer) (replies.Reserve (Err reserve_errors.NoNumber)) rest within keeps = within
 told_in_plan made past peers (places.ReserveIn peer) reply rest within keeps = tt
+told_in_plan made past peers (places.RejectNew peer) reply rest within keeps = tt
 told_in_plan made past peers (places.OpenIn name) (replies.OpenIn (Ok heard)) rest within keeps =
     past_in_plan peers _ (made (at (places.OpenIn name) rest) (replies.OpenIn (Ok heard)) refl refl)
 told_in_plan made past peers (places.OpenIn name) reply rest within keeps = tt
@@ -229,24 +237,28 @@ pub stays_in_plan : MadeIsPast → PastStays → (peers : ℕ) (work after : Wor
     → PlaceInPlan peers work.place → PlaceInPlan peers after.place
 stays_in_plan made past peers work after reply told keeps within = rw told (told_in_plan made past peers work.place reply work.rest within keeps)
 
--- ---- the NEW that a leg is opened for
+-- ---- the NEW that a leg is opened for, or that is rejected
 
 abbrev pub OpensLeg : Place → Type 0
 OpensLeg (places.ReserveIn peer) = Unit {0}
+OpensLeg (places.RejectNew peer) = Unit {0}
 OpensLeg (places.OpenIn name) = Unit {0}
 OpensLeg place = ⊥
 
 pub start_opens_none : (peers : ℕ) (place : Place) → StartsInPlan peers place → OpensLeg place → ⊥
 start_opens_none peers (places.ReserveIn peer) within opens = within
+start_opens_none peers (places.RejectNew peer) within opens = within
 start_opens_none peers (places.OpenIn name) within opens = within
 start_opens_none peers place within opens = opens
 
-pub opened_here : (place : Place) → IsOpened (next_at place) → OpensLeg place × (beginning_at place ≡ Some OfDatagram)
+pub opened_here : (place : Place) → IsOfNew (next_at place) → OpensLeg place × (beginning_at place ≡ Some OfDatagram)
+opened_here (places.RejectNew peer) opened = (tt, refl)
 opened_here (places.OpenIn name) opened = (tt, refl)
 opened_here place opened = absurd opened
 
 past_opens_none : (place : Place) → beginning_at place ≡ None → OpensLeg place → ⊥
 past_opens_none (places.ReserveIn peer) past opens = absurd (cc)
+past_opens_none (places.RejectNew peer) past opens = absurd (cc)
 past_opens_none (places.OpenIn name) past opens = absurd (cc)
 past_opens_none place past opens = opens
 
@@ -256,6 +268,7 @@ told_opens made past (places.Datagram peer) (replies.Datagram (Ok heard)) rest o
 told_opens made past (places.Datagram peer) (replies.Datagram (Err peer_errors.NeedsNumber)) rest opens = inr tt
 told_opens made past (places.Datagram peer) reply rest opens = absurd opens
 told_opens made past (places.ReserveIn peer) reply rest opens = inl tt
+told_opens made past (places.RejectNew peer) reply rest opens = inl tt
 told_opens made past (places.OpenIn name) reply rest opens = inl tt
 told_opens made past (places.Tick peer) (replies.Tick (Ok quiet)) rest opens =
     absurd (past_opens_none _ (made (at (places.Tick peer) rest) (replies.Tick (Ok quiet)) refl refl) opens)

@@ -1,5 +1,6 @@
 pub mod Newcomers
 pub mod Pops
+pub mod Rejecting
 mod Starting
 mod Media
 mod Carrying

@@ -3,13 +3,14 @@ use Rattle.std.proofs.Common.{◌≡◌, ◌⊎◌, ℕ, Bool, true, false, List
 use Rattle.std.specs.Prelude.{◌==◌, ◌&&◌, IfErr}
 use Rattle.std.proofs.lemmas.Bool.Decides.{nat_tests}
 use Rattle.iax_frames.specs.FullFrame.{FullFrame}
-use Rattle.iax_frames.specs.declared.full_frame.FullHead.{FullHead}
 use Rattle.iax_frames.specs.declared.datagram.Datagram.{Datagram}
+use Rattle.iax_frames.specs.declared.full_frame.FullHead.{FullHead}
 use Rattle.iax_frames.specs.declared.datagram.Datagram.TheVariants.{Full, Mini, Video, Trunk}
-use Rattle.leg_machine.specs.Leg.{is_short_of_entries}
+use Rattle.leg_machine.specs.Leg.{is_record_full}
+use Rattle.call_signals.specs.declared.rules.PeerRules.{PeerRules}
 use Rattle.leg_machine.specs.Message.{message_of, is_numbered}
 use Rattle.peer_lock.specs.Arrivals.{datagram_refused, mini_refused}
-use Rattle.peer_lock.specs.Delivery.{Delivery, NeedsNumber, Gets, NoCall, delivered, delivery_refused, found, inval_for, is_new, is_poke, pong_for}
+use Rattle.peer_lock.specs.Delivery.{Delivery, NeedsNumber, Gets, NoCall, delivered, delivery_refused, found, inval_for, is_new, is_poke, is_registration, pong_for, regrej_for}
 use Rattle.peer_lock.specs.Legs.{NamedLeg, leg_of_remote}
 use Rattle.peer_lock.specs.Makes.{IsDue}
 use Rattle.peer_lock.specs.Peer.{PeerView}
@@ -34,29 +35,33 @@ mini_needs_none None why = grind (arith, why)
 mini_needs_none (Some named) why = grind (arith, why)
 
 -- a frame that no leg has, to which these tests say whether a NEW needs a number, and what else is answered
-abbrev unknown : (nowhere new first poked numbered : Bool) (pong inval : FullHead) → Delivery
-unknown nowhere new first poked numbered pong inval =
-    if nowhere then (if new && first then NeedsNumber else if poked then Gets pong else NoCall) else (if numbered then Gets inval else NoCall)
+abbrev unknown : (nowhere new first poked registers numbered : Bool) (head : FullHead) → Delivery
+unknown nowhere new first poked registers numbered head =
+    if nowhere
+    then (if new && first then NeedsNumber else if poked then Gets (pong_for head) else if registers then Gets (regrej_for head) else NoCall)
+    else (if numbered then Gets (inval_for head) else NoCall)
 
-tests : (nowhere new first poked numbered : Bool) (pong inval : FullHead)
-    → IsDue (delivery_refused (unknown nowhere new first poked numbered pong inval)) errors.NeedsNumber
+tests : (nowhere new first poked registers numbered : Bool) (head : FullHead)
+    → IsDue (delivery_refused (unknown nowhere new first poked registers numbered head)) errors.NeedsNumber
     → (nowhere ≡ true) × (new ≡ true) × (first ≡ true)
-tests true true true poked numbered pong inval why = (refl, refl, refl)
-tests true true false true numbered pong inval why = grind (arith, why)
-tests true true false false numbered pong inval why = grind (arith, why)
-tests true false first true numbered pong inval why = grind (arith, why)
-tests true false first false numbered pong inval why = grind (arith, why)
-tests false new first poked true pong inval why = grind (arith, why)
-tests false new first poked false pong inval why = grind (arith, why)
+tests true true true poked registers numbered head why = (refl, refl, refl)
+tests true true false true registers numbered head why = grind (arith, why)
+tests true true false false true numbered head why = grind (arith, why)
+tests true true false false false numbered head why = grind (arith, why)
+tests true false first true registers numbered head why = grind (arith, why)
+tests true false first false true numbered head why = grind (arith, why)
+tests true false first false false numbered head why = grind (arith, why)
+tests false new first poked registers true head why = grind (arith, why)
+tests false new first poked registers false head why = grind (arith, why)
 
 number_of : (n : ℕ) → (n == 0) ≡ true → n ≡ 0
 number_of n is = grind (arith, nat_tests, is)
 
-newcomer : (poke : Bool) (frame : FullFrame) (at : Option NamedLeg) → IsDue (delivery_refused (delivered poke at frame)) errors.NeedsNumber → IsNewcomer frame
-newcomer poke frame (Some named) why = absurd (at_leg (is_short_of_entries named.leg) why)
-newcomer poke frame None why =
-    let are = tests (frame.head.destination == 0) (is_new (message_of frame.head)) (frame.head.oseqno == 0) (poke && is_poke (message_of frame.head))
-    (is_numbered (message_of frame.head)) (pong_for frame.head) (inval_for frame.head) why in
+newcomer : (rules : PeerRules) (frame : FullFrame) (at : Option NamedLeg) → IsDue (delivery_refused (delivered rules at frame)) errors.NeedsNumber → IsNewcomer frame
+newcomer rules frame (Some named) why = absurd (at_leg (is_record_full named.leg) why)
+newcomer rules frame None why =
+    let are = tests (frame.head.destination == 0) (is_new (message_of frame.head)) (frame.head.oseqno == 0) (rules.poke && is_poke (message_of frame.head))
+    (rules.is_hardened && is_registration frame.head) (is_numbered (message_of frame.head)) frame.head why in
     record { destination = number_of frame.head.destination are.0; first = number_of frame.head.oseqno are.2; new = are.1 }
 
 module _ (credit made : ℕ) (octets : List ℕ) (peer : PeerView) where
@@ -68,7 +73,7 @@ module _ (credit made : ℕ) (octets : List ℕ) (peer : PeerView) where
 
   opens : (d : Datagram) → IsWorked credit made octets d → IsDue (datagram_refused peer d) errors.NeedsNumber → SpellsOpening octets
   opens (Full frame) worked why =
-      let is = newcomer peer.rules.poke frame (found peer.legs frame) why in
+      let is = newcomer peer.rules frame (found peer.legs frame) why in
       record {
         frame = frame;
         spelled = worked.spelled;

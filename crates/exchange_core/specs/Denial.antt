@@ -3,7 +3,7 @@ use Rattle.std.specs.Prelude.{Option, None, Some, Err, option_map}
 use Rattle.call_steps.specs.Beginnings.{Beginning, OfDatagram, OfTick, OfCall, OfHangUp}
 use Rattle.call_steps.specs.declared.reply.Reply.{Reply}
 use Rattle.call_steps.specs.declared.reply.Reply.TheVariants as replies
-use Rattle.exchange_core.specs.Refusals.{from_peer, from_open, from_reserve}
+use Rattle.exchange_core.specs.Refusals.{from_peer, from_open, from_reject, from_reserve}
 use Rattle.exchange_core.specs.declared.answers.Refusal.{Refusal}
 use Rattle.exchange_core.specs.declared.answers.Refusal.TheVariants as refusals
 use Rattle.exchange_core.specs.declared.denial.Denial.{Denial}
@@ -11,6 +11,7 @@ use Rattle.exchange_core.specs.declared.denial.Denial.TheVariants as denials
 
 abbrev pub denial_of : Reply → Option Denial
 denial_of (replies.Datagram (Err error)) = option_map denials.Call (from_peer error)
+denial_of (replies.RejectNew (Err error)) = Some (denials.Call (from_reject error))
 denial_of (replies.OpenIn (Err error)) = Some (denials.Call (from_open error))
 denial_of (replies.OpenOut (Err error)) = Some (denials.Call (from_open error))
 denial_of (replies.Reserve (Err error)) = Some (denials.Call (from_reserve error))

@@ -19,17 +19,19 @@ StartsInPlan peers (places.HangUp name) = Unit {0}
 StartsInPlan peers (places.ReserveCall peer) = Unit {0}
 StartsInPlan peers place = ⊥
 
--- a datagram, a tick and the leg of a NEW are of one of so many peers
+-- a datagram, a tick, a NEW that is rejected and the leg of one that isn't are of one of so many peers
 abbrev pub InPlan : ℕ → Option Need → Type 0
 InPlan peers (Some (needs.Datagram peer)) = peer < peers
 InPlan peers (Some (needs.Tick peer)) = peer < peers
+InPlan peers (Some (needs.RejectNew peer)) = peer < peers
 InPlan peers (Some (needs.OpenIn name)) = name.peer < peers
 InPlan peers need = Unit {0}
 
--- the leg of a NEW that came is opened
-abbrev pub IsOpened : Option Need → Type 0
-IsOpened (Some (needs.OpenIn name)) = Unit {0}
-IsOpened need = ⊥
+-- a NEW that came opens a leg, or is rejected
+abbrev pub IsOfNew : Option Need → Type 0
+IsOfNew (Some (needs.RejectNew peer)) = Unit {0}
+IsOfNew (Some (needs.OpenIn name)) = Unit {0}
+IsOfNew need = ⊥
 
 -- the datagram needs a number for its leg
 abbrev pub IsOpeningDue : Reply → Type 0

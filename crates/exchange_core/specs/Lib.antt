@@ -5,6 +5,7 @@ pub mod Leaving
 pub mod Newcomers
 pub mod Numbers
 pub mod Refusals
+pub mod Rejections
 pub mod Routes
 pub mod Start
 pub mod Sums

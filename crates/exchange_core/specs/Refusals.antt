@@ -6,6 +6,8 @@ use Rattle.peer_lock.specs.declared.errors.OpenError.{OpenError}
 use Rattle.peer_lock.specs.declared.errors.OpenError.TheVariants as open_errors
 use Rattle.peer_lock.specs.declared.errors.PeerError.{PeerError}
 use Rattle.peer_lock.specs.declared.errors.PeerError.TheVariants as peer_errors
+use Rattle.peer_lock.specs.declared.errors.RejectError.{RejectError}
+use Rattle.peer_lock.specs.declared.errors.RejectError.TheVariants as reject_errors
 use Rattle.exchange_core.specs.declared.answers.CallError.{CallError}
 use Rattle.exchange_core.specs.declared.answers.CallError.TheVariants as call_errors
 use Rattle.exchange_core.specs.declared.answers.Refusal.{Refusal}
@@ -30,6 +32,12 @@ from_open open_errors.StepsSpent = refusals.StepsSpent
 from_open open_errors.NumberBusy = refusals.NumberBusy
 from_open open_errors.RemoteBusy = refusals.RemoteBusy
 from_open open_errors.Memory = refusals.Memory
+
+-- why a NEW that finds no free number isn't rejected
+abbrev pub from_reject : RejectError → Refusal
+from_reject reject_errors.Unanswered = refusals.NoNumber
+from_reject reject_errors.StepsSpent = refusals.StepsSpent
+from_reject reject_errors.RemoteBusy = refusals.RemoteBusy
 
 abbrev pub from_reserve : ReserveError → Refusal
 from_reserve reserve_errors.SerialsSpent = refusals.SerialsSpent

@@ -56,12 +56,12 @@ moment plan now = record { plan = plan; octets = []; challenge = None; called = 
 
 -- ---- what a call is told of an answer
 
--- of a datagram and of an opening by a NEW: the leg concerned, and what was handed up
+-- of a datagram and of an opening by a NEW: the leg concerned, what was rejected, and what was handed up
 abbrev pub heard_of : {E : Type 0} → Result Step E → HandedUp → Result Heard E
-heard_of (Ok step) onwards = Ok (record { touched = step.touched; onwards = onwards })
+heard_of (Ok step) onwards = Ok (record { touched = step.touched; rejected = step.rejected; onwards = onwards })
 heard_of (Err error) onwards = Err error
 
--- of a NEW of ours and of an order: that the step was made
+-- of a NEW of ours, of one that is rejected and of an order: that the step was made
 abbrev pub done_of : {E : Type 0} → Result Step E → Result (Unit {0}) E
 done_of (Ok step) = Ok tt
 done_of (Err error) = Err error
@@ -121,6 +121,9 @@ IsMade call offer need reply (mades.Datagram peer octets now answer onwards) =
 IsMade call offer need reply (mades.OpenIn peer name head payload now challenge answer onwards) =
     (need ≡ needs.OpenIn name) × (reply ≡ replies.OpenIn (heard_of answer onwards)) × (peer ≡ name.peer)
     × SpellsFull call.octets (record { head = head; payload = payload }) × (call.challenge ≡ Some challenge) × (now ≡ call.now)
+IsMade call offer need reply (mades.RejectNew peer head payload answer) =
+    (need ≡ needs.RejectNew peer) × (reply ≡ replies.RejectNew (done_of answer))
+    × SpellsFull call.octets (record { head = head; payload = payload })
 IsMade call offer need reply (mades.OpenOut peer name called caller format now answer) =
     (need ≡ needs.OpenOut name) × (reply ≡ replies.OpenOut (done_of answer)) × (peer ≡ name.peer)
     × IsCallFor call.plan call.called offer peer called caller format × (now ≡ call.now)

@@ -1,10 +1,10 @@
 //! What the calls of an exchange answer.
 ghost use Rattle.std.specs.Prelude.{◌≡◌};
 ghost use Rattle.peer_lock.specs.Statuses.{IsHistory};
-ghost use Rattle.exchange_core.specs.Refusals.{from_peer, from_open, from_reserve};
+ghost use Rattle.exchange_core.specs.Refusals.{from_peer, from_open, from_reject, from_reserve};
 
 use call_book::{LegName, ReserveError};
-use peer_lock::{LegFacts, OpenError, PeerError};
+use peer_lock::{LegFacts, OpenError, PeerError, RejectError, Rejection};
 use seq_window::Record;
 
 /// Why a call did nothing: it made no step, and changed no leg and no bridge.
@@ -28,7 +28,7 @@ pub enum Refusal {
     Cut,
     /// No leg has this call.
     NoCall,
-    /// Fewer than four entries of the leg's record are free.
+    /// The leg's record has no room for one more full frame and its answer.
     RecordFull,
     /// No serial is left for a name.
     SerialsSpent,
@@ -76,6 +76,18 @@ impl From<OpenError> for Refusal {
     }
 }
 
+impl From<RejectError> for Refusal {
+    ghost from_gives = { λ of e. e ≡ from_reject of };
+
+    fn from(error: RejectError) -> Refusal {
+        match error {
+            RejectError::Unanswered => Refusal::NoNumber,
+            RejectError::StepsSpent => Refusal::StepsSpent,
+            RejectError::RemoteBusy => Refusal::RemoteBusy,
+        }
+    }
+}
+
 impl From<ReserveError> for Refusal {
     ghost from_gives = { λ of e. e ≡ from_reserve of };
 
@@ -111,6 +123,8 @@ pub struct Answer {
     pub steps: u64,
     /// Why nothing was done, if so. An order that is refused later, within the call, is no refusal of it.
     pub refused: Option<Refusal>,
+    /// What a datagram asked for and was rejected by the answer to it, which is a step (plan format 4).
+    pub rejected: Option<Rejection>,
     /// The legs that were taken out, in order.
     pub retired: Vec<Retired>,
 }

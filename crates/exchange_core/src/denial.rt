@@ -28,6 +28,7 @@ impl Denial {
                 Some(refusal) => Some(Denial::Call(refusal)),
                 None => None,
             },
+            Reply::RejectNew(Err(error)) => Some(Denial::Call(Refusal::from(*error))),
             Reply::OpenIn(Err(error)) | Reply::OpenOut(Err(error)) => {
                 Some(Denial::Call(Refusal::from(*error)))
             }

@@ -7,6 +7,7 @@ ghost use Rattle.exchange_core.specs.Denial.{Denies};
 ghost use Rattle.exchange_core.specs.FirstSteps.{CallIsMade, StartsInPlan};
 ghost use Rattle.exchange_core.specs.Leaving.{Leave, departure_of};
 ghost use Rattle.exchange_core.specs.Numbers.{IsCalled};
+ghost use Rattle.exchange_core.specs.Rejections.{rejected_since};
 ghost use Rattle.exchange_core.specs.Traces.{MakesAll, call_of};
 
 use crate::denial::Denial;
@@ -14,6 +15,7 @@ use crate::exchange::Exchange;
 use crate::gate::Gate;
 use crate::hands::{Given, Hands, Outcome};
 use crate::leavers::Leavers;
+use crate::rejections::latest;
 use call_steps::Work;
 use call_steps::laws::{leases_are_as_named, media_is_carried_once, refused_calls_end};
 use noted_steps::Pass;
@@ -40,6 +42,8 @@ impl<G: Gate, J: Naming> Exchange<G, J> {
         ensures steps { pass.new.credit.steps ≡ pass.old.credit.steps + result.steps }
         ensures denied { MatchOption result.denial (1 ≤ result.steps) (λ why.
             (pass.new.credit ≡ pass.old.credit) × Denies (beginning_at work.old.work.place) why) }
+        // What these steps rejected.
+        ensures rejected { (result.rejected ≡ rejected_since pass.old pass.new) × (IsSome result.rejected → 1 ≤ result.steps) }
         // The legs that were taken out in these steps.
         ensures retired { Leave given.entry.now.now pass.old pass.new (map departure_of result.retired.items) }
         ensures call { CallIsMade work.old.work.place pass.old.credit pass.new.credit result.denial result.named }
@@ -48,6 +52,7 @@ impl<G: Gate, J: Naming> Exchange<G, J> {
         leases_are_as_named();
         refused_calls_end();
         let first = pass.steps();
+        let mut rejected = None;
         let mut hands = Hands {
             lease: None,
             named: None,
@@ -59,6 +64,7 @@ impl<G: Gate, J: Naming> Exchange<G, J> {
                 return Outcome {
                     steps: pass.steps() - first,
                     denial: hands.denial,
+                    rejected,
                     named: hands.named,
                     retired: hands.leavers.into_legs(),
                 };
@@ -67,6 +73,7 @@ impl<G: Gate, J: Naming> Exchange<G, J> {
             if work.is_beginning() {
                 hands.denial = Denial::of(&reply);
             }
+            rejected = latest(&reply, rejected);
             work.told(reply);
         }
         unreachable!();

@@ -8,7 +8,7 @@ use crate::denial::Denial;
 use crate::leavers::Leavers;
 use call_auth::Challenge;
 use call_book::{Lease, LegName};
-use peer_lock::{EndedLeg, ReadDatagram};
+use peer_lock::{EndedLeg, ReadDatagram, Rejection};
 
 // What a call was given from outside.
 #[derive(Drop)]
@@ -63,12 +63,13 @@ pub(crate) struct Hands {
     pub(crate) denial: Option<Denial>,
 }
 
-// What a call came to: how many steps were made, why it is refused, if it is, the last name that the book gave it, and the legs
-// that it took out, in order.
+// What a call came to: how many steps were made, why it is refused, if it is, what it rejected, if it did, the last name that the
+// book gave it, and the legs that it took out, in order.
 #[derive(Drop)]
 pub(crate) struct Outcome {
     pub(crate) steps: u64,
     pub(crate) denial: Option<Denial>,
+    pub(crate) rejected: Option<Rejection>,
     pub(crate) named: Option<LegName>,
     pub(crate) retired: Vec<Retired>,
 }

@@ -1,4 +1,5 @@
-//! The openings of legs: by a NEW that came, of a far leg, and of a call from outside.
+//! The openings of legs: by a NEW that came, of a far leg, and of a call from outside; and what becomes of a NEW that finds no
+//! number.
 ghost use Rattle.std.specs.Option.{ForSome};
 ghost use Rattle.std.specs.Prelude.{◌≡◌, ◌≢◌, ◌+◌, ◌<◌, ◌≤◌, ◌⊎◌, length, None, Option, Some, Err, option_copied, option_map};
 ghost use Rattle.std.specs.Prelude.{slice_get, IfNone, IfOk, IfErr, IfSome, IsSome, OnOk, OnErr, OnSome};
@@ -25,7 +26,7 @@ use call_steps::Heard;
 use iax_frames::Full;
 use leg_machine::{Caller, Format};
 use noted_steps::Pass;
-use peer_lock::{Naming, Offer, OpenError, ReadDatagram, Step};
+use peer_lock::{Naming, Offer, OpenError, ReadDatagram, RejectError, Step};
 use peer_plan::Plan;
 use std::sync::Wait;
 
@@ -205,6 +206,7 @@ impl<G: Gate, J: Naming> Exchange<G, J> {
         match answer {
             Ok(step) => Ok(Heard {
                 touched: step.touched,
+                rejected: step.rejected,
                 onwards,
             }),
             Err((lease, error)) => {
@@ -212,6 +214,29 @@ impl<G: Gate, J: Naming> Exchange<G, J> {
                 hands.lease = Some(lease);
                 Err(error)
             }
+        }
+    }
+
+    // No number is free for the leg of the NEW that the datagram spells: its peer rejects it.
+    pub(crate) fn reject_given<R: Wait>(
+        &self,
+        rt: &R,
+        pass: &mut Pass<J>,
+        peer: u16,
+        given: &Given<'_, '_, '_>,
+    ) -> Result<(), RejectError>
+        requires peer { peer < length self.now.peers }
+        requires opening { SpellsOpening given.now.datagram }
+        ensures noted { (offer : Option OfferValue) →
+            Makes (call_of self.now given.entry.now) offer (needs.RejectNew peer) (replies.RejectNew result) pass.old pass.new }
+        ensures credit { OnOk result (pass.new.credit ≡ with_step pass.old.credit 0) }
+        ensures refused { OnErr result (pass.new.credit ≡ pass.old.credit) }
+    {
+        let frame = opening_in(&given.datagram);
+        let answer = self.locked(rt, peer).reject_new(pass, frame);
+        match answer {
+            Ok(_) => Ok(()),
+            Err(error) => Err(error),
         }
     }
 }

@@ -17,6 +17,7 @@ mod opening;
 mod outside;
 mod parting;
 mod peer_sections;
+mod rejections;
 mod routing;
 mod settlement;
 
@@ -24,4 +25,5 @@ pub use answers::{Answer, CallError, Refusal, Retired};
 pub use exchange::Exchange;
 pub use gate::{Gate, NoGate};
 pub use noted_steps::Pass;
+pub use peer_lock::Rejection;
 pub use settlement::{SettleError, Settlement};

@@ -11,7 +11,7 @@ ghost use Rattle.call_steps.specs.MediaLeft.{media_of, media_needed, handed_by};
 ghost use Rattle.call_steps.specs.declared.need.Need.TheVariants as needs;
 ghost use Rattle.call_steps.specs.declared.reply.Reply.TheVariants as replies;
 ghost use Rattle.exchange_core.specs.Covered.{IsCovered};
-ghost use Rattle.exchange_core.specs.FirstSteps.{InPlan, IsOpened, IsOpenedOut, IsOpeningDue, KeepsPeer, named_after};
+ghost use Rattle.exchange_core.specs.FirstSteps.{InPlan, IsOfNew, IsOpenedOut, IsOpeningDue, KeepsPeer, named_after};
 ghost use Rattle.exchange_core.specs.Newcomers.{SpellsOpening};
 ghost use Rattle.exchange_core.specs.Leaving as leaving;
 ghost use Rattle.exchange_core.specs.Leaving.{Leaves, leaving_of};
@@ -82,6 +82,7 @@ impl<G: Gate, J: Naming> Exchange<G, J> {
         match answer {
             Ok(step) => Reply::Datagram(Ok(Heard {
                 touched: step.touched,
+                rejected: step.rejected,
                 onwards,
             })),
             Err(error) => {
@@ -254,7 +255,7 @@ impl<G: Gate, J: Naming> Exchange<G, J> {
         requires lease { (name : LegNameValue) → lease_needed (Some need) ≡ Some name → hands.old.lease ≡ Some name }
         requires called { ForSome given.now.called (λ text. IsCalled text.now) }
         requires peer { InPlan (length self.now.peers) (Some need) }
-        requires opening { IsOpened (Some need) → SpellsOpening given.now.datagram × IsSome given.now.challenge }
+        requires opening { IsOfNew (Some need) → SpellsOpening given.now.datagram × IsSome given.now.challenge }
         // It answers what was asked for: a name is one of the peer that was meant.
         ensures answer { (is_answer (Some need) result ≡ true) × KeepsPeer (Some need) result ×
             (IsOpeningDue result → SpellsOpening given.entry.now.datagram) ×
@@ -276,6 +277,7 @@ impl<G: Gate, J: Naming> Exchange<G, J> {
     {
         match need {
             Need::Datagram(peer) => self.hear_given(rt, pass, peer, given),
+            Need::RejectNew(peer) => Reply::RejectNew(self.reject_given(rt, pass, peer, given)),
             Need::OpenIn(name) => Reply::OpenIn(self.open_given(rt, pass, name, given, hands)),
             Need::OpenOut(name) => {
                 Reply::OpenOut(self.open_from(rt, pass, name, work.offer(), given, hands))

@@ -7,6 +7,7 @@ ghost use Rattle.call_steps.specs.WorkState.{begun};
 ghost use Rattle.exchange_core.specs.Denial.{Denies};
 ghost use Rattle.exchange_core.specs.Leaving.{Leave, departure_of};
 ghost use Rattle.exchange_core.specs.Numbers.{IsCalled};
+ghost use Rattle.exchange_core.specs.Rejections.{rejected_since};
 ghost use Rattle.exchange_core.specs.Traces.{IsHeard, MakesAll, moment};
 ghost use Rattle.peer_plan.specs.Plan.{counts_of, range_of};
 ghost use Rattle.peer_lock.specs.Accounts.{with_step};
@@ -92,6 +93,9 @@ impl<G: Gate, J: Naming> Exchange<G, J> {
           octets = octets.now;
           challenge = Some challenge.now;
         }) pass.old pass.new }
+        // What was rejected in these steps, if anything was: that is a step, and no refusal.
+        ensures rejected { result.rejected ≡ rejected_since pass.old pass.new }
+        ensures counted { IsSome result.rejected → 1 ≤ result.steps }
         // The legs that were taken out in these steps, and none else, with what they left behind.
         ensures retired { Leave now pass.old pass.new (map departure_of result.retired.items) }
         ensures steps { pass.new.credit.steps ≡ pass.old.credit.steps + result.steps }
@@ -102,6 +106,7 @@ impl<G: Gate, J: Naming> Exchange<G, J> {
             return Answer {
                 steps: 0,
                 refused: Some(Refusal::Stranger),
+                rejected: None,
                 retired: Vec::new(self.alloc),
             };
         };
@@ -119,6 +124,7 @@ impl<G: Gate, J: Naming> Exchange<G, J> {
         Answer {
             steps: outcome.steps,
             refused: refused_by(outcome.denial),
+            rejected: outcome.rejected,
             retired: outcome.retired,
         }
     }
@@ -134,6 +140,7 @@ impl<G: Gate, J: Naming> Exchange<G, J> {
             (begun (work.of_tick peer (range_of (counts_of self.now.peers) peer).first
             (range_of (counts_of self.now.peers) peer).count)) pass.old pass.new }
         ensures retired { Leave now pass.old pass.new (map departure_of result.retired.items) }
+        ensures rejected { result.rejected ≡ rejected_since pass.old pass.new }
         ensures steps { pass.new.credit.steps ≡ pass.old.credit.steps + result.steps }
         ensures some { IfNone result.refused (1 ≤ result.steps) }
         ensures refused { IsSome result.refused → (result.steps ≡ 0) × (pass.new.credit ≡ pass.old.credit) }
@@ -144,6 +151,7 @@ impl<G: Gate, J: Naming> Exchange<G, J> {
         Answer {
             steps: outcome.steps,
             refused: refused_by(outcome.denial),
+            rejected: outcome.rejected,
             retired: outcome.retired,
         }
     }
@@ -197,6 +205,7 @@ impl<G: Gate, J: Naming> Exchange<G, J> {
         requires { name.peer < length self.now.peers }
         ensures all { MakesAll (moment self.now now) (begun (work.of_hang_up name)) pass.old pass.new }
         ensures retired { IfOk result (λ answer. Leave now pass.old pass.new (map departure_of answer.retired.items)) }
+        ensures rejected { IfOk result (λ answer. answer.rejected ≡ rejected_since pass.old pass.new) }
         ensures steps { IfOk result (λ answer. pass.new.credit.steps ≡ pass.old.credit.steps + answer.steps) }
         ensures some { IfOk result (λ answer. (1 ≤ answer.steps) × (answer.refused ≡ None)) }
         ensures refused { OnErr result (pass.new.credit ≡ pass.old.credit) }
@@ -207,6 +216,7 @@ impl<G: Gate, J: Naming> Exchange<G, J> {
             Ok(()) => Ok(Answer {
                 steps: outcome.steps,
                 refused: None,
+                rejected: outcome.rejected,
                 retired: outcome.retired,
             }),
             Err(error) => Err(error),

@@ -13,5 +13,5 @@ pub use accounts::{MediaAccounts, closed_accounts, settle, write_accounts};
 pub use call_rows::call_row;
 pub use legs::count_legs;
 pub use losses::{PeerLosses, losses_of};
-pub use names::{call_error_name, order_error_name, refusal_name, stage_name};
+pub use names::{call_error_name, order_error_name, refusal_name, rejection_name, stage_name};
 pub use peer_names::peer_named;

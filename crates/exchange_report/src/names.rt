@@ -1,5 +1,5 @@
 //! The names that are printed.
-use exchange_core::{CallError, Refusal};
+use exchange_core::{CallError, Refusal, Rejection};
 use leg_machine::Stage;
 use peer_lock::OrderError;
 
@@ -35,6 +35,14 @@ pub fn refusal_name(refusal: Refusal) -> &'static str {
         Refusal::NumberBusy => "NumberBusy",
         Refusal::RemoteBusy => "RemoteBusy",
         Refusal::Memory => "Memory",
+    }
+}
+
+/// The name of what an answer rejected, as its variant is written.
+pub fn rejection_name(rejection: Rejection) -> &'static str {
+    match rejection {
+        Rejection::NoNumber => "NoNumber",
+        Rejection::Registration => "Registration",
     }
 }
 

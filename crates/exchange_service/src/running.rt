@@ -21,7 +21,9 @@ use std::net::SocketAddr;
 use std::sync::ledger::Ledger;
 use std::time::Instant;
 use udp_workers::{Post, TurnReport};
-use worker_seats::{ServiceError, service_error_name, tell_reports, with_spare_pass};
+use worker_seats::{
+    ServiceError, service_error_name, tell_reports, with_drawn_prefix, with_spare_pass,
+};
 
 /// How a service is run.
 #[derive(Clone, Copy)]
@@ -155,7 +157,10 @@ fn serve_plan<R: ServiceSystem, D: ServiceDisk, W: Write>(
     let Ok(opened) = Instant::now(rt) else {
         return Err(ServiceError::Clock);
     };
-    let plan = with_spare_pass(plan);
+    let plan = match with_drawn_prefix(rt, with_spare_pass(plan)) {
+        Ok(plan) => plan,
+        Err(error) => return Err(error),
+    };
     let parts = u64::from(plan.peer_count()) + u64::from(plan.passes());
     let (octets, steps) = (Blank::new(parts), Blank::new(parts));
     work::<Brand, Brand, Brand, R, D, W>(rt, disk, plan, control, opened, writer, octets, steps)

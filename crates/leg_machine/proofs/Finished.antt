@@ -8,11 +8,10 @@ use Rattle.std.proofs.lemmas.List.Elements.{All-nil, All-cons, All-push}
 use Rattle.seq_window.specs.Window.{Sending, held_count, is_due, first_due, tries_at, mark_at, resent, resent_if}
 use Rattle.seq_window.specs.declared.judgements.Resent.{Resent}
 use Rattle.seq_window.specs.declared.judgements.Resent.TheVariants as resents
-use Rattle.leg_machine.specs.Leg.{LegState, entered, failed, is_short_of_entries}
+use Rattle.leg_machine.specs.Leg.{LegState, entered, failed, must_end, end_failure}
 use Rattle.call_signals.specs.Stage.{is_ended}
 use Rattle.leg_machine.specs.Ticks.{Tick, quiet, sends_if, must_hang_up, hang_up_step, must_ping, pinged, last_step, due_frames, tick_step}
 use Rattle.leg_machine.specs.Tries.{Tried, tries, one_try, after_try, NoneDue, IsFinished}
-use Rattle.call_signals.specs.declared.failure.Failure.TheVariants as failures
 use Rattle.call_signals.specs.declared.reply.Reply.TheVariants as replies
 use Rattle.call_signals.specs.declared.rules.PeerRules.{PeerRules}
 use Rattle.call_signals.specs.declared.stage.Stage.{Stage}
@@ -175,5 +174,5 @@ ended-is _ over = cc
 pub tick-done : (grown : Bool) (leg : LegState) (now : ℕ) → 1 ≤ leg.rules.retry_ms → EndedOrNoneDue (tick_step grown leg now).leg now
 tick-done grown leg now some =
     either_by (λ (t : Tick). EndedOrNoneDue t.leg now) (is_ended leg.stage) (quiet leg) _ (λ over. inl (ended-is leg.stage over))
-    (λ on. either (λ (t : Tick). EndedOrNoneDue t.leg now) (is_short_of_entries leg) (quiet (failed leg failures.RecordFull)) (due_frames grown leg now)
+    (λ on. either (λ (t : Tick). EndedOrNoneDue t.leg now) (must_end leg now) (quiet (failed leg (end_failure leg))) (due_frames grown leg now)
     (inl refl) (due-done grown leg now some))

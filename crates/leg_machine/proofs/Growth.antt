@@ -6,12 +6,11 @@ use Rattle.std.proofs.lemmas.Bool.Decides.{nat_tests}
 use Rattle.seq_window.specs.Window.{Sending, held_count, mark_at, resent}
 use Rattle.seq_window.specs.declared.judgements.Resent.{Resent}
 use Rattle.seq_window.specs.declared.judgements.Resent.TheVariants as resents
-use Rattle.leg_machine.specs.Leg.{Leg, LegState, capacity_of, entered, failed, local_room, is_short_of_entries}
+use Rattle.leg_machine.specs.Leg.{Leg, LegState, capacity_of, entered, failed, local_room, must_end, end_failure}
 use Rattle.leg_machine.specs.Seen.{seen as seen_leg, IsSeenTick}
 use Rattle.call_signals.specs.Stage.{is_ended, is_talking}
 use Rattle.leg_machine.specs.Ticks.{Tick, quiet, sends_if, must_hang_up, must_ping, pinged, is_ping_time, last_step, due_frames, tick_step}
 use Rattle.leg_machine.specs.Tries.{Tried, tries, one_try, after_try}
-use Rattle.call_signals.specs.declared.failure.Failure.TheVariants as failures
 use Rattle.call_signals.specs.declared.reply.Reply.TheVariants as replies
 use Rattle.call_signals.specs.declared.stage.Stage.TheVariants as stages
 use Rattle.leg_machine.specs.Tie.{SendsAtMostOne, SendsNumbered, IsSending}
@@ -77,7 +76,7 @@ due-tells leg now =
 tick-tells : (leg : LegState) (now : ℕ) → Tells (tick_step true leg now) (tick_step false leg now)
 tick-tells leg now =
     both Tells (is_ended leg.stage) (quiet leg) _ (quiet leg) _ (refl, inl refl)
-    (both Tells (is_short_of_entries leg) (quiet (failed leg failures.RecordFull)) (due_frames true leg now) (quiet (failed leg failures.RecordFull)) (due_frames false leg now)
+    (both Tells (must_end leg now) (quiet (failed leg (end_failure leg))) (due_frames true leg now) (quiet (failed leg (end_failure leg))) (due_frames false leg now)
     (refl, inl refl) (due-tells leg now))
 
 -- the step of a tick is that with memory where nothing was skipped, and that without where something was
@@ -124,7 +123,7 @@ unskipped : (grown : Bool) (leg : LegState) (now : ℕ) → (grown ≡ false →
 unskipped true leg now needless = (tick-tells leg now).0
 unskipped false leg now needless =
     either (λ (t : Tick). t.skipped ≡ 0) (is_ended leg.stage) (quiet leg) _ refl
-    (either (λ (t : Tick). t.skipped ≡ 0) (is_short_of_entries leg) (quiet (failed leg failures.RecordFull)) (due_frames false leg now)
+    (either (λ (t : Tick). t.skipped ≡ 0) (must_end leg now) (quiet (failed leg (end_failure leg))) (due_frames false leg now)
     refl (due-silent leg now (needless refl).0 (needless refl).1))
 
 -- what a tick of a leg ensures, by what it skipped

@@ -8,11 +8,10 @@ use Rattle.iax_frames.specs.declared.stored_frame.Frame.{Frame}
 use Rattle.resend_queue.specs.declared.held_frame.Held.{Held}
 use Rattle.seq_window.specs.Sequence.{byte_of}
 use Rattle.seq_window.specs.Window.{Sending, held_count, numbered_from, is_due, first_due, resent_if}
-use Rattle.leg_machine.specs.Leg.{LegState, entered, failed, is_short_of_entries}
+use Rattle.leg_machine.specs.Leg.{LegState, entered, failed, must_end, end_failure}
 use Rattle.call_signals.specs.Stage.{is_ended}
 use Rattle.leg_machine.specs.Ticks.{Tick, quiet, sends_if, must_hang_up, must_ping, pinged, last_step, due_frames, tick_step, is_none_due, is_idle}
 use Rattle.leg_machine.specs.Tries.{Tried, tried, tries, one_try}
-use Rattle.call_signals.specs.declared.failure.Failure.TheVariants as failures
 use Rattle.call_signals.specs.declared.reply.Reply.TheVariants as replies
 use Rattle.call_signals.specs.declared.stage.Stage.TheVariants as stages
 use Rattle.leg_machine.proofs.Tied.{either_by}
@@ -67,8 +66,8 @@ pub idle-stays : (grown : Bool) (leg : LegState) (now : ℕ) → is_idle leg now
 idle-stays grown leg now idle =
     either_by (λ (t : Tick). t ≡ quiet leg) (is_ended leg.stage) (quiet leg) _ (λ over. refl)
     (λ on.
-    let w = waits (is_ended leg.stage) (is_short_of_entries leg) (must_hang_up leg) (is_none_due leg now) (must_ping leg now) idle on in
-    ap (λ (b : Bool). cond b (quiet (failed leg failures.RecordFull)) (due_frames grown leg now)) w.enough
+    let w = waits (is_ended leg.stage) (must_end leg now) (must_hang_up leg) (is_none_due leg now) (must_ping leg now) idle on in
+    ap (λ (b : Bool). cond b (quiet (failed leg (end_failure leg))) (due_frames grown leg now)) w.enough
     ∙ no-frames grown leg now w.stays (none-is (first_due now leg.rules.retry_ms leg.window.sendings) w.none_due) w.silent)
 
 -- ---- when a held frame is due

@@ -1,5 +1,6 @@
 pub mod Again
 pub mod Answered
+pub mod Challenged
 pub mod Finished
 pub mod FrameMedia
 pub mod Gaps

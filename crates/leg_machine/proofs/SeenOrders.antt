@@ -2,7 +2,7 @@
 use Rattle.std.specs.Prelude.{◌↔◌, ◌&&◌, not, nat_le, OnOk, IfErr, Result, Ok, Err}
 use Rattle.std.proofs.Common.{◌≡◌, ℕ, Bool, true, false, cond, List, Option, None, Some, refl, ap, ◌∙◌}
 use Rattle.seq_window.specs.Window.{held_count}
-use Rattle.leg_machine.specs.Leg.{LegState, is_short_of_entries}
+use Rattle.leg_machine.specs.Leg.{LegState, is_record_full}
 use Rattle.leg_machine.specs.Media.{media_sent, after_media}
 use Rattle.leg_machine.specs.OrderTable.{when, refuses_digits, row_refused, row_carried, order_refused, order_carried, media_refused, media_refused_as, sending_refused, IsRefusal}
 use Rattle.leg_machine.specs.Seen.{seen, moved, ordered, kind_of, stage_after, stage_ordered, IsSeenOrder}
@@ -121,8 +121,8 @@ WrongTogether refusal there = (refusal ≡ Some errors.WrongStage) ↔ (there �
 sending-right : (leg : LegState) (most : ℕ) → sending_refused leg most ≡ Some errors.WrongStage → ⊥
 sending-right leg most =
     either (λ (r : Option OrderError). r ≡ Some errors.WrongStage → ⊥) (nat_le most (held_count leg.window)) (Some errors.WindowFull)
-    (cond (is_short_of_entries leg) (Some errors.RecordFull) None) (λ e. cc)
-    (either (λ (r : Option OrderError). r ≡ Some errors.WrongStage → ⊥) (is_short_of_entries leg) (Some errors.RecordFull) None (λ e. cc) (λ e. cc))
+    (cond (is_record_full leg) (Some errors.RecordFull) None) (λ e. cc)
+    (either (λ (r : Option OrderError). r ≡ Some errors.WrongStage → ⊥) (is_record_full leg) (Some errors.RecordFull) None (λ e. cc) (λ e. cc))
 
 row-wrong : (leg : LegState) (kind : OrderKind) (right : Bool) (row : Ordered) → LeadsTo kind leg.stage right row.stage
     → WrongTogether (row_refused leg (when right row)) (stage_after kind leg.stage)

@@ -7,14 +7,13 @@ use Rattle.seq_window.specs.Window.{held_count, is_full, resent}
 use Rattle.seq_window.specs.declared.judgements.Resent.{Resent}
 use Rattle.seq_window.specs.declared.judgements.Resent.TheVariants as resents
 use Rattle.leg_machine.specs.Effects.{is_reply}
-use Rattle.leg_machine.specs.Leg.{LegState, entered, failed, is_short_of_entries}
+use Rattle.leg_machine.specs.Leg.{LegState, entered, failed, must_end, end_failure}
 use Rattle.leg_machine.specs.Openings.{opening_of, opening_effect, leg_for_new, open_in_step}
 use Rattle.leg_machine.specs.Seen.{SeenLeg, seen, moved, fresh_leg, opening_effect as seen_opening, IsSeenOpening, Ends, ClosesDoomed, IsSeenTick}
 use Rattle.call_signals.specs.Stage.{is_over, is_ended}
 use Rattle.leg_machine.specs.Steps.{Step, heard_of, taken_step, taken, answered, no_room}
 use Rattle.leg_machine.specs.Ticks.{Tick, quiet, sends_if, must_hang_up, must_ping, pinged, last_step, due_frames, tick_step}
 use Rattle.leg_machine.specs.Tries.{Tried, tries, one_try, after_try}
-use Rattle.call_signals.specs.declared.failure.Failure.TheVariants as failures
 use Rattle.call_signals.specs.declared.effects.Effect.{Effect}
 use Rattle.call_signals.specs.declared.message.Message.TheVariants.{New}
 use Rattle.call_signals.specs.declared.openings.Opening.{Opening}
@@ -141,5 +140,5 @@ due-seen grown leg now =
 pub tick-seen : (grown : Bool) (leg : LegState) (now : ℕ) → IsSeenTick (seen leg) (seen (tick_step grown leg now).leg)
 tick-seen grown leg now =
     either (λ (t : Tick). IsSeenTick (seen leg) (seen t.leg)) (is_ended leg.stage) (quiet leg) _ (inl refl)
-    (either (λ (t : Tick). IsSeenTick (seen leg) (seen t.leg)) (is_short_of_entries leg) (quiet (failed leg failures.RecordFull)) (due_frames grown leg now)
+    (either (λ (t : Tick). IsSeenTick (seen leg) (seen t.leg)) (must_end leg now) (quiet (failed leg (end_failure leg))) (due_frames grown leg now)
     (inr (Ends, refl)) (due-seen grown leg now))

@@ -15,7 +15,7 @@ use Rattle.seq_window.specs.declared.judgements.Resent.TheVariants as resents
 use Rattle.seq_window.specs.Window.{held_count, held_frames, held_at, is_full, judged_number, judged_acknowledgement, count_of, entries_for_count, entries_for_number, resent}
 use Rattle.leg_machine.specs.Effects.{is_reply}
 use Rattle.leg_machine.specs.LegTable.{effect_of}
-use Rattle.leg_machine.specs.Leg.{LegState, entered, failed, is_short_of_entries}
+use Rattle.leg_machine.specs.Leg.{LegState, entered, failed, must_end, end_failure}
 use Rattle.leg_machine.specs.Media.{after_media, media_frames}
 use Rattle.call_signals.specs.Message.{message_of, is_numbered}
 use Rattle.leg_machine.specs.Openings.{leg_for_call, open_out_step}
@@ -296,7 +296,7 @@ pub tick-sent : (grown : Bool) (leg : LegState) (now : ℕ) → SendsNumbered le
 tick-sent grown leg now all =
     let Sends : Tick → Type 0 = λ t. AllSent t.leg t.replies in
     either Sends (is_ended leg.stage) (quiet leg) _ (stays leg all)
-    (either Sends (is_short_of_entries leg) (quiet (failed leg failures.RecordFull)) (due_frames grown leg now)
-    (none-sent leg (failed leg failures.RecordFull) refl all)
+    (either Sends (must_end leg now) (quiet (failed leg (end_failure leg))) (due_frames grown leg now)
+    (none-sent leg (failed leg (end_failure leg)) refl all)
     (either (Finishes grown leg now) (must_hang_up leg) (sends_if grown leg (entered leg stages.Closing) now (replies.Hangup leg.cause)) (quiet leg)
     (hung-sent grown leg now all) (tail-sent (held_count leg.window) grown leg now all)))

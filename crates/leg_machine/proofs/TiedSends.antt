@@ -7,7 +7,7 @@ use Rattle.seq_window.specs.declared.judgements.Resent.{Resent}
 use Rattle.seq_window.specs.declared.judgements.Resent.TheVariants as resents
 use Rattle.seq_window.specs.Turn.{entries_for_reply}
 use Rattle.seq_window.specs.Window.{WindowState, resent, held_count}
-use Rattle.leg_machine.specs.Leg.{LegState, entered, failed, local_room, is_short_of_entries}
+use Rattle.leg_machine.specs.Leg.{LegState, entered, failed, local_room, must_end, end_failure}
 use Rattle.leg_machine.specs.Media.{media_sent, after_media}
 use Rattle.leg_machine.specs.OrderTable.{order_row, row_carried, order_carried, doomed, paid}
 use Rattle.leg_machine.specs.Replies.{reply_frame, voice_frame}
@@ -121,5 +121,5 @@ due-sends grown leg now =
 pub tick-sends : (grown : Bool) (leg : LegState) (now : ℕ) → SendsAtMostOne leg (tick_step grown leg now).leg
 tick-sends grown leg now =
     either (λ (t : Tick). SendsAtMostOne leg t.leg) (is_ended leg.stage) (quiet leg) _ (none leg leg refl)
-    (either (λ (t : Tick). SendsAtMostOne leg t.leg) (is_short_of_entries leg) (quiet (failed leg failures.RecordFull)) (due_frames grown leg now)
-    (none leg (failed leg failures.RecordFull) refl) (due-sends grown leg now))
+    (either (λ (t : Tick). SendsAtMostOne leg t.leg) (must_end leg now) (quiet (failed leg (end_failure leg))) (due_frames grown leg now)
+    (none leg (failed leg (end_failure leg)) refl) (due-sends grown leg now))

@@ -1,5 +1,6 @@
 -- A leg of a call, as its steps see it ("IAX Frames", "Message Transport").
-use Rattle.std.specs.Prelude.{ℕ, ◌+◌, ◌-◌, ◌/◌, ◌%◌, ◌^◌, ◌≤◌, Bool, ◌||◌, ◌&&◌, not, nat_lt, List, Option, Some, if◌then◌else◌}
+use Rattle.std.specs.Prelude.{ℕ, ◌+◌, ◌-◌, ◌/◌, ◌%◌, ◌^◌, ◌≤◌, Bool, true, false, ◌||◌, ◌&&◌, not, nat_le, nat_lt, is_some, List, Option, None, Some, if◌then◌else◌}
+use Rattle.seq_window.specs.History.{data_octets}
 use Rattle.seq_window.specs.Window.{WindowState, entry_count}
 use Rattle.call_signals.specs.declared.cause.Cause.{Cause}
 use Rattle.call_signals.specs.Endings.{failure_cause}
@@ -8,7 +9,8 @@ use Rattle.call_signals.specs.declared.format.Format.{Format}
 use Rattle.call_signals.specs.declared.format.Formats.{Formats}
 use Rattle.call_signals.specs.declared.rules.PeerRules.{PeerRules}
 use Rattle.call_signals.specs.declared.stage.Stage.{Stage}
-use Rattle.call_signals.specs.declared.stage.Stage.TheVariants.{Ended}
+use Rattle.call_signals.specs.declared.failure.Failure.TheVariants as failures
+use Rattle.call_signals.specs.declared.stage.Stage.TheVariants.{Challenged, Ended}
 use Rattle.leg_machine.specs.declared.machine.AnsweredVnak.{AnsweredVnak}
 use Rattle.leg_machine.specs.declared.machine.Machine.{Machine}
 use Rattle.call_signals.specs.Stage.{is_ended, is_over}
@@ -113,9 +115,54 @@ with_window leg window = record leg { window = window }
 abbrev pub local_room : ℕ → ℕ
 local_room width = width - width / 4
 
+-- ---- when a record is full
+
+-- so many octets of data are more than a rule allows, where there is one
+abbrev pub exceeds : Option ℕ → ℕ → Bool
+exceeds None octets = false
+exceeds (Some most) octets = nat_lt most octets
+
 -- fewer than four entries are free
 abbrev pub is_short_of_entries : LegState → Bool
 is_short_of_entries leg = nat_lt leg.window.limit (entry_count leg.window + 4)
+
+-- fewer octets of data are left than a full frame may bring and its answer may have: 1,388 each
+abbrev pub is_short_of_octets : LegState → Bool
+is_short_of_octets leg = exceeds leg.rules.record_octets (data_octets leg.window.history + 2776)
+
+abbrev pub is_challenged : Stage → Bool
+is_challenged Challenged = true
+is_challenged _ = false
+
+-- A leg that waits for the answer to its challenge may be anyone's. Its record has at most 32 entries and 4,096 octets of data, of
+-- which 1,388 are left for a full frame, and 64 for its answer.
+abbrev pub has_heard_enough : LegState → Bool
+has_heard_enough leg =
+    is_challenged leg.stage && is_some leg.rules.challenge_ms
+    && (nat_lt 32 (entry_count leg.window + 4) || nat_lt 4096 (data_octets leg.window.history + 1452))
+
+-- The record has no room for one more full frame and what follows from it.
+abbrev pub is_record_full : LegState → Bool
+is_record_full leg = is_short_of_entries leg || is_short_of_octets leg || has_heard_enough leg
+
+-- ---- when a leg ends by itself
+
+-- so many milliseconds are over since a moment
+abbrev pub is_over_since : Option ℕ → ℕ → ℕ → Bool
+is_over_since None since now = false
+is_over_since (Some ms) since now = nat_le (since + ms) now
+
+-- its challenge wasn't answered in time
+abbrev pub is_overdue : LegState → ℕ → Bool
+is_overdue leg now = is_challenged leg.stage && is_over_since leg.rules.challenge_ms leg.opened now
+
+-- the leg can't go on, or may not
+abbrev pub must_end : LegState → ℕ → Bool
+must_end leg now = is_record_full leg || is_overdue leg now
+
+-- .. and why
+abbrev pub end_failure : LegState → Failure
+end_failure leg = if is_record_full leg then failures.RecordFull else failures.ChallengeTimeout
 
 -- so many entries fit, with no further memory
 pub record HasRoom (entries : ℕ) (m : Machine) : Type 0 where

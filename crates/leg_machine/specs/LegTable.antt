@@ -1,7 +1,8 @@
 -- The table of the leg: what a taken frame does, row by row ("IAX Frames", "Control Frames", "Call Setup").
 pub use Rattle.call_signals.specs.FrameElements.{element_in}
 use Rattle.std.specs.Prelude.{ℕ, ◌+◌, List, length, map, not, nat_le, ◌&&◌, Bool, true, false, Option, None, Some, bit_and, ◌==◌}
-use Rattle.std.specs.Prelude.{bytes_eq, if◌then◌else◌}
+use Rattle.std.specs.Prelude.{bytes_eq, nat_eq, if◌then◌else◌}
+use Rattle.std.specs.List.{starts_with}
 use Rattle.std.specs.Char.{to_ascii_lowercase}
 use Rattle.call_auth.specs.Md5Answer.{md5_answer}
 use Rattle.iax_frames.specs.FullFrame.{FullFrame}
@@ -18,6 +19,7 @@ use Rattle.call_signals.specs.declared.format.Format.{Format}
 use Rattle.call_signals.specs.declared.message.Message.{Message}
 use Rattle.call_signals.specs.declared.message.Message.TheVariants as messages
 use Rattle.call_signals.specs.declared.reply.Reply.TheVariants as replies
+use Rattle.call_signals.specs.declared.rules.PeerRules.{PeerRules}
 use Rattle.call_signals.specs.declared.signal.Signal.TheVariants as signals
 use Rattle.call_signals.specs.declared.stage.Stage.{Stage}
 use Rattle.call_signals.specs.declared.stage.Stage.TheVariants as stages
@@ -49,11 +51,20 @@ abbrev pub answer_if : Option (List ℕ) → Option (List ℕ) → Option (List 
 answer_if (Some challenge) (Some secret) = Some (md5_answer challenge secret)
 answer_if _ _ = None
 
--- the first AUTHREQ that asks for MD5 is answered
+-- the challenge begins as those of this exchange do
+abbrev pub has_form : Option (List ℕ) → Option (List ℕ) → Bool
+has_form (Some prefix) (Some challenge) = starts_with nat_eq challenge prefix
+has_form _ _ = false
+
+-- Whoever is asked a challenge by this exchange may send it back, to have it answered. A hardened leg doesn't.
+abbrev pub is_reflected : PeerRules → FullFrame → Bool
+is_reflected rules frame = rules.is_hardened && has_form rules.challenge_prefix (element_in frame CHALLENGE)
+
+-- the first AUTHREQ that asks for MD5 is answered, unless its challenge is reflected
 abbrev pub auth_rep_digits : LegState → FullFrame → Option (List ℕ)
 auth_rep_digits leg frame =
-    if not leg.authenticated && asks_md5 (u16_in (element_in frame AUTHMETHODS))
-    then answer_if (element_in frame CHALLENGE) leg.rules.secret
+    if not leg.authenticated && asks_md5 (u16_in (element_in frame AUTHMETHODS)) && not (is_reflected leg.rules frame)
+    then answer_if (element_in frame CHALLENGE) leg.rules.outbound_secret
     else None
 
 abbrev pub auth_rep_row : Option (List ℕ) → Effect

@@ -4,7 +4,7 @@ use Rattle.std.specs.Prelude.{Some, if◌then◌else◌}
 use Rattle.iax_frames.specs.FullFrame.{spelling}
 use Rattle.iax_frames.specs.MiniFrame.{mini_spelling}
 use Rattle.seq_window.specs.Window.{held_count}
-use Rattle.leg_machine.specs.Leg.{LegState, entered, local_room, is_short_of_entries}
+use Rattle.leg_machine.specs.Leg.{LegState, entered, local_room, is_record_full}
 use Rattle.leg_machine.specs.Media.{media_sent, after_media, media_frames}
 use Rattle.leg_machine.specs.Replies.{reply_frame, outgoing, next_byte}
 use Rattle.call_signals.specs.Stage.{is_offered, is_linked, is_talking, is_over}
@@ -53,7 +53,7 @@ order_row leg Paid = None
 abbrev pub sending_refused : LegState → ℕ → Option OrderError
 sending_refused leg most =
     if nat_le most (held_count leg.window) then Some errors.WindowFull
-    else if is_short_of_entries leg then Some errors.RecordFull
+    else if is_record_full leg then Some errors.RecordFull
     else None
 
 abbrev pub row_refused : LegState → Option Ordered → Option OrderError

@@ -3,7 +3,7 @@ use Rattle.std.specs.Prelude.{ℕ, ◌+◌, not, nat_lt, nat_le, ◌==◌, ◌&&
 use Rattle.std.specs.Prelude.{if◌then◌else◌}
 use Rattle.iax_frames.specs.FullFrame.{FullFrame}
 use Rattle.seq_window.specs.Window.{held_count, is_full, first_due}
-use Rattle.leg_machine.specs.Leg.{LegState, entered, failed, local_room, is_short_of_entries}
+use Rattle.leg_machine.specs.Leg.{LegState, entered, failed, local_room, must_end, end_failure}
 use Rattle.leg_machine.specs.Replies.{reply_frame, outgoing, next_byte}
 use Rattle.call_signals.specs.Stage.{is_over, is_talking, is_ended}
 use Rattle.leg_machine.specs.Tries.{tries}
@@ -73,11 +73,11 @@ due_frames grown leg now =
     let last = last_step grown tried.spent tried.leg now in
     record { leg = last.leg; replies = hung.replies ++ tried.replies ++ last.replies; skipped = hung.skipped + last.skipped }
 
--- an ended leg does nothing, and one whose record is nearly full ends
+-- an ended leg does nothing, and one whose record is full or whose challenge wasn't answered in time ends
 abbrev pub tick_step : Bool → LegState → ℕ → Tick
 tick_step grown leg now =
     if is_ended leg.stage then quiet leg
-    else if is_short_of_entries leg then quiet (failed leg failures.RecordFull)
+    else if must_end leg now then quiet (failed leg (end_failure leg))
     else due_frames grown leg now
 
 -- ---- idleness
@@ -90,4 +90,4 @@ is_none_due leg now = is_none (first_due now leg.rules.retry_ms leg.window.sendi
 abbrev pub is_idle : LegState → ℕ → Bool
 is_idle leg now =
     is_ended leg.stage
-    || (not (is_short_of_entries leg) && not (must_hang_up leg) && is_none_due leg now && not (must_ping leg now))
+    || (not (must_end leg now) && not (must_hang_up leg) && is_none_due leg now && not (must_ping leg now))

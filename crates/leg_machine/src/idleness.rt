@@ -1,5 +1,6 @@
 //! Until when a tick has nothing to do ("Message Transport": retransmission; "PING").
 ghost use Rattle.std.specs.Prelude.{◌≡◌, ℕ, ◌+◌, ◌^◌, ◌<◌, true, false};
+ghost use Rattle.leg_machine.specs.Leg.{is_overdue};
 ghost use Rattle.leg_machine.specs.Ticks as ticks;
 
 use crate::machine::Machine;
@@ -33,6 +34,23 @@ impl Machine {
         }
     }
 
+    // The first moment at which the leg's challenge wasn't answered in time, as far as 64 bits go.
+    fn overdue_from(&self) -> u64
+        ensures before { (now : ℕ) → now < result → is_overdue (leg_of self.now) now ≡ false }
+        ensures then { result + 1 < 2 ^ 64 → is_overdue (leg_of self.now) result ≡ true }
+    {
+        match self.rules.challenge_ms {
+            Some(ms) => {
+                if self.is_challenged() {
+                    self.opened.saturating_add(ms)
+                } else {
+                    u64::MAX
+                }
+            }
+            None => u64::MAX,
+        }
+    }
+
     /// The first moment, in milliseconds, at which a tick has something to do. The largest moment stands for all later ones, and
     /// for none.
     pub fn idle_until(&self) -> u64
@@ -42,9 +60,11 @@ impl Machine {
         if self.stage.is_ended() {
             return u64::MAX;
         }
-        if self.is_short_of_entries() || self.must_hang_up() {
+        if self.is_record_full() || self.must_hang_up() {
             return 0;
         }
-        self.due_from().min(self.pings_from())
+        self.due_from()
+            .min(self.pings_from())
+            .min(self.overdue_from())
     }
 }

@@ -1,11 +1,13 @@
 //! The laws of a leg.
 
-ghost use Rattle.std.specs.Prelude.{◌≡◌, ◌≢◌, [], ◌∷◌, ◌⊎◌, ◌↔◌, ◌≤◌, ◌<◌, ◌^◌, ◌||◌, ℕ, Bool, true, false, List, length, min, Option, None, Some, map};
+ghost use Rattle.std.specs.Prelude.{◌≡◌, ◌≢◌, [], ◌∷◌, ◌⊎◌, ◌↔◌, ◌≤◌, ◌<◌, ◌^◌, ◌||◌, ℕ, Bool, true, false, List, length, min, is_some, Option, None, Some, map};
 ghost use Rattle.iax_frames.specs.FullFrame.{FullFrame, spelling};
-ghost use Rattle.seq_window.specs.History.{taken_count};
-ghost use Rattle.seq_window.specs.Window.{held_count, held_frames};
+ghost use Rattle.seq_window.specs.History.{data_octets, taken_count};
+ghost use Rattle.seq_window.specs.Window.{entry_count, held_count, held_frames};
 ghost use Rattle.seq_window.specs.declared.judgements.Received.TheVariants.{Gap};
-ghost use Rattle.leg_machine.specs.Leg.{LegState};
+ghost use Rattle.leg_machine.specs.Effects.{hung_up};
+ghost use Rattle.leg_machine.specs.Leg.{LegState, end_failure, failed, is_overdue, is_record_full};
+ghost use Rattle.leg_machine.specs.LegTable.{is_reflected, waiting};
 ghost use Rattle.leg_machine.specs.Media.{IsMediaOf, accepts_media};
 ghost use Rattle.leg_machine.specs.Openings.{open_in_step, open_out_step};
 ghost use Rattle.leg_machine.specs.OrderTable.{order_refused, order_carried, refuses_digits};
@@ -21,12 +23,14 @@ ghost use Rattle.leg_machine.specs.Working.{heard, is_repetition, names_leg};
 ghost use Rattle.call_signals.specs.Format.{has_format};
 ghost use Rattle.call_signals.specs.Message.{message_of, is_inval, is_voice_in};
 ghost use Rattle.call_signals.specs.declared.format.Format.{Format};
+ghost use Rattle.call_signals.specs.declared.cause.Cause.TheVariants.{CallRejected};
 ghost use Rattle.call_signals.specs.declared.message.Message.{Message};
+ghost use Rattle.call_signals.specs.declared.message.Message.TheVariants.{AuthReq};
 ghost use Rattle.call_signals.specs.declared.order.Order.{Order};
 ghost use Rattle.call_signals.specs.declared.order.OrderError.TheVariants.{WrongStage};
 ghost use Rattle.call_signals.specs.declared.rules.PeerRules.{PeerRules};
 ghost use Rattle.call_signals.specs.declared.signal.MediaSpan.{MediaSpan};
-ghost use Rattle.call_signals.specs.declared.stage.Stage.TheVariants.{Waiting, Ended};
+ghost use Rattle.call_signals.specs.declared.stage.Stage.TheVariants.{Challenged, Waiting, Ended};
 
 /// A tick tries as often as is due: its turns, as many as frames were held when it began, never run out before a frame is
 /// spent or none is due any more.
@@ -86,6 +90,21 @@ pub fn hardening_is_by_the_rules()
     ensures all_invals { (leg : LegState) (frame : FullFrame) → leg.rules.is_hardened ≡ false →
         inval_step leg frame ≡ invalidated leg }
     ensures all_digits { (leg : LegState) → leg.rules.is_hardened ≡ false → refuses_digits leg ≡ false }
+{}
+
+/// What a challenge is for. One of this exchange that comes back to a hardened leg isn't answered: the call is hung up. A leg that
+/// waits for the answer to its own has at most 32 entries in its record and 4,096 octets of data, whatever full frames come, and
+/// ends by a tick, silently, once the answer is late.
+pub fn challenges_are_by_the_rules()
+    ensures reflected { (leg : LegState) (frame : FullFrame) → is_reflected leg.rules frame ≡ true →
+        waiting leg frame AuthReq ≡ hung_up CallRejected }
+    ensures unhardened { (rules : PeerRules) (frame : FullFrame) → rules.is_hardened ≡ false → is_reflected rules frame ≡ false }
+    ensures little { (leg : LegState) (frame : FullFrame) (now : ℕ) → leg.stage ≡ Challenged →
+        is_some leg.rules.challenge_ms ≡ true → is_record_full leg ≡ false → length frame.payload ≤ 1388 →
+        (entry_count (full_step leg frame now).leg.window ≤ 32) ×
+        (data_octets (full_step leg frame now).leg.window.history ≤ 4096) }
+    ensures late { (grown : Bool) (leg : LegState) (now : ℕ) → leg.stage ≡ Challenged → is_overdue leg now ≡ true →
+        tick_step grown leg now ≡ quiet (failed leg (end_failure leg)) }
 {}
 
 /// Seen only by its stage, whether it is doomed, whether it owes and what it hands up, each step of a leg is one that callers at

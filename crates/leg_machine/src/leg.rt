@@ -2,7 +2,7 @@
 ghost use Rattle.std.specs.Prelude.{◌≡◌, ◌==◌, ℕ, ◌+◌, ◌≤◌, ◌<◌, ◌↔◌, true, None, Some, Err, [], length, map, All, IfOk, IfErr};
 ghost use Rattle.std.specs.Prelude.{OnOk, OnErr};
 ghost use Rattle.iax_frames.specs.FullFrame.{spelling};
-ghost use Rattle.leg_machine.specs.Leg.{capacity_of, is_short_of_entries};
+ghost use Rattle.leg_machine.specs.Leg.{capacity_of, is_record_full};
 ghost use Rattle.leg_machine.specs.Media.{media_sent, after_media, media_frames};
 ghost use Rattle.leg_machine.specs.Openings.{open_in_step, open_out_step};
 ghost use Rattle.leg_machine.specs.OrderTable.{order_refused, media_refused, is_voice, wants_memory, IsRefusal, IsShortMedia};
@@ -138,7 +138,7 @@ impl Leg {
     /// A full frame comes, with at most 1,388 octets of data, at the moment `now`, in milliseconds ("Full Frames", "Message
     /// Transport"). What is sent is written to the empty list.
     ///
-    /// Refusals are looked for in this order: `RecordFull` where fewer than four entries of the record are free, whatever the
+    /// Refusals are looked for in this order: `RecordFull` if the record is full (`is_record_full`), whatever the
     /// frame is; `Memory` where memory was refused, which never comes with four spare entries. Then nothing is changed or
     /// written.
     pub fn full_into(
@@ -157,7 +157,7 @@ impl Leg {
         // What goes out is what such a side sends.
         ensures sendings { OnOk result (All (IsSending self.new.state) replies.new) }
         ensures seen { IfOk result (λ heard. IsSeenFrame (seen self.old.state) (seen self.new.state) heard.signal) }
-        ensures record_full { (result ≡ Err StepError.RecordFull) ↔ (is_short_of_entries self.old.state ≡ true) }
+        ensures record_full { (result ≡ Err StepError.RecordFull) ↔ (is_record_full self.old.state ≡ true) }
         ensures memory { result ≡ Err StepError.Memory → self.old.spare < 4 }
         ensures err { OnErr result (self.new ≡ self.old) }
         ensures none_sent { OnErr result (replies.new ≡ replies.old) }
@@ -172,7 +172,7 @@ impl Leg {
     /// Frames").
     ///
     /// Refusals are looked for in this order: `WrongStage` where the leg isn't talking; then, only of media that goes out as a
-    /// full frame, `WindowFull`, `RecordFull` where fewer than four entries of the record are free, and `Memory`, which never
+    /// full frame, `WindowFull`, `RecordFull` if the record is full, and `Memory`, which never
     /// comes with a spare entry. Then nothing is changed or written.
     pub fn media_into(
         &mut self,
@@ -209,8 +209,8 @@ impl Leg {
     /// empty list.
     ///
     /// Refusals are looked for in this order: `WrongStage` where the leg's stage has no such order, or the leg is doomed and refuses
-    /// the digit; then, only of what goes out as a full frame, `WindowFull`, `RecordFull` where fewer than four entries of the
-    /// record are free, and `Memory`, which never comes with a spare entry. Then nothing is changed or written. Doom and Paid are
+    /// the digit; then, only of what goes out as a full frame, `WindowFull`, `RecordFull` if the record is
+    /// full, and `Memory`, which never comes with a spare entry. Then nothing is changed or written. Doom and Paid are
     /// never refused.
     pub fn order_into(
         &mut self,

@@ -1,7 +1,7 @@
 //! What a leg tells without a change.
 ghost use Rattle.std.specs.Prelude.{◌≡◌, ℕ, ◌+◌, ◌^◌, ◌<◌, ◌≤◌, true, false, length, option_copied, if◌then◌else◌, IfSome};
 ghost use Rattle.seq_window.specs.History.{IsLegal};
-ghost use Rattle.leg_machine.specs.Leg.{is_short_of_entries};
+ghost use Rattle.leg_machine.specs.Leg.{is_record_full};
 ghost use Rattle.leg_machine.specs.Media.{accepts_media};
 ghost use Rattle.leg_machine.specs.Onward.{onward_of};
 ghost use Rattle.leg_machine.specs.Openings.{opening_data, new_data, called_of, calling_of, caller_of, formats_of};
@@ -127,11 +127,13 @@ impl Leg {
         &self.machine.window
     }
 
-    /// Whether the record is short of entries: fewer than four are free, which is what one event can need.
-    pub fn is_short_of_entries(&self) -> bool
-        ensures { result ≡ is_short_of_entries self.now.state }
+    /// Whether the record has no room for one more full frame and what follows from it: fewer than four entries are free, or fewer
+    /// than 2,776 octets of data of those that the peer's rules allow, or the leg waits for the answer to its challenge and one more
+    /// frame could bring it to more than 32 entries or 4,096 octets of data.
+    pub fn is_record_full(&self) -> bool
+        ensures { result ≡ is_record_full self.now.state }
     {
-        self.machine.is_short_of_entries()
+        self.machine.is_record_full()
     }
 
     /// How many more entries the record takes without asking for memory.

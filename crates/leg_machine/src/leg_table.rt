@@ -91,10 +91,10 @@ impl Machine {
 
     // The answer to a challenge, where there are both a challenge and a secret.
     fn answer_if(&self, challenge: Option<&[u8]>) -> Option<[u8; 32]>
-        ensures { result ≡ rows.answer_if (option_copied challenge.entry) self.now.rules.secret }
+        ensures { result ≡ rows.answer_if (option_copied challenge.entry) self.now.rules.outbound_secret }
     {
         match challenge {
-            Some(challenge) => match &self.rules.secret {
+            Some(challenge) => match &self.rules.outbound_secret {
                 Some(secret) => Some(answer(challenge, secret.as_slice())),
                 None => None,
             },
@@ -102,12 +102,32 @@ impl Machine {
         }
     }
 
-    // The first AUTHREQ that asks for MD5 is answered.
+    // The challenge begins as those of this exchange do.
+    fn has_form(&self, challenge: Option<&[u8]>) -> bool
+        ensures { result ≡ rows.has_form self.now.rules.challenge_prefix (option_copied challenge.entry) }
+    {
+        match &self.rules.challenge_prefix {
+            Some(prefix) => match challenge {
+                Some(challenge) => challenge.starts_with(prefix.as_slice()),
+                None => false,
+            },
+            None => false,
+        }
+    }
+
+    // Whoever is asked a challenge by this exchange may send it back, to have it answered. A hardened leg doesn't.
+    fn is_reflected(&self, frame: &Full) -> bool
+        ensures { result ≡ rows.is_reflected self.now.rules frame.now }
+    {
+        self.rules.is_hardened && self.has_form(last_in(frame.payload(), CHALLENGE))
+    }
+
+    // The first AUTHREQ that asks for MD5 is answered, unless its challenge is reflected.
     fn auth_rep_digits(&self, frame: &Full) -> Option<[u8; 32]>
         ensures { result ≡ rows.auth_rep_digits (leg_of self.now) frame.now }
     {
         let asks_md5 = asks_md5(u16_in(frame.payload(), AUTHMETHODS));
-        if !self.authenticated && asks_md5 {
+        if !self.authenticated && asks_md5 && !self.is_reflected(frame) {
             self.answer_if(last_in(frame.payload(), CHALLENGE))
         } else {
             None

@@ -3,7 +3,7 @@ ghost use Rattle.std.specs.Prelude.{◌≡◌, ◌==◌, ◌≤◌, ◌<◌, ◌
 ghost use Rattle.std.specs.Prelude.{OnOk, OnErr};
 ghost use Rattle.std.specs.Option.{ForSome};
 ghost use Rattle.iax_frames.specs.FullFrame.{spelling};
-ghost use Rattle.leg_machine.specs.Leg.{capacity_of, is_short_of_entries};
+ghost use Rattle.leg_machine.specs.Leg.{capacity_of, is_record_full};
 ghost use Rattle.leg_machine.specs.Onward.{outcome_of, order_outcome, HandsUp};
 ghost use Rattle.leg_machine.specs.Openings.{open_in_step, open_out_step};
 ghost use Rattle.leg_machine.specs.OrderTable.{order_refused, wants_memory, IsRefusal, IsShortMedia, order_carried};
@@ -126,7 +126,7 @@ impl Leg {
 
     /// A full frame comes: `full_into` with its datagrams in the outcome.
     ///
-    /// Refusals are looked for in this order: `RecordFull` where fewer than four entries of the record are free, then `Memory`.
+    /// Refusals are looked for in this order: `RecordFull` if the record is full (`is_record_full`), then `Memory`.
     pub fn full(&mut self, frame: &Full, now: u64) -> Result<Outcome, StepError>
         requires { length frame.now.payload ≤ 1388 }
         ensures leg { OnOk result (self.new.state ≡ (full_step self.old.state frame.now now).leg) }
@@ -135,7 +135,7 @@ impl Leg {
         ensures sendings { IfOk result (λ outcome. All (IsSending self.new.state) outcome.replies) }
         ensures seen { IfOk result (λ outcome.
             HandsUp self.new.state outcome.onward (IsSeenFrame (seen self.old.state) (seen self.new.state))) }
-        ensures record_full { (result ≡ Err StepError.RecordFull) ↔ (is_short_of_entries self.old.state ≡ true) }
+        ensures record_full { (result ≡ Err StepError.RecordFull) ↔ (is_record_full self.old.state ≡ true) }
         ensures memory { result ≡ Err StepError.Memory → self.old.spare < 4 }
         ensures err { OnErr result (self.new ≡ self.old) }
         ensures capacity { capacity_of self.old ≤ capacity_of self.new }

@@ -11,6 +11,7 @@ mod legs_by_value;
 mod machine;
 mod media;
 mod orders;
+mod record_room;
 mod reply_data;
 mod resending;
 mod ticking;

@@ -4,7 +4,7 @@ ghost use Rattle.iax_frames.specs.FullFrame.{spelling};
 ghost use Rattle.seq_window.specs.Record.{frame_of};
 ghost use Rattle.seq_window.specs.Window.{held_count, judged_acknowledgement};
 ghost use Rattle.call_signals.specs.PeerRules.{IsPeerRules};
-ghost use Rattle.leg_machine.specs.Leg.{local_room, is_short_of_entries};
+ghost use Rattle.leg_machine.specs.Leg.{local_room};
 ghost use Rattle.leg_machine.specs.Openings.{leg_for_call};
 ghost use Rattle.leg_machine.specs.Replies as replies;
 ghost use Rattle.leg_machine.specs.Working as steps;
@@ -13,7 +13,7 @@ use call_auth::Challenge;
 use call_signals::codes::{FRAME_IAX, IAX_ACK, IAX_VNAK};
 use call_signals::{
     Cause, Failure, Format, Formats, LocalNumber, Message, PeerRules, Replies, Reply, Stage,
-    StepError, ending_cause,
+    ending_cause,
 };
 use iax_frames::{CallNumber, Full, FullHead, Payload};
 use seq_window::{Acknowledged, FrameView, Window};
@@ -171,32 +171,6 @@ impl Machine {
         if self.stage.is_closing() && self.window.held_len() == 0 {
             self.enter(Stage::Ended);
         }
-    }
-
-    /// Whether the record is short of entries: fewer than four are free, which is what one event can need.
-    pub fn is_short_of_entries(&self) -> bool
-        ensures { result ≡ is_short_of_entries (leg_of self.now) }
-    {
-        self.window.free_entries() < 4
-    }
-
-    /// Makes room for what a full frame can add to the record: four entries.
-    ///
-    /// Refusals are looked for in this order: `RecordFull` where the record is short of entries, `Memory` where memory was
-    /// refused, which never comes with four spare entries. Then nothing is changed.
-    pub fn room_for_frame(&mut self) -> Result<(), StepError>
-        ensures leg { leg_of self.new ≡ leg_of self.old }
-        ensures room { OnOk result (HasRoom 4 self.new) }
-        ensures record_full { (result ≡ Err StepError.RecordFull) ↔ (is_short_of_entries (leg_of self.old) ≡ true) }
-        ensures memory { result ≡ Err StepError.Memory → self.old.window.spare < 4 }
-        ensures err { OnErr result (self.new ≡ self.old) }
-        ensures capacity { capacity_of (whole_leg self.old) ≤ capacity_of (whole_leg self.new) }
-    {
-        if self.is_short_of_entries() {
-            return Err(StepError::RecordFull);
-        }
-        self.window.reserve(4)?;
-        Ok(())
     }
 
     /// Judges the acknowledgement of a frame, ISeqno, and answers whether it counts ("Message Transport"). There is room for four

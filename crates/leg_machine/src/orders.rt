@@ -85,7 +85,7 @@ impl Machine {
     }
 
     /// Why a numbered frame can't go out now, memory aside: `WindowFull` where no fewer than `most` frames are held, then
-    /// `RecordFull` where fewer than four entries of the record are free.
+    /// `RecordFull` if the record is full.
     pub fn sending_refused(&self, most: usize) -> Option<OrderError>
         ensures refused { result ≡ orders.sending_refused (leg_of self.now) most }
         ensures room { IfNone result ((held_count self.now.window.state < most) ×
@@ -93,7 +93,7 @@ impl Machine {
     {
         if most <= self.window.held_len() {
             Some(OrderError::WindowFull)
-        } else if self.is_short_of_entries() {
+        } else if self.is_record_full() {
             Some(OrderError::RecordFull)
         } else {
             None
@@ -102,7 +102,7 @@ impl Machine {
 
     /// Makes room in the record for a numbered frame, which goes out while fewer than `most` frames are held.
     ///
-    /// Refusals are looked for in this order: `WindowFull`, `RecordFull` where fewer than four entries are free, and `Memory`,
+    /// Refusals are looked for in this order: `WindowFull`, `RecordFull` if the record is full, and `Memory`,
     /// which never comes with a spare entry. Then nothing is changed.
     pub fn room_for_sending(&mut self, most: usize) -> Result<(), OrderError>
         ensures leg { leg_of self.new ≡ leg_of self.old }

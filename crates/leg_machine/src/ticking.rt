@@ -2,7 +2,7 @@
 ghost use Rattle.std.specs.Prelude.{◌≡◌, ◌+◌, ◌<◌, ◌≤◌, ◌++◌, [], true, false, length, map};
 ghost use Rattle.iax_frames.specs.FullFrame.{spelling};
 ghost use Rattle.seq_window.specs.Window.{held_count, entry_count};
-ghost use Rattle.leg_machine.specs.Leg.{is_short_of_entries};
+ghost use Rattle.leg_machine.specs.Leg.{is_record_full};
 ghost use Rattle.leg_machine.specs.Ticks as ticks;
 
 use crate::machine::Machine;
@@ -40,7 +40,7 @@ impl Machine {
     /// Makes room for two entries where a HANGUP or a PING is due at the moment `now`, in milliseconds. Answers whether it did.
     pub fn grow(&mut self, now: u64) -> bool
         ensures leg { leg_of self.new ≡ leg_of self.old }
-        ensures room { result ≡ true → is_short_of_entries (leg_of self.new) ≡ false → HasRoom 2 self.new }
+        ensures room { result ≡ true → is_record_full (leg_of self.new) ≡ false → HasRoom 2 self.new }
         ensures had_room { 2 ≤ self.old.window.spare → result ≡ false →
             (ticks.must_hang_up (leg_of self.old) ≡ false) × (ticks.must_ping (leg_of self.old) now ≡ false) }
         ensures capacity { capacity_of (whole_leg self.old) ≤ capacity_of (whole_leg self.new) }
@@ -138,7 +138,7 @@ impl Machine {
     ///
     /// The answer is how many frames were due and had no memory.
     pub fn tick(&mut self, grown: bool, now: u64, outs: &mut Replies) -> u32
-        requires room { grown ≡ true → is_short_of_entries (leg_of self.old) ≡ false → HasRoom 2 self.old }
+        requires room { grown ≡ true → is_record_full (leg_of self.old) ≡ false → HasRoom 2 self.old }
         requires empty { outs.old ≡ [] }
         ensures leg { leg_of self.new ≡ (ticks.tick_step grown (leg_of self.old) now).leg }
         ensures replies { outs.new ≡ map spelling (ticks.tick_step grown (leg_of self.old) now).replies }
@@ -148,8 +148,12 @@ impl Machine {
         if self.stage.is_ended() {
             return 0;
         }
-        if self.is_short_of_entries() {
+        if self.is_record_full() {
             self.fail(Failure::RecordFull);
+            return 0;
+        }
+        if self.is_overdue(now) {
+            self.fail(Failure::ChallengeTimeout);
             return 0;
         }
         self.due_frames(grown, now, outs)

@@ -1,3 +1,4 @@
+pub mod Followed
 pub mod Looked
 pub mod Notes
 pub mod Stepped

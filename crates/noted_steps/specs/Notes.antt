@@ -22,6 +22,7 @@ if_made (Err refusal) = 0
 abbrev pub steps_of : Made → ℕ
 steps_of (mades.Datagram peer octets now answer onwards) = if_made answer
 steps_of (mades.OpenIn peer name head payload now challenge answer onwards) = if_made answer
+steps_of (mades.RejectNew peer head payload answer) = if_made answer
 steps_of (mades.OpenOut peer name called caller format now answer) = if_made answer
 steps_of (mades.Order peer name order media now answer) = if_made answer
 steps_of (mades.Tick peer now answer) = if_made answer

@@ -20,6 +20,7 @@ has_skipped (Err spent) = false
 abbrev pub with_made : Made → List Bool → List Bool
 with_made (mades.Datagram peer octets now answer onwards) peers = set peers peer true
 with_made (mades.OpenIn peer name head payload now challenge answer onwards) peers = set peers peer true
+with_made (mades.RejectNew peer head payload answer) peers = set peers peer true
 with_made (mades.OpenOut peer name called caller format now answer) peers = set peers peer true
 with_made (mades.Order peer name order media now answer) peers = set peers peer true
 with_made (mades.Retire peer name leg) peers = set peers peer true

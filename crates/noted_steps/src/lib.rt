@@ -1,6 +1,7 @@
 //! The states that lie behind locks, whose every step is noted under the pass that it is made with.
 #![tactic(auto)]
 
+pub mod laws;
 mod made;
 mod noted_book;
 mod noted_peer;

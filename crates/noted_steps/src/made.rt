@@ -10,7 +10,8 @@ use call_book::{BridgeError, Lease, LegName, ReserveError, Stale};
 use iax_frames::FullHead;
 use leg_machine::{Caller, Format, OrderKind};
 use peer_lock::{
-    EndedLeg, Onwards, OpenError, OrderError, PeerError, Status, Step, StepsSpent, TickReport,
+    EndedLeg, Onwards, OpenError, OrderError, PeerError, RejectError, Status, Step, StepsSpent,
+    TickReport,
 };
 
 /// What was asked of a locked state, and what it answered. A peer is its place in the plan; moments are in milliseconds.
@@ -30,6 +31,8 @@ pub enum Made {
         Result<Step, OpenError>,
         Seen<Onwards>,
     ),
+    /// A NEW that came is rejected by a peer, for want of a number: the frame's head and data, and the answer.
+    RejectNew(u16, FullHead, Octets, Result<Step, RejectError>),
     /// A NEW of ours opens a leg of a peer: the name, the number that is called, who calls, the format, the moment, and the
     /// answer.
     OpenOut(u16, LegName, Octets, Seen<Caller>, Format, u64, Result<Step, OpenError>),

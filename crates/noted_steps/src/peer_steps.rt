@@ -12,6 +12,7 @@ ghost use Rattle.peer_lock.specs.Rests.{is_quiet};
 ghost use Rattle.peer_lock.specs.Arrivals.{datagram_refused, datagram_step};
 ghost use Rattle.peer_lock.specs.Makes.{IsDue, IsUnchanged, Makes};
 ghost use Rattle.peer_lock.specs.Openings.{IsOpenRefusal, IsOpening, open_in_refused, open_out_refused, opens_in, opens_out};
+ghost use Rattle.peer_lock.specs.Openings.{reject_new_refused, rejects_new};
 ghost use Rattle.peer_lock.specs.Orders.{IsOrderRefusal, order_octets, order_refused_by, ordered_step};
 ghost use Rattle.peer_lock.specs.Peer.{leg_alone, without_leg};
 ghost use Rattle.peer_lock.specs.Statuses.{IsHistory, facts_of, is_done, status_of};
@@ -33,8 +34,8 @@ use call_book::{Lease, LegName};
 use iax_frames::Full;
 use leg_machine::{Caller, Format, Order};
 use peer_lock::{
-    EndedLeg, Naming, Onwards, OpenError, OrderError, PeerError, ReadDatagram, Status, Step,
-    StepsSpent, TickReport,
+    EndedLeg, Naming, Onwards, OpenError, OrderError, PeerError, ReadDatagram, RejectError, Status,
+    Step, StepsSpent, TickReport,
 };
 
 // The octets of an order's media; of another order none.
@@ -147,6 +148,35 @@ impl<J: Naming> NotedPeer<J> {
             Seen::of(challenge),
             told(&answer),
             handed,
+        );
+        push(&mut pass.made, made);
+        pass.stepped.step(self.number);
+        answer
+    }
+
+    /// A NEW that came is rejected, since no number is free for its leg: one step without a leg ("REJECT"). It is one that
+    /// `datagram_read` answers by `NeedsNumber`. It is noted, with the answer.
+    ///
+    /// Refusals are looked for in this order: `Unanswered`, `StepsSpent`, `RemoteBusy`. Then the peer and the credit are as
+    /// before.
+    #[tactic(auto, using(crate::proofs::Counted::steps_in_longer, crate::proofs::Stepping::with_longer))]
+    pub fn reject_new(&mut self, pass: &mut Pass<J>, frame: &Full) -> Result<Step, RejectError>
+        requires { IsOpening frame.now }
+        ensures noted { Notes (mades.RejectNew self.old.number frame.now.head frame.now.payload result) pass.old pass.new }
+        ensures number { self.new.number ≡ self.old.number }
+        ensures peer { OnOk result (self.new.state ≡ (rejects_new self.old.state frame.now).peer) }
+        ensures step { IfOk result (λ step. step ≡ (rejects_new self.old.state frame.now).step) }
+        ensures credit { OnOk result (pass.new.credit ≡ with_step pass.old.credit 0) }
+        ensures unrefused { OnOk result (reject_new_refused self.old.state J.first_steps frame.now.head.source ≡ None) }
+        ensures refused { IfErr result (λ e. Some e ≡ reject_new_refused self.old.state J.first_steps frame.now.head.source) }
+        ensures err { OnErr result ((self.new.state ≡ self.old.state) × (pass.new.credit ≡ pass.old.credit)) }
+    {
+        let answer = self.state.reject_new(&mut pass.credits, frame);
+        let made = Made::RejectNew(
+            self.number,
+            frame.head(),
+            Octets::of(frame.payload()),
+            answer,
         );
         push(&mut pass.made, made);
         pass.stepped.step(self.number);

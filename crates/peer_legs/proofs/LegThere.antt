@@ -1,6 +1,7 @@
 -- A leg that changed, or came, stands under its number.
 use Rattle.std.proofs.Common.{◌≡◌, ◌+◌, ◌-◌, ◌≤◌, ℕ, Option, Some, None, Result, Ok, Err, IfOk, OnOk, slice_get, slice_set, ap, true, ◌∙◌, arith}
 use Rattle.std.proofs.lemmas.Option.{slice_get_within}
+use Rattle.std.proofs.lemmas.Result.{on_ok_weaker}
 use Rattle.leg_machine.specs.Leg.{LegState}
 use Rattle.peer_legs.specs.Finding.{can_reach}
 use Rattle.peer_legs.specs.Legs.{NamedLeg, PeerLegs, AreLegs, is_from, leg_at, with_leg}
@@ -19,6 +20,13 @@ kept_there legs number named leg are at =
     (ap (λ p. slice_get (slice_set legs.places p (Some (record { name = named.name; leg = leg }))) (number - legs.first)) is
     ∙ slice_get-set_same legs.places (number - legs.first) (Some (record { name = named.name; leg = leg }))
     (slice_get_within legs.places (number - legs.first) (Some named) here.place))
+
+-- .. and so where a step was made
+pub made_there : {T E : Type 0} (result : Result T E) (legs after : PeerLegs) (number : ℕ) (named : NamedLeg) (step : LegState → LegState) → AreLegs legs
+    → leg_at legs number ≡ Some named → OnOk result (after ≡ with_leg legs named.name (step named.leg))
+    → OnOk result (leg_at after number ≡ Some (record { name = named.name; leg = step named.leg }))
+made_there result legs after number named step are at made =
+    on_ok_weaker result (λ is. ap (λ (all : PeerLegs). leg_at all number) is ∙ kept_there legs number named (step named.leg) are at) made
 
 -- a frame that can reach a leg is from its other side
 pub from_reached : (legs : PeerLegs) (source : ℕ) (place : Option NamedLeg) (named : NamedLeg) → can_reach legs source place ≡ true

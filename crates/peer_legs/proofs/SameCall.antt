@@ -9,7 +9,7 @@ use Rattle.seq_window.specs.declared.judgements.Resent.TheVariants as resents
 use Rattle.seq_window.specs.Window.{held_count, judged_acknowledgement}
 use Rattle.leg_machine.specs.Effects.{marked}
 use Rattle.leg_machine.specs.LegTable.{effect_of}
-use Rattle.leg_machine.specs.Leg.{LegState, entered, failed, is_short_of_entries}
+use Rattle.leg_machine.specs.Leg.{LegState, entered, failed, must_end, end_failure}
 use Rattle.leg_machine.specs.Media.{after_media, media_sent}
 use Rattle.leg_machine.specs.Message.{message_of, is_inval, is_vnak}
 use Rattle.leg_machine.specs.OrderTable.{order_row, row_carried, order_carried}
@@ -18,7 +18,6 @@ use Rattle.leg_machine.specs.Stage.{is_closing, is_ended}
 use Rattle.leg_machine.specs.Ticks.{Tick, quiet, hang_up_step, ping_step, last_step, due_frames, tick_step}
 use Rattle.leg_machine.specs.Tries.{Tried, tries, one_try, after_try}
 use Rattle.leg_machine.specs.Working.{learnt, settled, acknowledged, counts, wants_vnak, end_noted, brings_oldest, vnak_noted, heeds_inval}
-use Rattle.call_signals.specs.declared.failure.Failure.TheVariants.{RecordFull}
 use Rattle.call_signals.specs.declared.effects.Answering.{Answering}
 use Rattle.call_signals.specs.declared.effects.Answering.TheVariants.{Acknowledged as Acks, Answered, Silent}
 use Rattle.call_signals.specs.declared.effects.Effect.{Effect}
@@ -198,10 +197,10 @@ same_due grown leg now =
     (same_last grown tried.spent tried.leg now)
 
 abbrev unended_step : Bool → LegState → ℕ → Tick
-unended_step grown leg now = if is_short_of_entries leg then quiet (failed leg RecordFull) else due_frames grown leg now
+unended_step grown leg now = if must_end leg now then quiet (failed leg (end_failure leg)) else due_frames grown leg now
 
 pub same_tick : (grown : Bool) (leg : LegState) (now : ℕ) → IsSameCall leg (tick_step grown leg now).leg
 same_tick grown leg now =
     chosen (λ (t : Tick). IsSameCall leg t.leg) (is_ended leg.stage) (quiet leg) (unended_step grown leg now) (same leg)
-    (chosen (λ (t : Tick). IsSameCall leg t.leg) (is_short_of_entries leg) (quiet (failed leg RecordFull)) (due_frames grown leg now)
+    (chosen (λ (t : Tick). IsSameCall leg t.leg) (must_end leg now) (quiet (failed leg (end_failure leg))) (due_frames grown leg now)
     (record { number = refl; remote = refl; ruled = record { rules = refl; width = refl; limit = refl } }) (same_due grown leg now))

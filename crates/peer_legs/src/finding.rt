@@ -1,6 +1,6 @@
 //! Which leg of a peer a full frame goes to, and which names are free ("Full Frames", "Call Setup").
 ghost use Rattle.std.specs.Prelude.{◌≡◌, ◌↔◌, true, None, Some, IfSome, IsNone, IsSome};
-ghost use Rattle.leg_machine.specs.Leg.{is_short_of_entries};
+ghost use Rattle.leg_machine.specs.Leg.{is_record_full};
 ghost use Rattle.peer_legs.specs.Finding.{can_reach, is_reached, found};
 ghost use Rattle.peer_legs.specs.Legs.{NamedLeg as NamedLegValue, is_free_name, leg_at};
 
@@ -20,12 +20,12 @@ impl PeerLegs {
         }
     }
 
-    /// Whether the record of the leg that has this local number is short of entries.
-    pub fn is_short(&self, number: u16) -> bool
+    /// Whether the record of the leg that has this local number is full.
+    pub fn is_record_full(&self, number: u16) -> bool
         requires { IsSome (leg_at self.now number) }
-        ensures { (named : NamedLegValue) → leg_at self.now number ≡ Some named → result ≡ is_short_of_entries named.leg }
+        ensures { (named : NamedLegValue) → leg_at self.now number ≡ Some named → result ≡ is_record_full named.leg }
     {
-        self.get(number).unwrap().leg().is_short_of_entries()
+        self.get(number).unwrap().leg().is_record_full()
     }
 
     /// The local number of the leg to which a full frame goes ("Full Frames", "Call Setup"): that of its destination, where the

@@ -5,7 +5,7 @@ ghost use Rattle.std.specs.Prelude.{slice_get, slice_set, true, Some, Err, [], I
 ghost use Rattle.std.specs.Prelude.{IsSome, OnErr, OnOk};
 ghost use Rattle.call_signals.specs.declared.rules.PeerRules.{PeerRules};
 ghost use Rattle.iax_frames.specs.FullFrame.{spelling};
-ghost use Rattle.leg_machine.specs.Leg.{is_short_of_entries};
+ghost use Rattle.leg_machine.specs.Leg.{is_record_full};
 ghost use Rattle.leg_machine.specs.Media.{media_sent, after_media, media_frames};
 ghost use Rattle.leg_machine.specs.OrderTable.{order_refused, media_refused, is_voice, wants_memory, IsShortMedia};
 ghost use Rattle.leg_machine.specs.OrderTable.{order_carried};
@@ -28,7 +28,7 @@ impl PeerLegs {
     /// leg stands under its number still. The frame's source can reach that leg, and its data has at most 1,388 octets. What is
     /// sent is written to the empty list.
     ///
-    /// Refusals are looked for in this order: `RecordFull` where fewer than four entries of the leg's record are free, whatever
+    /// Refusals are looked for in this order: `RecordFull` if the leg's record is full, whatever
     /// the frame is, then `Memory`. Then the legs are as before.
     pub fn full(
         &mut self,
@@ -52,7 +52,7 @@ impl PeerLegs {
         ensures there { OnOk result ((named : NamedLegValue) → leg_at self.old number ≡ Some named
             → leg_at self.new number ≡ Some (record { name = named.name; leg = (full_step named.leg frame.now now).leg })) }
         ensures record_full { (named : NamedLegValue) → leg_at self.old number ≡ Some named →
-            (result ≡ Err StepError.RecordFull) ↔ (is_short_of_entries named.leg ≡ true) }
+            (result ≡ Err StepError.RecordFull) ↔ (is_record_full named.leg ≡ true) }
         ensures none_sent { OnErr result (replies.new ≡ replies.old) }
     {
         let index = self.place_of(number);

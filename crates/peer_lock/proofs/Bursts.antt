@@ -1,6 +1,6 @@
 -- What media adds to that which is to be sent.
 use Rattle.std.specs.Prelude.{map}
-use Rattle.std.proofs.Common.{◌≡◌, ◌≤◌, ℕ, ◌+◌, ◌&&◌, Bool, true, false, cond, List, [], ◌∷◌, ◌++◌, Option, None, Some, length, take, drop, ap, refl, ◌∙◌, arith}
+use Rattle.std.proofs.Common.{◌≡◌, ◌≤◌, ℕ, ◌+◌, ◌&&◌, Bool, true, false, List, [], ◌∷◌, ◌++◌, Option, None, Some, length, ap, refl, ◌∙◌, arith}
 use Rattle.std.proofs.lemmas.List.{drop_all, length-append, length-take}
 use Rattle.call_book.specs.declared.leg_name.LegName.{LegName}
 use Rattle.call_signals.specs.Order.{kind_of}
@@ -15,7 +15,7 @@ use Rattle.leg_machine.specs.declared.media.MediaSent.TheVariants as sent
 use Rattle.outbox.specs.Outbox.{OutboxView, put, lose}
 use Rattle.peer_accounts.specs.declared.account.Carried.TheVariants.{Packed, Queued, Dropped}
 use Rattle.peer_legs.specs.Legs.{NamedLeg, leg_named}
-use Rattle.peer_lock.specs.Orders.{ordered_if, ordered_step, carries_media, counted_media, short_media, waiting_media, queued_media, carried_media, with_entry, with_media}
+use Rattle.peer_lock.specs.Orders.{ordered_if, ordered_step, carries_media, short_media, waiting_media, queued_media, carried_media, with_entry, with_media}
 use Rattle.peer_lock.specs.Peer.{PeerView, flushed_if, to_send, with_datagram, with_sent}
 use Rattle.peer_lock.specs.Trunks.{has_any, goes_ahead, begins_next, is_full_for}
 use Rattle.peer_lock.proofs.Choices.{either}
@@ -26,10 +26,10 @@ pub record Adds (n : ℕ) (old new : PeerView) : Type 0 where
   pub most : to_send new ≤ to_send old + n
   pub kept : to_send old + n ≤ 256 → new.outbox.lost ≡ old.outbox.lost
 
-none_added : (peer : PeerView) → Adds 0 peer peer
+pub none_added : (peer : PeerView) → Adds 0 peer peer
 none_added peer = record { most = omega arith; kept = λ _. refl }
 
-then_adds : (n m : ℕ) (a b c : PeerView) → Adds n a b → Adds m b c → Adds (n + m) a c
+pub then_adds : (n m : ℕ) (a b c : PeerView) → Adds n a b → Adds m b c → Adds (n + m) a c
 then_adds n m a b c first second = record {
   most = omega (arith, first.most, second.most);
   kept = λ fits. second.kept (omega (arith, first.most, fits)) ∙ first.kept (omega (arith, fits));
@@ -44,7 +44,7 @@ put_kept : (outbox : OutboxView) (datagrams : List (List ℕ)) → length outbox
 put_kept outbox datagrams fits =
     ap (lose outbox.lost) (drop_all 256 (outbox.waiting ++ datagrams) (omega (arith, length-append outbox.waiting datagrams, fits)))
 
-put_adds : (peer : PeerView) (datagrams : List (List ℕ)) → Adds (length datagrams) peer (record peer { outbox = put peer.outbox datagrams })
+pub put_adds : (peer : PeerView) (datagrams : List (List ℕ)) → Adds (length datagrams) peer (record peer { outbox = put peer.outbox datagrams })
 put_adds peer datagrams = record {
   most = omega (arith, put_most peer.outbox datagrams);
   kept = λ fits. put_kept peer.outbox datagrams (omega (arith, fits));
@@ -53,7 +53,7 @@ put_adds peer datagrams = record {
 -- ---- the queue
 
 -- the queue is one datagram before and after it goes out
-flush_adds : (goes : Bool) (peer : PeerView) (queue : List QueueEntry) → Adds 0 (record peer { queue = queue }) (flushed_if goes (record peer { queue = queue }))
+pub flush_adds : (goes : Bool) (peer : PeerView) (queue : List QueueEntry) → Adds 0 (record peer { queue = queue }) (flushed_if goes (record peer { queue = queue }))
 flush_adds false peer queue = none_added (record peer { queue = queue })
 flush_adds true peer [] = none_added (record peer { queue = [] })
 flush_adds true peer (e ∷ queue) =
@@ -63,14 +63,14 @@ flush_adds true peer (e ∷ queue) =
       kept = λ fits. put_kept peer.outbox datagrams (omega (arith, fits));
     }
 
-sent_adds : (peer : PeerView) (number : ℕ) (datagrams : List (List ℕ)) → Adds (length datagrams) peer (with_sent peer number datagrams)
+pub sent_adds : (peer : PeerView) (number : ℕ) (datagrams : List (List ℕ)) → Adds (length datagrams) peer (with_sent peer number datagrams)
 sent_adds peer number datagrams =
     let goes = has_any datagrams && goes_ahead peer.rules peer.queue number in
     let added = then_adds 0 (length datagrams) peer (flushed_if goes peer) (with_sent peer number datagrams)
     (flush_adds goes peer peer.queue) (put_adds (flushed_if goes peer) datagrams) in
     record { most = omega (arith, added.most); kept = λ fits. added.kept (omega (arith, fits)) }
 
-has_more : (queue : List QueueEntry) (e : QueueEntry) → has_any (queue ++ e ∷ []) ≡ true
+pub has_more : (queue : List QueueEntry) (e : QueueEntry) → has_any (queue ++ e ∷ []) ≡ true
 has_more [] e = refl
 has_more (x ∷ queue) e = refl
 
@@ -101,7 +101,7 @@ short_adds peer number timestamp media now =
     (then_adds 0 1 peer (flushed_if next peer) (waiting_media peer entry now) (flush_adds next peer peer.queue) (queued_adds (flushed_if next peer) entry now))
     (record { most = added.most; kept = added.kept })
 
-media_adds : (how : MediaSent) (peer : PeerView) (named : NamedLeg) (media : List ℕ) (now : ℕ) → Adds 1 peer (carries_media how peer named media now)
+pub media_adds : (how : MediaSent) (peer : PeerView) (named : NamedLeg) (media : List ℕ) (now : ℕ) → Adds 1 peer (carries_media how peer named media now)
 media_adds sent.Quelched peer named media now =
     let added = sent_adds peer named.name.number [] in
     record { most = omega (arith, added.most); kept = λ fits. added.kept (omega (arith, fits)) }

@@ -2,6 +2,7 @@ pub mod Bursts
 pub mod Carrying
 pub mod Choices
 pub mod Entries
+pub mod FewAgain
 pub mod Kept
 pub mod NoneDropped
 pub mod NumberTicks
@@ -10,6 +11,8 @@ pub mod Packing
 pub mod Reached
 pub mod Refusing
 pub mod Resting
+pub mod Room
+pub mod RoomSteps
 pub mod SeenArrivals
 pub mod SeenChanges
 pub mod SeenSteps
@@ -20,3 +23,4 @@ pub mod SidesSent
 pub mod SidesTicks
 pub mod Ticking
 pub mod Trunks
+pub mod UnknownCalls

@@ -1,6 +1,6 @@
 -- In plan format 4 a full trunk queue drops nothing: it goes out first.
-use Rattle.std.specs.Prelude.{nat_le, nat_lt, not, ◌||◌, ◌≢◌, map}
-use Rattle.std.proofs.Common.{◌≡◌, ◌≤◌, ◌<◌, ℕ, ◌+◌, ◌&&◌, Bool, true, false, cond, inl, inr, List, [], ◌∷◌, ◌++◌, Option, None, Some, length, ap, sym, refl, subst, ◌∙◌, arith}
+use Rattle.std.specs.Prelude.{nat_lt, not, ◌||◌, ◌≢◌}
+use Rattle.std.proofs.Common.{◌≡◌, ◌≤◌, ℕ, ◌+◌, ◌&&◌, Bool, true, false, cond, inl, inr, List, [], ◌∷◌, Option, Some, length, ap, refl, ◌∙◌, arith}
 use Rattle.std.proofs.lemmas.Bool.{cases_Bool, ltb-true}
 use Rattle.call_book.specs.declared.leg_name.LegName.{LegName}
 use Rattle.call_signals.specs.declared.order.Order.{Order}
@@ -30,7 +30,7 @@ has_room octets short = elim (cases_Bool (nat_lt 16384 (0 + octets))) [
   | inr e ↦ e
 ]
 
-not_full : (rules : PeerRules) (queue : List QueueEntry) (number octets : ℕ) → waits rules ≡ true → octets ≤ 1380
+pub not_full : (rules : PeerRules) (queue : List QueueEntry) (number octets : ℕ) → waits rules ≡ true → octets ≤ 1380
     → is_full_for (queue_after (begins_next rules queue number octets) queue) octets ≡ false
 not_full rules queue number octets waiting short = elim (cases_Bool (begins_next rules queue number octets)) [
   | inl e ↦ rw e (emptied queue)

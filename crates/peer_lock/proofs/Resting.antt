@@ -1,5 +1,5 @@
 -- A tick that has nothing to do leaves a peer as it is.
-use Rattle.std.proofs.Common.{◌≡◌, ◌≤◌, ◌<◌, ℕ, ◌+◌, ◌&&◌, Bool, true, false, inl, inr, List, [], ◌∷◌, ◌++◌, Option, None, Some, length, ap, sym, refl, subst, ◌∙◌, arith}
+use Rattle.std.proofs.Common.{◌≡◌, ℕ, ◌+◌, ◌&&◌, Bool, true, false, inl, inr, List, [], ◌∷◌, Option, None, Some, length, ap, sym, refl, subst, ◌∙◌, arith}
 use Rattle.std.specs.Prelude.{is_some, nat_lt}
 use Rattle.std.proofs.lemmas.List.{append-nil}
 use Rattle.outbox.specs.Outbox.{put, extended}

@@ -1,6 +1,6 @@
 -- What is seen of a step in which a datagram comes.
 use Rattle.std.specs.Prelude.{◌&&◌, option_map, map}
-use Rattle.std.proofs.Common.{◌≡◌, ℕ, ◌+◌, ◌==◌, nat_le, Bool, true, false, cond, inl, inr, List, [], ◌∷◌, ◌++◌, Option, Some, None, refl, sym, ap, ◌∙◌}
+use Rattle.std.proofs.Common.{◌≡◌, ℕ, ◌+◌, ◌==◌, nat_le, Bool, true, false, inl, inr, List, [], ◌∷◌, ◌++◌, Option, Some, None, refl, sym, ap, ◌∙◌}
 use Rattle.std.proofs.lemmas.Bool.{cases_Bool}
 use Rattle.std.proofs.lemmas.List.{append_assoc}
 use Rattle.call_book.specs.declared.leg_name.LegName.{LegName}
@@ -8,10 +8,8 @@ use Rattle.iax_frames.specs.FullFrame.{FullFrame}
 use Rattle.iax_frames.specs.declared.datagram.Datagram.{Datagram}
 use Rattle.iax_frames.specs.declared.datagram.Datagram.TheVariants.{Full, Mini, Video, Trunk}
 use Rattle.iax_frames.specs.TrunkFrame.{entry_item, is_timed}
-use Rattle.iax_frames.specs.declared.full_frame.FullHead.{FullHead}
 use Rattle.leg_machine.specs.Leg.{LegState}
 use Rattle.leg_machine.specs.Media.{accepts_media, took_voice}
-use Rattle.leg_machine.specs.Message.{message_of, is_numbered}
 use Rattle.leg_machine.specs.Seen.{SeenLeg, SeenFrame, Plain, ProvesItself, FailsToProve, AcceptsCall, RejectsCall, BreaksOff, Indicates, AnswersCall, Dials, Speaks, HangsUp, AcknowledgesAll, seen, moved, frame_effect, IsSeenFrame}
 use Rattle.leg_machine.specs.LegTable.{is_media}
 use Rattle.leg_machine.specs.Signal.{span_len}
@@ -24,12 +22,13 @@ use Rattle.call_signals.specs.declared.stage.Stage.{Stage}
 use Rattle.call_signals.specs.declared.stage.Stage.TheVariants as stages
 use Rattle.peer_lock.specs.Arrivals.{delivered_step, reached_step, datagram_step, media_at, mini_span, entries_media, entry_span}
 use Rattle.peer_legs.specs.Finding.{found, if_reached, is_reached}
-use Rattle.peer_lock.specs.Delivery.{Delivery, NeedsNumber, Gets, NoCall, delivered, inval_for, pong_for, unknown_call, is_new, is_poke}
+use Rattle.peer_lock.specs.Delivery.{Delivery, NeedsNumber, Gets, NoCall, delivered, inval_for, pong_for, regrej_for, unknown_call}
 use Rattle.peer_legs.specs.Legs.{NamedLeg, PeerLegs, AreLegs, leg_at, leg_of_remote}
 use Rattle.peer_accounts.specs.Grants.{granted}
 use Rattle.peer_lock.specs.Peer.{PeerView, PeerStep, handed_up}
 use Rattle.peer_lock.specs.Seen.{seen_named, seen_at, Brings, IsSeenDatagram, media_up, all_media}
-use Rattle.peer_lock.proofs.Choices.{either}
+use Rattle.peer_lock.specs.declared.unknown_calls.Answer.{Answer}
+use Rattle.peer_lock.proofs.UnknownCalls.{of_each}
 use Rattle.peer_lock.proofs.SeenChanges.{leg_turns, own_number, remote_named}
 
 -- what a leg's law says of full frames
@@ -125,21 +124,16 @@ reached_seen law first peer named frame now at =
 nothing_seen : (old : PeerLegs) (step : PeerStep) → step.peer.legs ≡ old → step.signals ≡ [] → step.step.touched ≡ None → IsSeenDatagram old step
 nothing_seen old step same none untouched = inr (record { same = same; media = []; signals = none; touched = untouched })
 
-unknown_seen : (first : ℕ) (peer : PeerView) (frame : FullFrame) (now : ℕ) → IsSeenDatagram peer.legs (delivered_step first peer (unknown_call peer.rules.poke frame) frame now)
+unknown_seen : (first : ℕ) (peer : PeerView) (frame : FullFrame) (now : ℕ) → IsSeenDatagram peer.legs (delivered_step first peer (unknown_call peer.rules frame) frame now)
 unknown_seen first peer frame now =
     let P : Delivery → Type 0 = λ d. IsSeenDatagram peer.legs (delivered_step first peer d frame now) in
     let needs : P NeedsNumber = nothing_seen peer.legs _ refl refl refl in
-    let gets : (answer : FullHead) → P (Gets answer) = λ answer. nothing_seen peer.legs _ refl refl refl in
+    let gets : (answer : Answer) → P (Gets answer) = λ answer. nothing_seen peer.legs _ refl refl refl in
     let no_call : P NoCall = nothing_seen peer.legs _ refl refl refl in
-    let poked = cond (peer.rules.poke && is_poke (message_of frame.head)) (Gets (pong_for frame.head)) NoCall in
-    either P (frame.head.destination == 0) (cond (is_new (message_of frame.head) && (frame.head.oseqno == 0)) NeedsNumber poked)
-    (cond (is_numbered (message_of frame.head)) (Gets (inval_for frame.head)) NoCall)
-    (either P (is_new (message_of frame.head) && (frame.head.oseqno == 0)) NeedsNumber poked needs
-    (either P (peer.rules.poke && is_poke (message_of frame.head)) (Gets (pong_for frame.head)) NoCall (gets (pong_for frame.head)) no_call))
-    (either P (is_numbered (message_of frame.head)) (Gets (inval_for frame.head)) NoCall (gets (inval_for frame.head)) no_call)
+    of_each P peer.rules frame needs no_call (gets (inval_for frame.head)) (gets (pong_for frame.head)) (gets (regrej_for frame.head))
 
 full_seen : (law : FramesAreSeen) (first : ℕ) (peer : PeerView) (frame : FullFrame) (now : ℕ) (o : Option NamedLeg) → AreLegs peer.legs → found peer.legs frame ≡ o
-    → IsSeenDatagram peer.legs (delivered_step first peer (delivered peer.rules.poke o frame) frame now)
+    → IsSeenDatagram peer.legs (delivered_step first peer (delivered peer.rules o frame) frame now)
 full_seen law first peer frame now (Some named) are is = inl (reached_seen law first peer named frame now (found_named peer.legs frame named are is))
 full_seen law first peer frame now None are is = unknown_seen first peer frame now
 

@@ -1,6 +1,6 @@
 -- The steps of a peer but its ticks, as steps of sides of networks.
 use Rattle.std.specs.Prelude.{◌&&◌, map}
-use Rattle.std.proofs.Common.{◌≡◌, ◌^◌, ℕ, ◌-◌, ◌<◌, ◌==◌, ◌⊎◌, true, All, inl, inr, List, [], ◌∷◌, length, Option, Some, None, cond, refl, ap, sym, subst, ◌∙◌, arith}
+use Rattle.std.proofs.Common.{◌≡◌, ◌^◌, ℕ, ◌-◌, ◌<◌, ◌==◌, ◌⊎◌, true, All, inl, inr, List, [], ◌∷◌, length, Option, Some, None, refl, ap, sym, subst, ◌∙◌, arith}
 use Rattle.std.proofs.lemmas.Bool.{cases_Bool}
 use Rattle.call_book.specs.declared.leg_name.LegName.{LegName}
 use Rattle.call_signals.specs.declared.format.Format.{Format}
@@ -13,7 +13,6 @@ use Rattle.iax_frames.specs.declared.datagram.Datagram.{Datagram}
 use Rattle.iax_frames.specs.declared.datagram.Datagram.TheVariants.{Full, Mini, Video, Trunk}
 use Rattle.leg_machine.specs.Leg.{LegState}
 use Rattle.leg_machine.specs.Media.{media_sent}
-use Rattle.leg_machine.specs.Message.{message_of, is_numbered}
 use Rattle.leg_machine.specs.Openings.{open_in_step, open_out_step}
 use Rattle.leg_machine.specs.OrderTable.{media_datagrams, order_carried}
 use Rattle.leg_machine.specs.Steps.{full_step}
@@ -26,7 +25,7 @@ use Rattle.peer_legs.specs.Legs.{NamedLeg, is_free_name, leg_at, leg_named, with
 use Rattle.peer_legs.proofs.PlaceLaws.{placed_there, stands_at}
 use Rattle.peer_legs.proofs.RuleChanges.{number_fits}
 use Rattle.peer_lock.specs.Arrivals.{datagram_step, delivered_step}
-use Rattle.peer_lock.specs.Delivery.{Delivery, NeedsNumber, Gets, NoCall, delivered, is_new, is_poke, inval_for, pong_for, unknown_call}
+use Rattle.peer_lock.specs.Delivery.{Delivery, NeedsNumber, Gets, NoCall, delivered, inval_for, pong_for, regrej_for, unknown_call}
 use Rattle.peer_lock.specs.Openings.{opens_in, opens_out}
 use Rattle.peer_lock.specs.Orders.{order_refused_by, refused_at, ordered_if, ordered_at, ordered_step, counted_media, short_media, queued_media, waiting_media, carried_media, with_media}
 use Rattle.peer_lock.specs.Peer.{PeerView, flushed_if, with_datagram, with_sent}
@@ -35,6 +34,7 @@ use Rattle.peer_lock.specs.SoundPeer.{IsSoundPeer}
 use Rattle.peer_lock.specs.Trunks.{has_any, flushes, goes_ahead, begins_next, is_full_for}
 use Rattle.trunk_packer.specs.Queue.{QueueEntry}
 use Rattle.peer_lock.proofs.Choices.{either}
+use Rattle.peer_lock.proofs.UnknownCalls.{of_each}
 use Rattle.peer_lock.proofs.Trunks.{Ahead, ahead_of, alone_of}
 use Rattle.outbox.specs.Outbox.{OutboxView}
 use Rattle.outbox.proofs.Puts.{put_both}
@@ -46,22 +46,18 @@ use Rattle.peer_lock.proofs.SeenSteps.{free_name, ordered_legs, unspent}
 
 module _ (turns : (leg : LegState) (frame : FullFrame) (now : ℕ) → TakesTurn leg frame (full_step leg frame now).leg)
     (sends : (leg : LegState) (frame : FullFrame) (now : ℕ) → SendsNumbered leg → HasSent (full_step leg frame now).leg (map spelling (full_step leg frame now).replies)) where
-  unknown_side : (first : ℕ) (peer : PeerView) (frame : FullFrame) (now : ℕ) → ComesToNone peer frame (delivered_step first peer (unknown_call peer.rules.poke frame) frame now).peer
+  unknown_side : (first : ℕ) (peer : PeerView) (frame : FullFrame) (now : ℕ) → ComesToNone peer frame (delivered_step first peer (unknown_call peer.rules frame) frame now).peer
   unknown_side first peer frame now =
       let P : Delivery → Type 0 = λ d. ComesToNone peer frame (delivered_step first peer d frame now).peer in
       let needs : P NeedsNumber = record { legs = refl; outbox = inl refl } in
       let inval : P (Gets (inval_for frame.head)) = record { legs = refl; outbox = inr (inl refl) } in
-      let pong : P (Gets (pong_for frame.head)) = record { legs = refl; outbox = inr (inr refl) } in
+      let pong : P (Gets (pong_for frame.head)) = record { legs = refl; outbox = inr (inr (inl refl)) } in
+      let regrej : P (Gets (regrej_for frame.head)) = record { legs = refl; outbox = inr (inr (inr refl)) } in
       let no_call : P NoCall = record { legs = refl; outbox = inl refl } in
-      let poked = cond (peer.rules.poke && is_poke (message_of frame.head)) (Gets (pong_for frame.head)) NoCall in
-      either P (frame.head.destination == 0) (cond (is_new (message_of frame.head) && (frame.head.oseqno == 0)) NeedsNumber poked)
-      (cond (is_numbered (message_of frame.head)) (Gets (inval_for frame.head)) NoCall)
-      (either P (is_new (message_of frame.head) && (frame.head.oseqno == 0)) NeedsNumber poked needs
-      (either P (peer.rules.poke && is_poke (message_of frame.head)) (Gets (pong_for frame.head)) NoCall pong no_call))
-      (either P (is_numbered (message_of frame.head)) (Gets (inval_for frame.head)) NoCall inval no_call)
+      of_each P peer.rules frame needs no_call inval pong regrej
 
   full_side : (first : ℕ) (peer : PeerView) (frame : FullFrame) (now : ℕ) (o : Option NamedLeg) → IsSoundPeer peer → found peer.legs frame ≡ o
-      → TakesTurnAtLeg peer frame (delivered_step first peer (delivered peer.rules.poke o frame) frame now).peer ⊎ ComesToNone peer frame (delivered_step first peer (delivered peer.rules.poke o frame) frame now).peer
+      → TakesTurnAtLeg peer frame (delivered_step first peer (delivered peer.rules o frame) frame now).peer ⊎ ComesToNone peer frame (delivered_step first peer (delivered peer.rules o frame) frame now).peer
   full_side first peer frame now None sound is = inr (unknown_side first peer frame now)
   full_side first peer frame now (Some named) sound is =
       let at = found_named peer.legs frame named sound.legs is in

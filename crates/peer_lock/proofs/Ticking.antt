@@ -4,7 +4,7 @@ use Rattle.iax_frames.specs.FullFrame.{spelling}
 use Rattle.std.proofs.Common.{◌≡◌, ◌≤◌, ℕ, zero, suc, ◌+◌, ◌<◌, Bool, true, false, List, [], ◌∷◌, ◌++◌, Option, Some, None, slice_get, slice_set, length, take, drop, cond, ◌==◌, ap, sym, subst, refl, ◌∙◌, arith}
 use Rattle.std.proofs.Math.Nat.{add_assoc}
 use Rattle.std.proofs.lemmas.List.{append_assoc, append-nil, length-append, take_all, drop_all, take-append-drop}
-use Rattle.leg_machine.specs.Leg.{LegState, entered, failed, is_short_of_entries}
+use Rattle.leg_machine.specs.Leg.{LegState, entered, failed, must_end, end_failure}
 use Rattle.leg_machine.specs.Stage.{is_ended}
 use Rattle.leg_machine.specs.Ticks.{Tick, quiet, sends_if, must_hang_up, hang_up_step, must_ping, pinged, ping_step, last_step, due_frames, tick_step, is_idle}
 use Rattle.leg_machine.specs.Tries.{tries}
@@ -63,9 +63,9 @@ few_due grown leg now =
 
 few_ticked : (grown : Bool) (leg : LegState) (now : ℕ) → (tick_step grown leg now).skipped ≤ 2
 few_ticked grown leg now =
-    either (λ (t : Tick). t.skipped ≤ 2) (is_ended leg.stage) (quiet leg) (cond (is_short_of_entries leg) (quiet (failed leg failures.RecordFull)) (due_frames grown leg now))
+    either (λ (t : Tick). t.skipped ≤ 2) (is_ended leg.stage) (quiet leg) (cond (must_end leg now) (quiet (failed leg (end_failure leg))) (due_frames grown leg now))
     (omega arith)
-    (either (λ (t : Tick). t.skipped ≤ 2) (is_short_of_entries leg) (quiet (failed leg failures.RecordFull)) (due_frames grown leg now) (omega arith) (few_due grown leg now))
+    (either (λ (t : Tick). t.skipped ≤ 2) (must_end leg now) (quiet (failed leg (end_failure leg))) (due_frames grown leg now) (omega arith) (few_due grown leg now))
 
 few_placed : (skipped : ℕ) (place : Option NamedLeg) (now : ℕ) → (place_tick skipped place now).skipped ≤ 2
 few_placed skipped None now = omega arith

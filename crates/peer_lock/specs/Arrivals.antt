@@ -5,7 +5,6 @@ use Rattle.iax_frames.specs.FullFrame.{FullFrame, spelling}
 use Rattle.iax_frames.specs.MiniFrame.{MiniFrame}
 use Rattle.iax_frames.specs.TrunkFrame.{TrunkFrame, is_timed, head_len, entry_item}
 use Rattle.iax_frames.specs.declared.datagram.Datagram.{Datagram}
-use Rattle.iax_frames.specs.declared.full_frame.FullHead.{FullHead}
 use Rattle.iax_frames.specs.declared.datagram.Datagram.TheVariants.{Full, Mini, Video, Trunk}
 use Rattle.leg_machine.specs.Media.{accepts_media}
 use Rattle.leg_machine.specs.Steps.{full_step}
@@ -13,12 +12,13 @@ use Rattle.call_signals.specs.declared.signal.MediaSpan.{MediaSpan}
 use Rattle.call_signals.specs.declared.signal.Signal.{Signal}
 use Rattle.call_signals.specs.declared.signal.Signal.TheVariants.{Media}
 use Rattle.peer_accounts.specs.Accounts.{stepped, with_accepted}
-use Rattle.peer_lock.specs.Delivery.{Delivery, Reaches, NeedsNumber, Gets, NoCall, delivery, full_refused}
+use Rattle.peer_lock.specs.Delivery.{Delivery, Reaches, NeedsNumber, Gets, NoCall, answer_octets, delivery, full_refused}
 use Rattle.peer_legs.specs.Legs.{PeerLegs, NamedLeg, leg_of_remote}
 use Rattle.peer_accounts.specs.Grants.{granted}
 use Rattle.peer_lock.specs.Peer.{PeerView, PeerStep, handed_up, offer_with, leg_alone, no_leg, alone, with_datagram, with_step}
 use Rattle.peer_lock.specs.declared.errors.PeerError.{PeerError}
 use Rattle.peer_lock.specs.declared.errors.PeerError.TheVariants as errors
+use Rattle.peer_lock.specs.declared.unknown_calls.Answer.{Answer}
 
 -- first: the octet credit with which every peer begins
 
@@ -36,14 +36,15 @@ reached_step first peer named frame now =
       octets = up.octets;
     }
 
--- a frame without data
-abbrev pub bare : FullHead → List ℕ
-bare head = spelling (record { head = head; payload = [] })
+-- a step without a leg, in which an answer goes out
+abbrev pub answering : PeerView → Answer → PeerStep
+answering peer answer =
+    record (alone (with_datagram peer (answer_octets answer))) { step = record no_leg { rejected = answer.rejected } }
 
 abbrev pub delivered_step : ℕ → PeerView → Delivery → FullFrame → ℕ → PeerStep
 delivered_step first peer (Reaches named) frame now = reached_step first peer named frame now
 delivered_step first peer NeedsNumber frame now = alone peer
-delivered_step first peer (Gets answer) frame now = alone (with_datagram peer (bare answer))
+delivered_step first peer (Gets answer) frame now = answering peer answer
 delivered_step first peer NoCall frame now = alone peer
 
 -- ---- media

@@ -3,6 +3,7 @@ pub mod CarriedMedia
 pub mod Delivery
 pub mod Descriptions
 pub mod Errors
+pub mod Loads
 pub mod Makes
 pub mod Openings
 pub mod Orders

@@ -1,4 +1,4 @@
--- The steps of a peer in which a leg is opened ("Call Setup").
+-- The steps of a peer in which a leg is opened ("Call Setup"), and that in which none is, for want of a number ("REJECT").
 use Rattle.std.specs.Prelude.{◌≡◌, ℕ, ◌==◌, not, is_some, true, List, [], Option, None, Some, map, if◌then◌else◌}
 use Rattle.call_book.specs.declared.leg_name.LegName.{LegName}
 use Rattle.iax_frames.specs.FullFrame.{FullFrame, spelling}
@@ -7,7 +7,8 @@ use Rattle.leg_machine.specs.Openings.{open_in_step, open_out_step}
 use Rattle.call_signals.specs.declared.format.Format.{Format}
 use Rattle.call_signals.specs.declared.outcomes.Judged.TheVariants.{Unnumbered}
 use Rattle.peer_accounts.specs.Accounts.{stepped}
-use Rattle.peer_lock.specs.Delivery.{is_new}
+use Rattle.peer_lock.specs.Arrivals.{answering}
+use Rattle.peer_lock.specs.Delivery.{is_new, reject_for}
 use Rattle.peer_legs.specs.Legs.{NamedLeg, leg_of_remote, with_place}
 pub use Rattle.peer_legs.specs.Legs.{is_free_name}
 use Rattle.outbox.specs.Outbox.{put}
@@ -15,6 +16,8 @@ use Rattle.peer_lock.specs.Peer.{PeerView, PeerStep, handed_up, offer_with, leg_
 use Rattle.peer_lock.specs.Unworked.{IsSoundFull}
 use Rattle.peer_lock.specs.declared.errors.OpenError.{OpenError}
 use Rattle.peer_lock.specs.declared.errors.OpenError.TheVariants as errors
+use Rattle.peer_lock.specs.declared.errors.RejectError.{RejectError}
+use Rattle.peer_lock.specs.declared.errors.RejectError.TheVariants as reject_errors
 
 -- a NEW that opens a leg: it has no destination and OSeqno 0, and a leg is looked for
 pub record IsOpening (frame : FullFrame) : Type 0 where
@@ -41,6 +44,14 @@ open_out_refused peer credit name =
 abbrev pub IsOpenRefusal : Option OpenError → OpenError → Type 0
 IsOpenRefusal (Some due) e = e ≡ due
 IsOpenRefusal None e = e ≡ errors.Memory
+
+-- why a NEW isn't rejected
+abbrev pub reject_new_refused : PeerView → ℕ → ℕ → Option RejectError
+reject_new_refused peer credit source =
+    if not peer.rules.is_hardened then Some reject_errors.Unanswered
+    else if peer.accounts.steps == credit then Some reject_errors.StepsSpent
+    else if is_some (leg_of_remote peer.legs source) then Some reject_errors.RemoteBusy
+    else None
 
 -- the peer with a new leg, by a step that is counted
 abbrev pub with_seated : PeerView → NamedLeg → PeerView
@@ -76,3 +87,7 @@ opens_out peer name called caller format now =
       offer = None;
       octets = 0;
     }
+
+-- a NEW is rejected, since no number is free
+abbrev pub rejects_new : PeerView → FullFrame → PeerStep
+rejects_new peer frame = answering peer (reject_for frame.head)

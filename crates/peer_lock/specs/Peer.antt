@@ -39,10 +39,10 @@ pub record PeerStep : Type 0 where
 
 -- no frame was judged, and no leg was concerned
 abbrev pub no_leg : Step
-no_leg = record { judged = Unnumbered; touched = None }
+no_leg = record { judged = Unnumbered; touched = None; rejected = None }
 
 abbrev pub leg_alone : LegName → Judged → Step
-leg_alone name judged = record { judged = judged; touched = Some name }
+leg_alone name judged = record { judged = judged; touched = Some name; rejected = None }
 
 -- ---- what is handed up
 

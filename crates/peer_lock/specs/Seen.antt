@@ -80,6 +80,12 @@ pub record OpensIn (old : PeerLegs) (name : LegName) (step : PeerStep) : Type 0 
   pub signals : step.signals ≡ handed_up name (opening_effect opening).signal
   pub touched : step.step.touched ≡ Some name
 
+-- a NEW is rejected: each leg stays as it is, and none is concerned
+pub record RejectsNew (old : PeerLegs) (step : PeerStep) : Type 0 where
+  pub same : step.peer.legs ≡ old
+  pub signals : step.signals ≡ []
+  pub touched : step.step.touched ≡ None
+
 -- a call goes out under a name whose number no leg has
 pub record OpensOut (old new : PeerLegs) (name : LegName) : Type 0 where
   pub peer : name.peer ≡ old.peer

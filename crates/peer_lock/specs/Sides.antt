@@ -3,7 +3,6 @@
 use Rattle.std.specs.Prelude.{◌≡◌, ◌⊎◌, ℕ, false, List, [], ◌∷◌, ◌++◌, All, Option, None, Some, slice_get}
 use Rattle.call_book.specs.declared.leg_name.LegName.{LegName}
 use Rattle.iax_frames.specs.FullFrame.{FullFrame, spelling}
-use Rattle.iax_frames.specs.declared.full_frame.FullHead.{FullHead}
 use Rattle.iax_frames.specs.MiniFrame.{MiniFrame, SpellsMini}
 use Rattle.call_signals.specs.Message.{message_of, is_inval}
 use Rattle.call_signals.specs.declared.rules.PeerRules.{PeerRules}
@@ -14,10 +13,10 @@ use Rattle.leg_machine.specs.Leg.{LegState}
 use Rattle.leg_machine.specs.Tie.{numbered_frame, TakesTurn, SendsAtMostOne, TakesFirstTurn, HasSentAtMostOne}
 use Rattle.leg_machine.specs.Tie.{IsSendingOf, IsSending, IsSendingOrMini}
 use Rattle.peer_legs.specs.Legs.{PeerLegs, NamedLeg, leg_at, with_leg, with_place}
-use Rattle.peer_lock.specs.Arrivals.{bare}
-use Rattle.peer_lock.specs.Delivery.{inval_for, pong_for}
+use Rattle.peer_lock.specs.Delivery.{answer_octets, inval_for, pong_for, regrej_for, reject_for}
 use Rattle.outbox.specs.Outbox.{put, extended}
 use Rattle.peer_lock.specs.Peer.{PeerView}
+use Rattle.peer_lock.specs.declared.unknown_calls.Answer.{Answer}
 use Rattle.trunk_packer.specs.Queue.{trunk_spelling}
 use Rattle.seq_window.specs.Network.{Action, SendNumbered, SendUnnumbered, Retransmit, JudgeAcknowledgement, JudgeNumber}
 use Rattle.seq_window.specs.Network.{Datagram as Sending, Side, actions_in_turn, after_all, empty_side, reply_actions}
@@ -49,14 +48,20 @@ pub record TakesTurnAtLeg (old : PeerView) (frame : FullFrame) (new : PeerView) 
   pub tied : TakesTurn named.leg frame leg
   pub sendings : All (IsSending leg) datagrams
 
--- the outbox has one frame more, without data
-abbrev pub SendsBare : PeerView → FullHead → PeerView → Type 0
-SendsBare old head new = new.outbox ≡ put old.outbox (bare head ∷ [])
+-- the outbox has one frame more, this answer
+abbrev pub SendsAnswer : PeerView → Answer → PeerView → Type 0
+SendsAnswer old answer new = new.outbox ≡ put old.outbox (answer_octets answer ∷ [])
 
--- a full frame comes to no leg: none changes, and at most an INVAL goes out, or the PONG for a POKE
+-- a full frame comes to no leg: none changes, and at most an INVAL goes out, the PONG for a POKE, or the REGREJ for a registration
 pub record ComesToNone (old : PeerView) (frame : FullFrame) (new : PeerView) : Type 0 where
   pub legs : new.legs ≡ old.legs
-  pub outbox : (new.outbox ≡ old.outbox) ⊎ SendsBare old (inval_for frame.head) new ⊎ SendsBare old (pong_for frame.head) new
+  pub outbox : (new.outbox ≡ old.outbox) ⊎ SendsAnswer old (inval_for frame.head) new ⊎ SendsAnswer old (pong_for frame.head) new
+      ⊎ SendsAnswer old (regrej_for frame.head) new
+
+-- a NEW finds no number: no leg changes, and a REJECT goes out
+pub record RejectsNew (old : PeerView) (frame : FullFrame) (new : PeerView) : Type 0 where
+  pub legs : new.legs ≡ old.legs
+  pub outbox : SendsAnswer old (reject_for frame.head) new
 
 -- neither a leg changes, nor does anything go out
 pub record SendsNothing (old new : PeerView) : Type 0 where

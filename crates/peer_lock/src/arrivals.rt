@@ -1,21 +1,20 @@
 //! The steps of a peer in which a datagram comes ("Full Frames", "Mini Frames", "Meta Frames").
 ghost use Rattle.std.specs.Prelude.{◌≡◌, ◌≢◌, ◌+◌, ◌-◌, ◌<◌, ◌≤◌, ◌⊎◌, ◌↔◌, [], length, map, true, None, Some, Err, IsSome, IfOk};
 ghost use Rattle.std.specs.Prelude.{IfErr, OnOk, OnErr, IfSome, IsNone, IsTrue};
-ghost use Rattle.leg_machine.specs.Leg.{is_short_of_entries};
+ghost use Rattle.leg_machine.specs.Leg.{is_record_full};
 ghost use Rattle.leg_machine.specs.Steps.{full_step, heard_of};
 ghost use Rattle.peer_accounts.specs.Accounts.{stepped, with_accepted, with_step as with_credit};
 ghost use Rattle.peer_accounts.specs.Grants.{granted};
 ghost use Rattle.iax_frames.specs.FullFrame.{spelling};
-ghost use Rattle.peer_lock.specs.Arrivals.{bare, reached_step, delivered_step, datagram_step, datagram_refused};
+ghost use Rattle.peer_lock.specs.Arrivals.{reached_step, delivered_step, datagram_step, datagram_refused};
 ghost use Rattle.peer_legs.specs.Finding.{can_reach, is_reached, found};
-ghost use Rattle.peer_lock.specs.Delivery.{delivery, delivery_refused, unknown_call, full_refused, Reaches, Gets};
+ghost use Rattle.peer_lock.specs.Delivery.{delivery, delivery_refused, full_refused, Reaches};
 ghost use Rattle.peer_legs.specs.Legs.{NamedLeg as NamedLegValue, leg_at, leg_of_remote, with_leg};
 ghost use Rattle.peer_accounts.specs.HandedUp.{IsNothing};
 ghost use Rattle.peer_lock.specs.Makes.{Makes, IsUnchanged, IsDue};
 ghost use Rattle.peer_lock.specs.Peer as spec;
-ghost use Rattle.peer_lock.specs.Peer.{handed_up, leg_alone, offer_with, no_leg, counted, with_datagram, with_sent};
+ghost use Rattle.peer_lock.specs.Peer.{handed_up, leg_alone, offer_with, with_sent};
 ghost use Rattle.iax_frames.specs.declared.datagram.Datagram.{Datagram as DatagramValue};
-ghost use Rattle.iax_frames.specs.declared.full_frame.FullHead.{FullHead as FullHeadValue};
 ghost use Rattle.peer_lock.specs.declared.errors.PeerError.{PeerError as PeerErrorValue};
 ghost use Rattle.peer_lock.specs.Unworked.{IsSoundFull, IsRefusedFull, IsCutFrame, IsSound, IsRefusedRead, IsShortDatagram};
 ghost use Rattle.peer_lock.specs.Unworked.{IsWorked, IsUnworked};
@@ -26,9 +25,8 @@ use crate::outboxes::{flush_if, is_ahead, put_all};
 use crate::read_datagram::ReadDatagram;
 use crate::state::PeerState;
 use crate::steps::Step;
-use crate::unknown_calls::answer_to;
 use call_signals::codes::FRAME_IAX;
-use iax_frames::{Datagram, Full, FullHead, write_full};
+use iax_frames::{Datagram, Full};
 use info_elements::elements;
 use leg_machine::{ElementText, Heard, Judged, MediaSpan, Signal, StepError};
 use peer_accounts::{Naming, Offer, Onwards, Pass};
@@ -80,7 +78,7 @@ impl<J: Naming> PeerState<J> {
         ensures there { OnOk result ((named : NamedLegValue) → leg_at self.old.legs number ≡ Some named
             → leg_at self.new.legs number ≡ Some (record { name = named.name; leg = (full_step named.leg frame.now now).leg })) }
         ensures record_full { (named : NamedLegValue) → leg_at self.old.legs number ≡ Some named →
-            (result ≡ Err StepError.RecordFull) ↔ (is_short_of_entries named.leg ≡ true) }
+            (result ≡ Err StepError.RecordFull) ↔ (is_record_full named.leg ≡ true) }
         ensures err { OnErr result (self.new ≡ self.old) }
     {
         let _sound = self.legs.count();
@@ -133,6 +131,7 @@ impl<J: Naming> PeerState<J> {
         Step {
             judged: heard.judged,
             touched: Some(named.name()),
+            rejected: None,
         }
     }
 
@@ -157,45 +156,12 @@ impl<J: Naming> PeerState<J> {
             IsDue (delivery_refused (Reaches named)) e) }
         ensures err { OnErr result (IsUnchanged self.old self.new pass.old pass.new onwards.new) }
     {
-        if self.legs.is_short(number) {
+        if self.legs.is_record_full(number) {
             return Err(PeerError::RecordFull);
         }
         onwards.reserve(1)?;
         let heard = self.hear(number, frame, now)?;
         Ok(self.hand_on(pass, number, heard, onwards))
-    }
-
-    // A step without a leg, in which this frame is sent, without data.
-    fn answer_alone(&mut self, pass: &mut Pass<J>, head: &FullHead) -> Step
-        requires { self.old.accounts.steps ≢ J.first_steps }
-        ensures peer { self.new ≡ counted (with_datagram self.old (bare head.now)) }
-        ensures step { result ≡ no_leg }
-        ensures credit { pass.new ≡ with_credit pass.old 0 }
-    {
-        match write_full(head, &[]) {
-            Ok(out) => self.outbox.put(&out),
-            Err(_) => unreachable!(),
-        }
-        self.account.count_step(pass);
-        Step {
-            judged: Judged::Unnumbered,
-            touched: None,
-        }
-    }
-
-    // A full frame that no leg has.
-    fn answer_unknown(&mut self, pass: &mut Pass<J>, frame: &Full) -> Result<Step, PeerError>
-        requires { self.old.accounts.steps ≢ J.first_steps }
-        ensures peer { OnOk result ((head : FullHeadValue) → unknown_call self.old.rules.poke frame.now ≡ Gets head →
-            self.new ≡ counted (with_datagram self.old (bare head))) }
-        ensures answer { OnOk result ((head : FullHeadValue) × (unknown_call self.old.rules.poke frame.now ≡ Gets head)) }
-        ensures step { IfOk result (λ step. step ≡ no_leg) }
-        ensures credit { OnOk result (pass.new ≡ with_credit pass.old 0) }
-        ensures refused { IfErr result (λ e. Some e ≡ delivery_refused (unknown_call self.old.rules.poke frame.now)) }
-        ensures err { OnErr result ((self.new ≡ self.old) × (pass.new ≡ pass.old)) }
-    {
-        let head = answer_to(frame, self.rules.poke)?;
-        Ok(self.answer_alone(pass, &head))
     }
 
     // A full frame comes.
@@ -277,6 +243,7 @@ impl<J: Naming> PeerState<J> {
         Ok(Step {
             judged: Judged::Unnumbered,
             touched: None,
+            rejected: None,
         })
     }
 

@@ -32,7 +32,7 @@ pub enum PeerError {
     NeedsNumber,
     /// No leg has this call.
     NoCall,
-    /// Fewer than four entries of the leg's record are free.
+    /// The leg's record has no room for one more full frame and its answer.
     RecordFull,
     /// A request for memory was refused.
     Memory,
@@ -51,6 +51,17 @@ pub enum OpenError {
     Memory,
 }
 
+/// Why a NEW that finds no free number isn't rejected, in the order in which causes are looked for.
+#[derive(Clone, Copy, Debug, PartialEq, Eq)]
+pub enum RejectError {
+    /// The peer's rules leave it unanswered.
+    Unanswered,
+    /// The peer has no step credit left.
+    StepsSpent,
+    /// A leg has its remote number already.
+    RemoteBusy,
+}
+
 /// Why an order is refused, in the order in which causes are looked for.
 #[derive(Clone, Copy, Debug, PartialEq, Eq)]
 pub enum OrderError {
@@ -62,7 +73,7 @@ pub enum OrderError {
     WrongStage,
     /// Too many frames are held for this one.
     WindowFull,
-    /// Fewer than four entries of the leg's record are free.
+    /// The leg's record has no room for one more full frame and its answer.
     RecordFull,
     /// A request for memory was refused.
     Memory,

@@ -1,13 +1,14 @@
 //! What holds of every step of a peer.
-ghost use Rattle.std.specs.Prelude.{◌≡◌, ◌≢◌, ◌+◌, ◌≤◌, ◌⊎◌, ℕ, true, length, List, All, Option, None, Some, slice_get};
+ghost use Rattle.std.specs.Prelude.{◌≡◌, ◌≢◌, ◌+◌, ◌≤◌, ◌⊎◌, ℕ, true, false, length, List, All, Option, None, Some, slice_get};
 ghost use Rattle.call_book.specs.declared.leg_name.LegName.{LegName};
 ghost use Rattle.iax_frames.specs.Datagram.{Spells};
 ghost use Rattle.iax_frames.specs.FullFrame.{FullFrame};
 ghost use Rattle.iax_frames.specs.declared.datagram.Datagram.{Datagram};
-ghost use Rattle.call_signals.specs.Message.{message_of};
+ghost use Rattle.iax_frames.specs.declared.datagram.Datagram.TheVariants.{Full};
+ghost use Rattle.call_signals.specs.Message.{is_vnak, message_of};
 ghost use Rattle.leg_machine.specs.Leg.{LegState};
 ghost use Rattle.leg_machine.specs.Media.{media_sent};
-ghost use Rattle.leg_machine.specs.OrderTable.{wants_memory};
+ghost use Rattle.leg_machine.specs.OrderTable.{IsShortMedia, wants_memory};
 ghost use Rattle.leg_machine.specs.Seen.{kind_of};
 ghost use Rattle.leg_machine.specs.Tie.{IsSending};
 ghost use Rattle.leg_machine.specs.Tries.{NoneDue};
@@ -22,11 +23,13 @@ ghost use Rattle.peer_lock.specs.CarriedMedia.{CarriesItsOwn};
 ghost use Rattle.peer_lock.specs.Delivery.{is_new};
 ghost use Rattle.peer_legs.specs.Legs.{AreLegs, IsLegOf, PeerLegs, NamedLeg, leg_at, leg_named, with_place};
 ghost use Rattle.peer_legs.specs.Legs.{is_free_name};
-ghost use Rattle.peer_lock.specs.Openings.{opens_in, opens_out};
+ghost use Rattle.peer_lock.specs.Loads.{Load, Puts, datagram_load, load_of, no_load, order_load, plus, tick_load};
+ghost use Rattle.peer_lock.specs.Openings.{opens_in, opens_out, rejects_new};
 ghost use Rattle.peer_lock.specs.Orders.{order_refused_by, order_octets, ordered_step, IsOrderRefusal};
-ghost use Rattle.peer_lock.specs.Peer.{PeerView, counted, to_send};
+ghost use Rattle.peer_lock.specs.Peer.{PeerView, counted, to_send, without_leg};
 ghost use Rattle.peer_lock.specs.Seen.{IsSeenDatagram, OpensIn, OpensOut, Obeys, IsSeenRefusal, TicksAll, Retires};
-ghost use Rattle.peer_lock.specs.Sides.{TakesDatagram, TakesTurnAtLeg, TakesNew, SendsNew, SendsAtLeg, EachSends};
+ghost use Rattle.peer_lock.specs.Seen.{RejectsNew as SeenToReject};
+ghost use Rattle.peer_lock.specs.Sides.{TakesDatagram, TakesTurnAtLeg, TakesNew, RejectsNew, SendsNew, SendsAtLeg, EachSends};
 ghost use Rattle.peer_lock.specs.Sides.{IsSideOf, Bears, HasDatagram, IsSentBy, IsSentByOrMini, IsSentFrom, SendsAll, TurnsInto};
 ghost use Rattle.peer_lock.specs.Sides.{SendsInto, unused_side};
 ghost use Rattle.peer_lock.specs.SoundPeer.{IsSoundPeer};
@@ -55,6 +58,7 @@ pub fn steps_are_seen()
     ensures calls_in { (peer : PeerView) (name : LegName) (frame : FullFrame) (now : ℕ) (challenge : List ℕ) → AreLegs peer.legs →
         1 ≤ peer.rules.window → is_free_name peer.legs name ≡ true →
         OpensIn peer.legs name (opens_in peer name frame now challenge) }
+    ensures rejected_calls { (peer : PeerView) (frame : FullFrame) → SeenToReject peer.legs (rejects_new peer frame) }
     ensures calls_out { (peer : PeerView) (name : LegName) (called : List ℕ) (caller : List ℕ) (format : Format) (now : ℕ) →
         AreLegs peer.legs → is_free_name peer.legs name ≡ true →
         OpensOut peer.legs (opens_out peer name called caller format now).peer.legs name }
@@ -82,6 +86,7 @@ pub fn steps_are_of_sides()
         TakesDatagram peer datagram (datagram_step first peer datagram now).peer }
     ensures calls_in { (peer : PeerView) (name : LegName) (frame : FullFrame) (now : ℕ) (challenge : List ℕ) →
         is_free_name peer.legs name ≡ true → TakesNew peer name frame (opens_in peer name frame now challenge).peer }
+    ensures rejected_calls { (peer : PeerView) (frame : FullFrame) → RejectsNew peer frame (rejects_new peer frame).peer }
     ensures calls_out { (peer : PeerView) (name : LegName) (called : List ℕ) (caller : List ℕ) (format : Format) (now : ℕ) →
         is_free_name peer.legs name ≡ true → SendsNew peer name (opens_out peer name called caller format now).peer }
     ensures orders { (peer : PeerView) (credit : ℕ) (name : LegName) (order : Order) (now : ℕ) → IsSoundPeer peer →
@@ -160,4 +165,36 @@ pub fn media_adds_one_datagram()
         to_send (ordered_step peer name order now) ≤ to_send peer + 1 }
     ensures kept { (peer : PeerView) (name : LegName) (order : Order) (now : ℕ) → kind_of order ≡ Media →
         to_send peer + 1 ≤ 256 → (ordered_step peer name order now).outbox.lost ≡ peer.outbox.lost }
+{}
+
+/// A step of a peer puts no more than its load into the outbox and the trunk queue, which is what its definition writes ("Meta
+/// Frames"). As long as both have room for it, nothing is lost, and only media that the other side wants none of is dropped. The
+/// steps are those of the calls' own clauses.
+pub fn loads_that_fit_lose_nothing()
+    ensures datagrams { (first : ℕ) (peer : PeerView) (datagram : Datagram) (now : ℕ) →
+        Puts (datagram_load peer datagram now) peer (datagram_step first peer datagram now).peer }
+    ensures calls_in { (peer : PeerView) (name : LegName) (frame : FullFrame) (now : ℕ) (challenge : List ℕ) →
+        Puts (load_of 1) peer (opens_in peer name frame now challenge).peer }
+    ensures rejected_calls { (peer : PeerView) (frame : FullFrame) → Puts (load_of 1) peer (rejects_new peer frame).peer }
+    ensures calls_out { (peer : PeerView) (name : LegName) (called : List ℕ) (caller : List ℕ) (format : Format) (now : ℕ) →
+        Puts (load_of 1) peer (opens_out peer name called caller format now).peer }
+    // Media is 1 to 1,380 octets.
+    ensures orders { (peer : PeerView) (name : LegName) (order : Order) (now : ℕ) → IsShortMedia order →
+        Puts (order_load (kind_of order) (order_octets order)) peer (ordered_step peer name order now) }
+    ensures ticks { (old : PeerView) (now : ℕ) (report : TickReport) (new : PeerView) (ticks : Ticks old now report new) →
+        Puts (tick_load old now report new ticks) old new }
+    ensures retiring { (peer : PeerView) (name : LegName) → Puts no_load peer (without_leg peer name) }
+    // One load after another is both together.
+    ensures none { (peer : PeerView) → Puts no_load peer peer }
+    ensures together { (one other : Load) (old mid new : PeerView) → Puts one old mid → Puts other mid new →
+        Puts (plus one other) old new }
+{}
+
+/// A full frame is answered by one frame at most, unless it is a VNAK. A VNAK brings no more frames than a window is wide, which is
+/// 127 at most.
+pub fn full_frames_bring_few_answers()
+    ensures others { (peer : PeerView) (frame : FullFrame) (now : ℕ) → is_vnak (message_of frame.head) ≡ false →
+        (datagram_load peer (Full frame) now).datagrams ≤ 1 }
+    ensures vnaks { (peer : PeerView) (frame : FullFrame) (now : ℕ) → IsSoundPeer peer →
+        (datagram_load peer (Full frame) now).datagrams ≤ 127 }
 {}

@@ -18,9 +18,9 @@ mod unknown_calls;
 
 pub use closed::ClosedPeer;
 pub use descriptions::Description;
-pub use errors::{OpenError, OrderError, PeerError, StepsSpent};
+pub use errors::{OpenError, OrderError, PeerError, RejectError, StepsSpent};
 pub use outbox::Losses;
 pub use peer_accounts::{Naming, Offer, Onwards, Pass, Service, Sums};
 pub use read_datagram::ReadDatagram;
 pub use state::PeerState;
-pub use steps::{EndedLeg, LegFacts, Status, Step, TickReport};
+pub use steps::{EndedLeg, LegFacts, Rejection, Status, Step, TickReport};

@@ -1,4 +1,4 @@
-//! The steps of a peer in which a leg is opened ("Call Setup").
+//! The steps of a peer in which a leg is opened ("Call Setup"), and that in which none is, for want of a number ("REJECT").
 ghost use Rattle.std.specs.Prelude.{◌≡◌, ◌≢◌, ◌+◌, ◌<◌, ◌≤◌, [], length, map, None, Some, IsNone, IsTrue, ◌↔◌, true, IfOk, IfErr};
 ghost use Rattle.std.specs.Prelude.{OnOk, OnErr, ℕ};
 ghost use Rattle.iax_frames.specs.FullFrame.{spelling};
@@ -11,13 +11,14 @@ ghost use Rattle.peer_lock.specs.Makes.{IsUnchanged};
 ghost use Rattle.leg_machine.specs.Openings.{open_out_step};
 ghost use Rattle.outbox.specs.Outbox.{put};
 ghost use Rattle.peer_lock.specs.Openings.{IsOpening, IsOpenRefusal, open_in_refused, open_out_refused};
-ghost use Rattle.peer_lock.specs.Openings.{opens_in, opens_out, with_seated};
+ghost use Rattle.peer_lock.specs.Openings.{opens_in, opens_out, reject_new_refused, rejects_new, with_seated};
 
 use crate::arrivals::hand_up;
-use crate::errors::OpenError;
+use crate::errors::{OpenError, RejectError};
 use crate::outboxes::put_all;
 use crate::state::PeerState;
 use crate::steps::Step;
+use crate::unknown_calls::reject_for;
 use call_auth::Challenge;
 use call_book::{Lease, LegName};
 use iax_frames::{CallNumber, Full};
@@ -160,7 +161,44 @@ impl<J: Naming> PeerState<J> {
         Step {
             judged: heard.judged,
             touched: Some(name),
+            rejected: None,
         }
+    }
+
+    // Why a NEW isn't rejected.
+    fn rejecting_refused(&self, frame: &Full) -> Option<RejectError>
+        ensures { result ≡ reject_new_refused self.now J.first_steps frame.now.head.source }
+    {
+        if !self.rules.is_hardened {
+            return Some(RejectError::Unanswered);
+        }
+        if self.account.is_spent() {
+            return Some(RejectError::StepsSpent);
+        }
+        if self.legs.of_remote(frame.source()).is_some() {
+            return Some(RejectError::RemoteBusy);
+        }
+        None
+    }
+
+    /// A NEW that came is rejected, since no number is free for its leg: one step without a leg ("REJECT"). It is one that
+    /// `datagram` answers by `NeedsNumber`.
+    ///
+    /// Refusals are looked for in this order: `Unanswered` where the rules aren't hardened; `StepsSpent`; `RemoteBusy` where a leg
+    /// has the NEW's source. Then nothing is changed.
+    pub fn reject_new(&mut self, pass: &mut Pass<J>, frame: &Full) -> Result<Step, RejectError>
+        requires { IsOpening frame.now }
+        ensures peer { OnOk result (self.new ≡ (rejects_new self.old frame.now).peer) }
+        ensures step { IfOk result (λ step. step ≡ (rejects_new self.old frame.now).step) }
+        ensures credit { OnOk result (pass.new ≡ with_credit pass.old 0) }
+        ensures unrefused { OnOk result (reject_new_refused self.old J.first_steps frame.now.head.source ≡ None) }
+        ensures refused { IfErr result (λ e. Some e ≡ reject_new_refused self.old J.first_steps frame.now.head.source) }
+        ensures err { OnErr result ((self.new ≡ self.old) × (pass.new ≡ pass.old)) }
+    {
+        if let Some(refusal) = self.rejecting_refused(frame) {
+            return Err(refusal);
+        }
+        Ok(self.answer_alone(pass, &reject_for(frame)))
     }
 
     // A leg is made for a name, to call a number of at most 255 octets, and what it sends goes to the outbox.
@@ -238,6 +276,7 @@ impl<J: Naming> PeerState<J> {
                 Ok(Step {
                     judged: Judged::Unnumbered,
                     touched: Some(name),
+                    rejected: None,
                 })
             }
             Err(_) => Err((lease, OpenError::Memory)),

@@ -144,6 +144,7 @@ impl<J: Naming> PeerState<J> {
         Ok(Step {
             judged: Judged::Unnumbered,
             touched: Some(name),
+            rejected: None,
         })
     }
 
@@ -249,6 +250,7 @@ impl<J: Naming> PeerState<J> {
                 Ok(Step {
                     judged: Judged::Unnumbered,
                     touched: Some(name),
+                    rejected: None,
                 })
             }
         }

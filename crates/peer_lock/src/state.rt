@@ -30,8 +30,8 @@ use trunk_packer::Packer;
 
 /// One peer: its legs, its outbox, its trunk queue and its accounts.
 ///
-/// Events come by `datagram`, `datagram_read` and `tick`, openings by `open_in` and `open_out`, orders by `order`; each is one
-/// step, which takes one step credit and gives it to the pass. `take_into` and `take_out` empty the outbox, `retire` gives up a
+/// Events come by `datagram`, `datagram_read` and `tick`, openings by `open_in` and `open_out`, a rejected NEW by `reject_new`,
+/// orders by `order`; each is one step, which takes one step credit and gives it to the pass. `take_into` and `take_out` empty the outbox, `retire` gives up a
 /// leg that is over, `part` gives up the shares, and `look`, `describe` and `sums` only look. All room but that of the legs'
 /// records is made by `new`. No call waits or looks at a clock.
 pub struct PeerState<J: Naming> {

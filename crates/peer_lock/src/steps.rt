@@ -1,5 +1,6 @@
 //! What the calls of a peer answer.
 ghost use Rattle.std.specs.Prelude.{◌≡◌};
+ghost use Rattle.peer_lock.specs.Delivery.{rejection_cause};
 ghost use Rattle.peer_lock.specs.Statuses.{status_of};
 
 use call_book::LegName;
@@ -8,13 +9,37 @@ use leg_machine::{Cause, Failure, Format, Judged, Stage};
 use peer_legs::NamedLeg;
 use seq_window::Record;
 
+/// What a step rejects by its answer, in which plan format 4 says why.
+#[derive(Clone, Copy, Debug, PartialEq, Eq)]
+pub enum Rejection {
+    /// A NEW that finds no free number, by REJECT ("REJECT").
+    NoNumber,
+    /// A REGREQ or a REGREL, by REGREJ ("REGREJ").
+    Registration,
+}
+
+impl Rejection {
+    // Why it is rejected.
+    pub(crate) fn cause(self) -> Cause
+        ensures { result ≡ rejection_cause self }
+    {
+        match self {
+            Rejection::NoNumber => Cause::Congestion,
+            // Facility rejected.
+            Rejection::Registration => Cause::Other(29),
+        }
+    }
+}
+
 /// How a step went, beside what it handed up.
 #[derive(Clone, Copy, Debug, PartialEq, Eq)]
 pub struct Step {
-    /// How a full frame was judged; `Unnumbered` where there was none, or where an INVAL answered it.
+    /// How a full frame was judged; `Unnumbered` where there was none, or where the answer belongs to no call.
     pub judged: Judged,
-    /// The leg concerned; none of a mini, video or trunk frame, and none where an INVAL is the answer.
+    /// The leg concerned; none of a mini, video or trunk frame, and none where the answer belongs to no call.
     pub touched: Option<LegName>,
+    /// What the answer rejects, if it does.
+    pub rejected: Option<Rejection>,
 }
 
 /// How a leg stands.

@@ -26,7 +26,7 @@ use Rattle.peer_plan.specs.declared.route.Route.{Route}
 use Rattle.peer_plan.specs.Keys.{key_name}
 use Rattle.peer_plan.specs.Fields.{◌>>=◌, number_of, text_of, value, value_at, each, list_in}
 use Rattle.peer_plan.specs.Plan.{IsPlan, IsPeer, IsRoute, AreApart, is_name, is_prefix, counts_of}
-use Rattle.peer_plan.specs.Reading.{default_record_limit, vnak_ms_in, trunk_ms_in, limits_in, address_in, endpoint_in, workers_in, passes_in, is_credential, credential_in, credentials_in, formats_in, media_in, window_in, poke_in, rules_from, peer_in, has_double, is_named, is_endpoint, has_same_name, has_same_endpoint, told_apart, peers_in, peer_named, source_at, source_in, has_way, new_route, route_in, routes_in}
+use Rattle.peer_plan.specs.Reading.{default_record_limit, record_octets_in, vnak_ms_in, trunk_ms_in, challenge_ms_in, limits_in, address_in, endpoint_in, workers_in, passes_in, is_credential, credential_in, has_secret, outbound_secret_in, credentials_in, formats_in, media_in, window_in, poke_in, rules_from, peer_in, has_double, is_named, is_endpoint, has_same_name, has_same_endpoint, told_apart, peers_in, peer_named, source_at, source_in, has_way, new_route, route_in, routes_in}
 use Rattle.call_book.proofs.RangeLaws.{ranges_apart, total_within}
 use Rattle.peer_plan.proofs.FormatLaws.{formats_some}
 use Rattle.peer_plan.proofs.ReadingLaws.{bound, found_in, value_is, number_within, text_fits, default_within, missing, each_keeps, each_len, list_within}
@@ -38,8 +38,10 @@ pub record IsLimits (limits : Limits) : Type 0 where
   pub max_retries : IsWithin 0 20 limits.max_retries
   pub ping_ms : IsWithin 0 600000 limits.ping_ms
   pub record_limit : IsWithin 64 65536 limits.record_limit
+  pub record_octets : IfSome limits.record_octets (IsWithin 65536 268435456)
   pub vnak_ms : IsWithin 0 60000 limits.vnak_ms
   pub trunk_ms : IfSome limits.trunk_ms (λ ms. ms ≤ 60)
+  pub challenge_ms : IfSome limits.challenge_ms (IsWithin 1000 60000)
 
 number_is : (ms : Members) (k : Key) (low high fallback n : ℕ) → low ≤ fallback → fallback ≤ high → value ms k (Ok fallback) (number_of low high) ≡ Ok n → IsWithin low high n
 number_is ms k low high fallback n least most h =
@@ -63,15 +65,28 @@ vnak_within format n ms h = go (format == 4) h
     go true is = number_is ms key.VnakMs 0 60000 0 n (omega arith) (omega arith) is
     go false is = default_within 0 60000 n 0 (omega arith) (omega arith) is
 
+-- a number that is read in one case alone
+within_if_read : (P : ℕ → Type 0) (is_read : Bool) (ms : Members) (k : Key) (low high fallback : ℕ) (found : Option ℕ) → low ≤ fallback → fallback ≤ high → ((n : ℕ) → IsWithin low high n → P n)
+    → cond is_read (value ms k (Ok fallback) (number_of low high) >>= λ n. Ok (Some n)) (Ok None) ≡ Ok found → IfSome found P
+within_if_read P true ms k low high fallback found least most so is =
+    let a = bound (value ms k (Ok fallback) (number_of low high)) (λ n. Ok (Some n)) found is in
+    let same : Some a.0 ≡ found = cc in
+    subst (λ o. IfSome o P) same (so a.0 (number_is ms k low high fallback a.0 least most a.1))
+within_if_read P false ms k low high fallback found least most so is = let same : None ≡ found = cc in subst (λ o. IfSome o P) same tt
+
+octets_within : (format : ℕ) (most : Option ℕ) (ms : Members) → record_octets_in format ms ≡ Ok most → IfSome most (IsWithin 65536 268435456)
+octets_within format most ms h = within_if_read (IsWithin 65536 268435456) (format == 4) ms key.RecordOctets 65536 268435456 1048576 most (omega arith) (omega arith) (λ n within. within) h
+
 trunk_within : (format : ℕ) (wait : Option ℕ) (ms : Members) → trunk_ms_in format ms ≡ Ok wait → IfSome wait (λ ms. ms ≤ 60)
-trunk_within format wait ms h = go (format == 4) h
-  where
-    go : (b : Bool) → cond b (value ms key.TrunkMs (Ok 20) (number_of 0 60) >>= λ n. Ok (Some n)) (Ok None) ≡ Ok wait → IfSome wait (λ ms. ms ≤ 60)
-    go true is =
-        let a = bound (value ms key.TrunkMs (Ok 20) (number_of 0 60)) (λ n. Ok (Some n)) wait is in
-        let same : Some a.0 ≡ wait = cc in
-        subst (λ w. IfSome w (λ ms. ms ≤ 60)) same (number_is ms key.TrunkMs 0 60 20 a.0 (omega arith) (omega arith) a.1).1
-    go false is = let same : None ≡ wait = cc in subst (λ w. IfSome w (λ ms. ms ≤ 60)) same tt
+trunk_within format wait ms h = within_if_read (λ n. n ≤ 60) (format == 4) ms key.TrunkMs 0 60 20 wait (omega arith) (omega arith) (λ n within. within.1) h
+
+challenge_within : (format : ℕ) (wait : Option ℕ) (ms : Members) → challenge_ms_in format ms ≡ Ok wait → IfSome wait (IsWithin 1000 60000)
+challenge_within format wait ms h = within_if_read (IsWithin 1000 60000) (format == 4) ms key.ChallengeMs 1000 60000 10000 wait (omega arith) (omega arith) (λ n within. within) h
+
+-- the value of a reading that was no fault
+abbrev value_or : {A E : Type 0} → A → Result A E → A
+value_or other (Ok x) = x
+value_or other (Err e) = other
 
 pub limits_sound : (format : ℕ) (ms : Members) (limits : Limits) → limits_in format ms ≡ Ok limits → IsLimits limits
 unfolding limits_in
@@ -80,17 +95,21 @@ limits_sound format ms limits h =
     let b = bound (value ms key.MaxRetries (Ok 4) (number_of 0 20)) _ limits a.2 in
     let c = bound (value ms key.PingMs (Ok 20000) (number_of 0 600000)) _ limits b.2 in
     let d = bound (value ms key.RecordLimit (Ok (default_record_limit format)) (number_of 64 65536)) _ limits c.2 in
-    let e = bound (vnak_ms_in format ms) _ limits d.2 in
-    let f = bound (trunk_ms_in format ms) _ limits e.2 in
-    let is : record { retry_ms = a.0; max_retries = b.0; ping_ms = c.0; record_limit = d.0; vnak_ms = e.0; trunk_ms = f.0 } ≡ limits = cc in
+    let e = bound (record_octets_in format ms) _ limits d.2 in
+    let f = bound (vnak_ms_in format ms) _ limits e.2 in
+    let g = bound (trunk_ms_in format ms) _ limits f.2 in
+    let i = bound (challenge_ms_in format ms) _ limits g.2 in
+    let is : record { retry_ms = a.0; max_retries = b.0; ping_ms = c.0; record_limit = d.0; record_octets = e.0; vnak_ms = f.0; trunk_ms = g.0; challenge_ms = i.0 } ≡ limits = ap (value_or limits) i.2 in
     let default = limit_default format in
     subst IsLimits is (record {
       retry_ms = number_is ms key.RetryMs 1 60000 1000 a.0 (omega arith) (omega arith) a.1;
       max_retries = number_is ms key.MaxRetries 0 20 4 b.0 (omega arith) (omega arith) b.1;
       ping_ms = number_is ms key.PingMs 0 600000 20000 c.0 (omega arith) (omega arith) c.1;
       record_limit = number_is ms key.RecordLimit 64 65536 (default_record_limit format) d.0 default.0 default.1 d.1;
-      vnak_ms = vnak_within format e.0 ms e.1;
-      trunk_ms = trunk_within format f.0 ms f.1;
+      record_octets = octets_within format e.0 ms e.1;
+      vnak_ms = vnak_within format f.0 ms f.1;
+      trunk_ms = trunk_within format g.0 ms g.1;
+      challenge_ms = challenge_within format i.0 ms i.1;
     })
 
 pub workers_within : (ms : Members) (workers : List Endpoint) → workers_in ms ≡ Ok workers → IsWithin 1 8 (length workers)
@@ -121,20 +140,52 @@ credential_some d o h = go (text_of is_credential d) h
     go None is = absurd (cc)
     go (Some t) is = let same : Some t ≡ o = cc in subst IsSome same refl
 
-secret_of_user : (ms : Members) (credentials : Credentials) → credentials_in ms ≡ Ok credentials → IsSome credentials.secret → IsSome credentials.user
-unfolding credentials_in
-secret_of_user ms credentials h =
-    let a = bound (value ms key.User (cond (is_some (get_member (key_name key.Secret) ms)) (Err (error.Missing key.User)) (Ok None)) credential_in) _ credentials h in
-    let b = bound (value ms key.Secret (Ok None) credential_in) _ credentials a.2 in
-    let is : record { user = a.0; secret = b.0 } ≡ credentials = cc in
-    subst (λ c. IsSome c.secret → IsSome c.user) is (go a.0 b.0 (get_member (key_name key.User) ms) (get_member (key_name key.Secret) ms) a.1 b.1)
+-- a user that may not be absent is there
+user_some : (needed : Bool) (at_user : Option Data) (user : Option (List ℕ)) → value_at key.User (cond needed (Err (error.Missing key.User)) (Ok None)) credential_in at_user ≡ Ok user → needed ≡ true → IsSome user
+user_some needed (Some d) user u need = credential_some d user (found_in (credential_in d) (error.Range key.User) user u)
+user_some true None user u need = absurd (cc)
+user_some false None user u need = absurd (true≢false (sym need))
+
+none_is_some : {P : Type 0} (o : Option (List ℕ)) → None ≡ o → IsSome o → P
+none_is_some o none some = absurd (true≢false (sym some ∙ ap is_some (sym none)))
+
+-- a secret that is there stands at its key
+secret_given : (format : ℕ) (ms : Members) (secret : Option (List ℕ)) → value ms key.Secret (Ok None) credential_in ≡ Ok secret → IsSome secret → has_secret format ms ≡ true
+secret_given format ms secret s some = go (get_member (key_name key.Secret) ms) s
   where
-    go : (user secret : Option (List ℕ)) (at_user at_secret : Option Data)
-        → value_at key.User (cond (is_some at_secret) (Err (error.Missing key.User)) (Ok None)) credential_in at_user ≡ Ok user
-        → value_at key.Secret (Ok None) credential_in at_secret ≡ Ok secret → IsSome secret → IsSome user
-    go user secret (Some d) at_secret u s some = credential_some d user (found_in (credential_in d) (error.Range key.User) user u)
-    go user secret None (Some d) u s some = absurd (cc)
-    go user secret None None u s some = let none : None ≡ secret = cc in absurd (true≢false (sym some ∙ ap is_some (sym none)))
+    go : (at : Option Data) → value_at key.Secret (Ok None) credential_in at ≡ Ok secret → (is_some at || (format == 4 && is_some (get_member (key_name key.OutboundSecret) ms))) ≡ true
+    go (Some d) s = refl
+    go None s = none_is_some secret (cc) some
+
+-- that of the other way stands at its own key, or is the same
+outbound_given : (format : ℕ) (ms : Members) (secret outbound : Option (List ℕ)) → value ms key.Secret (Ok None) credential_in ≡ Ok secret → outbound_secret_in format secret ms ≡ Ok outbound → IsSome outbound
+    → has_secret format ms ≡ true
+outbound_given format ms secret outbound s o some = go (format == 4) (get_member (key_name key.Secret) ms) (get_member (key_name key.OutboundSecret) ms) s o
+  where
+    go : (newest : Bool) (at other : Option Data) → value_at key.Secret (Ok None) credential_in at ≡ Ok secret
+        → cond newest (value_at key.OutboundSecret (Ok secret) credential_in other) (Ok secret) ≡ Ok outbound → (is_some at || (newest && is_some other)) ≡ true
+    go newest (Some d) other s o = refl
+    go true None (Some d) s o = refl
+    go true None None s o = none_is_some outbound (cc) some
+    go false None other s o = none_is_some outbound (cc) some
+
+-- a secret, of either way, has a user
+record HaveUser (credentials : Credentials) : Type 0 where
+  secret : IsSome credentials.secret → IsSome credentials.user
+  outbound_secret : IsSome credentials.outbound_secret → IsSome credentials.user
+
+secrets_of_user : (format : ℕ) (ms : Members) (credentials : Credentials) → credentials_in format ms ≡ Ok credentials → HaveUser credentials
+unfolding credentials_in
+secrets_of_user format ms credentials h =
+    let a = bound (value ms key.User (cond (has_secret format ms) (Err (error.Missing key.User)) (Ok None)) credential_in) _ credentials h in
+    let b = bound (value ms key.Secret (Ok None) credential_in) _ credentials a.2 in
+    let c = bound (outbound_secret_in format b.0 ms) _ credentials b.2 in
+    let is : record { user = a.0; secret = b.0; outbound_secret = c.0 } ≡ credentials = cc in
+    let user = user_some (has_secret format ms) (get_member (key_name key.User) ms) a.0 a.1 in
+    subst HaveUser is (record {
+      secret = λ some. user (secret_given format ms b.0 b.1 some);
+      outbound_secret = λ some. user (outbound_given format ms b.0 c.0 b.1 c.1 some);
+    })
 
 media_some : (ms : Members) (media : Media) → media_in ms ≡ Ok media → IsSome (lowest_format media.formats)
 unfolding media_in
@@ -154,36 +205,35 @@ window_within format n ms h = go (nat_le 2 format) h
     go true is = number_is ms key.Window 1 127 64 n (omega arith) (omega arith) is
     go false is = default_within 1 127 n 64 (omega arith) (omega arith) is
 
--- the value of a reading that was no fault
-abbrev value_or : {A E : Type 0} → A → Result A E → A
-value_or other (Ok x) = x
-value_or other (Err e) = other
-
 peer_sound : (format workers : ℕ) (limits : Limits) (ms : Members) (peer : Peer) → 1 ≤ workers → IsLimits limits → peer_in format limits workers ms ≡ Ok peer → IsPeer workers peer
 unfolding peer_in
 peer_sound format workers limits ms peer some limited h =
     let a = bound (value ms key.Name (Err (error.Missing key.Name)) (text_of is_name)) _ peer h in
     let b = bound (endpoint_in ms) _ peer a.2 in
     let c = bound (value ms key.Worker (Err (error.Missing key.Worker)) (number_of 0 (workers - 1))) _ peer b.2 in
-    let d = bound (credentials_in ms) _ peer c.2 in
+    let d = bound (credentials_in format ms) _ peer c.2 in
     let e = bound (media_in ms) _ peer d.2 in
     let f = bound (value ms key.Numbers (Ok 64) (number_of 1 512)) _ peer e.2 in
     let g = bound (window_in format ms) _ peer f.2 in
     let i = bound (poke_in format ms) _ peer g.2 in
     let is : record { name = a.0; endpoint = b.0; worker = c.0; rules = rules_from format limits d.0 e.0 g.0 i.0; numbers = f.0 } ≡ peer = ap (value_or peer) i.2 in
     let place = number_there ms key.Worker 0 (workers - 1) c.0 c.1 in
+    let secrets = secrets_of_user format ms d.0 d.1 in
     subst (IsPeer workers) is (record {
       name = value_is (λ t. is_name t ≡ true) key.Name (Err (error.Missing key.Name)) (text_of is_name) (get_member (key_name key.Name) ms) a.0 (text_fits is_name a.0) (missing (error.Missing key.Name) a.0) a.1;
       port = endpoint_port ms b.0 b.1;
       worker = omega (arith, place.1, some);
       rules = record {
-        secret_of_user = secret_of_user ms d.0 d.1;
+        secret_of_user = secrets.secret;
+        outbound_secret_of_user = secrets.outbound_secret;
+        challenge_ms = limited.challenge_ms;
         some_format = media_some ms e.0 e.1;
         trunk_ms = limited.trunk_ms;
         retry_ms = limited.retry_ms;
         max_retries = limited.max_retries.1;
         ping_ms = limited.ping_ms.1;
         record_limit = limited.record_limit;
+        record_octets = limited.record_octets;
         window = window_within format g.0 ms g.1;
         vnak_ms = limited.vnak_ms.1;
       };

@@ -1,8 +1,8 @@
 -- Where the range of a peer begins, by what the peers before it have.
-use Rattle.std.proofs.Common.{◌≡◌, ◌≢◌, ℕ, zero, suc, ◌+◌, ◌*◌, ◌<◌, ◌≤◌, List, [], ◌∷◌, ◌++◌, get_or, length, take, drop, refl, sym, ap, ◌∙◌, arith}
+use Rattle.std.proofs.Common.{◌≡◌, ℕ, zero, suc, ◌+◌, ◌*◌, ◌<◌, ◌≤◌, List, [], ◌∷◌, get_or, length, take, drop, refl, sym, ap, ◌∙◌, arith}
 use Rattle.std.proofs.lemmas.List.{take_more, get_or-drop, length-map}
 use Rattle.call_book.proofs.RangeLaws.{total-push}
-use Rattle.peer_plan.specs.Plan.{PlanView, IsPlan, counts_of, first_number, total_of, range_of, IsInRange}
+use Rattle.peer_plan.specs.Plan.{PlanView, IsPlan, counts_of, first_number, total_of}
 
 pub total-more : (counts : List ℕ) (i : ℕ) → i < length counts → total_of (take (i + 1) counts) ≡ total_of (take i counts) + get_or counts i 0
 total-more counts i lt = ap total_of (take_more counts i 0 lt) ∙ total-push (take i counts) (get_or counts i 0)

@@ -1,7 +1,7 @@
 -- How the value at a key is read, and the tables of a list.
 use Rattle.std.specs.Prelude.{◌≡◌, ℕ, pos, suc, List, [], ◌∷◌, ◌++◌, Option, Some, None, Result, Ok, Err, Bool, nat_le, nat_lt}
 use Rattle.std.specs.Prelude.{◌==◌, ◌&&◌, if◌then◌else◌, ok_or}
-use Rattle.toml.specs.Data.{Data, integer, string, table, Items, no_items, item, Members, get_member, as_array, as_str}
+use Rattle.toml.specs.Data.{Data, integer, table, Items, no_items, item, Members, get_member, as_array, as_str}
 use Rattle.peer_plan.specs.declared.key.Key.{Key}
 use Rattle.peer_plan.specs.declared.error.PlanError.{PlanError}
 use Rattle.peer_plan.specs.declared.error.PlanError.TheVariants as error

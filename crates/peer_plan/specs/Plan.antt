@@ -1,5 +1,5 @@
 -- What a plan is: workers, passes, peers with their numbers, and routes.
-use Rattle.std.specs.Prelude.{◌≡◌, ◌≢◌, ◌≤◌, ◌<◌, ℕ, zero, suc, ◌+◌, ◌*◌, List, [], ◌∷◌, length, map, Bool, true, ◌&&◌, ◌||◌}
+use Rattle.std.specs.Prelude.{◌≡◌, ◌≢◌, ◌≤◌, ◌<◌, ℕ, ◌+◌, ◌*◌, List, length, map, Bool, true, ◌&&◌, ◌||◌}
 use Rattle.std.specs.Prelude.{nat_le, nat_lt, nat_eq, Option, Some, None, is_some, if◌then◌else◌, ◌==◌, slice_index, All}
 use Rattle.std.specs.Prelude.{Contains, IfSome}
 use Rattle.std.specs.Char.{is_ascii_alphanumeric}
@@ -33,6 +33,10 @@ is_visible octet = nat_le 0x21 octet && nat_le octet 0x7e
 -- at most 32 of them
 abbrev pub is_prefix : List ℕ → Bool
 is_prefix text = nat_le (length text) 32 && list_all is_visible text
+
+-- the peer, where the challenges of the exchange begin so
+abbrev pub with_prefix : List ℕ → Peer → Peer
+with_prefix prefix peer = record peer { rules = record peer.rules { challenge_prefix = Some prefix } }
 
 -- ---- numbers
 

@@ -38,6 +38,11 @@ plan_format _ = None
 abbrev pub default_record_limit : ℕ → ℕ
 default_record_limit format = if format == 4 then 65536 else 4096
 
+-- `record_octets`, in format 4 alone: the formats before it don't limit the data of a record
+abbrev pub record_octets_in : ℕ → Members → Result (Option ℕ) PlanError
+record_octets_in format ms =
+    if format == 4 then (value ms key.RecordOctets (Ok 1048576) (number_of 65536 268435456) >>= λ most. Ok (Some most)) else Ok None
+
 -- `vnak_ms`, in format 4 alone
 abbrev pub vnak_ms_in : ℕ → Members → Result ℕ PlanError
 vnak_ms_in format ms = if format == 4 then value ms key.VnakMs (Ok 0) (number_of 0 60000) else Ok 0
@@ -46,22 +51,31 @@ vnak_ms_in format ms = if format == 4 then value ms key.VnakMs (Ok 0) (number_of
 abbrev pub trunk_ms_in : ℕ → Members → Result (Option ℕ) PlanError
 trunk_ms_in format ms = if format == 4 then (value ms key.TrunkMs (Ok 20) (number_of 0 60) >>= λ wait. Ok (Some wait)) else Ok None
 
--- `retry_ms`, `max_retries`, `ping_ms`, `record_limit`, `vnak_ms`, `trunk_ms`
+-- `challenge_ms`, in format 4 alone: the formats before it set no end to the wait for the answer to a challenge
+abbrev pub challenge_ms_in : ℕ → Members → Result (Option ℕ) PlanError
+challenge_ms_in format ms =
+    if format == 4 then (value ms key.ChallengeMs (Ok 10000) (number_of 1000 60000) >>= λ wait. Ok (Some wait)) else Ok None
+
+-- `retry_ms`, `max_retries`, `ping_ms`, `record_limit`, `record_octets`, `vnak_ms`, `trunk_ms`, `challenge_ms`
 unfoldable pub limits_in : ℕ → Members → Result Limits PlanError
 limits_in format ms = do
   retry_ms ← value ms key.RetryMs (Ok 1000) (number_of 1 60000)
   max_retries ← value ms key.MaxRetries (Ok 4) (number_of 0 20)
   ping_ms ← value ms key.PingMs (Ok 20000) (number_of 0 600000)
   record_limit ← value ms key.RecordLimit (Ok (default_record_limit format)) (number_of 64 65536)
+  record_octets ← record_octets_in format ms
   vnak_ms ← vnak_ms_in format ms
   trunk_ms ← trunk_ms_in format ms
+  challenge_ms ← challenge_ms_in format ms
   Ok (record {
     retry_ms = retry_ms;
     max_retries = max_retries;
     ping_ms = ping_ms;
     record_limit = record_limit;
+    record_octets = record_octets;
     vnak_ms = vnak_ms;
     trunk_ms = trunk_ms;
+    challenge_ms = challenge_ms;
   })
 
 -- `address`, `port`
@@ -82,19 +96,32 @@ workers_in ms = list_in ms key.Worker 8 >>= each key.Worker (λ _. endpoint_in) 
 abbrev pub passes_in : ℕ → Members → Result ℕ PlanError
 passes_in workers ms = value ms key.Passes (Ok workers) (number_of workers 64)
 
--- `user`, `secret`: a secret needs a user
+-- `user`, `secret`, `outbound_secret`: a secret of either way needs a user
 abbrev pub is_credential : List ℕ → Bool
 is_credential text = (nat_le 1 (length text) && nat_le (length text) 64) && list_all is_printable text
 
 abbrev pub credential_in : Data → Option (Option (List ℕ))
 credential_in d = option_map Some (text_of is_credential d)
 
-unfoldable pub credentials_in : Members → Result Credentials PlanError
-credentials_in ms = do
-  user ← value ms key.User (if is_some (get_member (key_name key.Secret) ms) then
-      Err (error.Missing key.User) else Ok None) credential_in
+-- whether a table has a secret; that of the other way is a key of format 4 alone
+abbrev pub has_secret : ℕ → Members → Bool
+has_secret format ms =
+    is_some (get_member (key_name key.Secret) ms) || (format == 4 && is_some (get_member (key_name key.OutboundSecret) ms))
+
+-- what stands for a user that is absent
+abbrev pub absent_user : ℕ → Members → Result (Option (List ℕ)) PlanError
+absent_user format ms = if has_secret format ms then Err (error.Missing key.User) else Ok None
+
+-- `outbound_secret`, in format 4 alone: unless the plan says it, one secret serves both ways
+abbrev pub outbound_secret_in : ℕ → Option (List ℕ) → Members → Result (Option (List ℕ)) PlanError
+outbound_secret_in format secret ms = if format == 4 then value ms key.OutboundSecret (Ok secret) credential_in else Ok secret
+
+unfoldable pub credentials_in : ℕ → Members → Result Credentials PlanError
+credentials_in format ms = do
+  user ← value ms key.User (absent_user format ms) credential_in
   secret ← value ms key.Secret (Ok None) credential_in
-  Ok (record { user = user; secret = secret })
+  outbound_secret ← outbound_secret_in format secret ms
+  Ok (record { user = user; secret = secret; outbound_secret = outbound_secret })
 
 -- `formats`: names of formats, at least one, in any order
 abbrev pub with_format : Formats → List ℕ → Option Formats
@@ -137,13 +164,16 @@ window_in format ms = if nat_le 2 format then value ms key.Window (Ok 64) (numbe
 abbrev pub poke_in : ℕ → Members → Result Bool PlanError
 poke_in format ms = if format == 4 then value ms key.Poke (Ok true) as_bool else Ok false
 
--- in format 4 alone who calls and why a call ended are carried on, a call's format is chosen as it is routed, and legs are
--- hardened
+-- In format 4 alone who calls and why a call ended are carried on, a call's format is chosen as it is routed, and legs are
+-- hardened. What challenges begin with isn't a plan's to say: it is drawn when the exchange is opened.
 abbrev pub rules_from : ℕ → Limits → Credentials → Media → ℕ → Bool → PeerRules
 rules_from format limits credentials media window poke =
     record {
       user = credentials.user;
       secret = credentials.secret;
+      outbound_secret = credentials.outbound_secret;
+      challenge_prefix = None;
+      challenge_ms = limits.challenge_ms;
       formats = media.formats;
       trunk = media.trunk;
       trunk_timestamps = media.trunk_timestamps;
@@ -152,6 +182,7 @@ rules_from format limits credentials media window poke =
       max_retries = limits.max_retries;
       ping_ms = limits.ping_ms;
       record_limit = limits.record_limit;
+      record_octets = limits.record_octets;
       window = window;
       vnak_ms = limits.vnak_ms;
       poke = poke;
@@ -166,7 +197,7 @@ peer_in format limits workers ms = do
   name ← value ms key.Name (Err (error.Missing key.Name)) (text_of is_name)
   endpoint ← endpoint_in ms
   worker ← value ms key.Worker (Err (error.Missing key.Worker)) (number_of 0 (workers - 1))
-  credentials ← credentials_in ms
+  credentials ← credentials_in format ms
   media ← media_in ms
   numbers ← value ms key.Numbers (Ok 64) (number_of 1 512)
   window ← window_in format ms

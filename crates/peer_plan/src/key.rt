@@ -21,8 +21,10 @@ pub enum Key {
     MaxRetries,
     PingMs,
     RecordLimit,
+    RecordOctets,
     VnakMs,
     TrunkMs,
+    ChallengeMs,
     /// The list of workers, and the worker of a peer.
     Worker,
     Address,
@@ -33,6 +35,7 @@ pub enum Key {
     Name,
     User,
     Secret,
+    OutboundSecret,
     Formats,
     Trunk,
     TrunkTimestamps,
@@ -58,8 +61,10 @@ impl Key {
             Key::MaxRetries => "max_retries",
             Key::PingMs => "ping_ms",
             Key::RecordLimit => "record_limit",
+            Key::RecordOctets => "record_octets",
             Key::VnakMs => "vnak_ms",
             Key::TrunkMs => "trunk_ms",
+            Key::ChallengeMs => "challenge_ms",
             Key::Worker => "worker",
             Key::Address => "address",
             Key::Port => "port",
@@ -68,6 +73,7 @@ impl Key {
             Key::Name => "name",
             Key::User => "user",
             Key::Secret => "secret",
+            Key::OutboundSecret => "outbound_secret",
             Key::Formats => "formats",
             Key::Trunk => "trunk",
             Key::TrunkTimestamps => "trunk_timestamps",
@@ -94,7 +100,12 @@ const PLAN_KEYS: [Key; 9] = [
 ];
 
 // Those that format 4 adds.
-const PLAN_KEYS_OF_FORMAT_4: [Key; 2] = [Key::VnakMs, Key::TrunkMs];
+const PLAN_KEYS_OF_FORMAT_4: [Key; 4] = [
+    Key::RecordOctets,
+    Key::VnakMs,
+    Key::TrunkMs,
+    Key::ChallengeMs,
+];
 
 const WORKER_KEYS: [Key; 2] = [Key::Address, Key::Port];
 
@@ -110,6 +121,8 @@ const PEER_KEYS: [Key; 10] = [
     Key::TrunkTimestamps,
     Key::Numbers,
 ];
+
+const PEER_KEYS_OF_FORMAT_4: [Key; 2] = [Key::OutboundSecret, Key::Poke];
 
 const ROUTE_KEYS: [Key; 2] = [Key::Prefix, Key::Peer];
 
@@ -131,7 +144,7 @@ pub fn is_known(section: Section, format: u64, name: &str) -> bool
         Section::Peer => {
             is_one_of(&PEER_KEYS, name)
                 || 2 <= format && Key::Window.name() == name
-                || format == 4 && Key::Poke.name() == name
+                || format == 4 && is_one_of(&PEER_KEYS_OF_FORMAT_4, name)
         }
         Section::Route => {
             is_one_of(&ROUTE_KEYS, name) || format == 4 && Key::Source.name() == name

@@ -22,15 +22,18 @@ pub(crate) struct Limits {
     pub(crate) max_retries: u32,
     pub(crate) ping_ms: u64,
     pub(crate) record_limit: u32,
+    pub(crate) record_octets: Option<u32>,
     pub(crate) vnak_ms: u64,
     pub(crate) trunk_ms: Option<u64>,
+    pub(crate) challenge_ms: Option<u64>,
 }
 
-// The user's name and secret of a peer.
+// The user's name and the secrets of a peer.
 #[derive(Drop)]
 pub(crate) struct Credentials {
     pub(crate) user: Option<Credential>,
     pub(crate) secret: Option<Credential>,
+    pub(crate) outbound_secret: Option<Credential>,
 }
 
 // How media goes to a peer.

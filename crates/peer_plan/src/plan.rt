@@ -1,10 +1,10 @@
 //! The plan of an exchange.
 ghost use Rattle.std.specs.Prelude.{◌≡◌, ◌≢◌, ◌<◌, ◌≤◌, ◌+◌, ◌*◌, ◌^◌, length, map, All, false, IfOk, IfSome, IfNone, option_map};
-ghost use Rattle.std.specs.Prelude.{position, slice_get};
+ghost use Rattle.std.specs.Prelude.{option_and_then, position, slice_get};
 ghost use Rattle.call_signals.specs.PeerRules.{IsPeerRules, IsWithin};
 ghost use Rattle.toml.specs.View.{table_view};
 ghost use Rattle.peer_plan.specs.Fields.{Gives};
-ghost use Rattle.peer_plan.specs.Plan.{IsPlan, IsNearest, fits, range_of, counts_of, total_of};
+ghost use Rattle.peer_plan.specs.Plan.{IsPlan, IsNearest, fits, range_of, counts_of, total_of, with_prefix};
 ghost use Rattle.peer_plan.specs.Reading.{is_endpoint, plan_in, plan_of};
 
 use crate::endpoint::Endpoint;
@@ -14,6 +14,7 @@ use crate::peer::Peer;
 use crate::reading;
 use crate::route::Route;
 use crate::routing::nearest;
+use call_auth::Challenge;
 use call_signals::PeerRules;
 use std::alloc::{AllocError, Global};
 use std::marker::Model;
@@ -114,6 +115,42 @@ impl Plan {
             endpoints,
             counts,
             routes,
+        }
+    }
+
+    /// The same plan, in which the challenges of the exchange begin with this prefix. A hardened leg doesn't answer such a challenge.
+    pub fn with_challenge_prefix(self, prefix: &Challenge) -> Plan
+        ensures { result ≡ record self { peers = map (with_prefix prefix.now) self.peers } }
+    {
+        let Plan {
+            workers,
+            passes,
+            mut peers,
+            endpoints,
+            counts,
+            routes,
+        } = self;
+        for peer in peers.iter_mut() {
+            peer.rules.challenge_prefix = Some(prefix.copied());
+        }
+        Plan {
+            workers,
+            passes,
+            peers,
+            endpoints,
+            counts,
+            routes,
+        }
+    }
+
+    /// What the challenges of the exchange begin with, if they begin alike.
+    pub fn challenge_prefix(&self) -> Option<&Challenge>
+        ensures { option_map (λ prefix. prefix.now) result ≡
+            option_and_then (λ peer. peer.rules.challenge_prefix) (slice_get self.now.peers 0) }
+    {
+        match self.peers.first() {
+            Some(peer) => peer.rules.challenge_prefix.as_ref(),
+            None => None,
         }
     }
 

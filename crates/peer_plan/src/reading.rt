@@ -2,8 +2,8 @@
 ghost use Rattle.std.specs.Prelude.{◌≡◌, ◌≤◌, ok_or, length};
 ghost use Rattle.toml.specs.View.{view, table_view};
 ghost use Rattle.peer_plan.specs.Fields.{Gives, value};
-ghost use Rattle.peer_plan.specs.Reading.{document_of, plan_format, default_record_limit, vnak_ms_in, limits_in};
-ghost use Rattle.peer_plan.specs.Reading.{trunk_ms_in, passes_in};
+ghost use Rattle.peer_plan.specs.Reading.{document_of, plan_format, default_record_limit, record_octets_in, vnak_ms_in};
+ghost use Rattle.peer_plan.specs.Reading.{trunk_ms_in, challenge_ms_in, limits_in, passes_in};
 
 mod fields;
 mod media;
@@ -70,6 +70,18 @@ fn default_record_limit(format: u64) -> u64
     if format == 4 { 65_536 } else { 4096 }
 }
 
+// How many octets of data the frames of a leg's record have at most, where the plan says it.
+fn record_octets(table: &Table, format: u64) -> Result<Option<u32>, PlanError>
+    ensures { result ≡ record_octets_in format (table_view table.now) }
+{
+    if format == 4 {
+        let most = number_at(table, Key::RecordOctets, Ok(1_048_576), 65_536, 268_435_456)?;
+        Ok(Some(most as u32))
+    } else {
+        Ok(None)
+    }
+}
+
 // How long a leg waits before it asks for the same frame again, in milliseconds.
 fn vnak_ms(table: &Table, format: u64) -> Result<u64, PlanError>
     ensures { result ≡ vnak_ms_in format (table_view table.now) }
@@ -92,6 +104,17 @@ fn trunk_ms(table: &Table, format: u64) -> Result<Option<u64>, PlanError>
     }
 }
 
+// How long a leg waits for the answer to its challenge, in milliseconds, where the plan says it.
+fn challenge_ms(table: &Table, format: u64) -> Result<Option<u64>, PlanError>
+    ensures { result ≡ challenge_ms_in format (table_view table.now) }
+{
+    if format == 4 {
+        Ok(Some(number_at(table, Key::ChallengeMs, Ok(10_000), 1000, 60_000)?))
+    } else {
+        Ok(None)
+    }
+}
+
 // What the legs of all peers go by.
 #[tactic(auto, unfolding(crate::specs::Reading::limits_in))]
 pub(crate) fn limits(table: &Table, format: u64) -> Result<Limits, PlanError>
@@ -102,15 +125,19 @@ pub(crate) fn limits(table: &Table, format: u64) -> Result<Limits, PlanError>
     let ping_ms = number_at(table, Key::PingMs, Ok(20_000), 0, 600_000)?;
     let default_limit = default_record_limit(format);
     let record_limit = number_at(table, Key::RecordLimit, Ok(default_limit), 64, 65_536)?;
+    let record_octets = record_octets(table, format)?;
     let vnak_ms = vnak_ms(table, format)?;
     let trunk_ms = trunk_ms(table, format)?;
+    let challenge_ms = challenge_ms(table, format)?;
     Ok(Limits {
         retry_ms,
         max_retries: max_retries as u32,
         ping_ms,
         record_limit: record_limit as u32,
+        record_octets,
         vnak_ms,
         trunk_ms,
+        challenge_ms,
     })
 }
 

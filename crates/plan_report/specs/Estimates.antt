@@ -1,5 +1,5 @@
 -- What follows from the values of a plan, as it is estimated.
-use Rattle.std.specs.Prelude.{ℕ, ◌+◌, ◌-◌, ◌*◌, ◌/◌, ◌==◌, if◌then◌else◌}
+use Rattle.std.specs.Prelude.{ℕ, ◌+◌, ◌-◌, ◌*◌, ◌/◌, ◌==◌, min, Option, None, Some, if◌then◌else◌}
 
 -- a frame goes out once and then again, each time with the same wait behind it
 abbrev pub silence_ms : ℕ → ℕ → ℕ
@@ -10,10 +10,21 @@ silence_ms retry_ms max_retries = retry_ms * (max_retries + 1)
 abbrev pub entries_an_hour : ℕ → ℕ
 entries_an_hour ping_ms = if ping_ms == 0 then 1759 else (10800000 / ping_ms) + 1759
 
--- a call ends where fewer than four entries are free
-abbrev pub minutes : ℕ → ℕ → ℕ
-minutes record_limit ping_ms = ((record_limit - 4) * 60) / entries_an_hour ping_ms
+-- How many entries a call that only talks can have: it ends where fewer than four are free, or where its data, 8 octets an entry,
+-- comes to its limit first.
+abbrev pub entries_of_talk : ℕ → Option ℕ → ℕ
+entries_of_talk record_limit None = record_limit - 4
+entries_of_talk record_limit (Some record_octets) = min (record_limit - 4) (record_octets / 8)
 
--- an entry takes 16 octets and the data of its frame
-abbrev pub megabytes : ℕ → ℕ → ℕ → ℕ
-megabytes legs record_limit octets = ((legs * record_limit * (16 + octets)) / 1000000) + 1
+abbrev pub minutes : ℕ → Option ℕ → ℕ → ℕ
+minutes record_limit record_octets ping_ms = (entries_of_talk record_limit record_octets * 60) / entries_an_hour ping_ms
+
+-- how many octets of data a full record has, if each of its frames has so many, unless that is more than it may have
+abbrev pub data_octets : ℕ → Option ℕ → ℕ → ℕ
+data_octets record_limit None octets = record_limit * octets
+data_octets record_limit (Some record_octets) octets = min (record_limit * octets) record_octets
+
+-- an entry takes 16 octets beside the data of its frame
+abbrev pub megabytes : ℕ → ℕ → Option ℕ → ℕ → ℕ
+megabytes legs record_limit record_octets octets =
+    ((legs * (record_limit * 16 + data_octets record_limit record_octets octets)) / 1000000) + 1

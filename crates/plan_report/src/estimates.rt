@@ -1,9 +1,11 @@
 //! What follows from the values of a plan.
-ghost use Rattle.std.specs.Prelude.{◌≡◌, ◌≤◌, ◌+◌, ◌-◌, ◌*◌};
+ghost use Rattle.std.specs.Prelude.{◌≡◌, ◌≤◌, ◌<◌, ◌^◌};
+ghost use Rattle.call_signals.specs.PeerRules.{IsPeerRules};
 ghost use Rattle.plan_report.specs.Estimates as estimate;
 
 use crate::values::limits_of;
-use peer_plan::Plan;
+use call_signals::PeerRules;
+use peer_plan::{Key, Plan};
 use text_buffer::TextBuffer;
 
 // How long a frame is sent again before its call ends, in milliseconds.
@@ -27,36 +29,85 @@ fn entries_an_hour(ping_ms: u64) -> u64
     }
 }
 
-// After how many minutes such a leg has fewer than four free entries.
-fn minutes(record_limit: u32, ping_ms: u64) -> u64
+// How many entries such a leg can have.
+fn entries_of_talk(record_limit: u32, record_octets: Option<u32>) -> u32
     requires { 64 ≤ record_limit }
-    ensures { result ≡ estimate.minutes record_limit ping_ms }
+    ensures { result ≡ estimate.entries_of_talk record_limit record_octets }
 {
-    (u64::from(record_limit) - 4) * 60 / entries_an_hour(ping_ms)
+    match record_octets {
+        Some(record_octets) => (record_limit - 4).min(record_octets / 8),
+        None => record_limit - 4,
+    }
 }
 
-// What so many records take when they are full of frames with so many octets of data, in megabytes.
-fn megabytes(legs: u16, record_limit: u32, octets: u16) -> u64
-    requires { record_limit ≤ 65536 }
-    ensures { result ≡ estimate.megabytes legs record_limit octets }
+// After how many minutes such a leg ends.
+fn minutes(record_limit: u32, record_octets: Option<u32>, ping_ms: u64) -> u64
+    requires { 64 ≤ record_limit }
+    ensures { result ≡ estimate.minutes record_limit record_octets ping_ms }
 {
-    u64::from(legs) * u64::from(record_limit) * (16 + u64::from(octets)) / 1_000_000 + 1
+    u64::from(entries_of_talk(record_limit, record_octets)) * 60 / entries_an_hour(ping_ms)
+}
+
+// How many octets of data a full record has when each of its frames has so many, unless it may have fewer.
+fn data_octets(record_limit: u32, record_octets: Option<u32>, octets: u16) -> u64
+    requires { record_limit ≤ 65536 }
+    ensures value { result ≡ estimate.data_octets record_limit record_octets octets }
+    ensures most { result < 2 ^ 32 }
+{
+    let all = u64::from(record_limit) * u64::from(octets);
+    match record_octets {
+        Some(record_octets) => all.min(u64::from(record_octets)),
+        None => all,
+    }
+}
+
+// What so many such records take, in megabytes.
+fn megabytes(legs: u16, record_limit: u32, record_octets: Option<u32>, octets: u16) -> u64
+    requires { record_limit ≤ 65536 }
+    ensures { result ≡ estimate.megabytes legs record_limit record_octets octets }
+{
+    let data = data_octets(record_limit, record_octets, octets);
+    u64::from(legs) * (u64::from(record_limit) * 16 + data) / 1_000_000 + 1
+}
+
+// After how long a call that only talks ends, and by which limit of its record.
+fn write_end_of_talk(rules: &PeerRules, report: &mut TextBuffer)
+    requires { IsPeerRules rules.now }
+{
+    let (limit, octets) = (rules.record_limit, rules.record_octets);
+    let key = if entries_of_talk(limit, octets) < limit - 4 {
+        Key::RecordOctets
+    } else {
+        Key::RecordLimit
+    };
+    let minutes = minutes(limit, octets, rules.ping_ms);
+    report.text(key.name());
+    report.text(" ends a call that only talks after about ");
+    report.counted(minutes / 60, " h ");
+    report.counted(minutes % 60, " min\n");
+}
+
+// How much memory the records of all legs take, as calls go and at worst.
+fn write_memory(legs: u16, rules: &PeerRules, report: &mut TextBuffer)
+    requires { IsPeerRules rules.now }
+{
+    let (limit, octets) = (rules.record_limit, rules.record_octets);
+    report.counted(u64::from(legs), " legs with full records take some ");
+    report.counted(megabytes(legs, limit, octets, 8), " MB; ");
+    let is_data_limited = data_octets(limit, octets, 1388) < data_octets(limit, None, 1388);
+    let worst = if is_data_limited {
+        " MB with all the data that record_octets allows\n"
+    } else {
+        " MB where each frame is as long as it may be\n"
+    };
+    report.counted(megabytes(legs, limit, octets, 1388), worst);
 }
 
 /// Writes what follows from the values of a plan.
 pub(crate) fn write_estimates(plan: &Plan, report: &mut TextBuffer) {
     let rules = limits_of(plan);
-    let legs = plan.number_count();
     report.text("a frame that nobody acknowledges ends its call after ");
     report.counted(silence_ms(rules.retry_ms, rules.max_retries), " ms\n");
-    report.text("record_limit ends a call that only talks after about ");
-    let minutes = minutes(rules.record_limit, rules.ping_ms);
-    report.counted(minutes / 60, " h ");
-    report.counted(minutes % 60, " min\n");
-    report.counted(u64::from(legs), " legs with full records take some ");
-    report.counted(megabytes(legs, rules.record_limit, 8), " MB; ");
-    report.counted(
-        megabytes(legs, rules.record_limit, 1388),
-        " MB where each frame is as long as it may be\n",
-    );
+    write_end_of_talk(rules, report);
+    write_memory(plan.number_count(), rules, report);
 }

@@ -70,8 +70,8 @@ pub(crate) fn limits_of(plan: &Plan) -> &PeerRules
     plan.rules(0)
 }
 
-// The limits that all peers have, and how many passes there are. Only format 4 has keys for the time between two VNAKs and for
-// the wait of a trunk frame.
+// The limits that all peers have, and how many passes there are. Only format 4 has keys for the data of a record, and for how long
+// a VNAK, a trunk frame and a challenge wait.
 fn write_limits(plan: &Plan, table: &Table, format: u64, report: &mut TextBuffer) {
     let rules = limits_of(plan);
     let vnak_ms = if format == 4 {
@@ -79,13 +79,19 @@ fn write_limits(plan: &Plan, table: &Table, format: u64, report: &mut TextBuffer
     } else {
         None
     };
+    let record_octets = match rules.record_octets {
+        Some(octets) => Some(u64::from(octets)),
+        None => None,
+    };
     let numbers = [
         (Key::RetryMs, Some(rules.retry_ms)),
         (Key::MaxRetries, Some(u64::from(rules.max_retries))),
         (Key::PingMs, Some(rules.ping_ms)),
         (Key::RecordLimit, Some(u64::from(rules.record_limit))),
+        (Key::RecordOctets, record_octets),
         (Key::VnakMs, vnak_ms),
         (Key::TrunkMs, rules.trunk_ms),
+        (Key::ChallengeMs, rules.challenge_ms),
         (Key::Passes, Some(u64::from(plan.passes()))),
     ];
     for &(key, number) in &numbers {
@@ -119,16 +125,19 @@ fn write_workers(plan: &Plan, report: &mut TextBuffer) {
     }
 }
 
-// Who calls, and whether he can prove it.
-fn write_credentials(rules: &PeerRules, report: &mut TextBuffer) {
+// A peer's user, and whether it has a secret. Only format 4 has a key for that of the other way.
+fn write_credentials(rules: &PeerRules, table: &Table, format: u64, report: &mut TextBuffer) {
     let Some(user) = &rules.user else {
         return report.text("  no user, no secret\n");
     };
     report.text("  user \"");
     report.put(user.as_slice());
-    report.text(match &rules.secret {
-        Some(_) => "\", with a secret\n",
-        None => "\", no secret\n",
+    let has_outbound = format == 4 && table.get(Key::OutboundSecret.name()).is_some();
+    report.text(match (&rules.secret, has_outbound) {
+        (Some(_), false) => "\", with a secret\n",
+        (Some(_), true) => "\", with a secret and an outbound secret\n",
+        (None, true) => "\", no secret, with an outbound secret\n",
+        (None, false) => "\", no secret\n",
     });
 }
 
@@ -182,7 +191,7 @@ fn write_peer(plan: &Plan, peer: u16, table: &Table, format: u64, report: &mut T
     report.counted(u64::from(worker), ": it sends to ");
     write_endpoint(plan.workers()[usize::from(worker)], "\n", report);
     let rules = plan.rules(peer);
-    write_credentials(rules, report);
+    write_credentials(rules, table, format, report);
     write_media(rules, table, report);
     write_window(rules.window, table, format, report);
     if format == 4 {

@@ -14,6 +14,8 @@ pub enum Line<'a> {
     Back(u64),
     /// `challenge <text>`: the challenge for callers from now on.
     Challenge(&'a [u8]),
+    /// `prefix <text>`: what the challenges of this exchange begin with. Only empty lines and comments are before it.
+    Prefix(&'a [u8]),
     /// `rx <peer> <hex>`: a datagram comes from a peer.
     Rx(&'a [u8], &'a [u8]),
     /// `stranger <address:port> <hex>`: a datagram comes from an endpoint that no peer has.
@@ -67,6 +69,7 @@ enum Command {
     At,
     Back,
     Challenge,
+    Prefix,
     Rx,
     Stranger,
     Call,
@@ -78,10 +81,11 @@ enum Command {
     Settle,
 }
 
-const COMMANDS: [(&[u8], Command); 12] = [
+const COMMANDS: [(&[u8], Command); 13] = [
     (b"at", Command::At),
     (b"back", Command::Back),
     (b"challenge", Command::Challenge),
+    (b"prefix", Command::Prefix),
     (b"rx", Command::Rx),
     (b"stranger", Command::Stranger),
     (b"call", Command::Call),
@@ -117,6 +121,7 @@ fn said_by_one<'a>(command: Command) -> Option<Line<'a>> {
 fn said_by_two<'a>(command: Command, word: &'a [u8]) -> Option<Line<'a>> {
     match command {
         Command::Challenge => return Some(Line::Challenge(word)),
+        Command::Prefix => return Some(Line::Prefix(word)),
         Command::Tick => return Some(Line::TickOf(word)),
         Command::Send => return Some(Line::SendTo(word)),
         _ => {}

@@ -1,16 +1,17 @@
 -- The entries of a record's heads.
-use Rattle.std.proofs.Common.{◌≡◌, ℕ, ◌+◌, ◌-◌, ◌≤◌, suc, List, [], ◌∷◌, ◌++◌, length, take, drop, refl, ap, ◌∙◌, arith, length-drop}
+use Rattle.std.proofs.Common.{get_or, ◌≡◌, ℕ, ◌+◌, ◌-◌, ◌≤◌, suc, List, [], ◌∷◌, ◌++◌, length, take, drop, refl, ap, sym, ◌∙◌, arith, length-append, length-drop, length-take}
 use Rattle.std.proofs.lemmas.List.{take-append-le, drop-append-le, map-append}
-use Rattle.std.proofs.lemmas.List.Sums.{sum_by-cons}
+use Rattle.std.proofs.lemmas.List.Elements.{All-push}
+use Rattle.std.proofs.lemmas.List.Sums.{sum_by-cons, sum_by_push}
 use Rattle.std.specs.Prelude.{slice_range, sum_by, All, max}
 use Rattle.seq_window.specs.declared.history.Count.TheVariants as counts
 use Rattle.seq_window.specs.declared.history.Head.{Head}
 use Rattle.seq_window.specs.declared.history.Head.TheVariants as head
 use Rattle.seq_window.specs.declared.history.FrameHead.{FrameHead}
 use Rattle.seq_window.specs.Entry.{Entry, Sent, Taken}
-use Rattle.seq_window.specs.History.{sent_count, acked_count, taken_count}
+use Rattle.seq_window.specs.History.{sent_count, acked_count, taken_count, data_len, data_octets}
 use Rattle.seq_window.specs.Record.{RecordState}
-use Rattle.seq_window.specs.RecordFields.{frame_at, entry_at, entries_in, EndsBelow, counted_by}
+use Rattle.seq_window.specs.RecordFields.{frame_at, entry_at, entries_in, EndsBelow, counted_by, head_len}
 
 -- what the heads count is what the entries do
 module _ (octets : List ℕ) where
@@ -31,6 +32,30 @@ module _ (octets : List ℕ) where
   taken_count-heads (head.Sent h ∷ heads) = omega (arith, taken_count-heads heads, sum_by-cons (counted_by counts.Taken) (head.Sent h) heads)
   taken_count-heads (head.Acked count ∷ heads) = omega (arith, taken_count-heads heads, sum_by-cons (counted_by counts.Taken) (head.Acked count) heads)
   taken_count-heads (head.Taken h ∷ heads) = omega (arith, taken_count-heads heads, sum_by-cons (counted_by counts.Taken) (head.Taken h) heads)
+
+-- .. and so are their octets of data
+length-frame_at : (octets : List ℕ) (h : FrameHead) → h.start + h.len ≤ length octets → length (frame_at octets h).payload ≡ h.len
+length-frame_at octets h within =
+    omega (arith, length-take (h.start + h.len - h.start) (drop h.start octets), length-drop h.start octets)
+
+data_len-head : (octets : List ℕ) (h : Head) → EndsBelow (length octets) h → head_len h ≡ data_len (entry_at octets h)
+data_len-head octets (head.Sent h) within = sym (length-frame_at octets h within.0)
+data_len-head octets (head.Acked count) within = refl
+data_len-head octets (head.Taken h) within = sym (length-frame_at octets h within.0)
+
+pub data_octets-heads : (octets : List ℕ) (heads : List Head) → All (EndsBelow (length octets)) heads
+    → sum_by head_len heads ≡ data_octets (entries_in octets heads)
+data_octets-heads octets [] within = refl
+data_octets-heads octets (h ∷ heads) within =
+    let first : EndsBelow (length octets) h = within 0 h (omega arith) in
+    let rest : All (EndsBelow (length octets)) heads = λ k d lt. within (suc k) d (omega arith) in
+    omega (
+      arith,
+      data_len-head octets h first,
+      data_octets-heads octets heads rest,
+      sum_by-cons head_len h heads,
+      sum_by-cons data_len (entry_at octets h) (entries_in octets heads),
+    )
 
 -- a frame stays where it lies, whatever comes after
 frame_at-more : (octets more : List ℕ) (h : FrameHead) → h.start + h.len ≤ length octets → frame_at (octets ++ more) h ≡ frame_at octets h
@@ -72,3 +97,21 @@ pushed old room octets more grown_octets heads grown_heads h entry spare view sa
     (ap (entries_in grown_octets) heads_is ∙ map-append (entry_at grown_octets) heads (h ∷ []) ∙ ap (λ es. es ++ entry_at grown_octets h ∷ []) (kept ∙ entries_are)
     ∙ ap (λ e. old.entries ++ e ∷ []) at)
     (omega arith)
+
+-- one more head has the octets that came with it
+pub pushed_len : (octets more grown_octets : List ℕ) (heads grown_heads : List Head) (h : Head) → length octets ≡ sum_by head_len heads
+    → grown_octets ≡ octets ++ more → grown_heads ≡ heads ++ h ∷ [] → head_len h ≡ length more
+    → length grown_octets ≡ sum_by head_len grown_heads
+pushed_len octets more grown_octets heads grown_heads h whole octets_is heads_is len =
+    rw (octets_is, heads_is) (omega (arith, whole, len, length-append octets more, sum_by_push head_len heads h))
+
+-- the octets of a head lie below any later end
+ends_later : (least most : ℕ) (h : Head) → least ≤ most → EndsBelow least h → EndsBelow most h
+ends_later least most (head.Sent h) later ends = (omega (arith, ends.0), ends.1)
+ends_later least most (head.Acked count) later ends = tt
+ends_later least most (head.Taken h) later ends = (omega (arith, ends.0), ends.1)
+
+pub pushed_within : (least most : ℕ) (heads grown_heads : List Head) (h : Head) → least ≤ most → All (EndsBelow least) heads
+    → EndsBelow most h → grown_heads ≡ heads ++ h ∷ [] → All (EndsBelow most) grown_heads
+pushed_within least most heads grown_heads h later within ends heads_is =
+    rw heads_is (All-push (EndsBelow most) heads h (λ k d at. ends_later least most (get_or heads k d) later (within k d at)) ends)

@@ -1,5 +1,5 @@
 -- What the record of a leg says was sent, acknowledged and taken ("Message Transport").
-use Rattle.std.specs.Prelude.{ℕ, ◌+◌, ◌≤◌, List, [], ◌∷◌, length, take, drop, All}
+use Rattle.std.specs.Prelude.{ℕ, ◌+◌, ◌≤◌, List, [], ◌∷◌, length, take, drop, All, sum_by}
 use Rattle.iax_frames.specs.declared.stored_frame.Frame.{Frame}
 use Rattle.seq_window.specs.Entry.{Entry, Sent, Acked, Taken}
 
@@ -29,6 +29,16 @@ acked_count [] = 0
 acked_count (Sent frame ∷ entries) = acked_count entries
 acked_count (Acked count ∷ entries) = count + acked_count entries
 acked_count (Taken frame ∷ entries) = acked_count entries
+
+-- the octets of data in an entry's frame
+abbrev pub data_len : Entry → ℕ
+data_len (Sent frame) = length frame.payload
+data_len (Acked count) = 0
+data_len (Taken frame) = length frame.payload
+
+-- .. and in all frames
+abbrev pub data_octets : List Entry → ℕ
+data_octets history = sum_by data_len history
 
 -- the held frames: those that were sent and not yet acknowledged, in order. The first has the number acked_count.
 abbrev pub held : List Entry → List Frame

@@ -1,5 +1,5 @@
 -- How a record lies in memory.
-use Rattle.std.specs.Prelude.{ℕ, ◌+◌, ◌*◌, ◌≤◌, List, length, map, All, slice_range}
+use Rattle.std.specs.Prelude.{◌≡◌, ℕ, ◌+◌, ◌*◌, ◌≤◌, List, length, map, All, slice_range, sum_by}
 use Rattle.std.specs.Vec.{vec_capacity}
 use Rattle.iax_frames.specs.declared.stored_frame.Frame.{Frame}
 use Rattle.seq_window.specs.declared.history.Count.{Count}
@@ -31,6 +31,12 @@ counted_by counts.Acked (head.Acked count) = count
 counted_by counts.Taken (head.Taken h) = 1
 counted_by _ _ = 0
 
+-- the octets of data of a head's frame
+abbrev pub head_len : Head → ℕ
+head_len (head.Sent h) = h.len
+head_len (head.Acked count) = 0
+head_len (head.Taken h) = h.len
+
 abbrev pub record_of : Inside → RecordState
 record_of r = record { entries = entries_in r.octets.items r.heads.items; spare = r.spare }
 
@@ -42,6 +48,7 @@ EndsBelow len (head.Taken h) = (h.start + h.len ≤ len) × (h.len ≤ 1388)
 
 pub record IsRecord (r : Inside) : Type 0 where
   pub within : All (EndsBelow (length r.octets.items)) r.heads.items
+  pub whole : length r.octets.items ≡ sum_by head_len r.heads.items
   pub short : length r.octets.items ≤ 1388 * length r.heads.items
   pub few : length r.heads.items ≤ 65536
   pub head_room : length r.heads.items + r.spare ≤ vec_capacity r.heads

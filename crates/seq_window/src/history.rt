@@ -4,9 +4,9 @@ ghost use Rattle.std.specs.Prelude.{◌≡◌, ◌+◌, ◌-◌, ◌*◌, ◌<�
 ghost use Rattle.std.specs.Prelude.{sum_by};
 ghost use Rattle.std.specs.Option.{option_map};
 ghost use Rattle.seq_window.specs.Entry.{Sent as EntrySent};
-ghost use Rattle.seq_window.specs.History.{sent_count, acked_count, taken_count};
+ghost use Rattle.seq_window.specs.History.{sent_count, acked_count, taken_count, data_octets};
 ghost use Rattle.seq_window.specs.Record.{entry_of, frame_of, octets_of, IsSent};
-ghost use Rattle.seq_window.specs.RecordFields.{frame_at, entry_at, counted_by, EndsBelow};
+ghost use Rattle.seq_window.specs.RecordFields.{frame_at, entry_at, counted_by, head_len, EndsBelow};
 ghost use Rattle.std.specs.Vec.{vec_capacity};
 
 use std::alloc::{AllocError, Global};
@@ -213,6 +213,14 @@ impl Record {
     {
         count_in(self.heads.as_slice(), Count::Taken)
     }
+
+    /// The octets of data of all frames, sent and taken.
+    pub fn data_octets(&self) -> usize
+        ensures octets { result ≡ data_octets self.now.entries }
+        ensures most { result ≤ 1388 * 65536 }
+    {
+        self.octets.as_slice().len()
+    }
 }
 
 // Makes room for the octets of `count` more frames. Where memory is asked for, it is for one frame more: short frames, as most are,
@@ -266,6 +274,7 @@ fn push_head(octets: &mut Vec<u8>, added: EntryView<'_>) -> Head
     ensures octets { octets.new.items ≡ octets.old.items ++ octets_of added.entry }
     ensures entry { entry_at octets.new.items result ≡ entry_of added.entry }
     ensures within { EndsBelow (length octets.new.items) result }
+    ensures len { head_len result ≡ length (octets_of added.entry) }
     ensures capacity { vec_capacity octets.old ≤ vec_capacity octets.new }
 {
     match added {

@@ -1,9 +1,9 @@
 //! The window of one leg.
 
-ghost use Rattle.std.specs.Prelude.{◌≡◌, ℕ, ◌+◌, ◌≤◌, ◌<◌, ◌↔◌, [], length, IfOk, IfSome, OnOk, OnErr, IsOk, IsTrue, Some};
+ghost use Rattle.std.specs.Prelude.{◌≡◌, ℕ, ◌+◌, ◌*◌, ◌≤◌, ◌<◌, ◌↔◌, [], length, IfOk, IfSome, OnOk, OnErr, IsOk, IsTrue, Some};
 ghost use Rattle.std.specs.Option.{option_map};
 ghost use Rattle.seq_window.specs.Sequence.{byte_of};
-ghost use Rattle.seq_window.specs.History.{sent_count, taken_count, acked_count, IsLegal};
+ghost use Rattle.seq_window.specs.History.{sent_count, taken_count, acked_count, data_octets, IsLegal};
 ghost use Rattle.seq_window.specs.Record.{frame_of};
 ghost use Rattle.seq_window.specs.HeldFrame.{held_of};
 ghost use Rattle.seq_window.specs.Window.{held_count, entry_count, is_full, judged_acknowledgement, count_of, judged_number};
@@ -337,6 +337,14 @@ impl Window {
         ensures { result + entry_count self.now.state ≡ self.now.state.limit }
     {
         self.limit as usize - self.history.len()
+    }
+
+    /// The octets of data of all frames of the record, 0 ..= 90,963,968.
+    pub fn data_octets(&self) -> usize
+        ensures octets { result ≡ data_octets self.now.state.history }
+        ensures most { result ≤ 1388 * 65536 }
+    {
+        self.history.data_octets()
     }
 
     /// How many more entries the record takes without asking for memory.

@@ -5,6 +5,7 @@ mod desk;
 mod drain;
 mod legs;
 mod lost_frames;
+mod rejections;
 mod scraping;
 mod showing;
 

@@ -3,6 +3,7 @@ ghost use Rattle.std.specs.Prelude.{◌<◌, length};
 
 use crate::desk::Desk;
 use crate::lost_frames::push_losses;
+use crate::rejections::push_rejections;
 use control_requests::{Answer, Methods, Request, Status};
 use exchange_core::{Exchange, NoGate, Pass};
 use exchange_report::{count_legs, refusal_name};
@@ -323,6 +324,7 @@ fn push_all<J: Naming, R: Wait>(
     let (exchange, watch) = (desk.exchange, desk.watch);
     push_peers(rt, alloc, metrics, exchange, &mut desk.pass, watch, now)?;
     push_refusals(alloc, metrics, exchange.plan(), watch)?;
+    push_rejections(alloc, metrics, exchange.plan(), watch)?;
     push_losses(rt, alloc, metrics, exchange, &mut desk.pass)?;
     push_all_totals(alloc, metrics, watch)?;
     push_drops(table, alloc, metrics, exchange.plan())

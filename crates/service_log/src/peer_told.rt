@@ -1,9 +1,9 @@
 //! What the log tells of a peer.
 use crate::lines::{more_than, tell, tell_count};
-use exchange_report::{PeerLosses, refusal_name};
+use exchange_report::{PeerLosses, refusal_name, rejection_name};
 use log::{Level, Log};
 use service_report::{Hearing, News, news_of};
-use service_watch::{PeerMarksRead, REFUSALS, ServiceWatch};
+use service_watch::{PeerMarksRead, REFUSALS, REJECTIONS, ServiceWatch};
 use std::iter;
 
 // What was told of a peer, and what is told of it next.
@@ -21,6 +21,8 @@ pub(crate) struct PeerTold {
     pub(crate) lost_now: PeerLosses,
     // In the order of `REFUSALS`.
     refused: [u64; REFUSALS.len()],
+    // In the order of `REJECTIONS`.
+    rejected: [u64; REJECTIONS.len()],
 }
 
 impl PeerTold {
@@ -37,6 +39,7 @@ impl PeerTold {
             lost: PeerLosses::default(),
             lost_now: PeerLosses::default(),
             refused: [0; REFUSALS.len()],
+            rejected: [0; REJECTIONS.len()],
         }
     }
 
@@ -91,7 +94,8 @@ impl PeerTold {
         tell_count(log, Level::Warn, &what, dropped, seconds);
     }
 
-    // How many datagrams were refused for each reason, and how many were turned away, in a round of so many seconds.
+    // How many datagrams were refused for each reason, how many were rejected, and how many were turned away, in a round of so many
+    // seconds.
     pub(crate) fn tell_refusals<L: Log>(
         &mut self,
         log: &L,
@@ -105,6 +109,12 @@ impl PeerTold {
             let refusal = refusal_name(*refusal);
             let what = format_args!("refused {refusal} from {name}");
             tell_count(log, Level::Warn, &what, refused, seconds);
+        }
+        for (told, rejection) in iter::zip(self.rejected.iter_mut(), &REJECTIONS) {
+            let rejected = more_than(told, watch.rejected(peer, *rejection));
+            let rejection = rejection_name(*rejection);
+            let what = format_args!("rejected {rejection} from {name}");
+            tell_count(log, Level::Warn, &what, rejected, seconds);
         }
         let turned_away = more_than(&mut self.turned_away, watch.marks(peer).turned_away);
         let what = format_args!("turned away from {name}");

@@ -2,9 +2,11 @@
 //! the log.
 #![tactic(auto)]
 
+mod peer_marks;
 mod service_watch;
 mod socket_table;
 mod waker_table;
 
-pub use service_watch::{PeerMarksRead, REFUSALS, STRANGERS, ServiceWatch};
+pub use peer_marks::{PeerMarksRead, REFUSALS, REJECTIONS};
+pub use service_watch::{STRANGERS, ServiceWatch};
 pub use socket_table::{DropCount, SocketTable, drop_counts};

@@ -1,9 +1,10 @@
 //! What the workers of a service ask, and what they tell of each peer.
 ghost use Rattle.std.specs.Prelude.{◌≡◌};
 
+use crate::peer_marks::{PeerMarks, PeerMarksRead, count_one};
 use crate::waker_table::WakerTable;
 use call_writer::CallOutlets;
-use exchange_core::{Refusal, Retired};
+use exchange_core::{Refusal, Rejection, Retired};
 use exchange_report::call_row;
 use peer_plan::{Endpoint, Plan};
 use std::alloc::{AllocError, Global};
@@ -22,61 +23,6 @@ const ENDED: u64 = 2;
 
 /// How many endpoints of strangers are kept until the log takes them.
 pub const STRANGERS: usize = 256;
-
-/// Why a datagram of a peer is refused: all reasons but `Stranger`.
-pub const REFUSALS: [Refusal; 14] = [
-    Refusal::StepsSpent,
-    Refusal::TooLong,
-    Refusal::Short,
-    Refusal::MetaCommand,
-    Refusal::EntryCut,
-    Refusal::NoSource,
-    Refusal::Cut,
-    Refusal::NoCall,
-    Refusal::RecordFull,
-    Refusal::SerialsSpent,
-    Refusal::NoNumber,
-    Refusal::NumberBusy,
-    Refusal::RemoteBusy,
-    Refusal::Memory,
-];
-
-// How many datagrams were refused for one reason.
-#[derive(Drop)]
-struct RefusalCount {
-    refusal: Refusal,
-    count: AtomicU64,
-}
-
-/// What is counted of a peer since the service began, modulo 2^64.
-#[derive(Drop)]
-struct PeerMarks {
-    // The worker that serves it.
-    worker: u16,
-    // One more than the moment at which it was last heard, in milliseconds; 0 if it never was.
-    heard: AtomicU64,
-    received: AtomicU64,
-    refused: AtomicU64,
-    by_refusal: Vec<RefusalCount>,
-    turned_away: AtomicU64,
-    sent: AtomicU64,
-    lost: AtomicU64,
-    legs_ended: AtomicU64,
-}
-
-/// What is counted of a peer since the service began, modulo 2^64: its datagrams, and its legs that have ended.
-#[derive(Clone, Copy, Default)]
-pub struct PeerMarksRead {
-    /// The moment at which it was last heard, in milliseconds since the exchange was opened.
-    pub heard: Option<u64>,
-    pub received: u64,
-    /// Those that were turned away among them.
-    pub refused: u64,
-    pub turned_away: u64,
-    pub sent: u64,
-    pub lost: u64,
-    pub legs_ended: u64,
-}
 
 /// How far a service is, and what its workers tell of each peer. All threads share it.
 pub struct ServiceWatch {
@@ -109,57 +55,6 @@ impl Drop for ServiceWatch {
     }
 }
 
-// No datagram was refused for any reason.
-fn refusal_counts(alloc: Global) -> Result<Vec<RefusalCount>, AllocError> {
-    let mut counts = Vec::with_capacity(alloc, REFUSALS.len())?;
-    for refusal in &REFUSALS {
-        let (refusal, count) = (*refusal, AtomicU64::new(0));
-        if counts.push(RefusalCount { refusal, count }).is_err() {
-            return Err(AllocError);
-        }
-    }
-    Ok(counts)
-}
-
-impl PeerMarks {
-    // Nothing was heard of it, and nothing was sent to it.
-    fn new(alloc: Global, worker: u16) -> Result<PeerMarks, AllocError> {
-        Ok(PeerMarks {
-            worker,
-            heard: AtomicU64::new(0),
-            received: AtomicU64::new(0),
-            refused: AtomicU64::new(0),
-            by_refusal: refusal_counts(alloc)?,
-            turned_away: AtomicU64::new(0),
-            sent: AtomicU64::new(0),
-            lost: AtomicU64::new(0),
-            legs_ended: AtomicU64::new(0),
-        })
-    }
-
-    // How many datagrams were refused for this reason.
-    fn refused_for(&self, refusal: Refusal) -> Option<&AtomicU64> {
-        for it in &self.by_refusal {
-            if it.refusal == refusal {
-                return Some(&it.count);
-            }
-        }
-        None
-    }
-
-    fn read(&self) -> PeerMarksRead {
-        PeerMarksRead {
-            heard: self.heard.load(Ordering::Relaxed).checked_sub(1),
-            received: self.received.load(Ordering::Relaxed),
-            refused: self.refused.load(Ordering::Relaxed),
-            turned_away: self.turned_away.load(Ordering::Relaxed),
-            sent: self.sent.load(Ordering::Relaxed),
-            lost: self.lost.load(Ordering::Relaxed),
-            legs_ended: self.legs_ended.load(Ordering::Relaxed),
-        }
-    }
-}
-
 // The peers of a plan, of which nothing was heard, room for strangers, and for the wakers of the workers.
 fn room_of(
     alloc: Global,
@@ -175,10 +70,6 @@ fn room_of(
     let seen = Vec::with_capacity(alloc, STRANGERS)?;
     let wakers = WakerTable::new(alloc, plan.workers().len())?;
     Ok((peers, seen, wakers))
-}
-
-fn count_one(count: &AtomicU64) {
-    count.fetch_add(1, Ordering::Relaxed);
 }
 
 impl ServiceWatch {
@@ -221,6 +112,15 @@ impl ServiceWatch {
                 Some(count) => count.load(Ordering::Relaxed),
                 None => 0,
             },
+            None => 0,
+        }
+    }
+
+    /// How many datagrams of a peer, by its place in the plan, were answered by this rejection, modulo 2^64; 0 of a place where
+    /// there is none.
+    pub fn rejected(&self, peer: u16, rejection: Rejection) -> u64 {
+        match self.peers.get(usize::from(peer)) {
+            Some(marks) => marks.rejected(rejection).load(Ordering::Relaxed),
             None => 0,
         }
     }
@@ -304,6 +204,13 @@ impl ServiceWatch {
         }
     }
 
+    // What a datagram of a peer asked for was rejected by the answer.
+    fn reject(&self, peer: u16, rejection: Rejection) {
+        if let Some(marks) = self.peers.get(usize::from(peer)) {
+            count_one(marks.rejected(rejection));
+        }
+    }
+
     // A datagram of a peer wasn't handed on.
     fn turn_away(&self, peer: u16) {
         if let Some(marks) = self.peers.get(usize::from(peer)) {
@@ -355,6 +262,7 @@ impl Watch for ServiceWatch {
         match event {
             Event::Received { peer, now } => self.hear(peer, now),
             Event::Refused { peer, refusal } => self.refuse(peer, refusal),
+            Event::Rejected { peer, rejection } => self.reject(peer, rejection),
             Event::TurnedAway { peer } => self.turn_away(peer),
             Event::Stranger { from } => self.see_stranger(from),
             Event::Sent { peer } => self.send(peer, false),

@@ -166,7 +166,11 @@ impl<'p> Script<'p> {
         self.lines.text(head.about);
         self.lines.text(", part ");
         self.lines.number(head.part);
-        self.lines.text(".\nhold\n");
+        self.lines.text(".\n");
+        if orders.is_some() {
+            self.write_prefix();
+        }
+        self.lines.text("hold\n");
         match orders {
             Some(orders) => {
                 self.now = 0;
@@ -232,6 +236,15 @@ impl<'p> Script<'p> {
     // Whether nothing is to be said before what a call was given.
     fn goes_on(&self, mark: &Mark) -> bool {
         self.missing == 0 && !mark.is_beside && mark.now == self.now
+    }
+
+    // What the challenges of the exchange begin with, if they begin alike.
+    fn write_prefix(&mut self) {
+        if let Some(prefix) = self.plan.challenge_prefix() {
+            self.lines.text("prefix ");
+            self.lines.put(prefix.as_slice());
+            self.lines.text("\n");
+        }
     }
 
     fn write_moment(&mut self, command: &str) {

@@ -84,7 +84,7 @@ load_none Whole = tt
 load_none Bounded = refl
 
 alone : (one : Weight) → one ≡ plus no_weight one
-alone one = λ i. record { entries = (sym (zero-add one.entries)) i; octets = (sym (zero-add one.octets)) i }
+alone one = λ i. record { entries = (sym (zero-add one.entries)) i; octets = (sym (zero-add one.octets)) i; openings = (sym (zero-add one.openings)) i }
 
 some_same : (one other : Weight) → Some one ≡ Some other → one ≡ other
 some_same one other e = cc

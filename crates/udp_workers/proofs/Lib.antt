@@ -2,5 +2,8 @@ pub mod CountLaws
 pub mod EventLaws
 pub mod HandingLaws
 pub mod IntakeLaws
+pub mod RoomLaws
+pub mod TurnRoom
 pub mod ServedLaws
 pub mod TickLaws
+pub mod VnakFrames

@@ -1,9 +1,9 @@
 -- What a turn takes in, and what it leaves for the next one.
 use Rattle.std.specs.Prelude.{◌≡◌, ℕ, ◌+◌, ◌≤◌, ◌⊎◌, ◌==◌, ◌&&◌, not, Bool, List, [], ◌∷◌, length, min, nat_le, sum_by, if◌then◌else◌, Option, None, Some, true, false}
-use Rattle.call_signals.specs.Codes.{FRAME_IAX, FRAME_VOICE, IAX_VNAK}
+use Rattle.call_signals.specs.Codes.{FRAME_IAX, FRAME_VOICE, IAX_NEW, IAX_VNAK}
 use Rattle.exchange_core.specs.Traces.{IsHeard, moment}
 use Rattle.iax_frames.specs.Datagram.{IsFrame, Spells}
-use Rattle.iax_frames.specs.FullFrame.{FullFrame}
+use Rattle.iax_frames.specs.FullFrame.{FullFrame, subclass_meaning}
 use Rattle.iax_frames.specs.TrunkFrame.{TrunkEntry}
 use Rattle.iax_frames.specs.declared.datagram.Datagram.{Datagram}
 use Rattle.iax_frames.specs.declared.datagram.Datagram.TheVariants.{Full, Mini, Video, Trunk}
@@ -35,28 +35,40 @@ waiting (Some arrival) = 1
 -- ---- how much a datagram weighs
 
 abbrev pub no_weight : Weight
-no_weight = record { entries = 0; octets = 0 }
+no_weight = record { entries = 0; octets = 0; openings = 0 }
 
 abbrev pub plus : Weight → Weight → Weight
-plus one other = record { entries = one.entries + other.entries; octets = one.octets + other.octets }
+plus one other =
+    record { entries = one.entries + other.entries; octets = one.octets + other.octets; openings = one.openings + other.openings }
 
 -- the octets of media in entries of a trunk frame
 abbrev pub media_octets : List TrunkEntry → ℕ
 media_octets entries = sum_by (λ e. length e.media) entries
+
+abbrev pub is_new_subclass : Option ℕ → Bool
+is_new_subclass (Some subclass) = subclass == IAX_NEW
+is_new_subclass None = false
+
+-- a NEW that may open a leg: it has no destination and OSeqno 0
+abbrev pub may_open : FullFrame → Bool
+may_open frame =
+    (frame.head.frame_type == FRAME_IAX && is_new_subclass (subclass_meaning frame.head.subclass))
+    && (frame.head.destination == 0 && frame.head.oseqno == 0)
 
 -- a VNAK may have 128 frames sent again; of voice no more than 1,380 octets are media
 abbrev pub weight_of_full : FullFrame → Weight
 weight_of_full frame = record {
   entries = if frame.head.frame_type == FRAME_IAX && frame.head.subclass == IAX_VNAK then 128 else 4;
   octets = if frame.head.frame_type == FRAME_VOICE then min (length frame.payload) 1380 else 0;
+  openings = if may_open frame then 1 else 0;
 }
 
--- what a datagram may put into queues and outboxes: entries or datagrams, and octets of media
+-- what a datagram may put into queues and outboxes, entries or datagrams, and octets of media; and how many legs it may open
 abbrev pub weight_of : Datagram → Weight
 weight_of (Full frame) = weight_of_full frame
-weight_of (Mini frame) = record { entries = 1; octets = length frame.media }
+weight_of (Mini frame) = record { entries = 1; octets = length frame.media; openings = 0 }
 weight_of (Video frame) = no_weight
-weight_of (Trunk frame) = record { entries = length frame.entries; octets = media_octets frame.entries }
+weight_of (Trunk frame) = record { entries = length frame.entries; octets = media_octets frame.entries; openings = 0 }
 
 -- the weight of these octets: that of the datagram that they spell, and nothing if they spell none
 pub record IsWeightOf (octets : List ℕ) (weight : Weight) : Type 0 where
@@ -71,9 +83,9 @@ Weigh (arrival ∷ before) weight =
 
 -- ---- how much a turn takes in
 
--- a trunk queue and an outbox that are empty have room for so much
+-- An empty outbox has room for so much beside a trunk frame, and so does a trunk queue; and a turn has one challenge, for one NEW.
 abbrev pub fits : Weight → Bool
-fits weight = nat_le weight.entries 256 && nat_le weight.octets 16384
+fits weight = nat_le weight.entries 255 && (nat_le weight.octets 16384 && nat_le weight.openings 1)
 
 -- what a turn has taken in with one datagram more, if it fits; the first datagram always does
 abbrev pub with_weight : Option Weight → Weight → Option Weight

@@ -1,5 +1,6 @@
 pub mod Draining
 pub mod Events
+pub mod Followed
 pub mod Handed
 pub mod Intake
 pub mod Receipts

@@ -1,5 +1,6 @@
 -- What is told of a datagram that was received.
-use Rattle.std.specs.Prelude.{◌≡◌, ◌≢◌, ℕ, ◌⊎◌, Some, option_map, slice_get, All}
+use Rattle.std.specs.Prelude.{◌≡◌, ◌≢◌, ℕ, ◌⊎◌, Option, None, Some, option_map, slice_get, All}
+use Rattle.peer_lock.specs.declared.steps.Rejection.{Rejection}
 use Rattle.peer_plan.specs.Plan.{PlanView}
 use Rattle.peer_plan.specs.declared.endpoint.Endpoint.{Endpoint}
 use Rattle.worker_watch.specs.declared.watch.Event.{Event}
@@ -11,3 +12,10 @@ TellsReceipt told plan from now =
     (All (λ peer. peer.endpoint ≢ from) plan.peers × told (events.Stranger from))
     ⊎ ((peer : ℕ) × (option_map (λ peer. peer.endpoint) (slice_get plan.peers peer) ≡ Some from) ×
     told (events.Received peer now))
+
+-- what was rejected is told of the peer that has this endpoint
+abbrev pub TellsRejection : (Event → Type 0) → PlanView → Endpoint → Option Rejection → Type 0
+TellsRejection told plan from None = Unit {0}
+TellsRejection told plan from (Some rejection) =
+    (peer : ℕ) × (option_map (λ peer. peer.endpoint) (slice_get plan.peers peer) ≡ Some from) ×
+    told (events.Rejected peer rejection)

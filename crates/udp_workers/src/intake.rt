@@ -1,12 +1,12 @@
 //! How much a turn takes in.
 ghost use Rattle.std.specs.Prelude.{◌≡◌, ◌<◌, ◌^◌, length};
-ghost use Rattle.udp_workers.specs.Intake.{IsLoaded, IsWeightOf, fits, media_octets, weight_of_full, with_weight};
+ghost use Rattle.udp_workers.specs.Intake.{IsLoaded, IsWeightOf, fits, may_open, media_octets, weight_of_full, with_weight};
 
-use call_signals::codes::{FRAME_IAX, FRAME_VOICE, IAX_VNAK};
+use call_signals::codes::{FRAME_IAX, FRAME_VOICE, IAX_NEW, IAX_VNAK};
 use iax_frames::{Datagram, Full, Trunk, read};
 
-// A trunk queue has 256 entries, and an outbox 256 datagrams.
-const MOST_ENTRIES: u64 = 256;
+// An outbox has 256 datagrams, one of which is left for what waits in the trunk queue; that has 256 entries.
+const MOST_ENTRIES: u64 = 255;
 
 // A trunk queue has so many octets of media.
 const MOST_OCTETS: u64 = 16_384;
@@ -17,6 +17,9 @@ const VNAK_ENTRIES: u64 = 128;
 // The frames that a full frame leads to at most, as a rule.
 const FULL_ENTRIES: u64 = 4;
 
+// The challenge of a turn is for one NEW.
+const MOST_OPENINGS: u64 = 1;
+
 // The longest media.
 const MEDIA_OCTETS: usize = 1380;
 
@@ -25,8 +28,8 @@ const MEDIA_OCTETS: usize = 1380;
 pub enum Intake {
     /// Whatever comes. All peers are ticked.
     Whole,
-    /// As much as an empty trunk queue and an empty outbox have room for: 256 entries and 16,384 octets of media, or one
-    /// datagram. All peers are ticked, or at the moment of the turn before those that are due (`Worker::run_until`).
+    /// As much as an empty outbox and a trunk queue with less than a trunk frame have room for: 255 entries and 16,384 octets of
+    /// media, or one datagram; of that at most one NEW that may open a leg, so that each has a challenge of its own. All peers are ticked, or at the moment of the turn before those that are due (`Worker::run_until`).
     Bounded,
 }
 
@@ -37,12 +40,23 @@ pub(crate) struct Weight {
     pub(crate) entries: u64,
     /// Octets of media.
     pub(crate) octets: u64,
+    /// Legs that it may open.
+    pub(crate) openings: u64,
 }
 
 const NO_WEIGHT: Weight = Weight {
     entries: 0,
     octets: 0,
+    openings: 0,
 };
+
+// Whether it is a NEW that may open a leg: it has no destination and OSeqno 0 ("NEW").
+fn may_open(frame: &Full<'_>) -> bool
+    ensures { result ≡ may_open frame.now }
+{
+    let is_new = frame.frame_type() == FRAME_IAX && frame.meaning() == Some(IAX_NEW as u64);
+    is_new && (frame.destination().get() == 0 && frame.oseqno() == 0)
+}
 
 // The weight of a full frame.
 fn weight_of_full(frame: &Full<'_>) -> Weight
@@ -57,6 +71,7 @@ fn weight_of_full(frame: &Full<'_>) -> Weight
         } else {
             0
         },
+        openings: u64::from(may_open(frame)),
     }
 }
 
@@ -66,6 +81,7 @@ fn weight_of_trunk(frame: &Trunk<'_>) -> Weight
     requires short { media_octets frame.now.entries < 2 ^ 64 }
     ensures entries { result.entries ≡ length frame.now.entries }
     ensures octets { result.octets ≡ media_octets frame.now.entries }
+    ensures openings { result.openings ≡ 0 }
 {
     let mut weight = NO_WEIGHT;
     let mut left = frame.entries();
@@ -85,17 +101,19 @@ fn weigh(octets: &[u8]) -> Weight
         Ok(Datagram::Mini(frame)) => Weight {
             entries: 1,
             octets: frame.media().len() as u64,
+            openings: 0,
         },
         Ok(Datagram::Trunk(frame)) => weight_of_trunk(&frame),
         Ok(Datagram::Video(_)) | Err(_) => NO_WEIGHT,
     }
 }
 
-// Whether a trunk queue and an outbox that are empty have room for it.
+// Whether an empty outbox has room for it beside a trunk frame, and the challenge of the turn serves it.
 fn fits(weight: Weight) -> bool
     ensures { result ≡ fits weight }
 {
-    weight.entries <= MOST_ENTRIES && weight.octets <= MOST_OCTETS
+    weight.entries <= MOST_ENTRIES
+        && (weight.octets <= MOST_OCTETS && weight.openings <= MOST_OPENINGS)
 }
 
 // What a turn has taken in with one datagram more. None: it doesn't fit.
@@ -108,6 +126,7 @@ fn with_weight(taken: Option<Weight>, one: Weight) -> Option<Weight>
     let both = Weight {
         entries: taken.entries.saturating_add(one.entries),
         octets: taken.octets.saturating_add(one.octets),
+        openings: taken.openings.saturating_add(one.openings),
     };
     if fits(both) { Some(both) } else { None }
 }

@@ -1,5 +1,6 @@
 //! Datagrams come in.
 ghost use Rattle.std.specs.Prelude.{◌≡◌, ◌+◌, ◌≤◌, IsTrue, Some};
+ghost use Rattle.exchange_core.specs.Rejections.{rejected_since};
 ghost use Rattle.exchange_core.specs.Traces.{IsHeard, moment};
 ghost use Rattle.peer_plan.specs.declared.endpoint.Endpoint.{Endpoint};
 ghost use Rattle.udp_wires.specs.Counts.{RiseAlike};
@@ -7,7 +8,7 @@ ghost use Rattle.udp_workers.specs.Draining.{IsTurnedAway};
 ghost use Rattle.udp_workers.specs.Events.{HasRoom};
 ghost use Rattle.udp_workers.specs.Handed.{GivesAll};
 ghost use Rattle.udp_workers.specs.Intake.{TakesIn, waiting};
-ghost use Rattle.udp_workers.specs.Receipts.{TellsReceipt};
+ghost use Rattle.udp_workers.specs.Receipts.{TellsReceipt, TellsRejection};
 ghost use Rattle.udp_workers.specs.Ticked.{IsLater};
 
 use crate::draining::is_turned_away;
@@ -47,6 +48,9 @@ fn hear<V: Watch, G: Gate, J: Naming, R: Wait>(
     ensures steps { pass.old.credit.steps + 1 + tally.old.report.refused ≤ pass.new.credit.steps + tally.new.report.refused }
     ensures later { IsLater pass.old pass.new }
     ensures handed { GivesAll (V.given tally.old.watch.now) pass.old pass.new }
+    // What makes a step isn't refused; what was rejected in it is told.
+    ensures taken { pass.old.credit.steps + 1 ≤ pass.new.credit.steps → tally.new.report.refused ≡ tally.old.report.refused }
+    ensures rejected { TellsRejection (V.told tally.old.watch.now) turn.now.exchange.now from (rejected_since pass.old pass.new) }
     // One that is turned away is refused, and makes none; any other is heard by the exchange.
     ensures away { IsTurnedAway turn.now.stage octets.now →
         (pass.new ≡ pass.old) × (tally.new.report.refused ≡ tally.old.report.refused + 1) }
@@ -71,9 +75,7 @@ fn hear<V: Watch, G: Gate, J: Naming, R: Wait>(
     let answer = turn
         .exchange
         .datagram(turn.rt, pass, from, octets, turn.time, turn.challenge);
-    if let Some(refusal) = answer.refused {
-        tally.tell(Event::Refused { peer, refusal });
-    }
+    tally.tell_outcome(peer, &answer);
     tally.tell_retired(&answer.retired);
 }
 

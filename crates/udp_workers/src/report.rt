@@ -32,6 +32,7 @@ impl TurnReport {
         match event {
             Event::Received { .. } => report.received += 1,
             Event::Refused { .. } | Event::TurnedAway { .. } => report.refused += 1,
+            Event::Rejected { .. } => {}
             Event::Stranger { .. } => {
                 report.received += 1;
                 report.refused += 1;

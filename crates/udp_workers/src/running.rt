@@ -140,9 +140,10 @@ impl Worker {
     /// While the service drains, a NEW of a peer isn't handed to the exchange if it has no destination and OSeqno 0, also where
     /// it is sent again for a leg that is there. It counts as received and refused. All else goes on.
     ///
-    /// `Bounded`: a turn takes in no more than empty trunk queues and outboxes have room for: 256 entries and 16,384 octets of
+    /// `Bounded`: a turn takes in no more than empty outboxes have room for beside a trunk frame: 255 entries and 16,384 octets of
     /// media, but for its first datagram, which it takes whatever it weighs. An entry of a trunk frame and a mini frame are one
-    /// entry, a full frame is four, a VNAK 128. A datagram that doesn't fit any more ends the receiving of its turn. The next
+    /// entry, a full frame is four, a VNAK 128. Of NEWs that may open a leg it takes in one, so that a challenge is for one leg
+    /// alone. A datagram that doesn't fit any more ends the receiving of its turn. The next
     /// turn follows without a pause, takes it first and counts it then; what the last turn left is lost.
     /// A bounded run waits no longer than the plan's `trunk_ms` between two turns, unless that is 0.
     ///

@@ -1,10 +1,11 @@
 //! What was told to a watch, and counted.
-ghost use Rattle.std.specs.Prelude.{◌≡◌, All};
+ghost use Rattle.std.specs.Prelude.{◌≡◌, All, IfSome, MatchOption};
 ghost use Rattle.exchange_core.specs.Leaving.{departure_of};
 ghost use Rattle.udp_workers.specs.Events.{Tells};
+ghost use Rattle.worker_watch.specs.declared.watch.Event.TheVariants as events;
 
 use crate::report::TurnReport;
-use exchange_core::Retired;
+use exchange_core::{Answer, Retired};
 use worker_watch::{Event, Watch};
 
 // The events that a watch was told of, as they are counted.
@@ -41,6 +42,23 @@ impl<'w, V: Watch> Tally<'w, V> {
     {
         self.watch.tell(event);
         self.report = self.report.counted(event);
+    }
+
+    // Tells the watch what became of a datagram of a peer: that it was refused, or that its answer rejected something.
+    pub(crate) fn tell_outcome(&mut self, peer: u16, answer: &Answer)
+        requires room { HasRoom 1 self.old.report }
+        ensures rejected { IfSome answer.now.rejected (λ rejection.
+            V.told self.old.watch.now (events.Rejected peer rejection)) }
+        ensures report { MatchOption answer.now.refused (self.new.report ≡ self.old.report)
+            (λ refusal. self.new.report ≡ counted self.old.report (events.Refused peer refusal)) }
+        ensures watch { self.new.watch ≡ self.old.watch }
+    {
+        if let Some(rejection) = answer.rejected {
+            self.tell(Event::Rejected { peer, rejection });
+        }
+        if let Some(refusal) = answer.refused {
+            self.tell(Event::Refused { peer, refusal });
+        }
     }
 
     // Tells the watch of each leg that was taken out, and gives it the leg.

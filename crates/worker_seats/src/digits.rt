@@ -1,5 +1,6 @@
-//! Challenges of ten random decimal digits.
-ghost use Rattle.std.specs.Prelude.{◌≤◌, ◌<◌, ℕ, slice_index};
+//! Challenges of random decimal digits.
+ghost use Rattle.call_auth.specs.Challenge.{IsChallenge};
+ghost use Rattle.std.specs.Prelude.{◌≡◌, ◌≤◌, ◌<◌, ℕ, length, slice_index, take};
 
 use call_auth::Challenge;
 use rand::RngExt;
@@ -9,26 +10,37 @@ use std::sync::Wait;
 use trace_writer::Trace;
 use udp_workers::Challenges;
 
-/// Draws challenges of ten decimal digits from a generator ("Authentication"), and tells them to the trace, where there is one.
+/// Draws challenges from a generator ("Authentication"), and tells them to the trace, where there is one. A challenge is ten decimal
+/// digits; in an exchange whose challenges begin alike it is that prefix, and decimal digits up to 32 octets.
 #[derive(Drop)]
 pub struct Digits<'t, R: Wait> {
     pub(crate) rt: &'t R,
     pub(crate) generator: StdRng,
+    pub(crate) prefix: Option<Challenge>,
     pub(crate) trace: Option<&'t Trace>,
     pub(crate) thread: usize,
 }
 
 impl<'t, R: Wait> Challenges for Digits<'t, R> {
     fn draw(&mut self) -> Challenge {
-        let digits = ten_digits(&mut self.generator);
-        let challenge = match Challenge::new(&digits) {
-            Some(challenge) => challenge,
-            None => unreachable!(),
+        let challenge = match &self.prefix {
+            Some(prefix) => challenge_behind(prefix, &mut self.generator),
+            None => ten_digits_alone(&mut self.generator),
         };
         if let Some(trace) = self.trace {
             trace.tell_challenge(self.rt, self.thread, &challenge);
         }
         challenge
+    }
+}
+
+// A challenge of ten decimal digits.
+fn ten_digits_alone<R: Rng>(generator: &mut R) -> Challenge
+    ensures { length result ≡ 10 }
+{
+    match Challenge::new(&ten_digits(generator)) {
+        Some(challenge) => challenge,
+        None => unreachable!(),
     }
 }
 
@@ -41,4 +53,29 @@ fn ten_digits<R: Rng>(generator: &mut R) -> [u8; 10]
         *digit = generator.random_range(b'0'..=b'9');
     }
     digits
+}
+
+// A challenge that begins with the prefix.
+fn challenge_behind<R: Rng>(prefix: &Challenge, generator: &mut R) -> Challenge
+    ensures { take (length prefix.now) result ≡ prefix.now }
+{
+    match Challenge::new(&digits_behind(prefix, generator)) {
+        Some(challenge) => challenge,
+        None => unreachable!(),
+    }
+}
+
+// The prefix, and decimal digits behind it, as many as a challenge has room for.
+fn digits_behind<R: Rng>(prefix: &Challenge, generator: &mut R) -> [u8; 32]
+    ensures prefix { take (length prefix.now) result ≡ prefix.now }
+    ensures challenge { IsChallenge result }
+    ensures digits { (k : ℕ) → length prefix.now ≤ k → k < 32 → (48 ≤ slice_index result k) × (slice_index result k ≤ 57) }
+{
+    let mut text = [b'0'; 32];
+    for digit in text.iter_mut() {
+        *digit = generator.random_range(b'0'..=b'9');
+    }
+    let prefix = prefix.as_slice();
+    text[..prefix.len()].copy_from_slice(prefix);
+    text
 }

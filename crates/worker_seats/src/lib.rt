@@ -4,6 +4,7 @@
 
 mod clock;
 mod digits;
+mod drawn_prefix;
 mod reports;
 mod seats;
 mod service_error;
@@ -13,6 +14,7 @@ mod traced_wire;
 
 pub use clock::SinceOpening;
 pub use digits::Digits;
+pub use drawn_prefix::with_drawn_prefix;
 pub use reports::{reports_of, tell_reports};
 pub use seats::{ServiceSeat, seats_of};
 pub use service_error::{ServiceError, service_error_name};

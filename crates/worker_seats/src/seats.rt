@@ -59,6 +59,10 @@ fn tools_of<'t, R: Net + RandomSource + Wait, S: Sockets>(
     let digits = Digits {
         rt,
         generator,
+        prefix: match plan.challenge_prefix() {
+            Some(prefix) => Some(prefix.copied()),
+            None => None,
+        },
         trace,
         thread,
     };

@@ -1,6 +1,6 @@
 //! What workers ask while they run, and what they tell.
 
-use exchange_core::{Refusal, Retired};
+use exchange_core::{Refusal, Rejection, Retired};
 use peer_plan::Endpoint;
 
 /// How far a service has come.
@@ -21,6 +21,8 @@ pub enum Event {
     Received { peer: u16, now: u64 },
     /// The exchange refused it.
     Refused { peer: u16, refusal: Refusal },
+    /// The exchange took it, and rejected what it asks for by its answer.
+    Rejected { peer: u16, rejection: Rejection },
     /// It wasn't handed to the exchange: a NEW, while the service drains.
     TurnedAway { peer: u16 },
     /// A datagram was received that is of no peer of the plan, and is refused.

@@ -2,7 +2,7 @@
 
 use call_auth::Challenge;
 use call_book::LegName;
-use exchange_core::{Answer, Exchange, Gate, Pass, Refusal};
+use exchange_core::{Answer, Exchange, Gate, Pass, Refusal, Rejection};
 use iax_frames::Out;
 use peer_lock::{Naming, OrderError, Status};
 use peer_plan::Endpoint;
@@ -105,6 +105,7 @@ impl<R: Wait, G: Gate, J: Naming> Desk<'_, R, G, J> {
 #[derive(Clone, Copy)]
 pub struct Told {
     pub refused: Option<Refusal>,
+    pub rejected: Option<Rejection>,
     pub steps: u64,
     /// How many legs were taken out.
     pub retired: usize,
@@ -114,6 +115,7 @@ pub struct Told {
 fn told_by(answer: Answer) -> Told {
     Told {
         refused: answer.refused,
+        rejected: answer.rejected,
         steps: answer.steps,
         retired: answer.retired.len(),
     }

@@ -24,6 +24,9 @@ pub fn rules(ping_ms: u16) -> PeerRules
     PeerRules {
         user: None,
         secret: None,
+        outbound_secret: None,
+        challenge_prefix: None,
+        challenge_ms: None,
         formats: Formats {
             gsm: false,
             ulaw: true,
@@ -36,6 +39,7 @@ pub fn rules(ping_ms: u16) -> PeerRules
         max_retries: 4,
         ping_ms: u64::from(ping_ms),
         record_limit: 4096,
+        record_octets: None,
         window: 64,
         vnak_ms: 0,
         poke: false,

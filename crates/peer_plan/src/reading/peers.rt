@@ -3,13 +3,13 @@ ghost use Rattle.std.specs.Prelude.{◌≡◌, ◌≤◌, []};
 ghost use Rattle.std.specs.List.{list_any};
 ghost use Rattle.toml.specs.View.{table_view, items_view};
 ghost use Rattle.peer_plan.specs.Fields.{Gives, each};
-ghost use Rattle.peer_plan.specs.Reading.{window_in, poke_in, peer_in, is_named, is_endpoint, has_same_name, has_same_endpoint};
-ghost use Rattle.peer_plan.specs.Reading.{peers_in};
+ghost use Rattle.peer_plan.specs.Reading.{window_in, poke_in, rules_from, peer_in, is_named, is_endpoint, has_same_name};
+ghost use Rattle.peer_plan.specs.Reading.{has_same_endpoint, peers_in};
 
 use crate::endpoint::Endpoint;
 use crate::error::PlanError;
 use crate::key::Key;
-use crate::peer::{Limits, Peer};
+use crate::peer::{Credentials, Limits, Media, Peer};
 use crate::reading::fields::{flag_at, list_at, number_at};
 use crate::reading::media::media;
 use crate::reading::texts::{credentials, endpoint, name_at};
@@ -39,6 +39,42 @@ fn poke(table: &Table, format: u64) -> Result<bool, PlanError>
     }
 }
 
+// What the legs of a peer go by. What its challenges begin with is drawn when the exchange is opened.
+fn rules_from(
+    format: u64,
+    limits: Limits,
+    credentials: Credentials,
+    media: Media,
+    window: u8,
+    poke: bool,
+) -> PeerRules
+    ensures { result ≡ rules_from format limits credentials media window poke }
+{
+    PeerRules {
+        user: credentials.user,
+        secret: credentials.secret,
+        outbound_secret: credentials.outbound_secret,
+        challenge_prefix: None,
+        challenge_ms: limits.challenge_ms,
+        formats: media.formats,
+        trunk: media.trunk,
+        trunk_timestamps: media.trunk_timestamps,
+        trunk_ms: limits.trunk_ms,
+        retry_ms: limits.retry_ms,
+        max_retries: limits.max_retries,
+        ping_ms: limits.ping_ms,
+        record_limit: limits.record_limit,
+        record_octets: limits.record_octets,
+        window,
+        vnak_ms: limits.vnak_ms,
+        poke,
+        carries_caller: format == 4,
+        carries_cause: format == 4,
+        routes_format: format == 4,
+        is_hardened: format == 4,
+    }
+}
+
 #[tactic(auto, unfolding(crate::specs::Reading::peer_in))]
 fn peer(table: &Table, format: u64, limits: Limits, workers: u64) -> Result<Peer, PlanError>
     requires some { 1 ≤ workers }
@@ -54,7 +90,7 @@ fn peer(table: &Table, format: u64, limits: Limits, workers: u64) -> Result<Peer
         0,
         workers - 1,
     )?;
-    let credentials = credentials(table)?;
+    let credentials = credentials(table, format)?;
     let media = media(table)?;
     let numbers = number_at(table, Key::Numbers, Ok(64), 1, 512)?;
     let window = window(table, format)?;
@@ -63,25 +99,7 @@ fn peer(table: &Table, format: u64, limits: Limits, workers: u64) -> Result<Peer
         name,
         endpoint,
         worker: worker as u16,
-        rules: PeerRules {
-            user: credentials.user,
-            secret: credentials.secret,
-            formats: media.formats,
-            trunk: media.trunk,
-            trunk_timestamps: media.trunk_timestamps,
-            trunk_ms: limits.trunk_ms,
-            retry_ms: limits.retry_ms,
-            max_retries: limits.max_retries,
-            ping_ms: limits.ping_ms,
-            record_limit: limits.record_limit,
-            window: window as u8,
-            vnak_ms: limits.vnak_ms,
-            poke,
-            carries_caller: format == 4,
-            carries_cause: format == 4,
-            routes_format: format == 4,
-            is_hardened: format == 4,
-        },
+        rules: rules_from(format, limits, credentials, media, window as u8, poke),
         numbers: numbers as u16,
     })
 }

@@ -5,7 +5,8 @@ ghost use Rattle.toml.specs.Data.{as_str};
 ghost use Rattle.toml.specs.View.{view, table_view};
 ghost use Rattle.peer_plan.specs.Fields.{Reads, text_of, number_of, value};
 ghost use Rattle.peer_plan.specs.Plan.{is_name_octet, is_name, is_visible, is_prefix};
-ghost use Rattle.peer_plan.specs.Reading.{is_credential, credential_in, credentials_in, address_in, endpoint_in};
+ghost use Rattle.peer_plan.specs.Reading.{is_credential, credential_in, has_secret, absent_user, outbound_secret_in};
+ghost use Rattle.peer_plan.specs.Reading.{credentials_in, address_in, endpoint_in};
 
 use crate::address::address;
 use crate::endpoint::Endpoint;
@@ -120,17 +121,55 @@ fn credential_at(
     }
 }
 
-// The user and the secret of a peer: a secret needs a user.
-#[tactic(auto, unfolding(crate::specs::Reading::credentials_in))]
-pub(crate) fn credentials(table: &Table) -> Result<Credentials, PlanError>
-    ensures { result ≡ credentials_in (table_view table.now) }
+// Whether a table has a secret, of either way.
+fn has_secret(table: &Table, format: u64) -> bool
+    ensures { result ≡ has_secret format (table_view table.now) }
 {
-    let no_user = if member(table, Key::Secret).is_some() {
+    member(table, Key::Secret).is_some()
+        || format == 4 && member(table, Key::OutboundSecret).is_some()
+}
+
+// What stands for a user that is absent.
+fn absent_user(table: &Table, format: u64) -> Result<Option<Credential>, PlanError>
+    ensures { result ≡ absent_user format (table_view table.now) }
+{
+    if has_secret(table, format) {
         Err(PlanError::Missing(Key::User))
     } else {
         Ok(None)
+    }
+}
+
+// The secret by which the peer's challenges are answered: unless the plan says it, that of the other way.
+fn outbound_secret(
+    table: &Table,
+    format: u64,
+    secret: &Option<Credential>,
+) -> Result<Option<Credential>, PlanError>
+    ensures { result ≡ outbound_secret_in format secret.now (table_view table.now) }
+{
+    let same = match secret {
+        Some(secret) => Some(secret.copied()),
+        None => None,
     };
-    let user = credential_at(table, Key::User, no_user)?;
+    if format == 4 {
+        credential_at(table, Key::OutboundSecret, Ok(same))
+    } else {
+        Ok(same)
+    }
+}
+
+// The user and the secrets of a peer: a secret of either way needs a user.
+#[tactic(auto, unfolding(crate::specs::Reading::credentials_in))]
+pub(crate) fn credentials(table: &Table, format: u64) -> Result<Credentials, PlanError>
+    ensures { result ≡ credentials_in format (table_view table.now) }
+{
+    let user = credential_at(table, Key::User, absent_user(table, format))?;
     let secret = credential_at(table, Key::Secret, Ok(None))?;
-    Ok(Credentials { user, secret })
+    let outbound_secret = outbound_secret(table, format, &secret)?;
+    Ok(Credentials {
+        user,
+        secret,
+        outbound_secret,
+    })
 }

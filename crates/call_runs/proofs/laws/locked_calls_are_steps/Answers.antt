@@ -1,10 +1,11 @@
 use Rattle.std.proofs.Common.{refl}
-use Rattle.call_runs.proofs.Locked.{datagrams, calls_in, calls_out, orders, ticks, looks, retiring}
+use Rattle.call_runs.proofs.Locked.{datagrams, rejected_calls, calls_in, calls_out, orders, ticks, looks, retiring}
 use Rattle.call_runs.proofs.laws.locked_calls_are_steps.Goals as goal
 
 pub returns : goal.returns
 returns c = record {
   datagrams = datagrams;
+  rejected_calls = rejected_calls;
   calls_in = calls_in;
   calls_out = calls_out;
   orders = orders;

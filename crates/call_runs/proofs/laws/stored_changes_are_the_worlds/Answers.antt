@@ -11,6 +11,7 @@ returns-clause-steps c called old new world are busy stale serve seen s =
     let laws = c.peers_steps_are_the_worlds.ensures in
     let peers : PeersSteps = record {
       datagrams = laws.datagrams;
+      rejected_calls = laws.rejected_calls;
       calls_in = laws.calls_in;
       calls_out = laws.calls_out;
       orders = laws.orders;

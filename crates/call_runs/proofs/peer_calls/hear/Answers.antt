@@ -16,6 +16,7 @@ returns-in-Ok g c =
       becomes = made.peer;
       answers = λ i. replies.Datagram (Ok (record {
         touched = (made.answer i).touched;
+        rejected = (made.answer i).rejected;
         onwards = record { signals = made.signals i; offer = made.offer i; room = room };
       }));
     })

@@ -17,6 +17,7 @@ returns-in-Ok-clause-made g c =
       becomes = made.peer;
       answers = λ i. replies.OpenIn (Ok (record {
         touched = (made.step i).touched;
+        rejected = (made.step i).rejected;
         onwards = record { signals = made.signals i; offer = made.offer i; room = room };
       }));
     })

@@ -3,10 +3,10 @@ use Rattle.peer_lock.specs.Legs.{with_place}
 use Rattle.peer_lock.specs.Openings.{opens_in, opens_out}
 use Rattle.peer_lock.specs.Orders.{ordered_step}
 use Rattle.leg_machine.specs.Seen.{kind_of}
-use Rattle.call_steps.specs.Scene.{RefusesDatagram, RefusesOpening, RefusesTick, KeepsLeg}
+use Rattle.call_steps.specs.Scene.{Goes, RefusesDatagram, RefusesRejecting, RefusesOpening, RefusesTick, KeepsLeg}
 use Rattle.call_steps.specs.declared.need.Need.TheVariants as needs
 use Rattle.call_steps.specs.declared.reply.Reply.TheVariants as replies
-use Rattle.std.specs.Prelude.{Err}
+use Rattle.std.specs.Prelude.{Ok, Err}
 use Rattle.std.proofs.Common.{None, false, refl}
 use Rattle.call_steps.proofs.PeerSteps.{nothing_changed, datagram_is, call_in_is, call_out_is, order_is, refusal_is, look_is, retiring_is}
 use Rattle.call_steps.proofs.PeerTicks.{tick_is}
@@ -28,6 +28,14 @@ returns-clause-calls_in c peer name frame now challenge scene called are some fr
 pub returns-clause-refused_calls_in : goal.returns-clause-refused_calls_in
 returns-clause-refused_calls_in c legs name error scene called sees =
     nothing_changed scene (needs.OpenIn name) called legs (replies.OpenIn (Err error)) (RefusesOpening error) sees refl
+
+pub returns-clause-rejected_calls : goal.returns-clause-rejected_calls
+returns-clause-rejected_calls c peer frame scene called sees =
+    nothing_changed scene (needs.RejectNew peer.legs.peer) called peer.legs (replies.RejectNew (Ok tt)) Goes sees refl
+
+pub returns-clause-unrejected_calls : goal.returns-clause-unrejected_calls
+returns-clause-unrejected_calls c legs error scene called sees =
+    nothing_changed scene (needs.RejectNew legs.peer) called legs (replies.RejectNew (Err error)) (RefusesRejecting error) sees refl
 
 pub returns-clause-calls_out : goal.returns-clause-calls_out
 returns-clause-calls_out c peer name number caller format now scene called are free sees leased =

@@ -7,3 +7,4 @@ invariant-loop-entry l =
     (goal.iterator-loop-entry).can_next l.left × (goal.iterator-loop-entry).is_finite l.left
     × (l.weight.entries + length l.left ≡ length l.frame.entries)
     × (l.weight.octets + media_octets l.left ≡ media_octets l.frame.entries)
+    × (l.weight.openings ≡ 0)

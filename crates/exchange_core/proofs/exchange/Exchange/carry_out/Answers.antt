@@ -3,13 +3,14 @@ use Rattle.call_steps.specs.Beginnings.{beginning_at, is_answer}
 use Rattle.call_steps.specs.Leases.{lease_needed}
 use Rattle.call_steps.specs.Work.{next_of}
 use Rattle.exchange_core.specs.Denial.{noted}
-use Rattle.exchange_core.specs.FirstSteps.{InPlan, IsOpened, KeepsPeer}
+use Rattle.exchange_core.specs.FirstSteps.{InPlan, IsOfNew, KeepsPeer}
 use Rattle.exchange_core.specs.Leaving.{LeftSince, leaving_of}
 use Rattle.exchange_core.specs.Newcomers.{SpellsOpening}
 use Rattle.exchange_core.proofs.Carrying.{covers_need, covers_rest, leaves_lease}
 use Rattle.exchange_core.proofs.FirstSteps.{noted_first, noted_later, under_way, next_in_plan, stays_in_plan, opened_here, opens_after, stands_on}
 use Rattle.exchange_core.specs.Traces.{call_of, told}
 use Rattle.exchange_core.proofs.Leaving.{left_since}
+use Rattle.exchange_core.proofs.Rejecting.{none_rejected, one_more}
 use Rattle.exchange_core.proofs.Tracing.{traces_longer}
 use Rattle.exchange_core.specs.declared.hands.Hands.{Hands}
 use Rattle.exchange_core.specs.declared.leavers.Leavers.{Leavers}
@@ -34,8 +35,23 @@ make-reply-requires-clause-peer g c lifetimes lives =
 
 pub make-reply-requires-clause-opening : goal.make-reply-requires-clause-opening
 make-reply-requires-clause-opening g c lifetimes lives = λ opened.
-    let here = opened_here c.loop.work.work.place (subst IsOpened (sym (sym c.next-in-loop.ensures ∙ c.in-Some-next.is)) opened) in
+    let here = opened_here c.loop.work.work.place (subst IsOfNew (sym (sym c.next-in-loop.ensures ∙ c.in-Some-next.is)) opened) in
     (c.loop.invariant.6 here.0, c.requires.challenge (c.loop.invariant.4.before _ here.1).0)
+
+pub loop-init : goal.loop-init
+loop-init g c = (
+  search rules,
+  search rules,
+  search rules,
+  search rules,
+  search rules,
+  search rules,
+  search rules,
+  search rules,
+  search rules,
+  search rules,
+  none_rejected c.args.pass.now,
+)
 
 pub loop-preserved : goal.loop-preserved
 loop-preserved g c =
@@ -78,4 +94,6 @@ loop-preserved g c =
       subst (λ (legs : Leavers). LeftSince c.args.given.now.now c.args.pass.now c.make-reply.new.pass (leaving_of legs)) (sym leavers)
           (left_since c.args.given.now.now c.args.pass.now c.loop.pass c.make-reply.new.pass (leaving_of c.loop.hands.leavers)
           (leaving_of c.make-reply.new.hands.leavers) c.loop.invariant.9 c.make-reply.ensures.left),
+      one_more _ _ c.in-Some-next.need c.make-reply.result c.args.pass.now c.loop.pass c.make-reply.new.pass c.loop.rejected c.latest-rejected.result
+          c.loop.invariant.10 c.make-reply.ensures.noted c.make-reply.ensures.steps.0 c.make-reply.ensures.steps.1 c.latest-rejected.ensures,
     )

@@ -6,6 +6,7 @@ use Rattle.exchange_core.specs.Leaving.{LeftSince, leaving_of}
 use Rattle.exchange_core.specs.Newcomers.{SpellsOpening}
 use Rattle.exchange_core.specs.Traces.{Traces, call_of}
 use Rattle.exchange_core.proofs.FirstSteps.{IsUnderWay, MayStand, OpensLeg, PlaceInPlan}
+use Rattle.exchange_core.proofs.Rejecting.{RejectedSince}
 use Rattle.exchange_core.proofs.exchange.Exchange.carry_out.Given as goal
 
 abbrev pub invariant-loop : goal.invariant-loop
@@ -18,3 +19,4 @@ invariant-loop g l =
     × MayStand l.initial.work.work.place l.initial.pass.credit l.pass.credit l.work.work.place l.hands.denial l.hands.named
     × Traces (call_of l.self l.given) l.initial.work l.work l.initial.pass l.pass
     × LeftSince l.given.now l.initial.pass l.pass (leaving_of l.hands.leavers)
+    × RejectedSince l.initial.pass l.pass l.rejected

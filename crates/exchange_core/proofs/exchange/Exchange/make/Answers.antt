@@ -7,6 +7,9 @@ use Rattle.exchange_core.proofs.exchange.Exchange.make.Goals as goal
 pub returns-in-Datagram-clause-left : goal.returns-in-Datagram-clause-left
 returns-in-Datagram-clause-left g c = none_leave _ _ _ _ _ _ (c.hear_given.ensures.noted None) refl c.args.given.now.now (leaving_of c.args.hands.now.leavers)
 
+pub returns-in-RejectNew-clause-left : goal.returns-in-RejectNew-clause-left
+returns-in-RejectNew-clause-left g c = none_leave _ _ _ _ _ _ (c.reject_given.ensures.noted None) refl c.args.given.now.now (leaving_of c.args.hands.now.leavers)
+
 pub returns-in-OpenIn-clause-left : goal.returns-in-OpenIn-clause-left
 returns-in-OpenIn-clause-left g c =
     let before = leaving_of c.args.hands.now.leavers in

@@ -12,7 +12,7 @@ use Rattle.peer_legs.proofs.LegChanges.{AreIndexed, learned}
 use Rattle.peer_legs.proofs.LegIndex.{placed}
 use Rattle.peer_legs.proofs.LegSearch.{IsFound, found}
 use Rattle.peer_legs.proofs.LegSteps.{IsMade, named_leg, made_at, of_said, of_either, leg_made, tied_made, step_made}
-use Rattle.peer_legs.proofs.LegThere.{each_ok, each_if_ok, from_reached, kept_there}
+use Rattle.peer_legs.proofs.LegThere.{each_ok, each_if_ok, from_reached, made_there}
 use Rattle.peer_legs.proofs.SameCall.{MayLearn, full_learns}
 use Rattle.peer_legs.proofs.peer_legs.PeerLegs.full.Goals as goal
 
@@ -58,10 +58,9 @@ invariant_of-self c = let are = all c in record {
 
 there : (c : goal.After-note) (named : NamedLeg) → leg_at c.args.self.now c.args.number ≡ Some named
     → OnOk c.full_into-heard.result (leg_at (after c) c.args.number ≡ Some (named_leg named.name (step c named.leg)))
-there c named e = on_ok_weaker c.full_into-heard.result
-    (λ is. ap (λ (legs : PeerLegs). leg_at legs c.args.number) is
-    ∙ kept_there c.args.self.now c.args.number named (step c named.leg) (subst AreLegs c.self.view_is c.self.invariant.legs) e)
-    (leg_made (made c) named e)
+there c named e =
+    made_there c.full_into-heard.result c.args.self.now (after c) c.args.number named (step c)
+    (subst AreLegs c.self.view_is c.self.invariant.legs) e (leg_made (made c) named e)
 
 pub returns : goal.returns
 returns c =

@@ -1,18 +1,23 @@
 use Rattle.std.proofs.Common.{◌≡◌, ◌∙◌, ap, sym}
-use Rattle.iax_frames.specs.declared.full_frame.FullHead.{FullHead}
-use Rattle.peer_lock.specs.Arrivals.{bare}
+use Rattle.peer_lock.specs.Arrivals.{answering}
 use Rattle.peer_lock.specs.Delivery.{Delivery, Gets, unknown_call}
-use Rattle.peer_lock.specs.Peer.{PeerView, counted, with_datagram}
+use Rattle.peer_lock.specs.Peer.{PeerView}
+use Rattle.peer_lock.specs.declared.unknown_calls.Answer.{Answer}
 use Rattle.peer_lock.proofs.state.PeerState.answer_unknown.Goals as goal
 
--- the frame that answers
-abbrev answer_in : FullHead → Delivery → FullHead
-answer_in other (Gets head) = head
+-- what answers
+abbrev answer_in : Answer → Delivery → Answer
+answer_in other (Gets answer) = answer
 answer_in other _ = other
 
 pub returns-clause-peer : goal.returns-clause-peer
-returns-clause-peer g c =
-    λ head is.
-    let poke = ap (λ (v : PeerView). unknown_call v.rules.poke c.args.frame.now) c.self.view_is in
-    let same : c.in_ok-head.head ≡ head = ap (answer_in head) (sym c.in_ok-head.ensures.answer ∙ poke ∙ is) in
-    c.answer_alone.ensures.peer ∙ ap (λ (h : FullHead). counted (with_datagram c.args.self.now (bare h))) same
+returns-clause-peer g c = λ answer is.
+    let here = ap (λ (v : PeerView). unknown_call v.rules c.args.frame.now) c.self.view_is in
+    let same : c.in_ok-answer.answer ≡ answer = ap (answer_in answer) (sym c.in_ok-answer.ensures.answer ∙ here ∙ is) in
+    c.answer_alone.ensures.peer ∙ ap (λ (a : Answer). (answering c.args.self.now a).peer) same
+
+pub returns-clause-step : goal.returns-clause-step
+returns-clause-step g c = λ answer is.
+    let here = ap (λ (v : PeerView). unknown_call v.rules c.args.frame.now) c.self.view_is in
+    let same : c.in_ok-answer.answer ≡ answer = ap (answer_in answer) (sym c.in_ok-answer.ensures.answer ∙ here ∙ is) in
+    c.answer_alone.ensures.step ∙ ap (λ (a : Answer). (answering c.args.self.now a).step) same

@@ -1,4 +1,4 @@
-use Rattle.std.proofs.Common.{◌≡◌, ◌<◌, ◌∷◌, ◌++◌, [], length, rules}
+use Rattle.std.proofs.Common.{◌≡◌, ◌<◌, ◌∷◌, [], length, rules}
 use Rattle.outbox.specs.Outbox.{put, extended}
 use Rattle.outbox.proofs.Puts.{put_fits}
 use Rattle.peer_lock.proofs.Packing.{packed_kept}

@@ -1,4 +1,4 @@
-use Rattle.std.proofs.Common.{◌≡◌, ◌+◌, ap, subst, ◌∙◌, arith}
+use Rattle.std.proofs.Common.{◌+◌, ap, subst, ◌∙◌, arith}
 use Rattle.peer_plan.specs.Plan.{IsPlan, counts_of}
 use Rattle.peer_plan.proofs.Ranges.{plan_split}
 use Rattle.peer_plan.proofs.plan.Plan.range.Goals as goal

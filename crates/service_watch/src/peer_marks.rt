@@ -1,0 +1,131 @@
+//! What is counted of a peer of a service.
+
+use exchange_core::{Refusal, Rejection};
+use std::alloc::{AllocError, Global};
+use std::sync::atomic::{AtomicU64, Ordering};
+
+/// Why a datagram of a peer is refused: all reasons but `Stranger`.
+pub const REFUSALS: [Refusal; 14] = [
+    Refusal::StepsSpent,
+    Refusal::TooLong,
+    Refusal::Short,
+    Refusal::MetaCommand,
+    Refusal::EntryCut,
+    Refusal::NoSource,
+    Refusal::Cut,
+    Refusal::NoCall,
+    Refusal::RecordFull,
+    Refusal::SerialsSpent,
+    Refusal::NoNumber,
+    Refusal::NumberBusy,
+    Refusal::RemoteBusy,
+    Refusal::Memory,
+];
+
+/// What an answer to a datagram of a peer rejects.
+pub const REJECTIONS: [Rejection; 2] = [Rejection::NoNumber, Rejection::Registration];
+
+// How many datagrams were refused for one reason.
+#[derive(Drop)]
+struct RefusalCount {
+    refusal: Refusal,
+    count: AtomicU64,
+}
+
+// What is counted of a peer since the service began, modulo 2^64.
+#[derive(Drop)]
+pub(crate) struct PeerMarks {
+    // The worker that serves it.
+    pub(crate) worker: u16,
+    // One more than the moment at which it was last heard, in milliseconds; 0 if it never was.
+    pub(crate) heard: AtomicU64,
+    pub(crate) received: AtomicU64,
+    pub(crate) refused: AtomicU64,
+    by_refusal: Vec<RefusalCount>,
+    without_number: AtomicU64,
+    registrations: AtomicU64,
+    pub(crate) turned_away: AtomicU64,
+    pub(crate) sent: AtomicU64,
+    pub(crate) lost: AtomicU64,
+    pub(crate) legs_ended: AtomicU64,
+}
+
+/// What is counted of a peer since the service began, modulo 2^64: its datagrams, and its legs that have ended.
+#[derive(Clone, Copy, Default)]
+pub struct PeerMarksRead {
+    /// The moment at which it was last heard, in milliseconds since the exchange was opened.
+    pub heard: Option<u64>,
+    pub received: u64,
+    /// Those that were turned away among them.
+    pub refused: u64,
+    pub turned_away: u64,
+    pub sent: u64,
+    pub lost: u64,
+    pub legs_ended: u64,
+}
+
+// No datagram was refused for any reason.
+fn refusal_counts(alloc: Global) -> Result<Vec<RefusalCount>, AllocError> {
+    let mut counts = Vec::with_capacity(alloc, REFUSALS.len())?;
+    for refusal in &REFUSALS {
+        let (refusal, count) = (*refusal, AtomicU64::new(0));
+        if counts.push(RefusalCount { refusal, count }).is_err() {
+            return Err(AllocError);
+        }
+    }
+    Ok(counts)
+}
+
+impl PeerMarks {
+    // Nothing was heard of it, and nothing was sent to it.
+    pub(crate) fn new(alloc: Global, worker: u16) -> Result<PeerMarks, AllocError> {
+        Ok(PeerMarks {
+            worker,
+            heard: AtomicU64::new(0),
+            received: AtomicU64::new(0),
+            refused: AtomicU64::new(0),
+            by_refusal: refusal_counts(alloc)?,
+            without_number: AtomicU64::new(0),
+            registrations: AtomicU64::new(0),
+            turned_away: AtomicU64::new(0),
+            sent: AtomicU64::new(0),
+            lost: AtomicU64::new(0),
+            legs_ended: AtomicU64::new(0),
+        })
+    }
+
+    // How many datagrams were refused for this reason.
+    pub(crate) fn refused_for(&self, refusal: Refusal) -> Option<&AtomicU64> {
+        for it in &self.by_refusal {
+            if it.refusal == refusal {
+                return Some(&it.count);
+            }
+        }
+        None
+    }
+
+    // How many datagrams asked for this and were rejected.
+    pub(crate) fn rejected(&self, rejection: Rejection) -> &AtomicU64 {
+        match rejection {
+            Rejection::NoNumber => &self.without_number,
+            Rejection::Registration => &self.registrations,
+        }
+    }
+
+    pub(crate) fn read(&self) -> PeerMarksRead {
+        PeerMarksRead {
+            heard: self.heard.load(Ordering::Relaxed).checked_sub(1),
+            received: self.received.load(Ordering::Relaxed),
+            refused: self.refused.load(Ordering::Relaxed),
+            turned_away: self.turned_away.load(Ordering::Relaxed),
+            sent: self.sent.load(Ordering::Relaxed),
+            lost: self.lost.load(Ordering::Relaxed),
+            legs_ended: self.legs_ended.load(Ordering::Relaxed),
+        }
+    }
+}
+
+// One more, modulo 2^64.
+pub(crate) fn count_one(count: &AtomicU64) {
+    count.fetch_add(1, Ordering::Relaxed);
+}

@@ -1,0 +1,138 @@
+"""A sender without the secret opens as many calls as the peer has numbers, again and again, and fills each with the longest full frames. The
+exchange holds little of it, says why it ends those legs, and carries the call of another peer."""
+import socket
+import struct
+import time
+from collections import Counter
+
+from exchange import Exchange, plan_of, rows_of, spare_ports, tell_accounts
+from peer import ACCEPT, ACK, ANSWER, AUTHREQ, CONTROL, IAX, NEW, Peer
+
+NUMBERS, LONGEST, TEXT = 512, 1388, 7
+# What is resident of the program at most, in kilobytes.
+MOST = 64 * 1024
+# A leg's full frames go out so far ahead of what the exchange acknowledged.
+AHEAD = 8
+
+
+class Filler:
+    """The sender: a call for each number, over one socket."""
+
+    def __init__(self, port, worker):
+        self.socket = socket.socket(socket.AF_INET, socket.SOCK_DGRAM)
+        self.socket.setsockopt(socket.SOL_SOCKET, socket.SO_RCVBUF, 1 << 22)
+        self.socket.bind(("127.0.0.1", port))
+        self.socket.connect(("127.0.0.1", worker))
+        self.socket.setblocking(False)
+        # By our number: theirs, how many frames we sent, and how many of them were taken.
+        self.calls, self.next, self.count = {}, 0, Counter()
+
+    def close(self):
+        self.socket.close()
+
+    def send(self, ours, theirs, oseq, iseq, kind, subclass, data=b""):
+        try:
+            self.socket.send(struct.pack(">HHIBBBB", 0x8000 | ours, theirs, 0, oseq & 255, iseq, kind, subclass) + data)
+        except (BlockingIOError, ConnectionRefusedError):
+            return
+        self.count["sent"] += 1
+
+    def open(self):
+        self.next = self.next % 32000 + 1
+        self.send(self.next, 0, 0, 0, IAX, NEW, bytes([11, 2, 0, 2, 1, 1]) + b"3" + bytes([9, 4, 0, 0, 0, 4]))
+
+    def listen(self):
+        while True:
+            try:
+                octets = self.socket.recv(4096)
+            except (BlockingIOError, ConnectionRefusedError):
+                return
+            if len(octets) < 12 or not octets[0] & 0x80:
+                continue
+            theirs, ours, _, oseq, iseq, kind, subclass = struct.unpack(">HHIBBBB", octets[:12])
+            self.take(theirs & 0x7FFF, ours & 0x7FFF, oseq, iseq, kind, subclass)
+
+    def take(self, theirs, ours, oseq, iseq, kind, subclass):
+        if (kind, subclass) == (IAX, AUTHREQ):
+            if ours not in self.calls:
+                self.count["challenges"] += 1
+            self.calls.setdefault(ours, [theirs, 1, 1])
+            self.send(ours, theirs, 1, 1, IAX, ACK)
+        elif ours in self.calls:
+            if (kind, subclass) == (IAX, ACK):
+                call = self.calls[ours]
+                call[2] += (iseq - call[2]) & 255
+            else:
+                # It is over: an INVAL, or whatever ends it.
+                del self.calls[ours]
+
+    def fill(self):
+        for ours, call in list(self.calls.items()):
+            theirs, _, taken = call
+            while call[1] < taken + AHEAD:
+                self.send(ours, theirs, call[1], 1, TEXT, 0, bytes(LONGEST))
+                call[1] += 1
+
+    def run(self, exchange, seconds):
+        """The most that is resident in that time, in kilobytes."""
+        end, most, looked = time.monotonic() + seconds, 0, 0
+        while time.monotonic() < end:
+            for _ in range(max(0, min(16, NUMBERS - len(self.calls)))):
+                self.open()
+            self.listen()
+            self.fill()
+            if time.monotonic() > looked + 0.1:
+                looked, most = time.monotonic(), max(most, exchange.kilobytes())
+                # What was filled to the end gets no answer any more.
+                self.calls = {ours: it for ours, it in self.calls.items() if it[1] < it[2] + AHEAD}
+        return most
+
+
+def carry_a_call(west, east):
+    """Whether a call of another peer is set up and answered."""
+    caller = west.call("8")
+    callee, new = east.called(5)
+    if not new:
+        return False
+    callee.acknowledge(new)
+    callee.send(IAX, ACCEPT, bytes([9, 4, 0, 0, 0, 4]))
+    if not (accepted := caller.expect(IAX, ACCEPT, 5)):
+        return False
+    caller.acknowledge(accepted)
+    callee.send(CONTROL, ANSWER)
+    return caller.expect(CONTROL, ANSWER, 5) is not None
+
+
+def run(tools, report, seconds, seed):
+    del seed
+    lasts = 4 if seconds is None else seconds
+    names = ("worker", "filler", "west", "east")
+    ports = dict(zip(names, spare_ports(len(names))))
+    peers = {
+        "filler": {"port": ports["filler"], "user": "filler", "secret": "unknown to whoever sends", "numbers": NUMBERS},
+        "west": {"port": ports["west"]},
+        "east": {"port": ports["east"]},
+    }
+    folder = tools.folder_of("fill")
+    plan = plan_of([ports["worker"]], peers, {"8": "east"}, format=4, challenge_ms=1000 if seconds is None else None, retry_ms=500)
+    exchange = Exchange(folder, plan, "--calls", f"{folder}/calls.csv")
+    filler, west, east = Filler(ports["filler"], ports["worker"]), Peer(ports["west"], ports["worker"]), Peer(ports["east"], ports["worker"])
+    try:
+        before = exchange.kilobytes()
+        most = filler.run(exchange, lasts)
+        is_carried = carry_a_call(west, east)
+        refused = exchange.metrics().get('iax_datagrams_refused_total{peer="filler",refusal="RecordFull"}', 0)
+        exchange.until_idle()
+        after = exchange.kilobytes()
+        status, lines = exchange.stop()
+    finally:
+        for it in (filler, west, east):
+            it.close()
+        exchange.kill()
+    endings = Counter(it["ending"] for it in rows_of(f"{folder}/calls.csv") if it["peer"] == "filler")
+    report.tell("what isn't authenticated holds little", most < MOST, kilobytes_before=before, at_most=most, after=after, calls=filler.count["challenges"], frames=filler.count["sent"])
+    report.tell("full frames beyond the bound are refused by name", refused > 0, RecordFull=refused)
+    is_told = endings["record_full"] > 0 and set(endings) <= {"record_full", "challenge_timeout", "retries_spent"}
+    report.tell("the records say why such legs end", is_told, **endings)
+    report.tell("a call of another peer is carried", is_carried)
+    tell_accounts(report, "the exchange", status, lines, 0)
