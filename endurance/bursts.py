@@ -43,6 +43,9 @@ class Load(NamedTuple):
     ways: int = 2
     # Peers that the plan has besides.
     silent: int = 0
+    # Workers, whose peers are theirs by turns, and how many endpoints these have: one for all, or one each.
+    workers: int = 1
+    endpoints: int = 1
 
     def pairs(self):
         """Returns the caller, the called peer and the calls of each pair."""
@@ -72,14 +75,20 @@ def prefix_of(peer):
 
 def plan_of_load(load, ports, keys):
     trunk = {"trunk": load.gets != "mini", "trunk_timestamps": load.gets == "timestamps", "formats": [FORMATS[load.octets]]}
-    peers = {f"peer{place}": {"port": ports[1 + place], "numbers": max(1, load.numbers(place))} | trunk for place in range(load.talking())}
-    peers |= {f"silent{place}": {"port": ports[1 + load.talking() + place], "numbers": 8} for place in range(load.silent)}
+    own = ports[load.endpoints:]
+    peers = {
+        f"peer{place}": {"port": own[place], "worker": place % load.workers, "numbers": max(1, load.numbers(place))} | trunk
+        for place in range(load.talking())
+    }
+    peers |= {f"silent{place}": {"port": own[load.talking() + place], "numbers": 8} for place in range(load.silent)}
     routes = {prefix_of(place): f"peer{place}" for place in range(load.talking())}
-    return plan_of(ports[:1], peers, routes, **{"format": FORMAT, "ping_ms": 600000} | keys)
+    workers = [ports[place % load.endpoints] for place in range(load.workers)]
+    return plan_of(workers, peers, routes, **{"format": FORMAT, "ping_ms": 600000} | keys)
 
 
 def paced_words(load, ports):
-    words = [f"peer={ports[1 + place]}:{ports[0]}:{prefix_of(place)}" for place in range(load.talking())]
+    own = ports[load.endpoints:]
+    words = [f"peer={own[place]}:{ports[place % load.workers % load.endpoints]}:{prefix_of(place)}" for place in range(load.talking())]
     words += [f"pair={one}:{other}:{count}" for one, other, count in load.pairs()]
     how = {"octets": load.octets, "gap_us": load.gap_us, "every_ms": load.every_ms, "ways": load.ways, "trunk": KINDS[load.sends], "mtu": PEERS_MTU}
     return words + [f"{name}={value}" for name, value in how.items()]
@@ -101,13 +110,14 @@ def drops_on_the_way():
 def measured(tools, load, seconds, **keys):
     """Sends a load through the exchange. Returns the report of `paced`, with the counts of the exchange and of the system; the exchange's
     status; and its last lines."""
-    ports, on_the_way = spare_ports(1 + load.talking() + load.silent), drops_on_the_way()
+    ports, on_the_way = spare_ports(load.endpoints + load.talking() + load.silent), drops_on_the_way()
     exchange = Exchange(tools.folder_of("bursts"), plan_of_load(load, ports, keys))
     try:
         paced = tools.start("paced", *paced_words(load, ports), seconds=seconds, process=exchange.process.pid, patience=PATIENCE)
         seen = reported(paced, seconds + 4 * PATIENCE)
         exchange.until_idle()
-        seen["dropped_at_worker"], seen["dropped_on_the_way"] = drops_at(ports[0]), drops_on_the_way() - on_the_way
+        seen["dropped_at_worker"] = sum(drops_at(it) for it in ports[:load.endpoints])
+        seen["dropped_on_the_way"] = drops_on_the_way() - on_the_way
         seen["accounts"], seen["peers"] = exchange.ask("GET", "/accounts"), exchange.peers()
         status, lines = exchange.stop()
     finally:
