@@ -6,6 +6,7 @@ import itertools
 import json
 import os
 import re
+import resource
 import socket
 import struct
 import subprocess
@@ -25,6 +26,15 @@ LOOPBACK = "127.0.0.1"
 def same(what, found, wanted):
     if found != wanted:
         raise SystemExit(f"{PART}: {what}: {found!r}, not {wanted!r}")
+
+
+# What a service that runs as root says of that, behind the level.
+AS_ROOT = "runs as root: a user of its own is enough"
+
+
+def without_root(logged):
+    """The lines of a log but the one that says that the service runs as root."""
+    return "".join(line for line in logged.splitlines(True) if not line.endswith(f" {AS_ROOT}\n"))
 
 
 def within(what, seconds, look):
@@ -230,14 +240,16 @@ def of(name, **labels):
 
 
 class Service:
-    """The program, running. What it logs goes to a file."""
+    """The program, running, with a limit on the size of files if one is given. What it logs goes to a file."""
 
-    def __init__(self, plan, path, *options, environment=None):
+    def __init__(self, plan, path, *options, environment=None, limit=None):
         self.path = path
         self.log = f"{path}.log"
         with open(self.log, "ab") as log:
             words = [PROGRAM, "run", plan, "--control", path, *options]
-            self.process = subprocess.Popen(words, stdout=subprocess.PIPE, stderr=log, text=True, env={**os.environ, **(environment or {})})
+            limits = (lambda: resource.setrlimit(resource.RLIMIT_FSIZE, (limit, limit))) if limit else None
+            environment = {**os.environ, **(environment or {})}
+            self.process = subprocess.Popen(words, stdout=subprocess.PIPE, stderr=log, text=True, env=environment, preexec_fn=limits)
         within("an answer at the control socket", 10, self.answers)
 
     def answers(self):

@@ -1,4 +1,4 @@
-"""Peers that fall silent in each stage of a call: what frees the numbers of their legs, and when, beside what docs/HOSTILE_PEERS.md says."""
+"""Peers that fall silent in each stage of a call: what frees the numbers of their legs, and when, beside what docs/SECURITY.md says."""
 import time
 
 from exchange import Exchange, Failed, plan_of, spare_ports, tell_accounts

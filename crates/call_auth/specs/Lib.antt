@@ -1,2 +1,3 @@
+pub mod CallToken
 pub mod Challenge
 pub mod Md5Answer

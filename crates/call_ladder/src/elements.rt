@@ -3,8 +3,8 @@ use crate::pieces::write_hexadecimal;
 use crate::words::{write_formats, write_octets};
 use info_elements::{
     AUTHMETHODS, CALLED_NUMBER, CALLING_NAME, CALLING_NUMBER, CALLINGPRES, CALLINGTNS, CALLINGTON,
-    CAPABILITY, CAUSE, CAUSECODE, CHALLENGE, FORMAT, IAX_UNKNOWN, MD5_RESULT, USERNAME, VERSION,
-    next_element, u32_in,
+    CALLTOKEN, CAPABILITY, CAUSE, CAUSECODE, CHALLENGE, FORMAT, IAX_UNKNOWN, MD5_RESULT, USERNAME,
+    VERSION, next_element, u32_in,
 };
 use text_buffer::TextBuffer;
 
@@ -26,7 +26,7 @@ enum Form {
 }
 
 // The kinds of elements: the number, what is written first, and what the octets are.
-const KINDS: [(u8, &str, Form); 16] = [
+const KINDS: [(u8, &str, Form); 17] = [
     (FORMAT, "", Form::Formats),
     (CAPABILITY, "can ", Form::Formats),
     (VERSION, "version ", Form::Pair),
@@ -44,6 +44,8 @@ const KINDS: [(u8, &str, Form); 16] = [
     (CAUSE, "", Form::Quoted),
     // (the digits would let a listener try secrets)
     (MD5_RESULT, "MD5 result", Form::Hidden),
+    // (and the token to call in another's name, for some seconds)
+    (CALLTOKEN, "call token", Form::Hidden),
 ];
 
 // What is written first of an element, and what its octets are, where they are what they should be.

@@ -1,6 +1,8 @@
 -- The text of a row: its columns, which stand as a record of CSV (RFC 4180).
 use Rattle.std.specs.Prelude.{ℕ, List, [], ◌∷◌, Option, None, Some, codes, decimal, option_map, unwrap_or}
+use Rattle.std.specs.List.{flat_map}
 use Rattle.std.specs.Str.Lossy.{utf8_lossy}
+use Rattle.printable_text.specs.Printable.{printable_octet}
 use Rattle.call_signals.specs.declared.failure.Failure.{Failure}
 use Rattle.call_signals.specs.declared.failure.Failure.TheVariants.{RetriesSpent, RecordFull, ChallengeTimeout, Inval}
 use Rattle.call_signals.specs.declared.format.Format.{Format}
@@ -45,9 +47,13 @@ or_nothing text = unwrap_or text []
 abbrev pub number_text : Option ℕ → List ℕ
 number_text n = or_nothing (option_map decimal n)
 
--- a telephone number: what is no text of it shows as the replacement character
+-- a number's octets as printable characters
+abbrev pub printable_text : List ℕ → List ℕ
+printable_text octets = utf8_lossy (flat_map printable_octet octets)
+
+-- a telephone number, of any octets, and nothing where there is none
 abbrev pub telephone_text : Option (List ℕ) → List ℕ
-telephone_text number = or_nothing (option_map utf8_lossy number)
+telephone_text number = or_nothing (option_map printable_text number)
 
 -- two columns: milliseconds, and whose clock tells them
 abbrev pub moment_columns : Option LegMoment → List (List ℕ)

@@ -9,6 +9,7 @@ use crate::leg_moment::LegMoment;
 use crate::side::Side;
 use call_signals::{ElementText, Failure, Format};
 use csv::{StringRecord, WriterBuilder};
+use printable_text::printable;
 use std::alloc::{AllocError, Global};
 
 // Adds a number in decimal digits, or nothing.
@@ -28,7 +29,7 @@ pub(crate) fn push_number(
     }
 }
 
-// Adds a telephone number, or nothing.
+// Adds a telephone number, of any octets, as printable characters, or nothing.
 pub(crate) fn push_telephone(
     alloc: Global,
     fields: &mut StringRecord,
@@ -38,7 +39,7 @@ pub(crate) fn push_telephone(
 {
     match number {
         Some(number) => {
-            let text = String::from_utf8_lossy(alloc, number.as_slice())?;
+            let text = printable(alloc, number.as_slice())?;
             fields.push_field(text.as_str())
         }
         None => fields.push_field(""),
@@ -99,8 +100,8 @@ pub(crate) fn failure_name(failure: Option<Failure>) -> &'static str
     }
 }
 
-// Why a leg ended.
-pub(crate) fn ending_name(end: Option<CallEnd>, failure: Option<Failure>) -> &'static str
+/// Why a leg ended: the name of the frame that ended the call, and of the side that sent it, or of the leg's failure.
+pub fn ending_name(end: Option<CallEnd>, failure: Option<Failure>) -> &'static str
     ensures { result.now ≡ rows.ending_text end failure }
 {
     match (end, failure) {

@@ -20,5 +20,6 @@ pub use call_end::{CallEnd, Ending};
 pub use call_numbering::CallNumbering;
 pub use call_record::CallRecord;
 pub use call_row::{CallRow, RowTexts, push_header, push_row};
+pub use columns::ending_name;
 pub use leg_moment::LegMoment;
 pub use side::Side;

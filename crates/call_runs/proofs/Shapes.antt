@@ -9,7 +9,7 @@ use Rattle.leg_machine.specs.Media.{media_sent}
 use Rattle.leg_machine.specs.declared.media.MediaSent.{MediaSent}
 use Rattle.leg_machine.specs.declared.media.MediaSent.TheVariants as sent
 use Rattle.peer_lock.specs.Arrivals.{delivered_step, datagram_step}
-use Rattle.peer_lock.specs.Delivery.{Delivery, Reaches, NeedsNumber, Gets, NoCall, delivery}
+use Rattle.peer_lock.specs.Delivery.{Delivery, Reaches, NeedsNumber, NoToken, Gets, NoCall, delivery}
 use Rattle.peer_lock.specs.Legs.{PeerLegs, NamedLeg, with_place}
 use Rattle.peer_lock.specs.Orders.{ordered_if, counted_media, with_media}
 use Rattle.peer_lock.specs.Peer.{PeerView}
@@ -39,12 +39,13 @@ delivered : (first : ℕ) (peer : PeerView) (to : Delivery) (frame : FullFrame) 
     → IsShapedAs peer.legs (delivered_step first peer to frame now).peer.legs
 delivered first peer (Reaches named) frame now = placed peer.legs named.name.number _
 delivered first peer NeedsNumber frame now = itself peer.legs
+delivered first peer NoToken frame now = itself peer.legs
 delivered first peer (Gets answer) frame now = itself peer.legs
 delivered first peer NoCall frame now = itself peer.legs
 
 pub of_datagram : (first : ℕ) (peer : PeerView) (datagram : Datagram) (now : ℕ)
     → IsShapedAs peer.legs (datagram_step first peer datagram now).peer.legs
-of_datagram first peer (Full frame) now = delivered first peer (delivery peer frame) frame now
+of_datagram first peer (Full frame) now = delivered first peer (delivery peer frame now) frame now
 of_datagram first peer (Mini mini) now = itself peer.legs
 of_datagram first peer (Video video) now = itself peer.legs
 of_datagram first peer (Trunk trunk) now = itself peer.legs

@@ -99,3 +99,7 @@ IAX_POKE = 0x1e
 
 abbrev pub IAX_UNSUPPORT : ℕ
 IAX_UNSUPPORT = 0x21
+
+-- chan_iax2's; RFC 5456 has none
+abbrev pub IAX_CALLTOKEN : ℕ
+IAX_CALLTOKEN = 0x28

@@ -1,7 +1,13 @@
 -- What a plan lets the rules of a peer be.
-use Rattle.std.specs.Prelude.{ℕ, ◌≤◌, IsSome, IfSome}
+use Rattle.std.specs.Prelude.{ℕ, ◌≤◌, Bool, false, List, Option, None, Some, IsSome, IfSome, nat_eq}
+use Rattle.std.specs.List.{starts_with}
 use Rattle.call_signals.specs.declared.rules.PeerRules.{PeerRules}
 use Rattle.call_signals.specs.Format.{lowest_format}
+
+-- the challenge begins as those of this exchange do
+abbrev pub is_own : Option (List ℕ) → Option (List ℕ) → Bool
+is_own (Some prefix) (Some challenge) = starts_with nat_eq challenge prefix
+is_own _ _ = false
 
 abbrev pub IsWithin : ℕ → ℕ → ℕ → Type 0
 IsWithin least most n = (least ≤ n) × (n ≤ most)

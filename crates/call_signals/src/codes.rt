@@ -69,3 +69,5 @@ pub const IAX_UNQUELCH: u8 = 0x1d;
 pub const IAX_POKE: u8 = 0x1e;
 /// A frame came that isn't known here.
 pub const IAX_UNSUPPORT: u8 = 0x21;
+/// A caller is to send its NEW again, with the call token in this frame (chan_iax2's; RFC 5456 has none).
+pub const IAX_CALLTOKEN: u8 = 0x28;

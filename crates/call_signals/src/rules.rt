@@ -1,11 +1,12 @@
 //! What a plan says of a peer.
-ghost use Rattle.std.specs.Prelude.{◌≡◌, ◌↔◌, IsSome, IfSome};
+ghost use Rattle.std.specs.Prelude.{◌≡◌, ◌↔◌, IsSome, IfSome, option_copied};
 ghost use Rattle.std.specs.List.{list_all};
 ghost use Rattle.call_signals.specs.Credential.{IsCredential, is_printable};
+ghost use Rattle.call_signals.specs.PeerRules.{is_own};
 
 use crate::format::Formats;
 use arrayvec::ArrayVec;
-use call_auth::Challenge;
+use call_auth::{CallTokens, Challenge};
 use std::marker::Model;
 
 /// A user's name or a secret: 1 to 64 octets 0x20 ..= 0x7e. Contracts see its octets.
@@ -76,6 +77,8 @@ pub struct PeerRules {
     /// What the challenges of this exchange begin with, if it draws them so. A hardened leg answers no such challenge: it would
     /// serve whoever was asked it.
     pub challenge_prefix: Option<Challenge>,
+    /// What call tokens are made of, where a NEW opens a leg only with one. `None` where none is asked for.
+    pub call_tokens: Option<CallTokens>,
     /// How long after its opening a leg that waits for the answer to its challenge ends: 1,000 ..= 60,000 milliseconds. Until then
     /// its record has at most 32 entries and 4,096 octets of data. `None` sets neither limit.
     pub challenge_ms: Option<u64>,
@@ -117,6 +120,20 @@ pub struct PeerRules {
 }
 
 impl PeerRules {
+    /// Whether there is a challenge and it begins as those of this exchange do. Whoever is asked one may send it back, to have it
+    /// answered.
+    pub fn is_own(&self, challenge: Option<&[u8]>) -> bool
+        ensures { result ≡ is_own self.now.challenge_prefix (option_copied challenge.entry) }
+    {
+        match &self.challenge_prefix {
+            Some(prefix) => match challenge {
+                Some(challenge) => challenge.starts_with(prefix.as_slice()),
+                None => false,
+            },
+            None => false,
+        }
+    }
+
     /// The same rules once more. It takes no memory.
     pub fn copied(&self) -> PeerRules
         ensures { result ≡ self.now }
@@ -129,6 +146,7 @@ impl PeerRules {
                 Some(prefix) => Some(prefix.copied()),
                 None => None,
             },
+            call_tokens: self.call_tokens,
             challenge_ms: self.challenge_ms,
             formats: self.formats,
             trunk: self.trunk,

@@ -21,7 +21,7 @@ use Rattle.leg_machine.specs.Signal.{span_len}
 use Rattle.leg_machine.specs.Steps.{Step, answer_step, full_step, inval_step, invalidated, message_step, nothing_sent, numbered_step, oldest_step, prepared, resend_step}
 use Rattle.leg_machine.specs.Working.{brings_oldest, heeds_inval, vnak_noted}
 use Rattle.peer_lock.specs.Arrivals.{MediaTaken, datagram_step, delivered_step, entries_media, entry_span, granted_at, media_at, mini_span}
-use Rattle.peer_lock.specs.Delivery.{Delivery, Reaches, NeedsNumber, Gets, NoCall, delivery}
+use Rattle.peer_lock.specs.Delivery.{Delivery, Reaches, NeedsNumber, NoToken, Gets, NoCall, delivery}
 use Rattle.peer_lock.specs.Grants.{Granted, granted}
 use Rattle.peer_lock.specs.Legs.{NamedLeg, PeerLegs, leg_of_remote}
 use Rattle.peer_lock.specs.Openings.{opens_in}
@@ -49,11 +49,12 @@ delivered_brings : (first : ℕ) (peer : PeerView) (to : Delivery) (frame : Full
 delivered_brings first peer (Reaches named) frame now =
     omega (arith, handed_few named.name (granted first peer.accounts.accepted (full_step named.leg frame now).signal).signal)
 delivered_brings first peer NeedsNumber frame now = omega arith
+delivered_brings first peer NoToken frame now = omega arith
 delivered_brings first peer (Gets answer) frame now = omega arith
 delivered_brings first peer NoCall frame now = omega arith
 
 pub full_brings : (first : ℕ) (peer : PeerView) (frame : FullFrame) (now : ℕ) → step_puts (datagram_step first peer (Full frame) now) ≤ 3
-full_brings first peer frame now = delivered_brings first peer (delivery peer frame) frame now
+full_brings first peer frame now = delivered_brings first peer (delivery peer frame now) frame now
 
 module _ (name : LegName) (first accepted : ℕ) where
   -- it leads to nothing
@@ -92,12 +93,13 @@ delivered_vnak : (first : ℕ) (peer : PeerView) (to : Delivery) (frame : FullFr
 delivered_vnak first peer (Reaches named) frame now is =
     omega (arith, message_quiet named.name first peer.accounts.accepted (message_of frame.head) named.leg frame now is)
 delivered_vnak first peer NeedsNumber frame now is = omega arith
+delivered_vnak first peer NoToken frame now is = omega arith
 delivered_vnak first peer (Gets answer) frame now is = omega arith
 delivered_vnak first peer NoCall frame now is = omega arith
 
 pub vnak_brings : (first : ℕ) (peer : PeerView) (frame : FullFrame) (now : ℕ) → is_vnak (message_of frame.head) ≡ true
     → step_puts (datagram_step first peer (Full frame) now) ≤ 1
-vnak_brings first peer frame now is = delivered_vnak first peer (delivery peer frame) frame now is
+vnak_brings first peer frame now is = delivered_vnak first peer (delivery peer frame now) frame now is
 
 -- ---- openings
 

@@ -6,10 +6,18 @@ use call_files::{Beginning, Fault, RowFile, Whereabouts};
 use std::fs::{File, Metadata};
 use std::io;
 use std::io::{ErrorKind, Write};
+use std::os::fd::AsRawFd;
 use std::os::unix::fs::{FileExt, MetadataExt};
+use system_limits::{ABOVE_LIMIT, file_size_limit, is_writable, octets_below};
 
 // How often a write that a signal cut off is made again.
 const TRIES: u32 = 16;
+
+// How many octets a pipe takes that has room.
+const PIECE: usize = 4096;
+
+// The system's number of the error "Resource temporarily unavailable", with which a pipe without room refuses a write.
+const WITHOUT_ROOM: i32 = 11;
 
 /// The file that a name leads to, or led to when it was opened.
 #[derive(Drop)]
@@ -17,6 +25,10 @@ pub(crate) struct DiskFile<'a, D: Disk> {
     disk: &'a D,
     path: &'a str,
     file: Option<File>,
+    // Whether it is a regular file: of another one it is asked whether it has room, so that nobody waits for who reads it.
+    is_regular: bool,
+    // How many octets a file may have.
+    limit: u64,
 }
 
 fn fault_of(error: &io::Error) -> Fault {
@@ -26,8 +38,7 @@ fn fault_of(error: &io::Error) -> Fault {
 }
 
 // What stands in a file. What is no regular file, as a pipe, has nothing in it.
-fn beginning_of(file: &File) -> io::Result<Beginning> {
-    let metadata = file.metadata()?;
+fn beginning_of(file: &File, metadata: &Metadata) -> io::Result<Beginning> {
     if !metadata.is_file() || metadata.len() == 0 {
         return Ok(Beginning::Empty);
     }
@@ -64,6 +75,8 @@ impl<'a, D: Disk> DiskFile<'a, D> {
             disk,
             path,
             file: None,
+            is_regular: false,
+            limit: file_size_limit(),
         }
     }
 
@@ -71,9 +84,31 @@ impl<'a, D: Disk> DiskFile<'a, D> {
     fn open_named(&mut self) -> io::Result<Beginning> {
         self.file = None;
         let file = self.disk.open(self.path)?;
-        let beginning = beginning_of(&file)?;
+        let metadata = file.metadata()?;
+        let beginning = beginning_of(&file, &metadata)?;
+        self.is_regular = metadata.is_file();
         self.file = Some(file);
         Ok(beginning)
+    }
+
+    // How many of so many octets may be written now. A regular file takes all of them or, where that would pass the limit on its
+    // size, none.
+    fn room(&self, file: &File, octets: usize) -> io::Result<usize>
+        ensures { IfOk result (λ count. count ≤ octets) }
+    {
+        if !self.is_regular {
+            if is_writable(file.as_raw_fd()) {
+                return Ok(octets.min(PIECE));
+            }
+            return Err(io::Error::from_raw_os_error(WITHOUT_ROOM));
+        }
+        if self.limit < u64::MAX {
+            let length = file.metadata()?.len();
+            if octets_below(self.limit, length, octets) < octets {
+                return Err(io::Error::from_raw_os_error(ABOVE_LIMIT));
+            }
+        }
+        Ok(octets)
     }
 }
 
@@ -105,10 +140,15 @@ impl<'a, D: Disk> RowFile for DiskFile<'a, D> {
     }
 
     fn append(&mut self, octets: &[u8]) -> Result<usize, Fault> {
-        let Some(file) = &mut self.file else {
+        let Some(mut file) = self.file.take() else {
             return Err(Fault { code: None });
         };
-        match write(file, octets) {
+        let written = match self.room(&file, octets.len()) {
+            Ok(room) => write(&mut file, &octets[..room]),
+            Err(error) => Err(error),
+        };
+        self.file = Some(file);
+        match written {
             Ok(count) => Ok(count),
             Err(error) => Err(fault_of(&error)),
         }

@@ -21,7 +21,7 @@ const SECOND_RING: usize = 64;
 pub struct FileState {
     /// How many rows were written to their ends, modulo 2^64.
     pub written: u64,
-    /// How many rows wait to be written, as the writer last saw it.
+    /// How many rows were handed over, and aren't written or lost.
     pub waiting: u64,
     /// How many rows were lost, since too many waited, modulo 2^64.
     pub lost: u64,
@@ -44,8 +44,9 @@ fn is_second(place: usize) -> bool {
 /// Two outlets for each thread that takes legs out, and what the writer tells of its file. All threads share it.
 pub struct CallOutlets {
     outlets: Vec<Mutex<Outlet<CallRow>>>,
+    // Rows that threads handed over, and rows that were written.
+    handed: AtomicU64,
     written: AtomicU64,
-    waiting: AtomicU64,
     // Rows that a thread lost, and rows that the writer lost.
     lost: AtomicU64,
     lost_by_writer: AtomicU64,
@@ -58,8 +59,8 @@ impl Drop for CallOutlets {
     fn drop(self) {
         let CallOutlets {
             outlets: _,
+            handed: _,
             written: _,
-            waiting: _,
             lost: _,
             lost_by_writer: _,
             trouble: _,
@@ -126,8 +127,8 @@ impl CallOutlets {
         }
         let shared = CallOutlets {
             outlets,
+            handed: AtomicU64::new(0),
             written: AtomicU64::new(0),
-            waiting: AtomicU64::new(0),
             lost: AtomicU64::new(0),
             lost_by_writer: AtomicU64::new(0),
             trouble: AtomicU64::new(0),
@@ -152,22 +153,29 @@ impl CallOutlets {
     /// Hands a row over, without waiting. A thread is named by its place, and is nowhere else in this call at the same time.
     /// Where there is no room the row is lost, and counted.
     pub fn hand_over(&self, thread: u16, row: CallRow) {
+        // (counted first, so that no row is written that wasn't handed over)
+        self.handed.fetch_add(1, Ordering::SeqCst);
         let is_kept = match self.free_outlet(thread) {
             Some(mut outlet) => outlet.hand_over(row),
             None => false,
         };
         if !is_kept {
+            self.handed.fetch_sub(1, Ordering::SeqCst);
             self.lost.fetch_add(1, Ordering::Relaxed);
         }
     }
 
-    /// How the file is, by what the writer told last. Contracts don't speak of it.
+    /// How the file is, by what threads handed over and the writer told last. Contracts don't speak of it.
     pub fn state(&self) -> FileState {
         let lost = self.lost.load(Ordering::Relaxed);
+        let lost_by_writer = self.lost_by_writer.load(Ordering::SeqCst);
+        let written = self.written.load(Ordering::SeqCst);
+        // (read last, so that it isn't less than what has become of its rows)
+        let handed = self.handed.load(Ordering::SeqCst);
         FileState {
-            written: self.written.load(Ordering::Relaxed),
-            waiting: self.waiting.load(Ordering::Relaxed),
-            lost: lost.wrapping_add(self.lost_by_writer.load(Ordering::Relaxed)),
+            written,
+            waiting: handed.wrapping_sub(written).wrapping_sub(lost_by_writer),
+            lost: lost.wrapping_add(lost_by_writer),
             trouble: trouble_of(self.trouble.load(Ordering::Relaxed)),
         }
     }
@@ -182,11 +190,10 @@ impl CallOutlets {
         self.are_over.load(Ordering::SeqCst)
     }
 
-    /// The writer tells how its file is; its own losses alone are those that it says.
+    /// The writer tells how its file is: how many rows it has written and lost, and what is wrong. It counts none that waits.
     pub(crate) fn tell(&self, state: FileState) {
-        self.written.store(state.written, Ordering::Relaxed);
-        self.waiting.store(state.waiting, Ordering::Relaxed);
-        self.lost_by_writer.store(state.lost, Ordering::Relaxed);
+        self.written.store(state.written, Ordering::SeqCst);
+        self.lost_by_writer.store(state.lost, Ordering::SeqCst);
         self.trouble
             .store(number_of(state.trouble), Ordering::Relaxed);
     }

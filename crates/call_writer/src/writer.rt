@@ -18,6 +18,9 @@ const WAITING: usize = 65_536;
 // How long a round lasts, in milliseconds.
 const ROUND_MS: u64 = 100;
 
+// How long rows that wait at the end are tried again, in milliseconds.
+const END_MS: u64 = 5000;
+
 /// The other ends of the outlets, the serials of calls, and room for the rows that wait. Whoever writes has it.
 pub struct CallRows {
     alloc: Global,
@@ -166,13 +169,18 @@ impl<'a, D: Disk> Writer<'a, D> {
         self.written = self.written.wrapping_add(count);
         outlets.tell(FileState {
             written: self.written,
-            waiting: (log.waiting() as u64).saturating_add(u64::from(log.has_row())),
+            waiting: 0,
             lost: log.lost(),
             trouble: log.trouble(),
         });
     }
 
-    // Appends to the file what is handed over, until the outlets are over.
+    // Whether no row waits.
+    fn is_done(&self) -> bool {
+        self.ledger.log.waiting() == 0 && !self.ledger.log.has_row()
+    }
+
+    // Appends to the file what is handed over, until the outlets are over and no row waits, or for five seconds after that.
     fn write_rounds<R: Clock + Wait>(
         &mut self,
         rt: &R,
@@ -182,6 +190,7 @@ impl<'a, D: Disk> Writer<'a, D> {
     ) {
         let mut now = moment(rt, opened, 0);
         let _ = self.ledger.log.open(now);
+        let mut until = u64::MAX;
         for _ in rt.forever() {
             // (asked first, so that nothing is missed that a thread handed over before its end)
             let are_over = outlets.are_over();
@@ -189,7 +198,10 @@ impl<'a, D: Disk> Writer<'a, D> {
             self.take_all(rt, spelling.alloc, outlets, are_over);
             self.write(outlets, spelling, now, are_over);
             if are_over {
-                break;
+                until = until.min(now.saturating_add(END_MS));
+                if self.is_done() || now >= until {
+                    break;
+                }
             }
             thread::sleep(rt, Duration::from_millis(ROUND_MS));
         }
@@ -208,7 +220,8 @@ fn moment<R: Clock>(rt: &R, opened: Instant, last: u64) -> u64 {
 /// over: in rounds of a tenth of a second. Rows that were written are on the disk after a second at most, and at the end.
 ///
 /// A file that can't be opened or written to is tried again, and rows wait, 65,536 of them at most. One whose name leads to
-/// another file is opened anew there. At the end there is one more try.
+/// another file is opened anew there. What isn't a regular file is never waited for. At the end what waits is tried again for five
+/// seconds.
 ///
 /// Answers what `serve` does; false if the thread was refused, and then nothing is served. Once the service has served the outlets
 /// are over.

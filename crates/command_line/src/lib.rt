@@ -35,8 +35,10 @@ const PLAN: Row = ("plan", Taken::Word, "The file of the plan, in TOML");
 
 const SCRIPT: Row = ("script", Taken::Word, "The file of the script");
 
+const PLAN_ORDER: Row = ("order", Taken::Words, "new | upgrade <file>");
+
 // What is said of plans and scripts, what is made of a script, and what carries calls.
-const COMMANDS: [CommandRow; 9] = [
+const COMMANDS: [CommandRow; 10] = [
     (
         "check",
         "Tells whether a plan is right, or its first fault",
@@ -46,6 +48,11 @@ const COMMANDS: [CommandRow; 9] = [
         "explain",
         "Prints what a plan means, with its defaults, and warns of what may not be meant",
         &[PLAN],
+    ),
+    (
+        "plan",
+        "Prints a plan of the newest version: one to begin with, or an older one's",
+        &[PLAN_ORDER],
     ),
     (
         "replay",
@@ -104,7 +111,7 @@ const SERVE: [Row; 2] = [
     ),
 ];
 
-const RUN: [Row; 10] = [
+const RUN: [Row; 12] = [
     PLAN,
     (
         "control",
@@ -120,6 +127,16 @@ const RUN: [Row; 10] = [
         "log",
         Taken::OneOf("LEVEL", "warn", &["off", "error", "warn", "info", "debug"]),
         "What is written to standard error",
+    ),
+    (
+        "log-calls",
+        Taken::Flag,
+        "A line at the level info for each call leg that ends",
+    ),
+    (
+        "log-numbers",
+        Taken::OneOf("HOW", "no", &["full", "last4", "no"]),
+        "How much of the numbers of calls these lines show",
     ),
     (
         "drain",

@@ -12,6 +12,9 @@ use std::time::Duration;
 // How many octets are read at once.
 const PIECE: usize = 4096;
 
+// How many octets an answer has at most, far more than all calls of an exchange take.
+const MOST: usize = 67_108_864;
+
 // How many seconds an answer may keep silent.
 const SECONDS: u64 = 10;
 
@@ -30,6 +33,9 @@ fn read_whole(alloc: Global, stream: &mut UnixStream) -> io::Result<Vec<u8>> {
         let count = stream.read(&mut piece)?;
         if count == 0 {
             break;
+        }
+        if octets.len() >= MOST {
+            return Err(io::Error::from(ErrorKind::InvalidData));
         }
         octets.extend_from_slice(&piece[..count])?;
     }
@@ -58,7 +64,8 @@ fn exchange(alloc: Global, stream: &mut UnixStream, request: &str) -> io::Result
     read_whole(alloc, stream)
 }
 
-/// Sends a request to the socket at a path, and reads the whole response. An answer that is silent for ten seconds is an error.
+/// Sends a request to the socket at a path, and reads the whole response. An answer that is silent for ten seconds, or has more than
+/// 64 MiB, is an error.
 pub(crate) fn ask<N: Net>(
     rt: &N,
     alloc: Global,

@@ -2,6 +2,7 @@
 use crate::asking::{Answered, ask};
 use crate::order::Order;
 use control_requests::{accounts_table, calls_table, peers_table};
+use printable_text::printable;
 use serde_json::Value;
 use std::alloc::{AllocError, Global};
 use std::io;
@@ -54,12 +55,14 @@ fn text_of(alloc: Global, order: Order<'_>, body: &str) -> Option<String> {
     }
 }
 
-// The name of what was refused.
-fn refusal_in(value: &Value) -> &str {
-    match value.get("error") {
-        Some(Value::String(name)) => name,
-        _ => "Control",
+// Writes the name of what a service refused, in printable characters.
+fn refuse_by<W: Write>(alloc: Global, writer: &mut W, value: &Value) -> u8 {
+    if let Some(Value::String(name)) = value.get("error") {
+        if let Ok(name) = printable(alloc, name.as_bytes()) {
+            return refuse(writer, name.as_str());
+        }
     }
+    refuse(writer, "Control")
 }
 
 // Writes an answer.
@@ -74,7 +77,7 @@ fn show_answer<W: Write>(
         return show(writer, text_of(alloc, order, body));
     }
     match Value::from_str(alloc, body) {
-        Ok(value) => refuse(writer, refusal_in(&value)),
+        Ok(value) => refuse_by(alloc, writer, &value),
         Err(_) => refuse(writer, "Control"),
     }
 }
@@ -85,12 +88,24 @@ fn ask_order<N: Net>(rt: &N, alloc: Global, path: &str, order: Order<'_>) -> io:
     ask(rt, alloc, path, &request)
 }
 
+// Why there is no answer.
+fn reason(error: &io::Error) -> &'static str {
+    match error.kind() {
+        ErrorKind::NotFound | ErrorKind::ConnectionRefused => "no service is running there",
+        ErrorKind::PermissionDenied => "this user may not connect",
+        ErrorKind::WouldBlock | ErrorKind::TimedOut => "the service doesn't answer",
+        ErrorKind::InvalidData => "what answers there is no service",
+        _ => "no answer",
+    }
+}
+
 /// Gives a running service an order at its control socket, and writes the answer: tables of peers, calls and accounts, a line
 /// for each other order. Answers the status: 0, or 1 after `refused <name>`.
 ///
 /// `refused Memory`: a request for memory was refused before the answer was there. `refused Control`: nobody answers at that
-/// path, or not as a service does, or there is no memory to show the answer. Any other name is the service's own.
-pub fn give_order<N: Net, W: Write>(
+/// path, or not as a service does, or there is no memory to show the answer; standard error has the reason. Any other name is the
+/// service's own.
+pub fn give_order<N: Net + Eprint, W: Write>(
     rt: &N,
     alloc: Global,
     path: &str,
@@ -101,7 +116,11 @@ pub fn give_order<N: Net, W: Write>(
         Ok(answered) => show_answer(alloc, order, &answered, writer),
         Err(error) => match error.kind() {
             ErrorKind::OutOfMemory => refuse(writer, "Memory"),
-            _ => refuse(writer, "Control"),
+            _ => {
+                let why = reason(&error);
+                let _ = eprintln!(rt; "{path}: {why}: {error}");
+                refuse(writer, "Control")
+            }
         },
     }
 }

@@ -10,6 +10,7 @@ use Rattle.control_requests.specs.declared.views.AccountsRow.{AccountsRow}
 
 abbrev pub peer_data : PeerRow → Data
 peer_data row = object (
+    member (codes "auth_failed") (number (unsigned row.auth_failed)) (
     member (codes "endpoint") (string row.endpoint.now) (
     member (codes "legs") (number (unsigned row.legs)) (
     member (codes "lost") (number (unsigned row.lost)) (
@@ -21,7 +22,7 @@ peer_data row = object (
     member (codes "refused") (number (unsigned row.refused)) (
     member (codes "sent") (number (unsigned row.sent)) (
     member (codes "silent_ms") (optional row.silent_ms) (
-    member (codes "worker") (number (unsigned row.worker)) no_members))))))))))))
+    member (codes "worker") (number (unsigned row.worker)) no_members)))))))))))))
 
 abbrev pub call_data : CallRow → Data
 call_data row = object (

@@ -1,4 +1,5 @@
 //! Answers as tables for people.
+use printable_text::printable;
 use serde_json::Value;
 use std::alloc::{AllocError, Global};
 use std::slice;
@@ -45,6 +46,7 @@ const PEERS: Kind = Kind {
         "lost",
         "outbox_lost",
         "queue_dropped",
+        "auth_failed",
     ],
 };
 
@@ -74,16 +76,16 @@ const ACCOUNTS: Kind = Kind {
     columns: &["accepted", "packed", "queued", "dropped", "quelched"],
 };
 
-// What a row has in a column: the text of a string, a number as it is, and `-` where there is nothing. Where there is no row, it
-// is the head line, and has the column's name.
+// What a row has in a column: the text of a string, in printable characters, a number as it is, and `-` where there is nothing. Where
+// there is no row, it is the head line, and has the column's name.
 fn cell(alloc: Global, row: Option<&Value>, column: &str) -> Result<String, AllocError> {
     let Some(row) = row else {
         return String::from_str(alloc, column);
     };
     match row.get(column) {
         None | Some(Value::Null) => String::from_str(alloc, "-"),
-        Some(Value::String(text)) => String::from_str(alloc, text),
-        Some(value) => value.to_string(alloc),
+        Some(Value::String(text)) => printable(alloc, text.as_bytes()),
+        Some(value) => printable(alloc, value.to_string(alloc)?.as_bytes()),
     }
 }
 
@@ -202,7 +204,7 @@ fn table_of(alloc: Global, body: &str, kind: &Kind) -> Result<String, TableFault
 }
 
 /// The table of the answer to `GET /peers`: a head line, and a line for each peer. Columns are as wide as their longest cell,
-/// in characters; `-` stands where there is no value.
+/// in characters; `-` stands where there is no value. Octets that aren't printable, and the backslash, are `\xNN`.
 ///
 /// `NotJson`: the text is no JSON. `NoRows`: the JSON has no list `peers`. `Memory`: a request for memory was refused, at any
 /// time.
@@ -211,7 +213,8 @@ pub fn peers_table(alloc: Global, body: &str) -> Result<String, TableFault> {
 }
 
 /// The table of the answer to `GET /calls` or `GET /calls/<number>`: a head line, and a line for each call. Columns are as wide
-/// as their longest cell, in characters; `-` stands where there is no value.
+/// as their longest cell, in characters; `-` stands where there is no value. Octets that aren't printable, and the backslash, are
+/// `\xNN`.
 ///
 /// `NotJson`: the text is no JSON. `NoRows`: the JSON has no list `calls`, and no member `number`. `Memory`: a request for
 /// memory was refused, at any time.

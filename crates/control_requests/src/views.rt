@@ -34,6 +34,8 @@ pub struct PeerRow<'a> {
     pub outbox_lost: u64,
     /// Octets of media for which its trunk queue had no room.
     pub queue_dropped: u64,
+    /// Its calls whose authentication failed.
+    pub auth_failed: u64,
 }
 
 /// A call, as it is shown.
@@ -122,6 +124,7 @@ fn peer_text(alloc: Global, row: PeerRow<'_>) -> Result<String, AllocError>
     ensures { IfOk result (λ text. string_bytes text ≡ compact_text (peer_data row.entry)) }
 {
     let members = [
+        ("auth_failed", Shown::Number(row.auth_failed)),
         ("endpoint", Shown::Text(row.endpoint)),
         ("legs", Shown::Number(u64::from(row.legs))),
         ("lost", Shown::Number(row.lost)),

@@ -3,7 +3,6 @@ use crate::doors::{Door, Stream};
 use control_requests::{Reading, read_request};
 use std::alloc::{AllocError, Global};
 use std::io::ErrorKind;
-use std::time::Instant;
 
 // How many octets are read at once.
 const PIECE: usize = 4096;
@@ -24,12 +23,15 @@ pub enum Stage {
     Ended,
 }
 
-/// A client, with what it sent and what it is sent.
+/// A client, with what it sent and what it is sent. Moments are in milliseconds.
 #[derive(Drop)]
 pub struct Client {
     stream: Stream,
     pub door: Door,
-    pub since: Instant,
+    /// When it came.
+    pub since: u64,
+    /// When an octet of it was read or written last.
+    pub active: u64,
     pub stage: Stage,
     input: Vec<u8>,
     output: Vec<u8>,
@@ -38,11 +40,12 @@ pub struct Client {
 
 impl Client {
     /// A client that has said nothing yet.
-    pub fn new(alloc: Global, stream: Stream, door: Door, since: Instant) -> Client {
+    pub fn new(alloc: Global, stream: Stream, door: Door, since: u64) -> Client {
         Client {
             stream,
             door,
             since,
+            active: since,
             stage: Stage::Asking,
             input: Vec::new(alloc),
             output: Vec::new(alloc),
@@ -100,12 +103,13 @@ impl Client {
         }
     }
 
-    /// Reads what is there, in at most 64 reads, until the request is whole.
-    pub fn hear(&mut self) -> Result<(), AllocError> {
+    /// Reads what is there at this moment, in at most 64 reads, until the request is whole.
+    pub fn hear(&mut self, now: u64) -> Result<(), AllocError> {
         for _ in 0..ROUNDS {
             if self.stage == Stage::Answered || self.is_whole() || !self.take_some()? {
                 break;
             }
+            self.active = now;
         }
         Ok(())
     }
@@ -131,12 +135,26 @@ impl Client {
         }
     }
 
-    /// Sends what the system takes, in at most 64 writes.
-    pub fn speak(&mut self) {
+    /// How many octets of its answer are kept.
+    pub fn kept(&self) -> usize {
+        if self.stage == Stage::Answered {
+            self.output.len()
+        } else {
+            0
+        }
+    }
+
+    /// Sends what the system takes at this moment, in at most 64 writes. What was sent to its end isn't kept.
+    pub fn speak(&mut self, now: u64) {
         for _ in 0..ROUNDS {
             if self.stage != Stage::Answered || !self.give_some() {
                 break;
             }
+            self.active = now;
+        }
+        if self.stage == Stage::Draining {
+            self.output.clear();
+            self.output.shrink_to_fit();
         }
     }
 }

@@ -1,6 +1,6 @@
 //! The clients of a service: they come by the ways in, ask and are answered, one after another.
 use crate::client::{Client, Stage};
-use crate::doors::{Door, Doors, Stream, bind_error_name};
+use crate::doors::{Door, Doors, NotBound, Stream};
 use control_requests::{Answer, Reading, Request, Status};
 use mio::unix::SourceFd;
 use mio::{Events, Interest, Poll, Token};
@@ -9,27 +9,35 @@ use std::fs::Files;
 use std::io;
 use std::io::ErrorKind;
 use std::net::{Net, SocketAddr};
-use std::time::{Clock, Duration, Instant};
+use std::time::Duration;
 
-// How many clients of each way in are served at once; one more is closed at once.
-const CLIENTS: usize = 32;
+/// How many clients of each way in are served at once.
+pub const CLIENTS: usize = 32;
 
-// After so many seconds a client is closed, whatever it does.
-const CLIENT_SECONDS: u64 = 5;
+// After so many milliseconds a client is closed, whatever it does.
+const CLIENT_MS: u64 = 5000;
+
+// After so many milliseconds in which it took nothing a client that is answered gives way to another.
+const STUCK_MS: u64 = 1000;
+
+// How many octets of answers are kept for all clients together.
+const KEPT: usize = 16_777_216;
 
 // What the system tells of standard input.
 const INPUT: Token = Token(2);
 
-/// The ways in, and the clients that came by them.
+/// The ways in, and the clients that came by them. Moments are in milliseconds.
 ///
-/// `bind` and `await_end_of_input` say what is waited for. Then come rounds: `wait`, `takes_end_of_input`; for each place below
-/// `count` `hear`, where that gives a request `answer`, and `speak`; at last `close_ended`.
+/// `bind` and `await_end_of_input` say what is waited for. Then come rounds: `wait`, `takes_end_of_input`, `admit`; for each place
+/// below `count` `hear`, where `request` gives a request `answer`, and `speak`; at last `close_ended`.
 pub struct Clients {
     alloc: Global,
     poll: Poll,
     events: Events,
     doors: Doors,
     clients: Vec<Client>,
+    // Whether more connections may wait than were taken in.
+    may_have_more: bool,
     // Whether the end of standard input is waited for, and hasn't come yet.
     awaits_end: bool,
 }
@@ -43,6 +51,7 @@ impl Drop for Clients {
             events: _,
             doors: _,
             clients: _,
+            may_have_more: _,
             awaits_end: _,
         } = self;
     }
@@ -62,29 +71,30 @@ impl Clients {
             events,
             doors: Doors::none(),
             clients,
+            may_have_more: false,
             awaits_end: false,
         })
     }
 
     /// Binds the control socket at its path, to which its owner alone may connect, and the address of the metrics, where they are
-    /// wanted. `Err` is the name of what refuses them: `Control`, `Metrics` or `Memory`.
+    /// wanted. `NotBound` has the name of what refuses them: `Control`, `Metrics` or `Memory`.
     pub fn bind<R: Files + Net>(
         &mut self,
         rt: &R,
         control: Option<&str>,
         metrics: Option<SocketAddr>,
-    ) -> Result<(), &'static str> {
+    ) -> Result<(), NotBound> {
         self.doors.bind_control(rt, self.alloc, control)?;
         self.doors.bind_metrics(rt, metrics)?;
         match self.doors.register(self.poll.registry()) {
             Ok(()) => Ok(()),
-            Err(error) => Err(bind_error_name(&error, "Control")),
+            Err(error) => Err(NotBound::of(&error, "Control")),
         }
     }
 
-    /// Whether the control socket is bound.
-    pub fn is_bound(&self) -> bool {
-        self.doors.control.is_some()
+    /// Removes the file of the control socket at its path, where it is bound and still there.
+    pub fn unbind<R: Files>(&mut self, rt: &R, path: &str) {
+        self.doors.unbind_control(rt, path);
     }
 
     /// Has the system tell of the end of standard input. An error where it doesn't tell of it: that is a file, or closed.
@@ -116,11 +126,36 @@ impl Clients {
         false
     }
 
+    /// Waits for a client for so many milliseconds at most; not at all where connections wait already.
+    pub fn wait(&mut self, most_ms: u64) {
+        let ms = if self.may_have_more { 0 } else { most_ms };
+        let _ = self
+            .poll
+            .poll(&mut self.events, Some(Duration::from_millis(ms)));
+    }
+
+    /// Takes in the connections that wait at this moment, 32 by each way at most.
+    pub fn admit(&mut self, now: u64) {
+        let control = self.admit_all(Door::Control, now);
+        let metrics = self.admit_all(Door::Metrics, now);
+        self.may_have_more = control || metrics;
+    }
+
+    // Takes in the connections that wait. Whether more may wait.
+    fn admit_all(&mut self, door: Door, now: u64) -> bool {
+        for _ in 0..CLIENTS {
+            if !self.admit_one(door, now) {
+                return false;
+            }
+        }
+        true
+    }
+
     // Takes in a connection that waits. False if none does.
-    fn admit<R: Clock>(&mut self, rt: &R, door: Door) -> bool {
+    fn admit_one(&mut self, door: Door, now: u64) -> bool {
         match self.doors.accept(door) {
             Ok(stream) => {
-                self.seat(rt, door, stream);
+                self.seat(door, stream, now);
                 true
             }
             Err(error) => error.kind() == ErrorKind::Interrupted,
@@ -138,44 +173,73 @@ impl Clients {
         count
     }
 
-    // Has the system tell of a connection, where there is a free place for it. Since when it is there.
-    fn register<R: Clock>(&self, rt: &R, door: Door, stream: &mut Stream) -> Option<Instant> {
-        if self.count_of(door) >= CLIENTS {
-            return None;
+    // The place of the client of this way that has been idle for longest, among those that give way to another.
+    fn idlest(&self, door: Door, now: u64) -> Option<usize> {
+        let mut found: Option<(usize, u64)> = None;
+        for (place, client) in self.clients.iter().enumerate() {
+            let is_later = match found {
+                Some((_, active)) => client.active >= active,
+                None => false,
+            };
+            if client.door == door && gives_way(client, now) && !is_later {
+                found = Some((place, client.active));
+            }
         }
-        let since = Instant::now(rt).ok()?;
-        match stream.register(self.poll.registry()) {
-            Ok(()) => Some(since),
-            Err(_) => None,
+        match found {
+            Some((place, _)) => Some(place),
+            None => None,
+        }
+    }
+
+    // Makes a place free for a client of this way, where all are taken and one gives way. Whether one is free.
+    fn make_place(&mut self, door: Door, now: u64) -> bool {
+        if self.count_of(door) < CLIENTS {
+            return true;
+        }
+        match self.idlest(door, now) {
+            Some(place) if place < self.clients.len() => {
+                let _closed = self.clients.swap_remove(place);
+                true
+            }
+            _ => false,
         }
     }
 
     // Gives a connection a place. Without a free one it is closed at once.
-    fn seat<R: Clock>(&mut self, rt: &R, door: Door, stream: Stream) {
+    fn seat(&mut self, door: Door, stream: Stream, now: u64) {
         let mut stream = stream;
-        if let Some(since) = self.register(rt, door, &mut stream) {
-            let client = Client::new(self.alloc, stream, door, since);
+        if self.make_place(door, now) && stream.register(self.poll.registry()).is_ok() {
+            let client = Client::new(self.alloc, stream, door, now);
             let _ = self.clients.push(client);
         }
     }
 
-    /// How many clients there are. Each has a place below that, until `close_ended`.
+    /// How many clients there are. Each has a place below that, until `admit` or `close_ended`.
     pub fn count(&self) -> usize {
         self.clients.len()
     }
 
-    /// Reads what the client at a place has sent. Its request, and the way by which it came, where that is whole now and is to be
-    /// answered. What is no request is answered here, by what is wrong with it.
-    pub fn hear(&mut self, place: usize) -> Option<(Door, Request<'_>)> {
-        let client = self.clients.get_mut(place)?;
-        if client.hear().is_err() {
+    /// Reads what the client at a place has sent at this moment. What is no request is answered here, by what is wrong with it.
+    pub fn hear(&mut self, place: usize, now: u64) {
+        let alloc = self.alloc;
+        let Some(client) = self.clients.get_mut(place) else {
+            return;
+        };
+        if client.hear(now).is_err() {
             client.stage = Stage::Ended;
         }
         if client.stage != Stage::Asking {
-            return None;
+            return;
         }
         if let Some((status, why)) = fault_of(&client.reading()) {
-            client.answer(refusal(self.alloc, status, why));
+            client.answer(refusal(alloc, status, why));
+        }
+    }
+
+    /// The request of the client at a place, and the way by which it came, where that is whole and not answered.
+    pub fn request(&self, place: usize) -> Option<(Door, Request<'_>)> {
+        let client = self.clients.get(place)?;
+        if client.stage != Stage::Asking {
             return None;
         }
         match client.reading() {
@@ -184,18 +248,35 @@ impl Clients {
         }
     }
 
-    /// What the client at a place is to be sent. One for whose answer there was no memory is closed without.
+    // How many octets of answers are kept.
+    fn kept(&self) -> usize {
+        let mut kept: usize = 0;
+        for client in self.clients.iter() {
+            kept = kept.saturating_add(client.kept());
+        }
+        kept
+    }
+
+    /// What the client at a place is to be sent. Where 16 MiB of answers would be kept with it, it is `Busy` (503). A client for
+    /// whose answer there was no memory is closed without.
     pub fn answer(&mut self, place: usize, octets: Result<Vec<u8>, AllocError>) {
+        let kept = self.kept();
+        let octets = match octets {
+            Ok(octets) if kept.saturating_add(octets.len()) > KEPT => {
+                refusal(self.alloc, Status::Unavailable, "Busy")
+            }
+            octets => octets,
+        };
         if let Some(client) = self.clients.get_mut(place) {
             client.answer(octets);
         }
     }
 
-    /// Sends the client at a place what the system takes. One that was there for five seconds has ended.
-    pub fn speak<R: Clock>(&mut self, rt: &R, place: usize) {
+    /// Sends the client at a place what the system takes at this moment. One that was there for five seconds has ended.
+    pub fn speak(&mut self, place: usize, now: u64) {
         if let Some(client) = self.clients.get_mut(place) {
-            client.speak();
-            if is_old(rt, client) {
+            client.speak(now);
+            if now.saturating_sub(client.since) >= CLIENT_MS {
                 client.stage = Stage::Ended;
             }
         }
@@ -215,31 +296,13 @@ impl Clients {
         }
         false
     }
-
-    /// Waits for a client for so many milliseconds at most, and takes in those that are there.
-    pub fn wait<R: Clock>(&mut self, rt: &R, most_ms: u64) {
-        let _ = self
-            .poll
-            .poll(&mut self.events, Some(Duration::from_millis(most_ms)));
-        self.admit_all(rt, Door::Control);
-        self.admit_all(rt, Door::Metrics);
-    }
-
-    // Takes in the connections that wait.
-    fn admit_all<R: Clock>(&mut self, rt: &R, door: Door) {
-        for _ in 0..CLIENTS {
-            if !self.admit(rt, door) {
-                break;
-            }
-        }
-    }
 }
 
-// Whether a client was there for five seconds.
-fn is_old<R: Clock>(rt: &R, client: &Client) -> bool {
-    match client.since.elapsed(rt) {
-        Ok(age) => age >= Duration::from_secs(CLIENT_SECONDS),
-        Err(_) => false,
+// Whether a client gives its place to another: it hasn't asked yet, or has its answer, or takes nothing of that.
+fn gives_way(client: &Client, now: u64) -> bool {
+    match client.stage {
+        Stage::Answered => now.saturating_sub(client.active) >= STUCK_MS,
+        Stage::Asking | Stage::Draining | Stage::Ended => true,
     }
 }
 

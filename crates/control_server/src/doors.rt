@@ -2,6 +2,7 @@
 ghost use Rattle.std.specs.Io.{ReadsAtMost};
 
 use crate::socket_file;
+use crate::socket_file::SocketFile;
 use mio::net::{TcpListener, TcpStream, UnixListener, UnixStream};
 use mio::{Interest, Registry, Token};
 use std::alloc::Global;
@@ -63,11 +64,29 @@ impl Stream {
     }
 }
 
-/// Why there is no listener: for want of memory, or by this name.
-pub fn bind_error_name(error: &io::Error, name: &'static str) -> &'static str {
-    match error.kind() {
-        ErrorKind::OutOfMemory => "Memory",
-        _ => name,
+// The system's number of the error "File name too long".
+const NAME_TOO_LONG: i32 = 36;
+
+/// Why a way in isn't bound: by what name it is refused, and the system's number of the error, where it gave one.
+#[derive(Clone, Copy, Debug, PartialEq, Eq)]
+pub struct NotBound {
+    pub name: &'static str,
+    pub code: Option<i32>,
+}
+
+impl NotBound {
+    /// An error of the system that refuses what has this name; without memory, `Memory`.
+    pub fn of(error: &io::Error, name: &'static str) -> NotBound {
+        let name = match error.kind() {
+            ErrorKind::OutOfMemory => "Memory",
+            _ => name,
+        };
+        // (a path that is too long for an address of a socket is refused before the system sees it)
+        let code = match error.kind() {
+            ErrorKind::InvalidInput => Some(NAME_TOO_LONG),
+            _ => error.raw_os_error(),
+        };
+        NotBound { name, code }
     }
 }
 
@@ -76,6 +95,8 @@ pub fn bind_error_name(error: &io::Error, name: &'static str) -> &'static str {
 pub struct Doors {
     pub control: Option<UnixListener>,
     pub metrics: Option<TcpListener>,
+    // Where the control socket's file is.
+    file: Option<SocketFile>,
 }
 
 impl Doors {
@@ -84,38 +105,49 @@ impl Doors {
         Doors {
             control: None,
             metrics: None,
+            file: None,
         }
     }
 
-    /// Binds the control socket at its path, where there is to be one. `Err` is the name of what refuses it.
+    /// Binds the control socket at its path, where there is to be one.
     pub fn bind_control<R: Files + Net>(
         &mut self,
         rt: &R,
         alloc: Global,
         path: Option<&str>,
-    ) -> Result<(), &'static str> {
+    ) -> Result<(), NotBound> {
         let Some(path) = path else {
             return Ok(());
         };
         match socket_file::bind(rt, alloc, path) {
-            Ok(listener) => self.control = Some(listener),
-            Err(error) => return Err(bind_error_name(&error, "Control")),
+            Ok((listener, file)) => {
+                self.control = Some(listener);
+                self.file = Some(file);
+                Ok(())
+            }
+            Err(error) => Err(NotBound::of(&error, "Control")),
         }
-        Ok(())
     }
 
-    /// Binds the listener of the metrics, where there is to be one. `Err` is the name of what refuses it.
+    /// Removes the file of the control socket at its path, where it is still there.
+    pub fn unbind_control<R: Files>(&mut self, rt: &R, path: &str) {
+        if let Some(file) = self.file.take() {
+            socket_file::unbind(rt, path, file);
+        }
+    }
+
+    /// Binds the listener of the metrics, where there is to be one.
     pub fn bind_metrics<R: Net>(
         &mut self,
         rt: &R,
         address: Option<SocketAddr>,
-    ) -> Result<(), &'static str> {
+    ) -> Result<(), NotBound> {
         let Some(address) = address else {
             return Ok(());
         };
         match TcpListener::bind(rt, address) {
             Ok(listener) => self.metrics = Some(listener),
-            Err(error) => return Err(bind_error_name(&error, "Metrics")),
+            Err(error) => return Err(NotBound::of(&error, "Metrics")),
         }
         Ok(())
     }

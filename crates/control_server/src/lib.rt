@@ -7,5 +7,5 @@ mod clients;
 mod doors;
 mod socket_file;
 
-pub use clients::Clients;
-pub use doors::{Door, bind_error_name};
+pub use clients::{CLIENTS, Clients};
+pub use doors::{Door, NotBound};

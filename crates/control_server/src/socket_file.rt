@@ -1,64 +1,178 @@
 //! The file of the control socket.
+use libc::net::listen;
 use mio::net::{UnixListener, UnixStream};
 use std::alloc::Global;
-use std::fs::{Files, Permissions};
+use std::fs::{DirBuilder, Files};
 use std::io::ErrorKind;
 use std::net::Net;
-use std::os::unix::fs::{FileTypeExt, PermissionsExt};
+use std::os::fd::{AsFd, AsRawFd};
+use std::os::unix::fs::{DirBuilderExt, FileTypeExt, MetadataExt};
+use std::os::unix::net;
+use std::os::unix::net::SocketAddr;
 use std::{fs, io};
 
-// Whether a listener may be bound at the path: nothing is there, or the socket of a process that has ended.
-fn is_free<R: Files + Net>(rt: &R, path: &str) -> io::Result<bool> {
+// How many clients may wait to be accepted: as many as the system lets wait.
+const BACKLOG: i32 = -1;
+
+// How many names are tried for the folder.
+const NAMES: u32 = 100;
+
+// Who may connect: the owner.
+const MODE: u32 = 0o600;
+
+/// The file that a listener was bound at, by its place in the file system. The place is its own as long as the listener is open.
+#[derive(Clone, Copy)]
+pub(crate) struct SocketFile {
+    device: u64,
+    inode: u64,
+}
+
+// The folder in which a path lies, with the slash behind it.
+fn folder_of(path: &str) -> &str {
+    match path.rfind('/') {
+        Some(place) => path.get(..=place).unwrap_or(""),
+        None => "",
+    }
+}
+
+// Makes a folder that nobody else may look into, beside the path. Its name is short, so that a path may be as long as the system
+// takes it.
+fn private_folder<R: Files>(rt: &R, alloc: Global, path: &str) -> io::Result<String> {
+    let mut builder = DirBuilder::new();
+    builder.mode(0o700);
+    for place in 0..NAMES {
+        let folder = format!(in alloc; "{}.{place}", folder_of(path))?;
+        match builder.create(rt, folder.as_str()) {
+            Ok(()) => return Ok(folder),
+            Err(error) if error.kind() == ErrorKind::AlreadyExists => {}
+            Err(error) => return Err(error),
+        }
+    }
+    Err(io::Error::from(ErrorKind::AlreadyExists))
+}
+
+// Whether a path leads to the socket of a process that has ended. `NotFound`: to nothing.
+fn is_dead<R: Files + Net>(rt: &R, path: &str) -> io::Result<bool> {
+    if !fs::symlink_metadata(rt, path)?.file_type().is_socket() {
+        return Ok(false);
+    }
     match UnixStream::connect(rt, path) {
-        Ok(_) => return Ok(false),
-        Err(error) => {
-            let kind = error.kind();
-            if kind != ErrorKind::NotFound && kind != ErrorKind::ConnectionRefused {
-                return Err(error);
-            }
-        }
-    }
-    match fs::symlink_metadata(rt, path) {
-        Ok(found) => Ok(found.file_type().is_socket()),
-        Err(error) => {
-            if error.kind() == ErrorKind::NotFound {
-                return Ok(true);
-            }
-            Err(error)
-        }
-    }
-}
-
-// A socket's file is its owner's alone, and stands at the path.
-fn move_over<R: Files>(rt: &R, beside: &str, path: &str) -> io::Result<()> {
-    match fs::set_permissions(rt, beside, Permissions::from_mode(0o600)) {
-        Ok(()) => fs::rename(rt, beside, path),
+        Ok(_) => Ok(false),
+        Err(error) if error.kind() == ErrorKind::ConnectionRefused => Ok(true),
         Err(error) => Err(error),
     }
 }
 
-// Binds a listener beside the path and then moves it over it, so that at no moment the file is there with other permissions.
-fn bind_beside<R: Files + Net>(rt: &R, beside: &str, path: &str) -> io::Result<UnixListener> {
-    let listener = match UnixListener::bind(rt, beside) {
-        Ok(listener) => listener,
+// Removes what was moved away, where it is the socket of a process that has ended. Anything else goes back to its path, where
+// nothing else is by now.
+fn remove_dead<R: Files + Net>(rt: &R, moved: &str, path: &str) -> io::Result<()> {
+    if let Ok(true) = is_dead(rt, moved) {
+        return fs::remove_file(rt, moved);
+    }
+    fs::hard_link(rt, moved, path)?;
+    fs::remove_file(rt, moved)?;
+    Err(in_use())
+}
+
+// Makes room at the path, where the socket of a process that has ended is in the way. It is moved to the folder first, where nobody
+// puts something else in its place.
+fn make_room<R: Files + Net>(rt: &R, alloc: Global, folder: &str, path: &str) -> io::Result<()> {
+    match is_dead(rt, path) {
+        Ok(true) => {}
+        Ok(false) => return Err(in_use()),
+        Err(error) if error.kind() == ErrorKind::NotFound => return Ok(()),
         Err(error) => return Err(error),
-    };
-    match move_over(rt, beside, path) {
-        Ok(()) => Ok(listener),
+    }
+    let moved = format!(in alloc; "{folder}/o")?;
+    fs::rename(rt, path, moved.as_str())?;
+    remove_dead(rt, moved.as_str(), path)
+}
+
+// Somebody answers at the path, or what is there is no socket: "Address already in use".
+fn in_use() -> io::Error {
+    io::Error::from_raw_os_error(98)
+}
+
+// The error of the call of the system that failed last.
+fn system_error() -> io::Error {
+    io::Error::from_raw_os_error(os::errno())
+}
+
+// Binds a listener at a path at which nothing is. The file has its mode from its first moment on: the system takes it from the
+// socket.
+fn listener_at<R: Files + Net>(rt: &R, path: &str) -> io::Result<UnixListener> {
+    let address = SocketAddr::from_pathname(path)?;
+    let socket = rt.unix_socket()?;
+    if libc::fchmod(socket.as_raw_fd(), MODE) != 0 {
+        return Err(system_error());
+    }
+    rt.bind_unix(socket.as_fd(), &address)?;
+    if listen(socket.as_raw_fd(), BACKLOG) != 0 {
+        return Err(system_error());
+    }
+    let listener = net::UnixListener::from(socket);
+    listener.set_nonblocking(true)?;
+    Ok(UnixListener::from_std(listener))
+}
+
+// Gives the file of a listener the path, where nothing is there. Others may not connect to it.
+fn put_at<R: Files>(rt: &R, bound: &str, path: &str) -> io::Result<SocketFile> {
+    let found = fs::symlink_metadata(rt, bound)?;
+    if found.mode() & 0o777 != MODE {
+        return Err(io::Error::from(ErrorKind::PermissionDenied));
+    }
+    match fs::hard_link(rt, bound, path) {
+        Ok(()) => Ok(SocketFile {
+            device: found.dev(),
+            inode: found.ino(),
+        }),
+        Err(error) if error.kind() == ErrorKind::AlreadyExists => Err(in_use()),
         Err(error) => Err(error),
     }
 }
 
-/// Binds a listener at the path, to which its owner alone may connect. The socket of a process that has ended is replaced. A file
-/// of the same name with `.new` behind it is removed.
-///
-/// `AddrInUse`: somebody answers there, or what lies there is no socket: a file, a folder, a link, a pipe. Other errors are those
-/// of the system, as for a path of 108 octets or more, or one in a folder that isn't there.
-pub fn bind<R: Files + Net>(rt: &R, alloc: Global, path: &str) -> io::Result<UnixListener> {
-    if !is_free(rt, path)? {
-        return Err(io::Error::from(ErrorKind::AddrInUse));
+// Binds a listener in a folder, and gives its file the path.
+fn bind_in<R: Files + Net>(
+    rt: &R,
+    alloc: Global,
+    folder: &str,
+    path: &str,
+) -> io::Result<(UnixListener, SocketFile)> {
+    make_room(rt, alloc, folder, path)?;
+    let bound = format!(in alloc; "{folder}/s")?;
+    let listener = listener_at(rt, bound.as_str())?;
+    let put = put_at(rt, bound.as_str(), path);
+    let _ = fs::remove_file(rt, bound.as_str());
+    match put {
+        Ok(file) => Ok((listener, file)),
+        Err(error) => Err(error),
     }
-    let beside = format!(in alloc; "{path}.new")?;
-    let _ = fs::remove_file(rt, beside.as_str());
-    bind_beside(rt, beside.as_str(), path)
+}
+
+/// Binds a listener at the path, to which its owner alone may connect, at no moment anybody else. The socket of a process that has
+/// ended is replaced. Nothing else is removed, whatever comes to the path meanwhile.
+///
+/// "Address already in use": somebody answers there, or what is there is no socket: a file, a folder, a link, a pipe. Other errors
+/// are those of the system, as for a path of 108 octets or more, or one in a folder that isn't there or has no hard links.
+pub(crate) fn bind<R: Files + Net>(
+    rt: &R,
+    alloc: Global,
+    path: &str,
+) -> io::Result<(UnixListener, SocketFile)> {
+    // (a path that is too long for an address can have a link, but no client)
+    let _address = SocketAddr::from_pathname(path)?;
+    let folder = private_folder(rt, alloc, path)?;
+    let bound = bind_in(rt, alloc, folder.as_str(), path);
+    let _ = fs::remove_dir(rt, folder.as_str());
+    bound
+}
+
+/// Removes the file at the path, where it is still that of a listener that is open.
+pub(crate) fn unbind<R: Files>(rt: &R, path: &str, file: SocketFile) {
+    if let Ok(found) = fs::symlink_metadata(rt, path) {
+        let is_same = found.dev() == file.device && found.ino() == file.inode;
+        if is_same && found.file_type().is_socket() {
+            let _ = fs::remove_file(rt, path);
+        }
+    }
 }

@@ -4,7 +4,7 @@ use crate::free_order::order_free;
 use crate::outboxes::empty_outbox;
 use crate::stages::Stages;
 use crate::viewer::{PeerOfPlan, Received, Stop, Viewer};
-use crate::words::{Sender, octets_of, peer_of, places_of, sender_of};
+use crate::words::{Sender, key_of, octets_of, peer_of, places_of, sender_of};
 use call_auth::Challenge;
 use exchange_core::{Answer, Refusal, Retired};
 use exchange_report::{call_error_name, order_error_name, refusal_name};
@@ -14,13 +14,22 @@ use script_lines::Line;
 use std::alloc::Global;
 use std::sync::Wait;
 
+// What lines of a script asked for, up to one of them.
+#[derive(Clone, Copy)]
+enum Begun {
+    Nothing,
+    // Of the prefix of challenges alone.
+    Prefix,
+    More,
+}
+
 /// What is known between two lines of a script.
 #[derive(Drop)]
 pub struct Player {
     now: u64,
     challenge: Challenge,
-    // Whether a line asked for something.
-    has_begun: bool,
+    // What lines asked for so far.
+    begun: Begun,
     // Whether what goes out waits for a line that sends it.
     holds: bool,
     // Those that the viewer was told.
@@ -53,7 +62,7 @@ impl Player {
         Some(Player {
             now: 0,
             challenge,
-            has_begun: false,
+            begun: Begun::Nothing,
             holds: false,
             stages: Stages::new(alloc, plan).ok()?,
             retired: Vec::new(alloc),
@@ -62,9 +71,9 @@ impl Player {
 
     /// Does what a line asks for, and tells the viewer what came of it. An empty line and `settle` do nothing here.
     ///
-    /// `Script`: no peer has the name that the line gives, `at` goes back or `back` goes on, what should be a challenge, an
-    /// endpoint, a datagram or a list of numbers is none, a stranger's endpoint is a peer's, or `prefix` isn't the first line. `Memory`: a request for memory
-    /// was refused. What the viewer answers by `Err` is handed on.
+    /// `Script`: no peer has the name that the line gives, `at` goes back or `back` goes on, what should be a challenge, a key, an
+    /// endpoint, a datagram or a list of numbers is none, a stranger's endpoint is a peer's, `prefix` isn't the first line, or `key`
+    /// isn't the first but for `prefix`. `Memory`: a request for memory was refused. What the viewer answers by `Err` is handed on.
     pub(crate) fn line<J: Naming, R: Wait, V: Viewer>(
         &mut self,
         desk: &mut Desk<'_, R, J, V>,
@@ -77,7 +86,10 @@ impl Player {
             },
             Err(stop) => Err(stop),
         };
-        self.has_begun = true;
+        self.begun = match line {
+            Line::Prefix(_) => Begun::Prefix,
+            _ => Begun::More,
+        };
         worked
     }
 
@@ -112,6 +124,16 @@ impl Player {
         }
     }
 
+    // Whether this is what the challenges of the exchange begin with, and the script's first line.
+    fn may_take_prefix(&self, text: &[u8]) -> bool {
+        matches!(self.begun, Begun::Nothing) && Challenge::new(text).is_some()
+    }
+
+    // Whether this is a key, and only `prefix` was before it.
+    fn may_take_key(&self, digits: &[u8]) -> bool {
+        !matches!(self.begun, Begun::More) && key_of(digits).is_some()
+    }
+
     // What a line says of those after it.
     fn set(&mut self, line: &Line<'_>) -> Result<(), Stop> {
         match line {
@@ -123,9 +145,8 @@ impl Player {
                 None => return Err(Stop::Script),
             },
             // (the exchange was opened with it)
-            Line::Prefix(text) if self.has_begun || Challenge::new(text).is_none() => {
-                return Err(Stop::Script);
-            }
+            Line::Prefix(text) if !self.may_take_prefix(text) => return Err(Stop::Script),
+            Line::Key(digits) if !self.may_take_key(digits) => return Err(Stop::Script),
             Line::Hold => self.holds = true,
             _ => {}
         }

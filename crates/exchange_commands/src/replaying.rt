@@ -5,12 +5,13 @@ use crate::desk::Desk;
 use crate::player::Player;
 use crate::printing::Printer;
 use crate::viewer::{Stop, Viewer};
+use crate::words::key_of;
 use call_auth::Challenge;
 use exchange_core::{Exchange, NoGate, Pass};
 use exchange_report::closed_accounts;
 use media_ledger::Blank;
 use peer_lock::{Naming, Service};
-use peer_plan::{Plan, PlanError};
+use peer_plan::{Drawn, Plan, PlanError};
 use script_lines::{Line, ends_script, line_of};
 use std::alloc::{AllocError, Global};
 use std::io;
@@ -191,24 +192,22 @@ pub fn replay_with<R: Wait, V: Viewer>(
     }
 }
 
-// What a script says that the challenges of its exchange begin with: by its first line that isn't empty and no comment.
-fn prefix_of(script: &[u8]) -> Option<Challenge> {
+// What the exchange of a script drew when it was opened: by its first lines that aren't empty and no comments.
+fn drawn_of(script: &[u8]) -> Drawn {
+    let mut drawn = Drawn::nothing();
     for line in script.split(|octet| *octet == b'\n') {
         match line_of(line) {
             Some(Line::Nothing) => {}
-            Some(Line::Prefix(text)) => return Challenge::new(text),
-            _ => return None,
+            Some(Line::Prefix(text)) => drawn.challenge_prefix = Challenge::new(text),
+            Some(Line::Key(digits)) => {
+                let key = key_of(digits).unwrap_or([0; 32]);
+                drawn.token_key = key;
+                return drawn;
+            }
+            _ => return drawn,
         }
     }
-    None
-}
-
-// The plan, by the first line of a script.
-fn plan_for(plan: Plan, script: &[u8]) -> Plan {
-    match prefix_of(script) {
-        Some(prefix) => plan.with_challenge_prefix(&prefix),
-        None => plan,
-    }
+    drawn
 }
 
 // The same, of a plan that is right.
@@ -219,7 +218,7 @@ fn play_plan<R: Wait, V: Viewer>(
     script: &[u8],
     viewer: &mut V,
 ) -> Result<(), ReplayError> {
-    let plan = plan_for(plan, script);
+    let plan = plan.with_drawn(&drawn_of(script));
     let mut player = match player_of(alloc, &plan, viewer) {
         Ok(player) => player,
         Err(stop) => return Err(stopped_at(0, stop)),

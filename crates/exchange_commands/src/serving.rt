@@ -18,6 +18,7 @@ use std::time::{Clock, Instant};
 use udp_workers::{Post, TurnReport, run_all};
 use worker_seats::{
     PlainSockets, ServiceError, reports_of, seats_of, service_error_name, tell_reports,
+    with_drawn_key,
 };
 
 // All workers make their turns; their passes go back to the others.
@@ -100,6 +101,10 @@ fn serve_plan<R: Clock + Net + RandomSource + Threads + Wait + Sync, W: Write>(
 ) -> Result<(), ServiceError> {
     let Ok(opened) = Instant::now(rt) else {
         return Err(ServiceError::Clock);
+    };
+    let plan = match with_drawn_key(rt, plan) {
+        Ok(plan) => plan,
+        Err(error) => return Err(error),
     };
     let parts = u64::from(plan.peer_count()) + u64::from(plan.passes());
     let (octets, steps) = (Blank::new(parts), Blank::new(parts));

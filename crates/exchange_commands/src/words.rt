@@ -72,6 +72,15 @@ pub(crate) fn octets_of(alloc: Global, digits: &[u8]) -> Result<Vec<u8>, Stop> {
     }
 }
 
+/// The key that 64 hexadecimal digits spell.
+pub(crate) fn key_of(digits: &[u8]) -> Option<[u8; 32]> {
+    let mut key = [0; 32];
+    match hex::decode_to_slice(digits, &mut key) {
+        Ok(()) => Some(key),
+        Err(_) => None,
+    }
+}
+
 // The endpoint that a text names, as `192.0.2.1:4569`.
 fn endpoint_of(text: &[u8]) -> Result<Endpoint, Stop> {
     let Ok(text) = str::from_utf8(text) else {

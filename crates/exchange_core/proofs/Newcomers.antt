@@ -10,7 +10,8 @@ use Rattle.leg_machine.specs.Leg.{is_record_full}
 use Rattle.call_signals.specs.declared.rules.PeerRules.{PeerRules}
 use Rattle.leg_machine.specs.Message.{message_of, is_numbered}
 use Rattle.peer_lock.specs.Arrivals.{datagram_refused, mini_refused}
-use Rattle.peer_lock.specs.Delivery.{Delivery, NeedsNumber, Gets, NoCall, delivered, delivery_refused, found, inval_for, is_new, is_poke, is_registration, pong_for, regrej_for}
+use Rattle.peer_lock.specs.Delivery.{Delivery, Gets, NoCall, delivered, delivery_refused, found, inval_for, is_new, is_poke, is_registration, pong_for, regrej_for}
+use Rattle.peer_lock.specs.Delivery.{newcomer as newcomer_at}
 use Rattle.peer_lock.specs.Legs.{NamedLeg, leg_of_remote}
 use Rattle.peer_lock.specs.Makes.{IsDue}
 use Rattle.peer_lock.specs.Peer.{PeerView}
@@ -35,45 +36,45 @@ mini_needs_none None why = grind (arith, why)
 mini_needs_none (Some named) why = grind (arith, why)
 
 -- a frame that no leg has, to which these tests say whether a NEW needs a number, and what else is answered
-abbrev unknown : (nowhere new first poked registers numbered : Bool) (head : FullHead) → Delivery
-unknown nowhere new first poked registers numbered head =
+abbrev unknown : (nowhere new first poked registers numbered : Bool) (head : FullHead) (comes : Delivery) → Delivery
+unknown nowhere new first poked registers numbered head comes =
     if nowhere
-    then (if new && first then NeedsNumber else if poked then Gets (pong_for head) else if registers then Gets (regrej_for head) else NoCall)
+    then (if new && first then comes else if poked then Gets (pong_for head) else if registers then Gets (regrej_for head) else NoCall)
     else (if numbered then Gets (inval_for head) else NoCall)
 
-tests : (nowhere new first poked registers numbered : Bool) (head : FullHead)
-    → IsDue (delivery_refused (unknown nowhere new first poked registers numbered head)) errors.NeedsNumber
+tests : (nowhere new first poked registers numbered : Bool) (head : FullHead) (comes : Delivery)
+    → IsDue (delivery_refused (unknown nowhere new first poked registers numbered head comes)) errors.NeedsNumber
     → (nowhere ≡ true) × (new ≡ true) × (first ≡ true)
-tests true true true poked registers numbered head why = (refl, refl, refl)
-tests true true false true registers numbered head why = grind (arith, why)
-tests true true false false true numbered head why = grind (arith, why)
-tests true true false false false numbered head why = grind (arith, why)
-tests true false first true registers numbered head why = grind (arith, why)
-tests true false first false true numbered head why = grind (arith, why)
-tests true false first false false numbered head why = grind (arith, why)
-tests false new first poked registers true head why = grind (arith, why)
-tests false new first poked registers false head why = grind (arith, why)
+tests true true true poked registers numbered head comes why = (refl, refl, refl)
+tests true true false true registers numbered head comes why = grind (arith, why)
+tests true true false false true numbered head comes why = grind (arith, why)
+tests true true false false false numbered head comes why = grind (arith, why)
+tests true false first true registers numbered head comes why = grind (arith, why)
+tests true false first false true numbered head comes why = grind (arith, why)
+tests true false first false false numbered head comes why = grind (arith, why)
+tests false new first poked registers true head comes why = grind (arith, why)
+tests false new first poked registers false head comes why = grind (arith, why)
 
 number_of : (n : ℕ) → (n == 0) ≡ true → n ≡ 0
 number_of n is = grind (arith, nat_tests, is)
 
-newcomer : (rules : PeerRules) (frame : FullFrame) (at : Option NamedLeg) → IsDue (delivery_refused (delivered rules at frame)) errors.NeedsNumber → IsNewcomer frame
-newcomer rules frame (Some named) why = absurd (at_leg (is_record_full named.leg) why)
-newcomer rules frame None why =
+newcomer : (rules : PeerRules) (frame : FullFrame) (now : ℕ) (at : Option NamedLeg) → IsDue (delivery_refused (delivered rules at frame now)) errors.NeedsNumber → IsNewcomer frame
+newcomer rules frame now (Some named) why = absurd (at_leg (is_record_full named.leg) why)
+newcomer rules frame now None why =
     let are = tests (frame.head.destination == 0) (is_new (message_of frame.head)) (frame.head.oseqno == 0) (rules.poke && is_poke (message_of frame.head))
-    (rules.is_hardened && is_registration frame.head) (is_numbered (message_of frame.head)) frame.head why in
+    (rules.is_hardened && is_registration frame.head) (is_numbered (message_of frame.head)) frame.head (newcomer_at rules.call_tokens frame now) why in
     record { destination = number_of frame.head.destination are.0; first = number_of frame.head.oseqno are.2; new = are.1 }
 
-module _ (credit made : ℕ) (octets : List ℕ) (peer : PeerView) where
+module _ (credit made : ℕ) (octets : List ℕ) (peer : PeerView) (now : ℕ) where
   unworked : IsUnworked credit made octets errors.NeedsNumber → ⊥
   unworked (spare, short, (Full frame, spelled, none)) = none
   unworked (spare, short, (Mini mini, spelled, none)) = none
   unworked (spare, short, (Video video, spelled, none)) = none
   unworked (spare, short, (Trunk trunk, spelled, none)) = none
 
-  opens : (d : Datagram) → IsWorked credit made octets d → IsDue (datagram_refused peer d) errors.NeedsNumber → SpellsOpening octets
+  opens : (d : Datagram) → IsWorked credit made octets d → IsDue (datagram_refused peer d now) errors.NeedsNumber → SpellsOpening octets
   opens (Full frame) worked why =
-      let is = newcomer peer.rules frame (found peer.legs frame) why in
+      let is = newcomer peer.rules frame now (found peer.legs frame) why in
       record {
         frame = frame;
         spelled = worked.spelled;
@@ -83,15 +84,15 @@ module _ (credit made : ℕ) (octets : List ℕ) (peer : PeerView) where
   opens (Video video) worked why = absurd (at_leg false why)
   opens (Trunk trunk) worked why = absurd (at_leg false why)
 
-  of_refusal : IsUnworked credit made octets errors.NeedsNumber ⊎ ((d : Datagram) × IsWorked credit made octets d × IsDue (datagram_refused peer d) errors.NeedsNumber)
+  of_refusal : IsUnworked credit made octets errors.NeedsNumber ⊎ ((d : Datagram) × IsWorked credit made octets d × IsDue (datagram_refused peer d now) errors.NeedsNumber)
       → SpellsOpening octets
   of_refusal (inl why) = absurd (unworked why)
   of_refusal (inr why) = opens why.0 why.1 why.2
 
   -- a datagram that needs a number spells a NEW that opens a leg
   pub needs_opening : (result : Result Step PeerError)
-      → IfErr result (λ e. IsUnworked credit made octets e ⊎ ((d : Datagram) × IsWorked credit made octets d × IsDue (datagram_refused peer d) e))
+      → IfErr result (λ e. IsUnworked credit made octets e ⊎ ((d : Datagram) × IsWorked credit made octets d × IsDue (datagram_refused peer d now) e))
       → IfErr result (λ e. e ≡ errors.NeedsNumber → SpellsOpening octets)
   needs_opening (Ok step) there = there
   needs_opening (Err e) there =
-      λ same. of_refusal (subst (λ (x : PeerError). IsUnworked credit made octets x ⊎ ((d : Datagram) × IsWorked credit made octets d × IsDue (datagram_refused peer d) x)) same there)
+      λ same. of_refusal (subst (λ (x : PeerError). IsUnworked credit made octets x ⊎ ((d : Datagram) × IsWorked credit made octets d × IsDue (datagram_refused peer d now) x)) same there)

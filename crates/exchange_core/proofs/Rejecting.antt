@@ -88,10 +88,10 @@ rejected_longer (first ∷ rest) step before = rejected_longer rest step (latest
 
 -- ---- through the steps of a call
 
-still_counted : (first old new : ℕ) (made : Bool) (rejection before : Option Rejection) → first ≤ old → (IsSome before → first + 1 ≤ old)
-    → (made ≡ true → new ≡ old + 1) → old ≤ new → (IsSome rejection → made ≡ true) → IsSome (latest rejection before) → first + 1 ≤ new
+still_counted : (first old new : ℕ) (made : Bool) (reported before : Option Rejection) → first ≤ old → (IsSome before → first + 1 ≤ old)
+    → (made ≡ true → new ≡ old + 1) → old ≤ new → (IsSome reported → made ≡ true) → IsSome (latest reported before) → first + 1 ≤ new
 still_counted first old new made None before grown counted steps more is some = let were = counted some in omega arith
-still_counted first old new made (Some rejection) before grown counted steps more is some = let one = steps (is refl) in omega arith
+still_counted first old new made (Some reported) before grown counted steps more is some = let one = steps (is refl) in omega arith
 
 not_fewer : (old new : Credit) (made : Bool) → (made ≡ true → new.steps ≡ old.steps + 1) → (made ≡ false → new ≡ old) → old.steps ≤ new.steps
 not_fewer old new true steps same = let one = steps refl in omega arith

@@ -23,6 +23,7 @@ from_peer peer_errors.EntryCut = Some refusals.EntryCut
 from_peer peer_errors.NoSource = Some refusals.NoSource
 from_peer peer_errors.Cut = Some refusals.Cut
 from_peer peer_errors.NeedsNumber = None
+from_peer peer_errors.NoToken = Some refusals.NoToken
 from_peer peer_errors.NoCall = Some refusals.NoCall
 from_peer peer_errors.RecordFull = Some refusals.RecordFull
 from_peer peer_errors.Memory = Some refusals.Memory

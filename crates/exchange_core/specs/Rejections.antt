@@ -25,7 +25,7 @@ rejection_by made = None
 -- what a step rejected; if nothing, what was rejected before it
 abbrev pub latest : Option Rejection → Option Rejection → Option Rejection
 latest None before = before
-latest (Some rejection) before = Some rejection
+latest (Some reported) before = Some reported
 
 -- what was rejected last in these steps, or before them
 abbrev pub rejected_after : List Made → Option Rejection → Option Rejection

@@ -26,6 +26,8 @@ pub enum Refusal {
     NoSource,
     /// The last information element of an IAX frame passes the end.
     Cut,
+    /// A NEW without a call token of its endpoint, from a peer that is asked for one.
+    NoToken,
     /// No leg has this call.
     NoCall,
     /// The leg's record has no room for one more full frame and its answer.
@@ -56,6 +58,7 @@ impl Refusal {
             PeerError::NoSource => Some(Refusal::NoSource),
             PeerError::Cut => Some(Refusal::Cut),
             PeerError::NeedsNumber => None,
+            PeerError::NoToken => Some(Refusal::NoToken),
             PeerError::NoCall => Some(Refusal::NoCall),
             PeerError::RecordFull => Some(Refusal::RecordFull),
             PeerError::Memory => Some(Refusal::Memory),
@@ -123,7 +126,7 @@ pub struct Answer {
     pub steps: u64,
     /// Why nothing was done, if so. An order that is refused later, within the call, is no refusal of it.
     pub refused: Option<Refusal>,
-    /// What a datagram asked for and was rejected by the answer to it, which is a step (plan format 4).
+    /// What a step reports of a datagram that came to be turned away, if anything.
     pub rejected: Option<Rejection>,
     /// The legs that were taken out, in order.
     pub retired: Vec<Retired>,

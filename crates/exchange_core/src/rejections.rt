@@ -1,4 +1,4 @@
-//! What the steps of a call reject by their answers ("REJECT", "REGREJ").
+//! What the steps of a call report of datagrams that came to be turned away ("REJECT", "REGREJ").
 ghost use Rattle.std.specs.Prelude.{◌≡◌};
 ghost use Rattle.exchange_core.specs.Rejections.{latest, rejection_of};
 

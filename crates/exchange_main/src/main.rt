@@ -1,19 +1,24 @@
 //! The program of the exchange: `exchange_main check PLAN`, `exchange_main explain PLAN`, `exchange_main replay PLAN SCRIPT`,
-//! `exchange_main ladder PLAN SCRIPT`, `exchange_main pcap PLAN SCRIPT`, `exchange_main serve PLAN TURNS` and
-//! `exchange_main run PLAN`.
+//! `exchange_main ladder PLAN SCRIPT`, `exchange_main pcap PLAN SCRIPT`, `exchange_main serve PLAN TURNS`,
+//! `exchange_main run PLAN` and `exchange_main plan`.
 #![tactic(auto)]
 
+mod plans;
 mod views;
 
+use crate::plans::{
+    check_file, explain_file, octets_of_plan, print_faults, print_sample, upgrade_file,
+};
 use crate::views::{View, view_files};
 use clap::ArgMatches;
 use clap::error::ErrorKind;
 use command_line::{VERSION, command_line};
 use control_client::{give_order, order_of};
-use exchange_commands::{ReplayFiles, check, replay_buffered, serve, turn_count};
-use exchange_service::{ServiceDisk, ServiceSystem, Settings, TraceOptions, run as run_service};
+use exchange_commands::{ReplayFiles, replay_buffered, serve, turn_count};
+use exchange_service::{
+    CallLines, ServiceDisk, ServiceSystem, Settings, ShownNumbers, TraceOptions, run as run_service,
+};
 use log::LevelFilter;
-use plan_report::explain;
 use std::alloc::Global;
 use std::fs::File;
 use std::net::{Net, SocketAddr};
@@ -21,14 +26,17 @@ use std::process::ExitCode;
 use std::rt::Files;
 use std::sync::Wait;
 use std::{env, fs, io};
+use system_limits::fill_standard;
 
 const USAGE: &str =
     "usage: exchange_main check <plan> | replay <plan> <script> | serve <plan> <turns>\n       \
 exchange_main explain <plan>\n       \
+exchange_main plan new | upgrade <plan>\n       \
 exchange_main ladder <plan> <script> [--leg <number>] [--text]\n       \
 exchange_main pcap <plan> <script>\n       \
 exchange_main records <plan> <script>\n       \
-exchange_main run <plan> [--control <socket>] [--metrics <address:port>] [--log <level>] [--drain <seconds>] \
+exchange_main run <plan> [--control <socket>] [--metrics <address:port>] [--log <level>] \
+[--log-calls] [--log-numbers full|last4|no] [--drain <seconds>] \
 [--calls <file>] [--trace <folder>] [--trace-limit <mebibytes>] [--trace-digits yes|no] [--stop-at-end-of-input]\n       \
 exchange_main ctl <socket> peers | calls | accounts | call <peer> <number> | hangup <number> | stop";
 
@@ -38,7 +46,7 @@ trait Program: ServiceSystem + Files<File = File> + Print + Alloc {}
 impl<R: ServiceSystem + Files<File = File> + Print + Alloc> Program for R {}
 
 // Whether a call of the system failed for want of memory.
-fn is_memory(error: &io::Error) -> bool {
+pub(crate) fn is_memory(error: &io::Error) -> bool {
     error.kind() == io::ErrorKind::OutOfMemory
 }
 
@@ -65,20 +73,6 @@ fn refuse_arguments<R: Eprint + Print>(rt: &R, error: &io::Error) -> u8 {
     } else {
         let _ = eprintln!(rt; "{USAGE}");
         2
-    }
-}
-
-fn check_file<R: Files + Print + Alloc>(rt: &R, alloc: Global, plan: &str) -> u8 {
-    match octets_of(rt, plan) {
-        Some(plan) => check(alloc, &plan, &mut io::writer(rt)),
-        None => 1,
-    }
-}
-
-fn explain_file<R: Files + Print + Alloc>(rt: &R, alloc: Global, plan: &str) -> u8 {
-    match octets_of(rt, plan) {
-        Some(plan) => explain(alloc, &plan, &mut io::writer(rt)),
-        None => 1,
     }
 }
 
@@ -132,6 +126,8 @@ fn refuse_usage<R: Eprint>(rt: &R) -> u8 {
 enum Command<'a> {
     Check(&'a str),
     Explain(&'a str),
+    Upgrade(&'a str),
+    Sample,
     Replay(&'a str, &'a str),
     Serve(&'a str, &'a str),
     Ctl(&'a str, &'a [String]),
@@ -146,6 +142,8 @@ fn command_of(words: &[String]) -> Command<'_> {
     match (command.as_str(), words) {
         ("check", [plan]) => Command::Check(plan.as_str()),
         ("explain", [plan]) => Command::Explain(plan.as_str()),
+        ("plan", [order]) if order.as_str() == "new" => Command::Sample,
+        ("plan", [order, plan]) if order.as_str() == "upgrade" => Command::Upgrade(plan.as_str()),
         ("replay", [plan, script]) => Command::Replay(plan.as_str(), script.as_str()),
         ("serve", [plan, turns]) => Command::Serve(plan.as_str(), turns.as_str()),
         ("ctl", [socket, order @ ..]) => Command::Ctl(socket.as_str(), order),
@@ -158,6 +156,8 @@ fn run<R: Program, D: ServiceDisk>(rt: &R, disk: &D, alloc: Global, words: &[Str
     match command_of(words) {
         Command::Check(plan) => check_file(rt, alloc, plan),
         Command::Explain(plan) => explain_file(rt, alloc, plan),
+        Command::Upgrade(plan) => upgrade_file(rt, alloc, plan),
+        Command::Sample => print_sample(rt),
         Command::Replay(plan, script) => replay_files(rt, alloc, plan, script),
         Command::Serve(plan, turns) => serve_file(rt, alloc, plan, turns),
         Command::Ctl(socket, order) => order_service(rt, alloc, socket, order),
@@ -197,6 +197,18 @@ fn log_level(options: &ArgMatches<'_>) -> LevelFilter {
     }
 }
 
+// How calls are logged: without numbers where nothing else is said.
+fn call_lines(options: &ArgMatches<'_>) -> CallLines {
+    CallLines {
+        are_told: options.get_flag("log-calls"),
+        numbers: match options.get_str("log-numbers") {
+            Some("full") => ShownNumbers::Full,
+            Some("last4") => ShownNumbers::LastFour,
+            _ => ShownNumbers::No,
+        },
+    }
+}
+
 // The trace that is wanted, if one is.
 fn trace_options<'a>(options: &'a ArgMatches<'_>) -> Option<TraceOptions<'a>> {
     let mebibytes = options.get_one::<u32>("trace-limit").unwrap_or(64);
@@ -219,6 +231,7 @@ fn settings_of<'a>(options: &'a ArgMatches<'_>) -> Option<Settings<'a>> {
         metrics,
         stops_with_input: options.get_flag("stop-at-end-of-input"),
         level: log_level(options),
+        call_lines: call_lines(options),
         drain_ms: u64::from(seconds) * 1000,
         calls: options.get_str("calls"),
         trace: trace_options(options),
@@ -242,6 +255,34 @@ fn refuse_memory<R: Print>(rt: &R) -> u8 {
     1
 }
 
+// Runs a plan as a service. If that is refused, prints the plan's faults too: none, unless the plan is at fault.
+fn run_plan<R: Program, D: ServiceDisk>(
+    rt: &R,
+    disk: &D,
+    alloc: Global,
+    plan: &[u8],
+    settings: &Settings<'_>,
+) -> u8 {
+    let status = run_service(rt, disk, alloc, plan, settings, &mut io::writer(rt));
+    if status != 0 {
+        print_faults(rt, alloc, settings.plan_path, plan);
+    }
+    status
+}
+
+// Runs the plan's file that the options name.
+fn run_file<R: Program, D: ServiceDisk>(
+    rt: &R,
+    disk: &D,
+    alloc: Global,
+    settings: &Settings<'_>,
+) -> u8 {
+    match octets_of_plan(rt, alloc, settings.plan_path) {
+        Some(plan) => run_plan(rt, disk, alloc, &plan, settings),
+        None => 1,
+    }
+}
+
 // The command that the words named.
 fn run_matched<R: Program, D: ServiceDisk>(
     rt: &R,
@@ -251,10 +292,7 @@ fn run_matched<R: Program, D: ServiceDisk>(
 ) -> u8 {
     match matches.subcommand() {
         Some(("run", options)) => match settings_of(options) {
-            Some(settings) => match octets_of(rt, settings.plan_path) {
-                Some(plan) => run_service(rt, disk, alloc, &plan, &settings, &mut io::writer(rt)),
-                None => 1,
-            },
+            Some(settings) => run_file(rt, disk, alloc, &settings),
             None => refuse_usage(rt),
         },
         Some(("ladder", options)) => view_files(rt, alloc, View::Ladder, options),
@@ -292,6 +330,7 @@ fn words_of(alloc: Global, arguments: env::Args) -> Option<Vec<String>> {
 }
 
 fn main(rt: HostRuntime) -> ExitCode {
+    fill_standard();
     let arguments = match env::args(&rt) {
         Ok(arguments) => arguments,
         Err(error) => return ExitCode::from(refuse_arguments(&rt, &error)),

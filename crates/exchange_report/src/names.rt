@@ -28,6 +28,7 @@ pub fn refusal_name(refusal: Refusal) -> &'static str {
         Refusal::EntryCut => "EntryCut",
         Refusal::NoSource => "NoSource",
         Refusal::Cut => "Cut",
+        Refusal::NoToken => "NoToken",
         Refusal::NoCall => "NoCall",
         Refusal::RecordFull => "RecordFull",
         Refusal::SerialsSpent => "SerialsSpent",
@@ -38,11 +39,13 @@ pub fn refusal_name(refusal: Refusal) -> &'static str {
     }
 }
 
-/// The name of what an answer rejected, as its variant is written.
+/// The name of what a step reports, as its variant is written.
 pub fn rejection_name(rejection: Rejection) -> &'static str {
     match rejection {
         Rejection::NoNumber => "NoNumber",
         Rejection::Registration => "Registration",
+        Rejection::CallToken => "CallToken",
+        Rejection::Reflection => "Reflection",
     }
 }
 

@@ -3,7 +3,7 @@
 use crate::journal::Journal;
 use crate::running::Settings;
 use control_requests::Request;
-use control_server::{Clients, Door};
+use control_server::{Clients, Door, NotBound};
 use exchange_report::{count_legs, losses_of};
 use log::{Log, warn};
 use peer_lock::Naming;
@@ -20,6 +20,12 @@ use std::time::{Clock, Instant};
 // How long it waits at most, in milliseconds, so that it sees silent clients, what is to be logged, and the end of a drain.
 const WAIT_MS: u64 = 100;
 
+// How long clients are answered in a round, in milliseconds, but for the answer that is made then.
+const ROUND_MS: u64 = 100;
+
+// How long answers are still sent once the workers are told to end, in milliseconds.
+const END_MS: u64 = 500;
+
 /// The ways in with their clients, and the table of the system's sockets.
 #[derive(Drop)]
 pub(crate) struct Control<'s> {
@@ -27,6 +33,10 @@ pub(crate) struct Control<'s> {
     pub(crate) alloc: Global,
     clients: Clients,
     table: SocketTable,
+    // Whether clients wait for their answers since a round was too short.
+    is_behind: bool,
+    // The moment at which it was seen that the workers are told to end.
+    ended: Option<u64>,
 }
 
 impl<'s> Control<'s> {
@@ -42,11 +52,13 @@ impl<'s> Control<'s> {
             alloc,
             clients,
             table: SocketTable::open(rt),
+            is_behind: false,
+            ended: None,
         })
     }
 
-    /// Binds the ways in that are wanted. `Err` is the name of what refuses them.
-    pub(crate) fn open<R: Files + Net>(&mut self, rt: &R) -> Result<(), &'static str> {
+    /// Binds the ways in that are wanted.
+    pub(crate) fn open<R: Files + Net>(&mut self, rt: &R) -> Result<(), NotBound> {
         let Settings {
             control,
             metrics,
@@ -55,9 +67,11 @@ impl<'s> Control<'s> {
         self.clients.bind(rt, control, metrics)
     }
 
-    /// Whether the control socket is bound.
-    pub(crate) fn is_bound(&self) -> bool {
-        self.clients.is_bound()
+    /// Removes the file of the control socket, where it is bound and still there.
+    pub(crate) fn close<R: Files>(&mut self, rt: &R) {
+        if let Some(path) = self.settings.control {
+            self.clients.unbind(rt, path);
+        }
     }
 
     // The end of standard input is awaited, where it stops the service.
@@ -74,14 +88,14 @@ impl<'s> Control<'s> {
         desk: &mut Desk<'_, J>,
         opened: Instant,
     ) {
-        let level = self.settings.level;
-        let log = Journal { rt, level };
+        let log = Journal::new(rt, self.alloc, self.settings.level);
         self.begin(&log);
         // Without memory for what was logged, nothing is.
         let (calls, trace) = (self.settings.calls, self.settings.trace_path());
         let (plan, watch) = (desk.exchange.plan(), desk.watch);
         let now = moment(rt, opened, 0);
-        let mut told = Told::new(self.alloc, plan, watch, calls, trace, now).ok();
+        let lines = self.settings.call_lines;
+        let mut told = Told::new(&log, self.alloc, plan, watch, calls, trace, lines, now).ok();
         let now = self.go_on(rt, &log, desk, &mut told, opened);
         if let Some(told) = &mut told {
             told.end_rounds();
@@ -101,12 +115,14 @@ impl<'s> Control<'s> {
         let mut drain = Drain::new(self.settings.drain_ms);
         let mut now = 0;
         for _ in rt.forever() {
-            self.clients.wait(rt, WAIT_MS);
+            self.clients.wait(if self.is_behind { 0 } else { WAIT_MS });
             // as after one `POST /stop`
             if self.clients.takes_end_of_input() {
                 desk.watch.stop();
             }
             now = moment(rt, opened, now);
+            self.clients.admit(now);
+            self.serve_all(rt, desk, opened, now);
             if self.go_round(rt, log, desk, &mut drain, told, now) {
                 break;
             }
@@ -114,7 +130,7 @@ impl<'s> Control<'s> {
         now
     }
 
-    // One round, at a moment. Whether it was the last.
+    // What a round does once clients were served, at a moment. Whether it was the last.
     fn go_round<R: Clock + Wait, J: Naming, L: Log>(
         &mut self,
         rt: &R,
@@ -125,13 +141,19 @@ impl<'s> Control<'s> {
         now: u64,
     ) -> bool {
         let alloc = self.alloc;
-        self.serve_all(rt, desk, now);
         if let Some(told) = told {
             self.tell(rt, log, desk, told, now);
         }
         drain.go_on(rt, desk, now);
         desk.look_for_rest(rt, alloc, now);
-        desk.watch.has_ended() && !self.clients.is_answering()
+        desk.watch.has_ended() && self.are_answered(now)
+    }
+
+    // Whether no answer is sent any more to clients, once the workers are told to end: all are sent, or took too long.
+    fn are_answered(&mut self, now: u64) -> bool {
+        let ended = self.ended.unwrap_or(now);
+        self.ended = Some(ended);
+        !self.clients.is_answering() || now.saturating_sub(ended) >= END_MS
     }
 
     // The log tells what there is to tell at a moment. Legs are counted where it tells how many there are, and losses are read where
@@ -157,16 +179,56 @@ impl<'s> Control<'s> {
         told.look(rt, log, self.alloc, &mut self.table, now);
     }
 
-    // Each client goes on as far as the system lets it.
-    fn serve_all<R: Clock + Wait, J: Naming>(&mut self, rt: &R, desk: &mut Desk<'_, J>, now: u64) {
+    // Each client goes on as far as the system lets it, and the round. Those that have the service stop are answered first.
+    fn serve_all<R: Clock + Wait, J: Naming>(
+        &mut self,
+        rt: &R,
+        desk: &mut Desk<'_, J>,
+        opened: Instant,
+        now: u64,
+    ) {
         for place in 0..self.clients.count() {
-            self.serve(rt, desk, place, now);
+            self.clients.hear(place, now);
+        }
+        for place in 0..self.clients.count() {
+            if self.is_stop(place) {
+                self.serve(rt, desk, place, now);
+            }
+        }
+        self.is_behind = !self.serve_in_time(rt, desk, opened, now);
+        for place in 0..self.clients.count() {
+            self.clients.speak(place, now);
         }
         self.clients.close_ended();
     }
 
-    // A client is heard, answered at the desk where its request is whole, and spoken to.
-    fn serve<R: Clock + Wait, J: Naming>(
+    // Whether the client at a place has the service stop.
+    fn is_stop(&self, place: usize) -> bool {
+        match self.clients.request(place) {
+            Some((Door::Control, request)) => request.path == "/stop",
+            _ => false,
+        }
+    }
+
+    // Clients are answered one after another, until the round has lasted too long. False: some wait for the next one.
+    fn serve_in_time<R: Clock + Wait, J: Naming>(
+        &mut self,
+        rt: &R,
+        desk: &mut Desk<'_, J>,
+        opened: Instant,
+        now: u64,
+    ) -> bool {
+        for place in 0..self.clients.count() {
+            if moment(rt, opened, now).saturating_sub(now) >= ROUND_MS {
+                return false;
+            }
+            self.serve(rt, desk, place, now);
+        }
+        true
+    }
+
+    // A client is answered at the desk where its request is whole.
+    fn serve<R: Wait, J: Naming>(
         &mut self,
         rt: &R,
         desk: &mut Desk<'_, J>,
@@ -174,7 +236,7 @@ impl<'s> Control<'s> {
         now: u64,
     ) {
         let (alloc, table) = (self.alloc, &mut self.table);
-        let answer = match self.clients.hear(place) {
+        let answer = match self.clients.request(place) {
             Some((door, request)) => {
                 Some(answer_of(rt, alloc, door, &request, desk, table, now))
             }
@@ -183,7 +245,6 @@ impl<'s> Control<'s> {
         if let Some(octets) = answer {
             self.clients.answer(place, octets);
         }
-        self.clients.speak(rt, place);
     }
 }
 

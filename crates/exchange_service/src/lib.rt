@@ -3,6 +3,7 @@
 #![tactic(auto)]
 
 mod control;
+mod faults_told;
 mod journal;
 mod recording;
 mod running;
@@ -11,4 +12,5 @@ mod service_sockets;
 mod system;
 
 pub use running::{Settings, TraceOptions, run};
+pub use service_log::{CallLines, ShownNumbers};
 pub use system::{ServiceDisk, ServiceSystem};

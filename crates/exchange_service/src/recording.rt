@@ -1,5 +1,6 @@
 //! The files that are written while a service runs, the records of ended legs and the trace: what is made for them, and the
 //! thread that writes each beside the others.
+use crate::faults_told::tell_trace;
 use crate::journal::Journal;
 use crate::running::{Settings, TraceOptions};
 use crate::system::{ServiceDisk, ServiceSystem};
@@ -8,7 +9,7 @@ use jiff::Timestamp;
 use log::LevelFilter;
 use peer_plan::Plan;
 use service_log::tell_end;
-use service_watch::ServiceWatch;
+use service_watch::{ServiceWatch, Wanted};
 use std::alloc::{AllocError, Global};
 use std::io::ErrorKind;
 use std::sync::Wait;
@@ -92,16 +93,21 @@ fn date_of(alloc: Global, calendar: Calendar) -> Result<String, AllocError> {
     }
 }
 
-// The first file of a trace.
-fn first_file<D: Folder>(
+// The first file of a trace. The log says why there is none.
+fn first_file<R: Clock + Eprint, D: Folder>(
+    rt: &R,
     disk: &D,
     alloc: Global,
     folder: &TraceFolder<'_>,
+    level: LevelFilter,
 ) -> Result<TraceFile, ServiceError> {
     match folder.open(disk, alloc) {
         Ok(file) => Ok(file),
         Err(error) if error.kind() == ErrorKind::OutOfMemory => Err(ServiceError::Memory),
-        Err(_) => Err(ServiceError::Trace),
+        Err(error) => {
+            tell_trace(&Journal::new(rt, alloc, level), folder.path, &error);
+            Err(ServiceError::Trace)
+        }
     }
 }
 
@@ -113,7 +119,8 @@ fn about(alloc: Global, settings: &Settings<'_>, calendar: Calendar) -> Result<S
 }
 
 // Who writes what so many threads note.
-fn tracing_of<'s, D: Folder>(
+fn tracing_of<'s, R: Clock + Eprint, D: Folder>(
+    rt: &R,
     disk: &D,
     alloc: Global,
     threads: usize,
@@ -130,7 +137,7 @@ fn tracing_of<'s, D: Folder>(
     let folder = TraceFolder { path, limit };
     let about = about(alloc, settings, calendar)?;
     let notes = TraceNotes::new(alloc, threads)?;
-    let file = first_file(disk, alloc, &folder)?;
+    let file = first_file(rt, disk, alloc, &folder, settings.level)?;
     Ok(Tracing {
         folder,
         shows_digits,
@@ -141,7 +148,8 @@ fn tracing_of<'s, D: Folder>(
 }
 
 // Where it is noted what the exchange is given, and who writes that, where a trace is wanted.
-fn trace_of<'s, D: Folder>(
+fn trace_of<'s, R: Clock + Eprint, D: Folder>(
+    rt: &R,
     disk: &D,
     alloc: Global,
     plan: &Plan,
@@ -152,7 +160,7 @@ fn trace_of<'s, D: Folder>(
         return Ok((None, None));
     };
     let threads = plan.workers().len() + 1;
-    let tracing = tracing_of(disk, alloc, threads, settings, options, calendar)?;
+    let tracing = tracing_of(rt, disk, alloc, threads, settings, options, calendar)?;
     match Trace::new(alloc, threads, plan.number_count()) {
         Ok(trace) => Ok((Some(trace), Some(tracing))),
         Err(_) => Err(ServiceError::Memory),
@@ -165,16 +173,17 @@ fn watch_with<'s>(
     plan: &Plan,
     outlets: Option<CallOutlets>,
     trace: Option<Trace>,
+    wanted: Wanted,
     written: Written<'s>,
 ) -> Result<(ServiceWatch, Written<'s>), ServiceError> {
-    match ServiceWatch::new(alloc, plan, outlets, trace) {
+    match ServiceWatch::new(alloc, plan, outlets, trace, wanted) {
         Ok(watch) => Ok((watch, written)),
         Err(_) => Err(ServiceError::Memory),
     }
 }
 
 /// The watch of a service of this plan, and what has to be written beside it, where that is wanted.
-pub(crate) fn watch_of<'s, R: Clock, D: Folder>(
+pub(crate) fn watch_of<'s, R: Clock + Eprint, D: Folder>(
     rt: &R,
     disk: &D,
     alloc: Global,
@@ -182,10 +191,13 @@ pub(crate) fn watch_of<'s, R: Clock, D: Folder>(
     settings: &Settings<'s>,
 ) -> Result<(ServiceWatch, Written<'s>), ServiceError> {
     let calendar = calendar(rt);
-    let (trace, tracing) = trace_of(disk, alloc, plan, settings, calendar)?;
+    let (trace, tracing) = trace_of(rt, disk, alloc, plan, settings, calendar)?;
+    let log = Journal::new(rt, alloc, settings.level);
+    let wanted = settings.call_lines.wanted(&log);
     match records_of(alloc, plan, settings.calls, calendar) {
         Ok((outlets, records)) => {
-            watch_with(alloc, plan, outlets, trace, Written { records, tracing })
+            let written = Written { records, tracing };
+            watch_with(alloc, plan, outlets, trace, wanted, written)
         }
         Err(error) => Err(error),
     }
@@ -228,6 +240,7 @@ fn serve_traced<R: Clock + Threads + Wait + Sync, D: Folder + Sync, F: FnOnce() 
 pub(crate) fn serve_written<R: ServiceSystem, D: ServiceDisk, F: FnOnce() -> bool>(
     rt: &R,
     disk: &D,
+    alloc: Global,
     plan: &Plan,
     watch: &ServiceWatch,
     level: LevelFilter,
@@ -256,6 +269,6 @@ pub(crate) fn serve_written<R: ServiceSystem, D: ServiceDisk, F: FnOnce() -> boo
     let is_served = write_calls_beside(
         rt, disk, path, plan, calendar, opened, outlets, rows, serve_on,
     );
-    tell_end(&Journal { rt, level }, path, outlets.state());
+    tell_end(&Journal::new(rt, alloc, level), path, outlets.state());
     is_served
 }

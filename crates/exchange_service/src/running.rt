@@ -2,18 +2,20 @@
 ghost use Rattle.std.specs.Prelude.{◌≡◌, ◌+◌, ◌≤◌, length, vec_len};
 
 use crate::control::Control;
+use crate::faults_told::tell_not_bound;
+use crate::journal::Journal;
 use crate::recording::watch_of;
 use crate::seating::serve_watched;
 use crate::system::{ServiceDisk, ServiceSystem};
-use control_server::bind_error_name;
+use control_server::NotBound;
 use exchange_core::{Exchange, NoGate, Pass};
 use exchange_report::{closed_accounts, settle};
 use log::LevelFilter;
 use media_ledger::Blank;
 use peer_lock::{Naming, Service};
 use peer_plan::Plan;
+use service_log::CallLines;
 use std::alloc::Global;
-use std::fs;
 use std::fs::{File, Files};
 use std::io::Write;
 use std::marker::Brand;
@@ -21,9 +23,7 @@ use std::net::SocketAddr;
 use std::sync::ledger::Ledger;
 use std::time::Instant;
 use udp_workers::{Post, TurnReport};
-use worker_seats::{
-    ServiceError, service_error_name, tell_reports, with_drawn_prefix, with_spare_pass,
-};
+use worker_seats::{ServiceError, service_error_name, tell_reports, with_drawn, with_spare_pass};
 
 /// How a service is run.
 #[derive(Clone, Copy)]
@@ -40,6 +40,8 @@ pub struct Settings<'a> {
     pub stops_with_input: bool,
     /// Which levels are logged.
     pub level: LevelFilter,
+    /// How calls are logged.
+    pub call_lines: CallLines,
     /// How long a drain lasts at most, in milliseconds.
     pub drain_ms: u64,
     /// The file to which the records of ended legs are appended.
@@ -157,7 +159,7 @@ fn serve_plan<R: ServiceSystem, D: ServiceDisk, W: Write>(
     let Ok(opened) = Instant::now(rt) else {
         return Err(ServiceError::Clock);
     };
-    let plan = match with_drawn_prefix(rt, with_spare_pass(plan)) {
+    let plan = match with_drawn(rt, with_spare_pass(plan)) {
         Ok(plan) => plan,
         Err(error) => return Err(error),
     };
@@ -171,7 +173,20 @@ fn refuse<W: Write>(writer: &mut W, name: &str) -> u8 {
     1
 }
 
-// The service, once the ways in that are wanted are bound.
+// The status of a way in that isn't bound, which the log names.
+fn refuse_way<R: ServiceSystem, W: Write>(
+    rt: &R,
+    alloc: Global,
+    settings: &Settings<'_>,
+    fault: NotBound,
+    writer: &mut W,
+) -> u8 {
+    let log = Journal::new(rt, alloc, settings.level);
+    tell_not_bound(&log, settings, fault);
+    refuse(writer, fault.name)
+}
+
+// The service, once the ways in that are wanted are bound. Afterwards the file of the control socket is gone.
 fn serve_open<R: ServiceSystem + Files<File = File>, D: ServiceDisk, W: Write>(
     rt: &R,
     disk: &D,
@@ -179,13 +194,15 @@ fn serve_open<R: ServiceSystem + Files<File = File>, D: ServiceDisk, W: Write>(
     control: &mut Control<'_>,
     writer: &mut W,
 ) -> u8 {
-    match control.open(rt) {
+    let status = match control.open(rt) {
         Ok(()) => status_of(serve_plan(rt, disk, plan, control, writer), writer),
-        Err(name) => refuse(writer, name),
-    }
+        Err(fault) => refuse_way(rt, control.alloc, control.settings, fault, writer),
+    };
+    control.close(rt);
+    status
 }
 
-// The same, with what the ways in need of the system. The status, and whether the control socket was bound.
+// The same, with what the ways in need of the system.
 fn serve_through<R: ServiceSystem + Files<File = File>, D: ServiceDisk, W: Write>(
     rt: &R,
     disk: &D,
@@ -193,13 +210,13 @@ fn serve_through<R: ServiceSystem + Files<File = File>, D: ServiceDisk, W: Write
     plan: Plan,
     settings: &Settings<'_>,
     writer: &mut W,
-) -> (u8, bool) {
+) -> u8 {
     match Control::new(rt, alloc, settings) {
-        Ok(mut control) => {
-            let status = serve_open(rt, disk, plan, &mut control, writer);
-            (status, control.is_bound())
+        Ok(mut control) => serve_open(rt, disk, plan, &mut control, writer),
+        Err(error) => {
+            let fault = NotBound::of(&error, "Control");
+            refuse_way(rt, alloc, settings, fault, writer)
         }
-        Err(error) => (refuse(writer, bind_error_name(&error, "Control")), false),
     }
 }
 
@@ -219,12 +236,13 @@ fn status_of<W: Write>(served: Result<(), ServiceError>, writer: &mut W) -> u8 {
 /// after a refusal.
 ///
 /// The plan is the octets of its file; a refused one is told as `check` tells it. `refused Control`: the control socket isn't
-/// bound, since somebody answers there, a plain file or a folder lies there, or the system doesn't let it; `refused Metrics`: the
-/// address of the metrics isn't bound; the others as `serve` has them. A stop hangs up each leg, and the workers end once none is
+/// bound, since somebody answers there, what is there is no socket, or the system doesn't let it; `refused Metrics`: the address of
+/// the metrics isn't bound; `refused Descriptors`: the process may not open as many files as a service needs; the others as `serve`
+/// has them. The log has the address or path, and the system's error. A stop hangs up each leg, and the workers end once none is
 /// left, or after `drain_ms` milliseconds, or at a second stop. The file of the control socket is gone afterwards.
 ///
 /// Where `trace` names a folder, a thread writes there what the exchange is given, as a script that `replay` reads
-/// (`docs/INCIDENTS.md`); `refused Trace`: the folder can't be made, or no file in it.
+/// (`docs/INCIDENTS.md`); `refused Trace`: the folder can't be made, isn't this user's alone, or no regular file is to be had in it.
 ///
 /// Where `calls` names a file, a thread appends the record of each ended leg to it (`docs/RECORDS.md`), as this disk has it.
 /// Whatever becomes of the file, calls go on.
@@ -236,15 +254,11 @@ pub fn run<R: ServiceSystem + Files<File = File>, D: ServiceDisk, W: Write>(
     settings: &Settings<'_>,
     writer: &mut W,
 ) -> u8 {
-    let (status, is_bound) = match Plan::read(alloc, plan) {
+    match Plan::read(alloc, plan) {
         Ok(plan) => serve_through(rt, disk, alloc, plan, settings, writer),
         Err(fault) => {
             let _ = writeln!(writer, "refused {fault}");
-            (1, false)
+            1
         }
-    };
-    if let (true, Some(path)) = (is_bound, settings.control) {
-        let _ = fs::remove_file(rt, path);
     }
-    status
 }

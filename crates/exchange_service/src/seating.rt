@@ -2,12 +2,15 @@
 ghost use Rattle.std.specs.Prelude.{◌≡◌, ◌+◌, ◌≤◌, IfOk, OnOk, length, vec_len};
 
 use crate::control::Control;
+use crate::faults_told::tell_workers;
 use crate::journal::Journal;
 use crate::recording::{Written, serve_written};
 use crate::running::Settings;
 use crate::service_sockets::ServiceSockets;
 use crate::system::{ServiceDisk, ServiceSystem};
+use control_server::CLIENTS;
 use exchange_core::{Exchange, NoGate, Pass};
+use log::{error, warn};
 use peer_lock::Naming;
 use peer_plan::Plan;
 use service_desk::Desk;
@@ -20,6 +23,7 @@ use std::random::RandomSource;
 use std::sync::Wait;
 use std::thread;
 use std::time::{Clock, Instant};
+use system_limits::{has_free, user};
 use udp_workers::{Intake, MOST_TURNS, Post, TurnReport, WatchedExchange};
 use worker_seats::{ServiceError, ServiceSeat, lane_of, reports_of, seats_of};
 
@@ -54,13 +58,13 @@ fn told_seats<'r, J: Naming, P: Post, R: Clock + Eprint + Net + RandomSource + W
     ensures few { IfOk result (λ seats. vec_len seats ≤ 8) }
     ensures left { OnOk result (1 ≤ vec_len passes.new) }
 {
-    let log = Journal {
-        rt,
-        level: settings.level,
-    };
+    let log = Journal::new(rt, alloc, settings.level);
     tell_start(&log, plan, settings.version, settings.plan_path);
+    if user() == 0 {
+        warn!(log; "runs as root: a user of its own is enough");
+    }
     let sockets = ServiceSockets { log: &log, watch };
-    seats_of::<J, P, R, ServiceSockets<'_, Journal<'_, R>>>(
+    let seats = seats_of::<J, P, R, ServiceSockets<'_, Journal<'_, R>>>(
         rt,
         alloc,
         plan,
@@ -68,7 +72,11 @@ fn told_seats<'r, J: Naming, P: Post, R: Clock + Eprint + Net + RandomSource + W
         opened,
         &sockets,
         watch.trace(),
-    )
+    );
+    if let Err(ServiceError::Bind) = &seats {
+        tell_workers(rt, &log, plan);
+    }
+    seats
 }
 
 // Has the seats serve, beside a control socket with a pass of its own, which goes back to the others.
@@ -107,10 +115,19 @@ fn serve_seated<J: Naming, P: Post + Send + Sync, R: ServiceSystem, D: ServiceDi
         turns: MOST_TURNS,
         post: PhantomData,
     };
-    let (plan, level, lent) = (exchange.plan(), control.settings.level, &mut desk);
-    let is_served = serve_written(rt, disk, plan, watch, level, opened, written, move || {
-        serve_seats::<J, P, R>(rt, &service, seats, lent, control, opened)
-    });
+    let (plan, level, alloc) = (exchange.plan(), control.settings.level, control.alloc);
+    let lent = &mut desk;
+    let is_served = serve_written(
+        rt,
+        disk,
+        alloc,
+        plan,
+        watch,
+        level,
+        opened,
+        written,
+        move || { serve_seats::<J, P, R>(rt, &service, seats, lent, control, opened) },
+    );
     let Desk { pass, .. } = desk;
     give_back(pass, passes, is_served)
 }
@@ -131,6 +148,21 @@ fn give_back<J: Naming>(
     }
 }
 
+// How many files a service opens at most once its ways in are bound: for each worker a socket, what wakes it and what waits for
+// both, for each peer a socket, for the clients of each way in, for what is written.
+fn descriptors_of(plan: &Plan, settings: &Settings<'_>) -> usize {
+    let workers = plan.workers().len().saturating_mul(3);
+    let mut count = workers.saturating_add(usize::from(plan.peer_count()));
+    count = count.saturating_add(8);
+    if settings.control.is_some() {
+        count = count.saturating_add(CLIENTS);
+    }
+    if settings.metrics.is_some() {
+        count = count.saturating_add(CLIENTS);
+    }
+    count
+}
+
 /// Has the workers of the plan serve; their passes and that of the socket go back to the others.
 pub(crate) fn serve_watched<J: Naming, P: Post + Send + Sync, R: ServiceSystem, D: ServiceDisk>(
     rt: &R,
@@ -146,6 +178,11 @@ pub(crate) fn serve_watched<J: Naming, P: Post + Send + Sync, R: ServiceSystem, 
     requires enough { length exchange.now.workers + 1 ≤ vec_len passes.old }
 {
     let (alloc, plan, settings) = (control.alloc, exchange.plan(), control.settings);
+    if !has_free(descriptors_of(plan, settings)) {
+        let log = Journal::new(rt, alloc, settings.level);
+        error!(log; "more files have to be opened than the process may open");
+        return Err(ServiceError::Descriptors);
+    }
     let seats = told_seats::<J, P, R>(rt, alloc, plan, passes, settings, opened, watch);
     let seats = match seats {
         Ok(seats) => seats,

@@ -48,3 +48,7 @@ CALLINGTNS = 0x28
 
 abbrev pub CAUSECODE : ℕ
 CAUSECODE = 0x2a
+
+-- chan_iax2's; RFC 5456 has none
+abbrev pub CALLTOKEN : ℕ
+CALLTOKEN = 0x36

@@ -12,7 +12,8 @@ mod writing;
 pub use element_list::{Cut, Elements, last_in, next_element, u16_in, u32_in};
 pub use numbers::{
     AUTHMETHODS, CALLED_NUMBER, CALLING_NAME, CALLING_NUMBER, CALLINGPRES, CALLINGTNS, CALLINGTON,
-    CAPABILITY, CAUSE, CAUSECODE, CHALLENGE, FORMAT, IAX_UNKNOWN, MD5_RESULT, USERNAME, VERSION,
+    CALLTOKEN, CAPABILITY, CAUSE, CAUSECODE, CHALLENGE, FORMAT, IAX_UNKNOWN, MD5_RESULT, USERNAME,
+    VERSION,
 };
 pub use reading::elements;
 pub use writing::{append, append_to};

@@ -32,3 +32,5 @@ pub const CALLINGTON: u8 = 0x27;
 pub const CALLINGTNS: u8 = 0x28;
 /// Why a call ends: 1 octet.
 pub const CAUSECODE: u8 = 0x2a;
+/// A call token: a text, empty where one is asked for (chan_iax2's; RFC 5456 has none).
+pub const CALLTOKEN: u8 = 0x36;

@@ -2,7 +2,6 @@
 pub use Rattle.call_signals.specs.FrameElements.{element_in}
 use Rattle.std.specs.Prelude.{ℕ, ◌+◌, List, length, map, not, nat_le, ◌&&◌, Bool, true, false, Option, None, Some, bit_and, ◌==◌}
 use Rattle.std.specs.Prelude.{bytes_eq, nat_eq, if◌then◌else◌}
-use Rattle.std.specs.List.{starts_with}
 use Rattle.std.specs.Char.{to_ascii_lowercase}
 use Rattle.call_auth.specs.Md5Answer.{md5_answer}
 use Rattle.iax_frames.specs.FullFrame.{FullFrame}
@@ -10,6 +9,7 @@ use Rattle.info_elements.specs.Element.{u16_in, u32_in}
 use Rattle.info_elements.specs.Numbers.{FORMAT, AUTHMETHODS, CHALLENGE, MD5_RESULT}
 use Rattle.leg_machine.specs.Effects.{row, marking, no_effect, reply_alone, hung_up, rejected, goes_on, unless_over}
 use Rattle.call_signals.specs.Format.{format_bit, same_format}
+use Rattle.call_signals.specs.PeerRules.{is_own}
 use Rattle.leg_machine.specs.Leg.{LegState}
 use Rattle.call_signals.specs.declared.cause.Cause.TheVariants.{NormalClearing, CallRejected}
 use Rattle.call_signals.specs.declared.effects.Answering.TheVariants.{Acknowledged, Answered, Silent}
@@ -51,14 +51,9 @@ abbrev pub answer_if : Option (List ℕ) → Option (List ℕ) → Option (List 
 answer_if (Some challenge) (Some secret) = Some (md5_answer challenge secret)
 answer_if _ _ = None
 
--- the challenge begins as those of this exchange do
-abbrev pub has_form : Option (List ℕ) → Option (List ℕ) → Bool
-has_form (Some prefix) (Some challenge) = starts_with nat_eq challenge prefix
-has_form _ _ = false
-
 -- Whoever is asked a challenge by this exchange may send it back, to have it answered. A hardened leg doesn't.
 abbrev pub is_reflected : PeerRules → FullFrame → Bool
-is_reflected rules frame = rules.is_hardened && has_form rules.challenge_prefix (element_in frame CHALLENGE)
+is_reflected rules frame = rules.is_hardened && is_own rules.challenge_prefix (element_in frame CHALLENGE)
 
 -- the first AUTHREQ that asks for MD5 is answered, unless its challenge is reflected
 abbrev pub auth_rep_digits : LegState → FullFrame → Option (List ℕ)

@@ -102,24 +102,11 @@ impl Machine {
         }
     }
 
-    // The challenge begins as those of this exchange do.
-    fn has_form(&self, challenge: Option<&[u8]>) -> bool
-        ensures { result ≡ rows.has_form self.now.rules.challenge_prefix (option_copied challenge.entry) }
-    {
-        match &self.rules.challenge_prefix {
-            Some(prefix) => match challenge {
-                Some(challenge) => challenge.starts_with(prefix.as_slice()),
-                None => false,
-            },
-            None => false,
-        }
-    }
-
     // Whoever is asked a challenge by this exchange may send it back, to have it answered. A hardened leg doesn't.
     fn is_reflected(&self, frame: &Full) -> bool
         ensures { result ≡ rows.is_reflected self.now.rules frame.now }
     {
-        self.rules.is_hardened && self.has_form(last_in(frame.payload(), CHALLENGE))
+        self.rules.is_hardened && self.rules.is_own(last_in(frame.payload(), CHALLENGE))
     }
 
     // The first AUTHREQ that asks for MD5 is answered, unless its challenge is reflected.

@@ -81,12 +81,12 @@ impl<J: Naming> NotedPeer<J> {
             pass.old.credit pass.new.credit onwards.new) }
         ensures worked { OnOk result ((d : DatagramValue) × IsWorked J.first_steps self.old.state.accounts.steps datagram.now d) }
         ensures unrefused { OnOk result ((d : DatagramValue) → IsWorked J.first_steps self.old.state.accounts.steps datagram.now d
-            → datagram_refused self.old.state d ≡ None) }
+            → datagram_refused self.old.state d now ≡ None) }
         ensures unworked { (e : PeerErrorValue) → IsUnworked J.first_steps self.old.state.accounts.steps datagram.now e →
             result ≡ Err e }
         ensures refused { IfErr result (λ e. IsUnworked J.first_steps self.old.state.accounts.steps datagram.now e
             ⊎ ((d : DatagramValue) × IsWorked J.first_steps self.old.state.accounts.steps datagram.now d
-            × IsDue (datagram_refused self.old.state d) e)) }
+            × IsDue (datagram_refused self.old.state d now) e)) }
         ensures err { OnErr result (IsUnchanged self.old.state self.new.state pass.old.credit pass.new.credit onwards.new) }
     {
         let answer = self

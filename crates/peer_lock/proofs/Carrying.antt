@@ -20,7 +20,7 @@ use Rattle.call_signals.specs.declared.signal.Signal.{Signal}
 use Rattle.call_signals.specs.declared.signal.Signal.TheVariants as signals
 use Rattle.peer_lock.specs.Arrivals.{delivered_step, datagram_step, media_at, mini_span, entries_media, entry_span, entries_len}
 use Rattle.peer_lock.specs.CarriedMedia.{LiesWithin, signal_octets, handed_octets, CarriesItsOwn}
-use Rattle.peer_lock.specs.Delivery.{Delivery, Reaches, NeedsNumber, Gets, NoCall, delivery}
+use Rattle.peer_lock.specs.Delivery.{Delivery, Reaches, NeedsNumber, NoToken, Gets, NoCall, delivery}
 use Rattle.peer_legs.specs.Legs.{NamedLeg, PeerLegs, leg_of_remote}
 use Rattle.peer_accounts.specs.Grants.{granted}
 use Rattle.peer_lock.specs.Peer.{PeerView, PeerStep, handed_up}
@@ -79,6 +79,7 @@ delivered_carries : (law : (leg : LegState) (frame : FullFrame) (now : ℕ) → 
 delivered_carries law len first peer frame now fits (Reaches named) =
     carries_own len _ (frame_carries len first peer.accounts.accepted named.name frame (full_step named.leg frame now).signal fits (law named.leg frame now))
 delivered_carries law len first peer frame now fits NeedsNumber = carries_own len _ (none len)
+delivered_carries law len first peer frame now fits NoToken = carries_own len _ (none len)
 delivered_carries law len first peer frame now fits (Gets answer) = carries_own len _ (none len)
 delivered_carries law len first peer frame now fits NoCall = carries_own len _ (none len)
 
@@ -140,7 +141,7 @@ full_len octets frame s = let all = ap length s.whole in twelve (length octets) 
 pub datagram_carries : (law : (leg : LegState) (frame : FullFrame) (now : ℕ) → IsMediaOf frame (full_step leg frame now).signal) (first : ℕ) (peer : PeerView) (octets : List ℕ)
     (d : Datagram) (now : ℕ) → Spells octets d → CarriesItsOwn (length octets) (datagram_step first peer d now)
 datagram_carries law first peer octets (Full frame) now s =
-    delivered_carries law (length octets) first peer frame now (full_len octets frame s) (delivery peer frame)
+    delivered_carries law (length octets) first peer frame now (full_len octets frame s) (delivery peer frame now)
 datagram_carries law first peer octets (Mini mini) now s =
     carries_own (length octets) _ (media_carries (length octets) first peer.accounts.accepted (leg_of_remote peer.legs mini.source) (mini_span mini)
     (four (length mini.media)) (least (length octets) (length mini.media) (ap length s.whole)))

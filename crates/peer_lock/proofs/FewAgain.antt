@@ -94,12 +94,13 @@ message_few_at most message leg frame now some few =
 -- ---- at a peer
 
 -- without a leg
-unknown_few : (rules : PeerRules) (frame : FullFrame) (now : ℕ) → (delivered_load (unknown_call rules frame) frame now).datagrams ≤ 127
+unknown_few : (rules : PeerRules) (frame : FullFrame) (now : ℕ) → (delivered_load (unknown_call rules frame now) frame now).datagrams ≤ 127
 unknown_few rules frame now =
-    of_each (λ d. (delivered_load d frame now).datagrams ≤ 127) rules frame (omega arith) (omega arith) (omega arith) (omega arith) (omega arith)
+    of_each (λ d. (delivered_load d frame now).datagrams ≤ 127) rules frame now (omega arith) (omega arith) (omega arith) (omega arith) (omega arith) (omega arith)
+    (λ tokens. omega arith)
 
 found_few : (peer : PeerView) (frame : FullFrame) (now : ℕ) (o : Option NamedLeg) → IsSoundPeer peer → found peer.legs frame ≡ o
-    → (delivered_load (delivered peer.rules o frame) frame now).datagrams ≤ 127
+    → (delivered_load (delivered peer.rules o frame now) frame now).datagrams ≤ 127
 found_few peer frame now None sound is = unknown_few peer.rules frame now
 found_few peer frame now (Some named) sound is =
     let at = found_named peer.legs frame named sound.legs is in

@@ -9,6 +9,7 @@ pub mod NumberTicks
 pub mod Opened
 pub mod Packing
 pub mod Reached
+mod Tokens
 pub mod Refusing
 pub mod Resting
 pub mod Room

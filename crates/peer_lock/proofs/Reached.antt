@@ -7,7 +7,7 @@ use Rattle.leg_machine.specs.Steps.{full_step, heard_of}
 use Rattle.peer_accounts.specs.Accounts.{Credit, stepped, with_accepted, with_step as with_credit}
 use Rattle.peer_accounts.specs.HandedUp.{HandedUp}
 use Rattle.peer_legs.specs.Legs.{NamedLeg, with_leg}
-use Rattle.peer_lock.specs.Arrivals.{reached_step}
+use Rattle.peer_lock.specs.Arrivals.{reached_step, reflection}
 use Rattle.peer_lock.specs.Makes.{Makes}
 use Rattle.peer_lock.specs.Peer.{PeerView, granted, handed_up, leg_alone, offer_with, with_sent}
 use Rattle.peer_lock.specs.declared.steps.Step.{Step}
@@ -19,7 +19,7 @@ pub reached : (first : ℕ) (old between new : PeerView) (named : NamedLeg) (fra
     }
     → heard ≡ heard_of (full_step named.leg frame now)
     → new ≡ record between { accounts = with_accepted (stepped between.accounts) (granted first between.accounts.accepted heard.signal).octets }
-    → step ≡ leg_alone named.name heard.judged
+    → step ≡ record (leg_alone named.name heard.judged) { rejected = reflection between.rules frame heard.judged }
     → onwards.signals ≡ handed_up named.name (granted first between.accounts.accepted heard.signal).signal
     → onwards.offer ≡ offer_with (full_step named.leg frame now).leg (granted first between.accounts.accepted heard.signal).signal
     → pass_new ≡ with_credit pass_old (granted first between.accounts.accepted heard.signal).octets
@@ -32,7 +32,10 @@ reached first old between new named frame now heard step pass_old pass_new onwar
         legs = with_leg old.legs named.name (full_step named.leg frame now).leg;
         accounts = with_accepted (stepped sent.accounts) (granted first old.accounts.accepted h.signal).octets;
       }) heard_is;
-  answer = step_is ∙ ap (λ (h : Heard). leg_alone named.name h.judged) heard_is;
+  answer =
+      step_is
+      ∙ ap (λ (v : PeerView). record (leg_alone named.name heard.judged) { rejected = reflection v.rules frame heard.judged }) between_is
+      ∙ ap (λ (h : Heard). record (leg_alone named.name h.judged) { rejected = reflection old.rules frame h.judged }) heard_is;
   signals =
       signals_are
       ∙ ap (λ (v : PeerView). handed_up named.name (granted first v.accounts.accepted heard.signal).signal) between_is

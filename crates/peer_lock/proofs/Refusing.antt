@@ -60,11 +60,11 @@ module _ (credit made : ℕ) (octets : List ℕ) (steps : made ≢ credit) (shor
   read_refused (Video video) e spelled why = absurd why
   read_refused (Trunk trunk) e spelled why = absurd why
 
-  ok_refused : (peer : PeerView) (d : Datagram) (e : PeerError) → Spells octets d
-      → IsRefusedRead d e ⊎ (IsSound d × IsDue (datagram_refused peer d) e)
-      → IsUnworked credit made octets e ⊎ ((d : Datagram) × IsWorked credit made octets d × IsDue (datagram_refused peer d) e)
-  ok_refused peer d e spelled (inl why) = inl (read_refused d e spelled why)
-  ok_refused peer d e spelled (inr due) =
+  ok_refused : (peer : PeerView) (now : ℕ) (d : Datagram) (e : PeerError) → Spells octets d
+      → IsRefusedRead d e ⊎ (IsSound d × IsDue (datagram_refused peer d now) e)
+      → IsUnworked credit made octets e ⊎ ((d : Datagram) × IsWorked credit made octets d × IsDue (datagram_refused peer d now) e)
+  ok_refused peer now d e spelled (inl why) = inl (read_refused d e spelled why)
+  ok_refused peer now d e spelled (inr due) =
       inr (d, record { steps = steps; short = short; spelled = spelled; sound = due.0 }, due.1)
 
   too_long : 2048 < length octets → ⊥
@@ -94,8 +94,8 @@ module _ (credit made : ℕ) (octets : List ℕ) (d : Datagram) (looked : AreLoo
   read_unworked result unsound =
       ok_unworked credit made octets looked.steps looked.short result d (unrefused octets d looked.reading) (spelled_alone octets d looked.reading) unsound
 
-  pub read_due : (peer : PeerView) (result : Result Step PeerError)
-      → IfErr result (λ e. IsRefusedRead d e ⊎ (IsSound d × IsDue (datagram_refused peer d) e))
-      → IfErr result (λ e. IsUnworked credit made octets e ⊎ ((d : Datagram) × IsWorked credit made octets d × IsDue (datagram_refused peer d) e))
-  read_due peer (Ok step) due = due
-  read_due peer (Err e) due = ok_refused credit made octets looked.steps looked.short peer d e looked.reading.exact due
+  pub read_due : (peer : PeerView) (now : ℕ) (result : Result Step PeerError)
+      → IfErr result (λ e. IsRefusedRead d e ⊎ (IsSound d × IsDue (datagram_refused peer d now) e))
+      → IfErr result (λ e. IsUnworked credit made octets e ⊎ ((d : Datagram) × IsWorked credit made octets d × IsDue (datagram_refused peer d now) e))
+  read_due peer now (Ok step) due = due
+  read_due peer now (Err e) due = ok_refused credit made octets looked.steps looked.short peer now d e looked.reading.exact due

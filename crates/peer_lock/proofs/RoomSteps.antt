@@ -24,7 +24,7 @@ use Rattle.peer_accounts.specs.Accounts.{stepped, with_accepted}
 use Rattle.peer_accounts.specs.Grants.{granted}
 use Rattle.peer_legs.specs.Legs.{NamedLeg, with_leg, with_place}
 use Rattle.peer_lock.specs.Arrivals.{MediaTaken, answering, datagram_step, delivered_step, media_step, mini_media, trunk_media}
-use Rattle.peer_lock.specs.Delivery.{Delivery, Reaches, NeedsNumber, Gets, NoCall, answer_octets, delivery, reject_for}
+use Rattle.peer_lock.specs.Delivery.{Delivery, Reaches, NeedsNumber, NoToken, Gets, NoCall, answer_octets, delivery, reject_for}
 use Rattle.peer_lock.specs.Loads.{Puts, datagram_load, delivered_load, dropped_for_room, frames_packed, load_of, no_load, plus, tick_load}
 use Rattle.peer_lock.specs.Openings.{opens_in, opens_out, rejects_new, with_opened, with_seated}
 use Rattle.peer_lock.specs.Peer.{PeerView, counted, flushed_if, with_datagram, with_sent, with_step, without_leg}
@@ -85,12 +85,13 @@ message_few message leg frame now other =
 delivered_few : (to : Delivery) (frame : FullFrame) (now : ℕ) → is_vnak (message_of frame.head) ≡ false → (delivered_load to frame now).datagrams ≤ 1
 delivered_few (Reaches named) frame now other = message_few (message_of frame.head) named.leg frame now other
 delivered_few NeedsNumber frame now other = omega arith
+delivered_few NoToken frame now other = omega arith
 delivered_few (Gets answer) frame now other = omega arith
 delivered_few NoCall frame now other = omega arith
 
 pub full_frame_few : (peer : PeerView) (frame : FullFrame) (now : ℕ) → is_vnak (message_of frame.head) ≡ false
     → (datagram_load peer (Full frame) now).datagrams ≤ 1
-full_frame_few peer frame now other = delivered_few (delivery peer frame) frame now other
+full_frame_few peer frame now other = delivered_few (delivery peer frame now) frame now other
 
 -- ---- datagrams
 
@@ -123,13 +124,14 @@ delivered_puts first peer (Reaches named) frame now =
     (puts_too (load_of (length datagrams)) peer with (with_leg with.legs named.name s.leg) (with_accepted (stepped with.accounts) octets) refl
     (sent_puts peer named.name.number datagrams))
 delivered_puts first peer NeedsNumber frame now = nothing_put peer
+delivered_puts first peer NoToken frame now = nothing_put peer
 delivered_puts first peer (Gets answer) frame now =
     answering_puts peer answer
 delivered_puts first peer NoCall frame now = nothing_put peer
 
 pub datagram_puts : (first : ℕ) (peer : PeerView) (datagram : Datagram) (now : ℕ)
     → Puts (datagram_load peer datagram now) peer (datagram_step first peer datagram now).peer
-datagram_puts first peer (Full frame) now = delivered_puts first peer (delivery peer frame) frame now
+datagram_puts first peer (Full frame) now = delivered_puts first peer (delivery peer frame now) frame now
 datagram_puts first peer (Mini mini) now = media_puts peer (mini_media first peer mini)
 datagram_puts first peer (Video video) now = puts_too no_load peer peer peer.legs (stepped peer.accounts) refl (none_put peer)
 datagram_puts first peer (Trunk trunk) now = media_puts peer (trunk_media first peer trunk)

@@ -1,6 +1,15 @@
 -- The steps of a peer in which a datagram comes ("Full Frames", "Mini Frames", "Meta Frames").
-use Rattle.std.specs.Prelude.{ℕ, ◌+◌, Bool, List, [], ◌∷◌, ◌++◌, Option, None, Some, length, map, if◌then◌else◌}
+use Rattle.std.specs.Prelude.{ℕ, ◌+◌, Bool, List, [], ◌∷◌, ◌++◌, ◌&&◌, true, false, Option, None, Some, length, map, if◌then◌else◌}
 use Rattle.call_book.specs.declared.leg_name.LegName.{LegName}
+use Rattle.call_signals.specs.FrameElements.{element_in}
+use Rattle.call_signals.specs.Message.{message_of}
+use Rattle.call_signals.specs.PeerRules.{is_own}
+use Rattle.call_signals.specs.declared.message.Message.{Message}
+use Rattle.call_signals.specs.declared.message.Message.TheVariants.{AuthReq}
+use Rattle.call_signals.specs.declared.outcomes.Judged.{Judged}
+use Rattle.call_signals.specs.declared.outcomes.Judged.TheVariants.{Taken}
+use Rattle.call_signals.specs.declared.rules.PeerRules.{PeerRules}
+use Rattle.info_elements.specs.Numbers.{CHALLENGE}
 use Rattle.iax_frames.specs.FullFrame.{FullFrame, spelling}
 use Rattle.iax_frames.specs.MiniFrame.{MiniFrame}
 use Rattle.iax_frames.specs.TrunkFrame.{TrunkFrame, is_timed, head_len, entry_item}
@@ -12,17 +21,31 @@ use Rattle.call_signals.specs.declared.signal.MediaSpan.{MediaSpan}
 use Rattle.call_signals.specs.declared.signal.Signal.{Signal}
 use Rattle.call_signals.specs.declared.signal.Signal.TheVariants.{Media}
 use Rattle.peer_accounts.specs.Accounts.{stepped, with_accepted}
-use Rattle.peer_lock.specs.Delivery.{Delivery, Reaches, NeedsNumber, Gets, NoCall, answer_octets, delivery, full_refused}
+use Rattle.peer_lock.specs.Delivery.{Delivery, Reaches, NeedsNumber, NoToken, Gets, NoCall, answer_octets, delivery, full_refused}
 use Rattle.peer_legs.specs.Legs.{PeerLegs, NamedLeg, leg_of_remote}
 use Rattle.peer_accounts.specs.Grants.{granted}
 use Rattle.peer_lock.specs.Peer.{PeerView, PeerStep, handed_up, offer_with, leg_alone, no_leg, alone, with_datagram, with_step}
 use Rattle.peer_lock.specs.declared.errors.PeerError.{PeerError}
 use Rattle.peer_lock.specs.declared.errors.PeerError.TheVariants as errors
+use Rattle.peer_lock.specs.declared.steps.Rejection.{Rejection}
+use Rattle.peer_lock.specs.declared.steps.Rejection.TheVariants as rejections
 use Rattle.peer_lock.specs.declared.unknown_calls.Answer.{Answer}
 
 -- first: the octet credit with which every peer begins
 
 -- ---- full frames
+
+abbrev pub is_auth_req : Message → Bool
+is_auth_req AuthReq = true
+is_auth_req _ = false
+
+-- an AUTHREQ that a leg took, whose challenge begins as those of this exchange do
+abbrev pub reflection : PeerRules → FullFrame → Judged → Option Rejection
+reflection rules frame Taken =
+    if is_auth_req (message_of frame.head) && is_own rules.challenge_prefix (element_in frame CHALLENGE)
+    then Some rejections.Reflection
+    else None
+reflection rules frame _ = None
 
 abbrev pub reached_step : ℕ → PeerView → NamedLeg → FullFrame → ℕ → PeerStep
 reached_step first peer named frame now =
@@ -30,7 +53,7 @@ reached_step first peer named frame now =
     let up = granted first peer.accounts.accepted s.signal in
     record {
       peer = with_step peer named.name s.leg (map spelling s.replies) up.octets;
-      step = leg_alone named.name s.judged;
+      step = record (leg_alone named.name s.judged) { rejected = reflection peer.rules frame s.judged };
       signals = handed_up named.name up.signal;
       offer = offer_with s.leg up.signal;
       octets = up.octets;
@@ -44,6 +67,7 @@ answering peer answer =
 abbrev pub delivered_step : ℕ → PeerView → Delivery → FullFrame → ℕ → PeerStep
 delivered_step first peer (Reaches named) frame now = reached_step first peer named frame now
 delivered_step first peer NeedsNumber frame now = alone peer
+delivered_step first peer NoToken frame now = alone peer
 delivered_step first peer (Gets answer) frame now = answering peer answer
 delivered_step first peer NoCall frame now = alone peer
 
@@ -117,14 +141,14 @@ abbrev pub mini_refused : Option NamedLeg → Option PeerError
 mini_refused None = Some errors.NoCall
 mini_refused (Some named) = None
 
-abbrev pub datagram_refused : PeerView → Datagram → Option PeerError
-datagram_refused peer (Full frame) = full_refused peer frame
-datagram_refused peer (Mini mini) = mini_refused (leg_of_remote peer.legs mini.source)
-datagram_refused peer (Video video) = None
-datagram_refused peer (Trunk trunk) = None
+abbrev pub datagram_refused : PeerView → Datagram → ℕ → Option PeerError
+datagram_refused peer (Full frame) now = full_refused peer frame now
+datagram_refused peer (Mini mini) now = mini_refused (leg_of_remote peer.legs mini.source)
+datagram_refused peer (Video video) now = None
+datagram_refused peer (Trunk trunk) now = None
 
 abbrev pub datagram_step : ℕ → PeerView → Datagram → ℕ → PeerStep
-datagram_step first peer (Full frame) now = delivered_step first peer (delivery peer frame) frame now
+datagram_step first peer (Full frame) now = delivered_step first peer (delivery peer frame now) frame now
 datagram_step first peer (Mini mini) now = media_step peer (mini_media first peer mini)
 datagram_step first peer (Video video) now = alone peer
 datagram_step first peer (Trunk trunk) now = media_step peer (trunk_media first peer trunk)

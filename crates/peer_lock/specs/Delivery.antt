@@ -1,29 +1,36 @@
 -- Where a full frame goes ("Full Frames", "INVAL", "NEW"), and what answers one that no leg has ("POKE", "REJECT", "REGREJ").
-use Rattle.std.specs.Prelude.{ℕ, ◌+◌, ◌%◌, ◌==◌, ◌&&◌, ◌||◌, Bool, true, false, List, [], Option, None, Some, if◌then◌else◌}
+-- Call tokens are chan_iax2's; RFC 5456 has none.
+use Rattle.std.specs.Prelude.{◌≡◌, ℕ, ◌+◌, ◌/◌, ◌%◌, ◌==◌, ◌&&◌, ◌||◌, Bool, true, false, List, [], ◌∷◌, Option, None, Some, if◌then◌else◌}
+use Rattle.call_auth.specs.CallToken.{call_token, is_given}
+use Rattle.call_auth.specs.declared.call_token.CallTokens.{CallTokens}
 use Rattle.iax_frames.specs.FullFrame.{FullFrame, spelling}
 use Rattle.iax_frames.specs.declared.full_frame.FullHead.{FullHead}
 use Rattle.leg_machine.specs.Leg.{is_record_full}
 use Rattle.leg_machine.specs.Message.{message_of, is_numbered}
-use Rattle.call_signals.specs.Codes.{FRAME_IAX, IAX_INVAL, IAX_PONG, IAX_REJECT, IAX_REGREQ, IAX_REGREJ, IAX_REGREL}
-use Rattle.call_signals.specs.Reply.{cause_elements}
-use Rattle.call_signals.specs.declared.cause.Cause.{Cause}
+use Rattle.call_signals.specs.Codes.{FRAME_IAX, IAX_CALLTOKEN, IAX_INVAL, IAX_PONG, IAX_REJECT, IAX_REGREQ, IAX_REGREJ, IAX_REGREL}
+use Rattle.call_signals.specs.FrameElements.{element_in}
+use Rattle.call_signals.specs.Reply.{cause_elements, element_of}
 use Rattle.call_signals.specs.declared.cause.Cause.TheVariants.{Congestion, Other}
 use Rattle.call_signals.specs.declared.message.Message.{Message}
 use Rattle.call_signals.specs.declared.message.Message.TheVariants.{New, Poke}
 use Rattle.call_signals.specs.declared.rules.PeerRules.{PeerRules}
+use Rattle.info_elements.specs.Numbers.{CALLTOKEN}
 pub use Rattle.peer_legs.specs.Finding.{is_reached, can_reach, if_reached, found}
 use Rattle.peer_legs.specs.Legs.{NamedLeg}
 use Rattle.peer_lock.specs.Peer.{PeerView}
 use Rattle.peer_lock.specs.declared.errors.PeerError.{PeerError}
 use Rattle.peer_lock.specs.declared.errors.PeerError.TheVariants as errors
-use Rattle.peer_lock.specs.declared.steps.Rejection.{Rejection}
 use Rattle.peer_lock.specs.declared.steps.Rejection.TheVariants as rejections
 use Rattle.peer_lock.specs.declared.unknown_calls.Answer.{Answer}
+use Rattle.peer_lock.specs.declared.unknown_calls.AnswerData.{AnswerData}
+use Rattle.peer_lock.specs.declared.unknown_calls.AnswerData.TheVariants as data_of
 
 pub data Delivery : Type 0 where
   Reaches : (named : NamedLeg) → Delivery
   -- a NEW that no leg has yet
   NeedsNumber : Delivery
+  -- a NEW that no leg has yet, without a call token of its endpoint
+  NoToken : Delivery
   -- no leg has it, and this answers it
   Gets : (answer : Answer) → Delivery
   NoCall : Delivery
@@ -44,18 +51,14 @@ is_registration head = (head.frame_type == FRAME_IAX) && ((head.subclass == IAX_
 
 -- ---- what answers it
 
--- why something is rejected, by Q.850: congestion, facility rejected
-abbrev pub rejection_cause : Rejection → Cause
-rejection_cause rejections.NoNumber = Congestion
-rejection_cause rejections.Registration = Other 29
-
--- the data of an answer: the cause, if it rejects something ("Information Elements": CAUSE and CAUSECODE)
-abbrev pub answer_data : Option Rejection → List ℕ
-answer_data None = []
-answer_data (Some rejection) = cause_elements (rejection_cause rejection)
+-- the data of an answer: none, a cause ("Information Elements": CAUSE and CAUSECODE), or a call token
+abbrev pub answer_data : AnswerData → List ℕ
+answer_data data_of.Nothing = []
+answer_data (data_of.Why cause) = cause_elements cause
+answer_data (data_of.Token digits) = element_of CALLTOKEN digits
 
 abbrev pub answer_octets : Answer → List ℕ
-answer_octets answer = spelling (record { head = answer.head; payload = answer_data answer.rejected })
+answer_octets answer = spelling (record { head = answer.head; payload = answer_data answer.says })
 
 -- INVAL from the number that the frame names, to its source
 abbrev pub inval_for : FullHead → Answer
@@ -71,6 +74,7 @@ inval_for head = record {
     subclass = IAX_INVAL;
   };
   rejected = None;
+  says = data_of.Nothing;
 }
 
 -- the source of each answer that belongs to no call: no local number of a plan
@@ -92,33 +96,56 @@ answer_head head subclass = record {
 
 -- PONG to a POKE ("POKE")
 abbrev pub pong_for : FullHead → Answer
-pong_for head = record { head = answer_head head IAX_PONG; rejected = None }
+pong_for head = record { head = answer_head head IAX_PONG; rejected = None; says = data_of.Nothing }
 
--- REJECT to a NEW for which no number is free ("REJECT")
+-- REJECT to a NEW for which no number is free ("REJECT"): congestion
 abbrev pub reject_for : FullHead → Answer
-reject_for head = record { head = answer_head head IAX_REJECT; rejected = Some rejections.NoNumber }
+reject_for head =
+    record { head = answer_head head IAX_REJECT; rejected = Some rejections.NoNumber; says = data_of.Why Congestion }
 
--- REGREJ to a REGREQ or a REGREL ("REGREJ")
+-- REGREJ to a REGREQ or a REGREL ("REGREJ"): facility rejected, by Q.850
 abbrev pub regrej_for : FullHead → Answer
-regrej_for head = record { head = answer_head head IAX_REGREJ; rejected = Some rejections.Registration }
+regrej_for head =
+    record { head = answer_head head IAX_REGREJ; rejected = Some rejections.Registration; says = data_of.Why (Other 29) }
+
+-- CALLTOKEN to a NEW that asks for a call token: the token of the endpoint at that moment
+abbrev pub token_for : CallTokens → FullHead → ℕ → Answer
+token_for tokens head now =
+    record {
+      head = answer_head head IAX_CALLTOKEN;
+      rejected = Some rejections.CallToken;
+      says = data_of.Token (call_token tokens (now / 5000));
+    }
 
 -- ---- where it goes
 
+-- a NEW that no leg has, by the element CALLTOKEN: without one it is refused, an empty one asks for a token
+abbrev pub by_token : CallTokens → FullHead → ℕ → Option (List ℕ) → Delivery
+by_token tokens head now None = NoToken
+by_token tokens head now (Some []) = Gets (token_for tokens head now)
+by_token tokens head now (Some (digit ∷ digits)) =
+    if is_given tokens now (digit ∷ digits) then NeedsNumber else NoToken
+
+-- a NEW that no leg has, which needs a token where tokens are asked for
+abbrev pub newcomer : Option CallTokens → FullFrame → ℕ → Delivery
+newcomer None frame now = NeedsNumber
+newcomer (Some tokens) frame now = by_token tokens frame.head now (element_in frame CALLTOKEN)
+
 -- no leg is found, by the rules of the peer
-abbrev pub unknown_call : PeerRules → FullFrame → Delivery
-unknown_call rules frame =
+abbrev pub unknown_call : PeerRules → FullFrame → ℕ → Delivery
+unknown_call rules frame now =
     if frame.head.destination == 0
-    then (if is_new (message_of frame.head) && (frame.head.oseqno == 0) then NeedsNumber
+    then (if is_new (message_of frame.head) && (frame.head.oseqno == 0) then newcomer rules.call_tokens frame now
     else if rules.poke && is_poke (message_of frame.head) then Gets (pong_for frame.head)
     else if rules.is_hardened && is_registration frame.head then Gets (regrej_for frame.head) else NoCall)
     else (if is_numbered (message_of frame.head) then Gets (inval_for frame.head) else NoCall)
 
-abbrev pub delivered : PeerRules → Option NamedLeg → FullFrame → Delivery
-delivered rules (Some named) frame = Reaches named
-delivered rules None frame = unknown_call rules frame
+abbrev pub delivered : PeerRules → Option NamedLeg → FullFrame → ℕ → Delivery
+delivered rules (Some named) frame now = Reaches named
+delivered rules None frame now = unknown_call rules frame now
 
-abbrev pub delivery : PeerView → FullFrame → Delivery
-delivery peer frame = delivered peer.rules (found peer.legs frame) frame
+abbrev pub delivery : PeerView → FullFrame → ℕ → Delivery
+delivery peer frame now = delivered peer.rules (found peer.legs frame) frame now
 
 -- ---- refusals
 
@@ -126,8 +153,15 @@ delivery peer frame = delivered peer.rules (found peer.legs frame) frame
 abbrev pub delivery_refused : Delivery → Option PeerError
 delivery_refused (Reaches named) = if is_record_full named.leg then Some errors.RecordFull else None
 delivery_refused NeedsNumber = Some errors.NeedsNumber
+delivery_refused NoToken = Some errors.NoToken
 delivery_refused (Gets answer) = None
 delivery_refused NoCall = Some errors.NoCall
 
-abbrev pub full_refused : PeerView → FullFrame → Option PeerError
-full_refused peer frame = delivery_refused (delivery peer frame)
+abbrev pub full_refused : PeerView → FullFrame → ℕ → Option PeerError
+full_refused peer frame now = delivery_refused (delivery peer frame now)
+
+-- ---- call tokens
+
+-- a frame has a call token that its endpoint was given in these five seconds or in the five before
+abbrev pub BearsToken : CallTokens → ℕ → FullFrame → Type 0
+BearsToken tokens now frame = (token : List ℕ) × (element_in frame CALLTOKEN ≡ Some token) × (is_given tokens now token ≡ true)

@@ -41,7 +41,7 @@ delivered_load other frame now = load_of 1
 
 -- Of a datagram. Its media is put elsewhere, by orders.
 abbrev pub datagram_load : PeerView → Datagram → ℕ → Load
-datagram_load peer (Full frame) now = delivered_load (delivery peer frame) frame now
+datagram_load peer (Full frame) now = delivered_load (delivery peer frame now) frame now
 datagram_load peer other now = no_load
 
 -- of an order with so many octets of media

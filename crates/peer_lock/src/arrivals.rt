@@ -6,6 +6,7 @@ ghost use Rattle.leg_machine.specs.Steps.{full_step, heard_of};
 ghost use Rattle.peer_accounts.specs.Accounts.{stepped, with_accepted, with_step as with_credit};
 ghost use Rattle.peer_accounts.specs.Grants.{granted};
 ghost use Rattle.iax_frames.specs.FullFrame.{spelling};
+ghost use Rattle.peer_lock.specs.Arrivals as spec_of;
 ghost use Rattle.peer_lock.specs.Arrivals.{reached_step, delivered_step, datagram_step, datagram_refused};
 ghost use Rattle.peer_legs.specs.Finding.{can_reach, is_reached, found};
 ghost use Rattle.peer_lock.specs.Delivery.{delivery, delivery_refused, full_refused, Reaches};
@@ -24,11 +25,11 @@ use crate::media_arrivals::ENTRIES;
 use crate::outboxes::{flush_if, is_ahead, put_all};
 use crate::read_datagram::ReadDatagram;
 use crate::state::PeerState;
-use crate::steps::Step;
+use crate::steps::{Rejection, Step};
 use call_signals::codes::FRAME_IAX;
 use iax_frames::{Datagram, Full};
-use info_elements::elements;
-use leg_machine::{ElementText, Heard, Judged, MediaSpan, Signal, StepError};
+use info_elements::{CHALLENGE, elements, last_in};
+use leg_machine::{ElementText, Heard, Judged, MediaSpan, Message, PeerRules, Signal, StepError};
 use peer_accounts::{Naming, Offer, Onwards, Pass};
 use peer_legs::NamedLeg;
 
@@ -42,6 +43,26 @@ fn offer_of(named: &NamedLeg) -> Offer
         caller: leg.caller(),
         format: leg.format(),
         formats: leg.offered_formats(),
+    }
+}
+
+fn is_auth_req(message: &Message) -> bool
+    ensures { result ≡ spec_of.is_auth_req message.now }
+{
+    matches!(message, Message::AuthReq)
+}
+
+// What is reported of a full frame that a leg judged: an AUTHREQ with a challenge of this exchange.
+fn reflection(rules: &PeerRules, frame: &Full, judged: Judged) -> Option<Rejection>
+    ensures { result ≡ spec_of.reflection rules.now frame.now judged }
+{
+    let Judged::Taken = judged else {
+        return None;
+    };
+    if is_auth_req(&Message::of(frame)) && rules.is_own(last_in(frame.payload(), CHALLENGE)) {
+        Some(Rejection::Reflection)
+    } else {
+        None
     }
 }
 
@@ -103,6 +124,7 @@ impl<J: Naming> PeerState<J> {
         &mut self,
         pass: &mut Pass<J>,
         number: u16,
+        frame: &Full,
         heard: Heard,
         onwards: &mut Onwards,
     ) -> Step
@@ -117,7 +139,7 @@ impl<J: Naming> PeerState<J> {
                   (granted J.first_octets self.old.accounts.accepted heard.signal).octets;
             } }
         ensures step { (named : NamedLegValue) → leg_at self.old.legs number ≡ Some named →
-            result ≡ leg_alone named.name heard.judged }
+            result ≡ record (leg_alone named.name heard.judged) { rejected = spec_of.reflection self.old.rules frame.now heard.judged } }
         ensures signals { (named : NamedLegValue) → leg_at self.old.legs number ≡ Some named
             → onwards.new.signals ≡ handed_up named.name (granted J.first_octets self.old.accounts.accepted heard.signal).signal }
         ensures offer { (named : NamedLegValue) → leg_at self.old.legs number ≡ Some named
@@ -131,7 +153,7 @@ impl<J: Naming> PeerState<J> {
         Step {
             judged: heard.judged,
             touched: Some(named.name()),
-            rejected: None,
+            rejected: reflection(&self.rules, frame, heard.judged),
         }
     }
 
@@ -161,7 +183,7 @@ impl<J: Naming> PeerState<J> {
         }
         onwards.reserve(1)?;
         let heard = self.hear(number, frame, now)?;
-        Ok(self.hand_on(pass, number, heard, onwards))
+        Ok(self.hand_on(pass, number, frame, heard, onwards))
     }
 
     // A full frame comes.
@@ -177,12 +199,12 @@ impl<J: Naming> PeerState<J> {
         ensures made { IfOk result
             (λ step.
             Makes (delivered_step J.first_octets self.old
-            (delivery self.old frame.now) frame.now now) self.new step pass.old pass.new onwards.new) }
+            (delivery self.old frame.now now) frame.now now) self.new step pass.old pass.new onwards.new) }
         ensures sound { OnOk result (IsSoundFull frame.now) }
-        ensures unrefused { OnOk result (full_refused self.old frame.now ≡ None) }
+        ensures unrefused { OnOk result (full_refused self.old frame.now now ≡ None) }
         ensures unsound { (e : PeerErrorValue) → IsRefusedFull frame.now e → result ≡ Err e }
         ensures refused { IfErr result (λ e. IsRefusedFull frame.now e ⊎
-            (IsSoundFull frame.now × IsDue (full_refused self.old frame.now) e)) }
+            (IsSoundFull frame.now × IsDue (full_refused self.old frame.now now) e)) }
         ensures err { OnErr result (IsUnchanged self.old self.new pass.old pass.new onwards.new) }
     {
         if frame.payload().len() > 1388 {
@@ -196,7 +218,7 @@ impl<J: Naming> PeerState<J> {
         }
         match self.legs.find(frame) {
             Some(number) => self.reach(pass, number, frame, now, onwards),
-            None => self.answer_unknown(pass, frame),
+            None => self.answer_unknown(pass, frame, now),
         }
     }
 
@@ -214,10 +236,10 @@ impl<J: Naming> PeerState<J> {
         ensures made { IfOk result (λ step.
             Makes (datagram_step J.first_octets self.old datagram.now now) self.new step pass.old pass.new onwards.new) }
         ensures sound { OnOk result (IsSound datagram.now) }
-        ensures unrefused { OnOk result (datagram_refused self.old datagram.now ≡ None) }
+        ensures unrefused { OnOk result (datagram_refused self.old datagram.now now ≡ None) }
         ensures unsound { (e : PeerErrorValue) → IsRefusedRead datagram.now e → result ≡ Err e }
         ensures refused { IfErr result (λ e. IsRefusedRead datagram.now e ⊎
-            (IsSound datagram.now × IsDue (datagram_refused self.old datagram.now) e)) }
+            (IsSound datagram.now × IsDue (datagram_refused self.old datagram.now now) e)) }
         ensures err { OnErr result (IsUnchanged self.old self.new pass.old pass.new onwards.new) }
     {
         match datagram {
@@ -251,7 +273,7 @@ impl<J: Naming> PeerState<J> {
     /// concerns, if any. What is handed up is written to the list, which is empty.
     ///
     /// Refusals are looked for in this order, as `PeerError` says them: `StepsSpent`, `TooLong`, `Short`, `MetaCommand`,
-    /// `EntryCut`, `NoSource`, `Cut`, `NeedsNumber`, `NoCall`, `RecordFull`, `Memory`. `Memory` comes only where memory was
+    /// `EntryCut`, `NoSource`, `Cut`, `NeedsNumber`, `NoToken`, `NoCall`, `RecordFull`, `Memory`. `Memory` comes only where memory was
     /// refused. Then nothing is changed.
     pub fn datagram(
         &mut self,
@@ -266,12 +288,12 @@ impl<J: Naming> PeerState<J> {
             → Makes (datagram_step J.first_octets self.old d now) self.new step pass.old pass.new onwards.new) }
         ensures worked { OnOk result ((d : DatagramValue) × IsWorked J.first_steps self.old.accounts.steps octets.now d) }
         ensures unrefused { OnOk result ((d : DatagramValue) → IsWorked J.first_steps self.old.accounts.steps octets.now d →
-            datagram_refused self.old d ≡ None) }
+            datagram_refused self.old d now ≡ None) }
         // Each refusal comes where its cause is, and has it.
         ensures unworked { (e : PeerErrorValue) → IsUnworked J.first_steps self.old.accounts.steps octets.now e → result ≡ Err e }
         ensures refused { IfErr result (λ e. IsUnworked J.first_steps self.old.accounts.steps octets.now e
             ⊎ ((d : DatagramValue) × IsWorked J.first_steps self.old.accounts.steps octets.now d ×
-            IsDue (datagram_refused self.old d) e)) }
+            IsDue (datagram_refused self.old d now) e)) }
         ensures err { OnErr result (IsUnchanged self.old self.new pass.old pass.new onwards.new) }
     {
         self.datagram_read(pass, &ReadDatagram::of(octets), now, onwards)
@@ -294,13 +316,13 @@ impl<J: Naming> PeerState<J> {
             → Makes (datagram_step J.first_octets self.old d now) self.new step pass.old pass.new onwards.new) }
         ensures worked { OnOk result ((d : DatagramValue) × IsWorked J.first_steps self.old.accounts.steps datagram.now d) }
         ensures unrefused { OnOk result ((d : DatagramValue) → IsWorked J.first_steps self.old.accounts.steps datagram.now d
-            → datagram_refused self.old d ≡ None) }
+            → datagram_refused self.old d now ≡ None) }
         // Each refusal comes where its cause is, and has it.
         ensures unworked { (e : PeerErrorValue) → IsUnworked J.first_steps self.old.accounts.steps datagram.now e →
             result ≡ Err e }
         ensures refused { IfErr result (λ e. IsUnworked J.first_steps self.old.accounts.steps datagram.now e
             ⊎ ((d : DatagramValue) × IsWorked J.first_steps self.old.accounts.steps datagram.now d ×
-            IsDue (datagram_refused self.old d) e)) }
+            IsDue (datagram_refused self.old d now) e)) }
         ensures err { OnErr result (IsUnchanged self.old self.new pass.old pass.new onwards.new) }
     {
         if self.account.is_spent() {

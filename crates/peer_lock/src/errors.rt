@@ -30,6 +30,8 @@ pub enum PeerError {
     Cut,
     /// A NEW that no leg has yet: it needs a number for its leg.
     NeedsNumber,
+    /// A NEW that no leg has yet, without a call token of its endpoint, from a peer that is asked for one.
+    NoToken,
     /// No leg has this call.
     NoCall,
     /// The leg's record has no room for one more full frame and its answer.

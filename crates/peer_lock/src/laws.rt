@@ -1,5 +1,6 @@
 //! What holds of every step of a peer.
 ghost use Rattle.std.specs.Prelude.{◌≡◌, ◌≢◌, ◌+◌, ◌≤◌, ◌⊎◌, ℕ, true, false, length, List, All, Option, None, Some, slice_get};
+ghost use Rattle.call_auth.specs.declared.call_token.CallTokens.{CallTokens};
 ghost use Rattle.call_book.specs.declared.leg_name.LegName.{LegName};
 ghost use Rattle.iax_frames.specs.Datagram.{Spells};
 ghost use Rattle.iax_frames.specs.FullFrame.{FullFrame};
@@ -20,7 +21,7 @@ ghost use Rattle.call_signals.specs.declared.rules.PeerRules.{PeerRules};
 ghost use Rattle.call_signals.specs.declared.stage.Stage.TheVariants.{Ended};
 ghost use Rattle.peer_lock.specs.Arrivals.{datagram_step};
 ghost use Rattle.peer_lock.specs.CarriedMedia.{CarriesItsOwn};
-ghost use Rattle.peer_lock.specs.Delivery.{is_new};
+ghost use Rattle.peer_lock.specs.Delivery.{BearsToken, full_refused, is_new};
 ghost use Rattle.peer_legs.specs.Legs.{AreLegs, IsLegOf, PeerLegs, NamedLeg, leg_at, leg_named, with_place};
 ghost use Rattle.peer_legs.specs.Legs.{is_free_name};
 ghost use Rattle.peer_lock.specs.Loads.{Load, Puts, datagram_load, load_of, no_load, order_load, plus, tick_load};
@@ -38,6 +39,7 @@ ghost use Rattle.peer_lock.specs.Ticks.{RestsAt, Ticks};
 ghost use Rattle.peer_lock.specs.Trunks.{waits};
 ghost use Rattle.peer_lock.specs.declared.errors.OrderError.{OrderError};
 ghost use Rattle.peer_lock.specs.declared.errors.OrderError.TheVariants.{Memory};
+ghost use Rattle.peer_lock.specs.declared.errors.PeerError.TheVariants.{NeedsNumber};
 ghost use Rattle.peer_lock.specs.declared.steps.TickReport.{TickReport};
 ghost use Rattle.seq_window.specs.Network.{Datagram as Sending, Side};
 
@@ -49,6 +51,12 @@ pub fn media_is_the_datagrams()
 {
     leg_machine::laws::media_is_the_frames();
 }
+
+/// A NEW needs a number, so that it opens a leg, only with a call token of its peer's endpoint, if the peer is asked for tokens.
+pub fn calls_bear_tokens()
+    ensures { (peer : PeerView) (frame : FullFrame) (now : ℕ) (tokens : CallTokens) → peer.rules.call_tokens ≡ Some tokens →
+        full_refused peer frame now ≡ Some NeedsNumber → BearsToken tokens now frame }
+{}
 
 /// Seen by the legs' names, their stages, whether they are doomed, whether they owe and what is handed up, each step of a peer,
 /// and each taking out of a leg, is one that callers at once reckon with. The steps are those of the calls' own clauses.

@@ -1,6 +1,5 @@
 //! What the calls of a peer answer.
 ghost use Rattle.std.specs.Prelude.{◌≡◌};
-ghost use Rattle.peer_lock.specs.Delivery.{rejection_cause};
 ghost use Rattle.peer_lock.specs.Statuses.{status_of};
 
 use call_book::LegName;
@@ -9,26 +8,19 @@ use leg_machine::{Cause, Failure, Format, Judged, Stage};
 use peer_legs::NamedLeg;
 use seq_window::Record;
 
-/// What a step rejects by its answer, in which plan format 4 says why.
+/// What a step reports of a datagram that came to be turned away.
 #[derive(Clone, Copy, Debug, PartialEq, Eq)]
 pub enum Rejection {
-    /// A NEW that finds no free number, by REJECT ("REJECT").
+    /// A NEW that finds no free number, by REJECT ("REJECT"), in plan format 4.
     NoNumber,
-    /// A REGREQ or a REGREL, by REGREJ ("REGREJ").
+    /// A REGREQ or a REGREL, by REGREJ ("REGREJ"), in plan format 4.
     Registration,
-}
-
-impl Rejection {
-    // Why it is rejected.
-    pub(crate) fn cause(self) -> Cause
-        ensures { result ≡ rejection_cause self }
-    {
-        match self {
-            Rejection::NoNumber => Cause::Congestion,
-            // Facility rejected.
-            Rejection::Registration => Cause::Other(29),
-        }
-    }
+    /// A NEW that asks for a call token, by CALLTOKEN (chan_iax2's; RFC 5456 has none). Its sender is to send it again, with the
+    /// token.
+    CallToken,
+    /// An AUTHREQ whose challenge begins as this exchange's own do ("AUTHREQ"). A leg hangs up in plan format 4, and answers in the
+    /// formats before it.
+    Reflection,
 }
 
 /// How a step went, beside what it handed up.
@@ -38,7 +30,7 @@ pub struct Step {
     pub judged: Judged,
     /// The leg concerned; none of a mini, video or trunk frame, and none where the answer belongs to no call.
     pub touched: Option<LegName>,
-    /// What the answer rejects, if it does.
+    /// What it reports beside that, if anything.
     pub rejected: Option<Rejection>,
 }
 

@@ -1,27 +1,38 @@
-//! What answers a full frame that belongs to no call ("IAX Frames": INVAL; "POKE", "REJECT", "REGREJ").
+//! What answers a full frame that belongs to no call ("IAX Frames": INVAL; "POKE", "REJECT", "REGREJ"; CALLTOKEN of chan_iax2).
 ghost use Rattle.std.specs.Prelude.{◌≡◌, ◌≢◌, Some, IfOk, IfErr, OnOk, OnErr};
 ghost use Rattle.peer_accounts.specs.Accounts.{with_step as with_credit};
 ghost use Rattle.peer_lock.specs.Arrivals.{answering};
-ghost use Rattle.peer_lock.specs.Delivery.{answer_data, delivery_refused, unknown_call, Gets};
+ghost use Rattle.peer_lock.specs.Delivery.{answer_data, delivery_refused, newcomer, unknown_call, Gets};
 ghost use Rattle.peer_lock.specs.Delivery as answers;
 ghost use Rattle.peer_lock.specs.declared.unknown_calls.Answer.{Answer as AnswerValue};
 
 use crate::errors::PeerError;
 use crate::state::PeerState;
 use crate::steps::{Rejection, Step};
+use call_auth::CallTokens;
 use call_signals::codes::{
-    FRAME_IAX, IAX_INVAL, IAX_PONG, IAX_REGREJ, IAX_REGREL, IAX_REGREQ, IAX_REJECT,
+    FRAME_IAX, IAX_CALLTOKEN, IAX_INVAL, IAX_PONG, IAX_REGREJ, IAX_REGREL, IAX_REGREQ, IAX_REJECT,
 };
 use call_signals::reply_elements::append_cause;
 use iax_frames::{CallNumber, Full, FullHead, Payload, write_full};
-use leg_machine::{Judged, Message, PeerRules};
+use info_elements::{CALLTOKEN, append_to, last_in};
+use leg_machine::{Cause, Judged, Message, PeerRules};
 use peer_accounts::{Naming, Pass};
 
-/// What answers a frame that belongs to no call: a head, and the cause as its data where it rejects something.
+/// What the data of an answer says.
+#[derive(Clone, Copy)]
+pub(crate) enum AnswerData {
+    Nothing,
+    Why(Cause),
+    Token([u8; 32]),
+}
+
+/// What answers a frame that belongs to no call, and what it turns away by that.
 #[derive(Clone, Copy)]
 pub(crate) struct Answer {
     pub(crate) head: FullHead,
     pub(crate) rejected: Option<Rejection>,
+    pub(crate) says: AnswerData,
 }
 
 fn is_new(message: &Message) -> bool
@@ -61,6 +72,7 @@ fn inval_for(frame: &Full) -> Answer
     Answer {
         head,
         rejected: None,
+        says: AnswerData::Nothing,
     }
 }
 
@@ -87,6 +99,7 @@ fn pong_for(frame: &Full) -> Answer
     Answer {
         head: answer_head(frame, IAX_PONG),
         rejected: None,
+        says: AnswerData::Nothing,
     }
 }
 
@@ -97,6 +110,7 @@ pub(crate) fn reject_for(frame: &Full) -> Answer
     Answer {
         head: answer_head(frame, IAX_REJECT),
         rejected: Some(Rejection::NoNumber),
+        says: AnswerData::Why(Cause::Congestion),
     }
 }
 
@@ -107,18 +121,53 @@ fn regrej_for(frame: &Full) -> Answer
     Answer {
         head: answer_head(frame, IAX_REGREJ),
         rejected: Some(Rejection::Registration),
+        // Facility rejected, by Q.850.
+        says: AnswerData::Why(Cause::Other(29)),
+    }
+}
+
+// CALLTOKEN to a NEW that asks for a call token.
+fn token_for(frame: &Full, tokens: &CallTokens, now: u64) -> Answer
+    ensures { result ≡ answers.token_for tokens.now frame.now.head now }
+{
+    let digits = tokens.token_at(now);
+    Answer {
+        head: answer_head(frame, IAX_CALLTOKEN),
+        rejected: Some(Rejection::CallToken),
+        says: AnswerData::Token(digits),
+    }
+}
+
+// What becomes of a NEW that no leg has, by its call token.
+fn answer_to_new(frame: &Full, rules: &PeerRules, now: u64) -> Result<Answer, PeerError>
+    ensures answer { IfOk result (λ answer. newcomer rules.now.call_tokens frame.now now ≡ Gets answer) }
+    ensures refused { IfErr result (λ e. Some e ≡ delivery_refused (newcomer rules.now.call_tokens frame.now now)) }
+{
+    let Some(tokens) = &rules.call_tokens else {
+        return Err(PeerError::NeedsNumber);
+    };
+    let Some(token) = last_in(frame.payload(), CALLTOKEN) else {
+        return Err(PeerError::NoToken);
+    };
+    if token.is_empty() {
+        return Ok(token_for(frame, tokens, now));
+    }
+    if tokens.accepts(now, token) {
+        Err(PeerError::NeedsNumber)
+    } else {
+        Err(PeerError::NoToken)
     }
 }
 
 // What answers a frame which no leg has, by the rules of the peer.
-fn answer_to(frame: &Full, rules: &PeerRules) -> Result<Answer, PeerError>
-    ensures answer { IfOk result (λ answer. unknown_call rules.now frame.now ≡ Gets answer) }
-    ensures refused { IfErr result (λ e. Some e ≡ delivery_refused (unknown_call rules.now frame.now)) }
+fn answer_to(frame: &Full, rules: &PeerRules, now: u64) -> Result<Answer, PeerError>
+    ensures answer { IfOk result (λ answer. unknown_call rules.now frame.now now ≡ Gets answer) }
+    ensures refused { IfErr result (λ e. Some e ≡ delivery_refused (unknown_call rules.now frame.now now)) }
 {
     let message = Message::of(frame);
     if frame.destination().get() == 0 {
         if is_new(&message) && frame.oseqno() == 0 {
-            return Err(PeerError::NeedsNumber);
+            return answer_to_new(frame, rules, now);
         }
         if rules.poke && is_poke(&message) {
             return Ok(pong_for(frame));
@@ -135,12 +184,14 @@ fn answer_to(frame: &Full, rules: &PeerRules) -> Result<Answer, PeerError>
 }
 
 // The data of an answer.
-fn answer_data(rejected: Option<Rejection>) -> Payload
-    ensures { result ≡ answer_data rejected }
+fn answer_data(says: AnswerData) -> Payload
+    ensures { result ≡ answer_data says }
 {
     let mut data = Payload::empty();
-    if let Some(rejection) = rejected {
-        append_cause(&mut data, rejection.cause());
+    match says {
+        AnswerData::Nothing => {}
+        AnswerData::Why(cause) => append_cause(&mut data, cause),
+        AnswerData::Token(digits) => append_to(&mut data, CALLTOKEN, &digits),
     }
     data
 }
@@ -153,7 +204,7 @@ impl<J: Naming> PeerState<J> {
         ensures step { result ≡ (answering self.old answer.now).step }
         ensures credit { pass.new ≡ with_credit pass.old 0 }
     {
-        let data = answer_data(answer.rejected);
+        let data = answer_data(answer.says);
         match write_full(&answer.head, data.as_slice()) {
             Ok(out) => self.outbox.put(&out),
             Err(_) => unreachable!(),
@@ -171,18 +222,19 @@ impl<J: Naming> PeerState<J> {
         &mut self,
         pass: &mut Pass<J>,
         frame: &Full,
+        now: u64,
     ) -> Result<Step, PeerError>
         requires { self.old.accounts.steps ≢ J.first_steps }
-        ensures peer { OnOk result ((answer : AnswerValue) → unknown_call self.old.rules frame.now ≡ Gets answer →
+        ensures peer { OnOk result ((answer : AnswerValue) → unknown_call self.old.rules frame.now now ≡ Gets answer →
             self.new ≡ (answering self.old answer).peer) }
-        ensures answer { OnOk result ((answer : AnswerValue) × (unknown_call self.old.rules frame.now ≡ Gets answer)) }
-        ensures step { IfOk result (λ step. (answer : AnswerValue) → unknown_call self.old.rules frame.now ≡ Gets answer →
+        ensures answer { OnOk result ((answer : AnswerValue) × (unknown_call self.old.rules frame.now now ≡ Gets answer)) }
+        ensures step { IfOk result (λ step. (answer : AnswerValue) → unknown_call self.old.rules frame.now now ≡ Gets answer →
             step ≡ (answering self.old answer).step) }
         ensures credit { OnOk result (pass.new ≡ with_credit pass.old 0) }
-        ensures refused { IfErr result (λ e. Some e ≡ delivery_refused (unknown_call self.old.rules frame.now)) }
+        ensures refused { IfErr result (λ e. Some e ≡ delivery_refused (unknown_call self.old.rules frame.now now)) }
         ensures err { OnErr result ((self.new ≡ self.old) × (pass.new ≡ pass.old)) }
     {
-        let answer = answer_to(frame, &self.rules)?;
+        let answer = answer_to(frame, &self.rules, now)?;
         Ok(self.answer_alone(pass, &answer))
     }
 }

@@ -8,4 +8,4 @@ mod ReadingLaws
 mod PlanLaws
 pub mod EndpointLaws
 mod PeerLaws
-mod Prefixed
+mod DrawnPlans

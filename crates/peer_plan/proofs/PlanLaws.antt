@@ -26,7 +26,7 @@ use Rattle.peer_plan.specs.declared.route.Route.{Route}
 use Rattle.peer_plan.specs.Keys.{key_name}
 use Rattle.peer_plan.specs.Fields.{◌>>=◌, number_of, text_of, value, value_at, each, list_in}
 use Rattle.peer_plan.specs.Plan.{IsPlan, IsPeer, IsRoute, AreApart, is_name, is_prefix, counts_of}
-use Rattle.peer_plan.specs.Reading.{default_record_limit, record_octets_in, vnak_ms_in, trunk_ms_in, challenge_ms_in, limits_in, address_in, endpoint_in, workers_in, passes_in, is_credential, credential_in, has_secret, outbound_secret_in, credentials_in, formats_in, media_in, window_in, poke_in, rules_from, peer_in, has_double, is_named, is_endpoint, has_same_name, has_same_endpoint, told_apart, peers_in, peer_named, source_at, source_in, has_way, new_route, route_in, routes_in}
+use Rattle.peer_plan.specs.Reading.{default_record_limit, record_octets_in, vnak_ms_in, trunk_ms_in, challenge_ms_in, limits_in, address_in, endpoint_in, workers_in, passes_in, is_credential, credential_in, has_secret, outbound_secret_in, credentials_in, formats_in, media_in, window_in, poke_in, call_tokens_in, rules_from, peer_in, has_double, is_named, is_endpoint, has_same_name, has_same_endpoint, told_apart, peers_in, peer_named, source_at, source_in, has_way, new_route, route_in, routes_in}
 use Rattle.call_book.proofs.RangeLaws.{ranges_apart, total_within}
 use Rattle.peer_plan.proofs.FormatLaws.{formats_some}
 use Rattle.peer_plan.proofs.ReadingLaws.{bound, found_in, value_is, number_within, text_fits, default_within, missing, each_keeps, each_len, list_within}
@@ -216,7 +216,8 @@ peer_sound format workers limits ms peer some limited h =
     let f = bound (value ms key.Numbers (Ok 64) (number_of 1 512)) _ peer e.2 in
     let g = bound (window_in format ms) _ peer f.2 in
     let i = bound (poke_in format ms) _ peer g.2 in
-    let is : record { name = a.0; endpoint = b.0; worker = c.0; rules = rules_from format limits d.0 e.0 g.0 i.0; numbers = f.0 } ≡ peer = ap (value_or peer) i.2 in
+    let j = bound (call_tokens_in format b.0 ms) _ peer i.2 in
+    let is : record { name = a.0; endpoint = b.0; worker = c.0; rules = rules_from format limits d.0 e.0 g.0 i.0 j.0; numbers = f.0 } ≡ peer = ap (value_or peer) j.2 in
     let place = number_there ms key.Worker 0 (workers - 1) c.0 c.1 in
     let secrets = secrets_of_user format ms d.0 d.1 in
     subst (IsPeer workers) is (record {

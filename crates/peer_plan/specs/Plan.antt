@@ -1,11 +1,13 @@
 -- What a plan is: workers, passes, peers with their numbers, and routes.
 use Rattle.std.specs.Prelude.{◌≡◌, ◌≢◌, ◌≤◌, ◌<◌, ℕ, ◌+◌, ◌*◌, List, length, map, Bool, true, ◌&&◌, ◌||◌}
 use Rattle.std.specs.Prelude.{nat_le, nat_lt, nat_eq, Option, Some, None, is_some, if◌then◌else◌, ◌==◌, slice_index, All}
-use Rattle.std.specs.Prelude.{Contains, IfSome}
+use Rattle.std.specs.Prelude.{Contains, IfSome, option_map}
 use Rattle.std.specs.Char.{is_ascii_alphanumeric}
 use Rattle.std.specs.List.{list_all, starts_with, AllPairs}
 pub use Rattle.call_book.specs.Ranges.{first_number, total_of}
+use Rattle.call_auth.specs.declared.call_token.CallTokens.{CallTokens}
 use Rattle.call_signals.specs.PeerRules.{IsPeerRules, IsWithin}
+use Rattle.peer_plan.specs.declared.drawn.Drawn.{Drawn}
 use Rattle.peer_plan.specs.declared.endpoint.Endpoint.{Endpoint}
 use Rattle.peer_plan.specs.declared.peer.Peer.{Peer}
 use Rattle.peer_plan.specs.declared.route.Route.{Route}
@@ -34,9 +36,19 @@ is_visible octet = nat_le 0x21 octet && nat_le octet 0x7e
 abbrev pub is_prefix : List ℕ → Bool
 is_prefix text = nat_le (length text) 32 && list_all is_visible text
 
--- the peer, where the challenges of the exchange begin so
-abbrev pub with_prefix : List ℕ → Peer → Peer
-with_prefix prefix peer = record peer { rules = record peer.rules { challenge_prefix = Some prefix } }
+-- call tokens of this key
+abbrev pub with_key : List ℕ → CallTokens → CallTokens
+with_key key tokens = record tokens { key = key }
+
+-- the peer of an exchange that drew these when it was opened
+abbrev pub with_drawn : Drawn → Peer → Peer
+with_drawn drawn peer =
+    record peer {
+      rules = record peer.rules {
+        challenge_prefix = drawn.challenge_prefix;
+        call_tokens = option_map (with_key drawn.token_key) peer.rules.call_tokens;
+      };
+    }
 
 -- ---- numbers
 

@@ -1,11 +1,12 @@
 -- How a plan is read from a document: the keys in their order, with the first fault.
 use Rattle.std.specs.Prelude.{ℕ, ◌-◌, List, [], ◌∷◌, length, Option, Some, None, Result, Ok, Err, Bool, true, false, is_some}
-use Rattle.std.specs.Prelude.{pos, nat_le, nat_eq, ◌==◌, ◌&&◌, ◌||◌, if◌then◌else◌, ok_or, option_map, option_and_then, position}
+use Rattle.std.specs.Prelude.{pos, nat_le, nat_eq, ◌==◌, ◌&&◌, ◌||◌, if◌then◌else◌, ok_or, option_map, option_and_then, position, replicate}
 use Rattle.std.specs.List.{list_all, list_any}
 use Rattle.std.specs.Option.{option_eq}
 use Rattle.std.specs.Str.{is_utf8, bytes_eq}
 use Rattle.toml.specs.Data.{Data, integer, Items, no_items, item, Members, get_member, as_array, as_bool, as_str}
 use Rattle.toml.specs.Parse.{parse_document}
+use Rattle.call_auth.specs.declared.call_token.CallTokens.{CallTokens}
 use Rattle.call_signals.specs.Credential.{is_printable}
 use Rattle.call_signals.specs.declared.format.Format.TheVariants.{Gsm, Ulaw, Alaw}
 use Rattle.call_signals.specs.declared.format.Formats.{Formats}
@@ -164,15 +165,26 @@ window_in format ms = if nat_le 2 format then value ms key.Window (Ok 64) (numbe
 abbrev pub poke_in : ℕ → Members → Result Bool PlanError
 poke_in format ms = if format == 4 then value ms key.Poke (Ok true) as_bool else Ok false
 
+-- what the call tokens of an endpoint are made of, where they are asked for
+abbrev pub tokens_if : Bool → Endpoint → Option CallTokens
+tokens_if true endpoint = Some (record { key = replicate 32 0; address = endpoint.address; port = endpoint.port })
+tokens_if false endpoint = None
+
+-- `call_token`, in format 4 alone. The key isn't a plan's to say: it is drawn when the exchange is opened.
+abbrev pub call_tokens_in : ℕ → Endpoint → Members → Result (Option CallTokens) PlanError
+call_tokens_in format endpoint ms =
+    if format == 4 then (value ms key.CallToken (Ok false) as_bool >>= λ asked. Ok (tokens_if asked endpoint)) else Ok None
+
 -- In format 4 alone who calls and why a call ended are carried on, a call's format is chosen as it is routed, and legs are
 -- hardened. What challenges begin with isn't a plan's to say: it is drawn when the exchange is opened.
-abbrev pub rules_from : ℕ → Limits → Credentials → Media → ℕ → Bool → PeerRules
-rules_from format limits credentials media window poke =
+abbrev pub rules_from : ℕ → Limits → Credentials → Media → ℕ → Bool → Option CallTokens → PeerRules
+rules_from format limits credentials media window poke call_tokens =
     record {
       user = credentials.user;
       secret = credentials.secret;
       outbound_secret = credentials.outbound_secret;
       challenge_prefix = None;
+      call_tokens = call_tokens;
       challenge_ms = limits.challenge_ms;
       formats = media.formats;
       trunk = media.trunk;
@@ -202,11 +214,12 @@ peer_in format limits workers ms = do
   numbers ← value ms key.Numbers (Ok 64) (number_of 1 512)
   window ← window_in format ms
   poke ← poke_in format ms
+  call_tokens ← call_tokens_in format endpoint ms
   Ok (record {
     name = name;
     endpoint = endpoint;
     worker = worker;
-    rules = rules_from format limits credentials media window poke;
+    rules = rules_from format limits credentials media window poke call_tokens;
     numbers = numbers;
   })
 

@@ -42,6 +42,7 @@ pub enum Key {
     Numbers,
     Window,
     Poke,
+    CallToken,
     /// The list of routes.
     Route,
     Prefix,
@@ -80,6 +81,7 @@ impl Key {
             Key::Numbers => "numbers",
             Key::Window => "window",
             Key::Poke => "poke",
+            Key::CallToken => "call_token",
             Key::Route => "route",
             Key::Prefix => "prefix",
             Key::Source => "source",
@@ -122,7 +124,7 @@ const PEER_KEYS: [Key; 10] = [
     Key::Numbers,
 ];
 
-const PEER_KEYS_OF_FORMAT_4: [Key; 2] = [Key::OutboundSecret, Key::Poke];
+const PEER_KEYS_OF_FORMAT_4: [Key; 3] = [Key::OutboundSecret, Key::Poke, Key::CallToken];
 
 const ROUTE_KEYS: [Key; 2] = [Key::Prefix, Key::Peer];
 

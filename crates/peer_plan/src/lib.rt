@@ -2,6 +2,7 @@
 #![tactic(auto)]
 
 mod address;
+mod drawn;
 mod endpoint;
 mod error;
 mod format_names;
@@ -16,6 +17,7 @@ mod route;
 mod routing;
 mod short_text;
 
+pub use drawn::Drawn;
 pub use endpoint::Endpoint;
 pub use error::PlanError;
 pub use format_names::format_name;

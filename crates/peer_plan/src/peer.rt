@@ -1,6 +1,11 @@
 //! A peer of a plan.
+ghost use Rattle.std.specs.Prelude.{◌≡◌, option_map};
+ghost use Rattle.peer_plan.specs.Plan.{with_drawn, with_key};
+
+use crate::drawn::Drawn;
 use crate::endpoint::Endpoint;
 use crate::short_text::ShortText;
+use call_auth::CallTokens;
 use call_signals::{Credential, Formats, PeerRules};
 
 // What a plan says of one peer.
@@ -13,6 +18,33 @@ pub(crate) struct Peer {
     pub(crate) rules: PeerRules,
     // How many call numbers it has: 1 ..= 512.
     pub(crate) numbers: u16,
+}
+
+// The same tokens, of this key.
+fn with_key(key: &[u8; 32], tokens: Option<CallTokens>) -> Option<CallTokens>
+    ensures { result ≡ option_map (with_key key.now) tokens }
+{
+    match tokens {
+        Some(tokens) => {
+            let (key, address) = (*key, tokens.address);
+            Some(CallTokens {
+                key,
+                address,
+                port: tokens.port,
+            })
+        }
+        None => None,
+    }
+}
+
+impl Peer {
+    // Takes what the exchange drew.
+    pub(crate) fn take_drawn(&mut self, drawn: &Drawn)
+        ensures { self.new ≡ with_drawn drawn.now self.old }
+    {
+        self.rules.challenge_prefix = drawn.prefix();
+        self.rules.call_tokens = with_key(&drawn.token_key, self.rules.call_tokens);
+    }
 }
 
 // What the legs of all peers go by.

@@ -4,9 +4,10 @@ ghost use Rattle.std.specs.Prelude.{option_and_then, position, slice_get};
 ghost use Rattle.call_signals.specs.PeerRules.{IsPeerRules, IsWithin};
 ghost use Rattle.toml.specs.View.{table_view};
 ghost use Rattle.peer_plan.specs.Fields.{Gives};
-ghost use Rattle.peer_plan.specs.Plan.{IsPlan, IsNearest, fits, range_of, counts_of, total_of, with_prefix};
+ghost use Rattle.peer_plan.specs.Plan.{IsPlan, IsNearest, fits, range_of, counts_of, total_of, with_drawn};
 ghost use Rattle.peer_plan.specs.Reading.{is_endpoint, plan_in, plan_of};
 
+use crate::drawn::Drawn;
 use crate::endpoint::Endpoint;
 use crate::error::PlanError;
 use crate::number_range::NumberRange;
@@ -14,7 +15,7 @@ use crate::peer::Peer;
 use crate::reading;
 use crate::route::Route;
 use crate::routing::nearest;
-use call_auth::Challenge;
+use call_auth::{CallTokens, Challenge};
 use call_signals::PeerRules;
 use std::alloc::{AllocError, Global};
 use std::marker::Model;
@@ -118,9 +119,10 @@ impl Plan {
         }
     }
 
-    /// The same plan, in which the challenges of the exchange begin with this prefix. A hardened leg doesn't answer such a challenge.
-    pub fn with_challenge_prefix(self, prefix: &Challenge) -> Plan
-        ensures { result ≡ record self { peers = map (with_prefix prefix.now) self.peers } }
+    /// The same plan, of an exchange that drew these when it was opened. A hardened leg doesn't answer a challenge that begins with
+    /// the prefix. A peer that is asked for call tokens is given those of the key.
+    pub fn with_drawn(self, drawn: &Drawn) -> Plan
+        ensures { result ≡ record self { peers = map (with_drawn drawn.now) self.peers } }
     {
         let Plan {
             workers,
@@ -131,7 +133,7 @@ impl Plan {
             routes,
         } = self;
         for peer in peers.iter_mut() {
-            peer.rules.challenge_prefix = Some(prefix.copied());
+            peer.take_drawn(drawn);
         }
         Plan {
             workers,
@@ -152,6 +154,14 @@ impl Plan {
             Some(peer) => peer.rules.challenge_prefix.as_ref(),
             None => None,
         }
+    }
+
+    /// What the call tokens of a peer are made of, if it is asked for them.
+    pub fn call_tokens(&self, peer: u16) -> Option<CallTokens>
+        requires { peer < length self.now.peers }
+        ensures { option_map (λ peer. peer.rules.call_tokens) (slice_get self.now.peers peer) ≡ Some result }
+    {
+        self.peers[usize::from(peer)].rules.call_tokens
     }
 
     /// How many peers there are, 1 to 32.

@@ -48,6 +48,12 @@ fn minutes(record_limit: u32, record_octets: Option<u32>, ping_ms: u64) -> u64
     u64::from(entries_of_talk(record_limit, record_octets)) * 60 / entries_an_hour(ping_ms)
 }
 
+/// After how many minutes the record of a leg that only talks ends its call.
+pub fn minutes_of_talk(plan: &Plan) -> u64 {
+    let rules = limits_of(plan);
+    minutes(rules.record_limit, rules.record_octets, rules.ping_ms)
+}
+
 // How many octets of data a full record has when each of its frames has so many, unless it may have fewer.
 fn data_octets(record_limit: u32, record_octets: Option<u32>, octets: u16) -> u64
     requires { record_limit ≤ 65536 }

@@ -7,4 +7,5 @@ mod unknown_keys;
 mod values;
 mod warnings;
 
+pub use estimates::minutes_of_talk;
 pub use explaining::explain;

@@ -180,6 +180,19 @@ fn write_numbers(plan: &Plan, peer: u16, table: &Table, report: &mut TextBuffer)
     report.counted(u64::from(range.first + range.count - 1), "\n");
 }
 
+// Where a worker's peers send to. The address 0.0.0.0 stands for each one of the machine.
+fn write_target(endpoint: Endpoint, report: &mut TextBuffer) {
+    if endpoint.address == [0, 0, 0, 0] {
+        report.labelled(
+            "any address of this machine, port ",
+            u64::from(endpoint.port),
+        );
+        report.text("\n");
+    } else {
+        write_endpoint(endpoint, "\n", report);
+    }
+}
+
 fn write_peer(plan: &Plan, peer: u16, table: &Table, format: u64, report: &mut TextBuffer)
     requires { peer < length plan.now.peers }
 {
@@ -189,13 +202,14 @@ fn write_peer(plan: &Plan, peer: u16, table: &Table, format: u64, report: &mut T
     write_endpoint(plan.endpoint(peer), "\n  worker ", report);
     let worker = plan.worker(peer);
     report.counted(u64::from(worker), ": it sends to ");
-    write_endpoint(plan.workers()[usize::from(worker)], "\n", report);
+    write_target(plan.workers()[usize::from(worker)], report);
     let rules = plan.rules(peer);
     write_credentials(rules, table, format, report);
     write_media(rules, table, report);
     write_window(rules.window, table, format, report);
     if format == 4 {
         write_flag(table, Key::Poke, rules.poke, report);
+        write_flag(table, Key::CallToken, rules.call_tokens.is_some(), report);
     }
     write_numbers(plan, peer, table, report);
 }

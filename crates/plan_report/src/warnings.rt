@@ -43,27 +43,12 @@ fn is_open_to(plan: &Plan, route: usize, caller: u16) -> bool
     }
 }
 
-// Whether each number of a route leads calls of a peer elsewhere, by a route of the same prefix that is for this peer's alone.
-fn is_passed_over(plan: &Plan, route: usize, caller: u16) -> bool
-    requires { route < length plan.now.routes }
-{
-    if plan.source(route).is_some() {
-        return false;
-    }
-    for other in 0..plan.route_count() {
-        if plan.source(other) == Some(caller) && plan.prefix(other) == plan.prefix(route) {
-            return true;
-        }
-    }
-    false
-}
-
-// Unless a route has a source, the peer that it leads to reaches itself.
+// A route whose source is the peer that it leads to: that peer reaches itself.
 fn warn_of_return(plan: &Plan, route: usize, report: &mut TextBuffer)
     requires { route < length plan.now.routes }
 {
     let peer = plan.target(route);
-    if !is_open_to(plan, route, peer) || is_passed_over(plan, route, peer) {
+    if plan.source(route) != Some(peer) {
         return;
     }
     let target = plan.name(peer);

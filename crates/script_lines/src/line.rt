@@ -16,6 +16,8 @@ pub enum Line<'a> {
     Challenge(&'a [u8]),
     /// `prefix <text>`: what the challenges of this exchange begin with. Only empty lines and comments are before it.
     Prefix(&'a [u8]),
+    /// `key <hex>`: what call tokens of this exchange are made with. Only empty lines, comments and `prefix` are before it.
+    Key(&'a [u8]),
     /// `rx <peer> <hex>`: a datagram comes from a peer.
     Rx(&'a [u8], &'a [u8]),
     /// `stranger <address:port> <hex>`: a datagram comes from an endpoint that no peer has.
@@ -70,6 +72,7 @@ enum Command {
     Back,
     Challenge,
     Prefix,
+    Key,
     Rx,
     Stranger,
     Call,
@@ -81,11 +84,12 @@ enum Command {
     Settle,
 }
 
-const COMMANDS: [(&[u8], Command); 13] = [
+const COMMANDS: [(&[u8], Command); 14] = [
     (b"at", Command::At),
     (b"back", Command::Back),
     (b"challenge", Command::Challenge),
     (b"prefix", Command::Prefix),
+    (b"key", Command::Key),
     (b"rx", Command::Rx),
     (b"stranger", Command::Stranger),
     (b"call", Command::Call),
@@ -122,6 +126,7 @@ fn said_by_two<'a>(command: Command, word: &'a [u8]) -> Option<Line<'a>> {
     match command {
         Command::Challenge => return Some(Line::Challenge(word)),
         Command::Prefix => return Some(Line::Prefix(word)),
+        Command::Key => return Some(Line::Key(word)),
         Command::Tick => return Some(Line::TickOf(word)),
         Command::Send => return Some(Line::SendTo(word)),
         _ => {}

@@ -12,7 +12,7 @@ use exchange_core::{CallError, Exchange, NoGate, Pass};
 use exchange_report::{PeerLosses, call_error_name, count_legs, losses_of, peer_named};
 use peer_lock::Naming;
 use peer_plan::{Endpoint, Plan};
-use service_watch::ServiceWatch;
+use service_watch::{AUTH_FAILURES, ServiceWatch};
 use std::alloc::{AllocError, Global};
 use std::sync::Wait;
 use trace_writer::TraceLane;
@@ -279,6 +279,15 @@ struct Counted {
     losses: PeerLosses,
 }
 
+// How many calls of a peer failed to authenticate, modulo 2^64.
+fn unauthenticated(watch: &ServiceWatch, peer: u16) -> u64 {
+    let mut count: u64 = 0;
+    for failure in &AUTH_FAILURES {
+        count = count.wrapping_add(watch.unauthenticated(peer, *failure));
+    }
+    count
+}
+
 // A peer as it is shown, behind the others.
 fn push_peer(
     alloc: Global,
@@ -310,6 +319,7 @@ fn push_peer(
             lost: marks.lost,
             outbox_lost: counted.losses.frames(),
             queue_dropped: counted.losses.queue,
+            auth_failed: unauthenticated(watch, peer),
         },
     )
 }

@@ -1,6 +1,7 @@
 //! What clients ask of a service: the exchange with a pass of its own, its legs, peers and accounts, and the metrics.
 #![tactic(auto)]
 
+mod authentications;
 mod desk;
 mod drain;
 mod legs;

@@ -1,5 +1,6 @@
-//! The metrics of what answers to datagrams rejected.
+//! The metrics of datagrams that came to be turned away.
 use crate::scraping::{Told, push_family};
+use exchange_core::Rejection;
 use exchange_report::rejection_name;
 use peer_plan::Plan;
 use service_report::{Kind, Label, Labels, Metrics, Sample};
@@ -9,21 +10,25 @@ use std::alloc::{AllocError, Global};
 const REJECTED: Told = Told {
     kind: Kind::Counter,
     name: "iax_datagrams_rejected_total",
-    help: "Datagrams of the peer that asked for a call or a registration and were rejected, by the name of the rejection.",
+    help: "Datagrams of the peer that came to be turned away, by name. Plan formats 1 and 2 answer a Reflection.",
 };
 
-// What answers to a peer rejected, by name.
+// What was counted of a peer, by name. Formats 1 and 2 turn nothing away: there only challenges that were sent back are counted.
 fn push_rejections_of<'x>(
     samples: &mut Vec<Sample<'x>>,
     watch: &ServiceWatch,
     peer: u16,
     name: &'x str,
+    is_hardened: bool,
 ) -> Result<(), AllocError> {
     let of_peer = Label {
         name: "peer",
         value: name,
     };
     for rejection in &REJECTIONS {
+        if !is_hardened && *rejection != Rejection::Reflection {
+            continue;
+        }
         let of_rejection = Label {
             name: "rejection",
             value: rejection_name(*rejection),
@@ -35,7 +40,7 @@ fn push_rejections_of<'x>(
     Ok(())
 }
 
-// What answers rejected. In plan formats 1 and 2 no answer does, and there is no such family.
+// What came to be turned away, at each peer.
 pub(crate) fn push_rejections(
     alloc: Global,
     metrics: &mut Metrics,
@@ -44,12 +49,8 @@ pub(crate) fn push_rejections(
 ) -> Result<(), AllocError> {
     let mut samples = Vec::new(alloc);
     for peer in 0..plan.peer_count() {
-        if plan.rules(peer).is_hardened {
-            push_rejections_of(&mut samples, watch, peer, plan.name(peer))?;
-        }
-    }
-    if samples.is_empty() {
-        return Ok(());
+        let is_hardened = plan.rules(peer).is_hardened;
+        push_rejections_of(&mut samples, watch, peer, plan.name(peer), is_hardened)?;
     }
     push_family(alloc, metrics, &REJECTED, &samples)
 }

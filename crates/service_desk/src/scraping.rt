@@ -1,6 +1,7 @@
 //! The metrics of a service, as they are now.
 ghost use Rattle.std.specs.Prelude.{◌<◌, length};
 
+use crate::authentications::push_failures;
 use crate::desk::Desk;
 use crate::lost_frames::push_losses;
 use crate::rejections::push_rejections;
@@ -325,6 +326,7 @@ fn push_all<J: Naming, R: Wait>(
     push_peers(rt, alloc, metrics, exchange, &mut desk.pass, watch, now)?;
     push_refusals(alloc, metrics, exchange.plan(), watch)?;
     push_rejections(alloc, metrics, exchange.plan(), watch)?;
+    push_failures(alloc, metrics, exchange.plan(), watch)?;
     push_losses(rt, alloc, metrics, exchange, &mut desk.pass)?;
     push_all_totals(alloc, metrics, watch)?;
     push_drops(table, alloc, metrics, exchange.plan())

@@ -2,6 +2,7 @@
 #![tactic(auto)]
 
 mod calls_told;
+mod ends_told;
 mod lines;
 mod peer_told;
 mod start_told;
@@ -11,5 +12,6 @@ mod trace_told;
 mod writer_told;
 
 pub use calls_told::tell_end;
+pub use ends_told::{CallLines, ShownNumbers};
 pub use start_told::tell_start;
 pub use telling::Told;

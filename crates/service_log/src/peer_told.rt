@@ -1,10 +1,23 @@
 //! What the log tells of a peer.
 use crate::lines::{more_than, tell, tell_count};
-use exchange_report::{PeerLosses, refusal_name, rejection_name};
+use exchange_core::Rejection;
+use exchange_report::{PeerLosses, refusal_name};
 use log::{Level, Log};
 use service_report::{Hearing, News, news_of};
-use service_watch::{PeerMarksRead, REFUSALS, REJECTIONS, ServiceWatch};
+use service_watch::{
+    AUTH_FAILURES, AuthFailure, PeerMarksRead, REFUSALS, REJECTIONS, ServiceWatch,
+};
 use std::iter;
+
+// What the log has of datagrams that came to be turned away, and how urgent it is: a caller that has no token asks for one.
+fn report_of(rejection: Rejection) -> (Level, &'static str) {
+    match rejection {
+        Rejection::NoNumber => (Level::Warn, "rejected NoNumber"),
+        Rejection::Registration => (Level::Warn, "rejected Registration"),
+        Rejection::CallToken => (Level::Info, "call tokens given on request"),
+        Rejection::Reflection => (Level::Warn, "challenges of this exchange sent back"),
+    }
+}
 
 // What was told of a peer, and what is told of it next.
 #[derive(Clone, Copy)]
@@ -23,6 +36,8 @@ pub(crate) struct PeerTold {
     refused: [u64; REFUSALS.len()],
     // In the order of `REJECTIONS`.
     rejected: [u64; REJECTIONS.len()],
+    // In the order of `AUTH_FAILURES`.
+    unauthenticated: [u64; AUTH_FAILURES.len()],
 }
 
 impl PeerTold {
@@ -40,6 +55,7 @@ impl PeerTold {
             lost_now: PeerLosses::default(),
             refused: [0; REFUSALS.len()],
             rejected: [0; REJECTIONS.len()],
+            unauthenticated: [0; AUTH_FAILURES.len()],
         }
     }
 
@@ -94,6 +110,26 @@ impl PeerTold {
         tell_count(log, Level::Warn, &what, dropped, seconds);
     }
 
+    // How many of its calls failed to authenticate, in a round of so many seconds.
+    fn tell_authentication<L: Log>(
+        &mut self,
+        log: &L,
+        watch: &ServiceWatch,
+        peer: u16,
+        name: &str,
+        seconds: u64,
+    ) {
+        for (told, failure) in iter::zip(self.unauthenticated.iter_mut(), &AUTH_FAILURES) {
+            let failed = more_than(told, watch.unauthenticated(peer, *failure));
+            let why = match failure {
+                AuthFailure::WrongAnswer => "failed",
+                AuthFailure::NoAnswer => "wasn't answered",
+            };
+            let what = format_args!("authentication of {name} {why}");
+            tell_count(log, Level::Warn, &what, failed, seconds);
+        }
+    }
+
     // How many datagrams were refused for each reason, how many were rejected, and how many were turned away, in a round of so many
     // seconds.
     pub(crate) fn tell_refusals<L: Log>(
@@ -112,10 +148,11 @@ impl PeerTold {
         }
         for (told, rejection) in iter::zip(self.rejected.iter_mut(), &REJECTIONS) {
             let rejected = more_than(told, watch.rejected(peer, *rejection));
-            let rejection = rejection_name(*rejection);
-            let what = format_args!("rejected {rejection} from {name}");
-            tell_count(log, Level::Warn, &what, rejected, seconds);
+            let (level, reported) = report_of(*rejection);
+            let what = format_args!("{reported} from {name}");
+            tell_count(log, level, &what, rejected, seconds);
         }
+        self.tell_authentication(log, watch, peer, name, seconds);
         let turned_away = more_than(&mut self.turned_away, watch.marks(peer).turned_away);
         let what = format_args!("turned away from {name}");
         tell_count(log, Level::Info, &what, turned_away, seconds);

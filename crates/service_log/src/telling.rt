@@ -1,16 +1,19 @@
 //! What the log tells of a service, and when.
 ghost use Rattle.std.specs.Prelude.{◌<◌, length};
 
+use crate::ends_told::{CallLines, ShownNumbers, tell_leg};
 use crate::lines::{more_than, tell, tell_count};
 use crate::peer_told::PeerTold;
 use crate::strangers::Strangers;
 use crate::writer_told::WriterTold;
 use call_files::{Fault, Trouble};
-use exchange_report::PeerLosses;
+use call_records::CallRow;
+use exchange_core::Refusal;
+use exchange_report::{PeerLosses, refusal_name};
 use log::{Level, Log, log_enabled};
 use peer_plan::{Endpoint, Plan};
 use service_report::{News, Rounds};
-use service_watch::{DropCount, STRANGERS, ServiceWatch, SocketTable, drop_counts};
+use service_watch::{DropCount, NOTED, STRANGERS, ServiceWatch, SocketTable, Wanted, drop_counts};
 use std::alloc::{AllocError, Global};
 use std::sync::Wait;
 use std::{iter, mem};
@@ -41,8 +44,12 @@ pub struct Told<'s> {
     calls: WriterTold<Trouble>,
     trace: WriterTold<Fault>,
     strangers: Strangers,
-    // A list for the strangers that come.
+    call_lines: CallLines,
+    lost_ends: u64,
+    // Lists for the strangers that come, for what is refused, and for the legs that end.
     spare: Vec<Endpoint>,
+    spare_refusals: Vec<(u16, Refusal)>,
+    spare_ends: Vec<CallRow>,
     legs: Rounds,
     refusals: Rounds,
 }
@@ -102,15 +109,17 @@ fn tell_drops<L: Log>(log: &L, told: &mut [u64], counts: &[DropCount], seconds: 
 impl<'s> Told<'s> {
     /// Nothing was told yet of a service that began at this moment, in milliseconds since the exchange was opened: the service of
     /// this plan with this watch. `calls` is the name of the file of call records, `trace` that of the folder of the trace, where
-    /// these are wanted.
+    /// these are wanted. Of calls it tells what is said.
     ///
     /// `AllocError`: a request for memory was refused.
-    pub fn new(
+    pub fn new<L: Log>(
+        log: &L,
         alloc: Global,
         plan: &'s Plan,
         watch: &'s ServiceWatch,
         calls: Option<&'s str>,
         trace: Option<&'s str>,
+        call_lines: CallLines,
         now: u64,
     ) -> Result<Told<'s>, AllocError> {
         let strangers = Strangers::new(alloc)?;
@@ -126,7 +135,11 @@ impl<'s> Told<'s> {
             calls: WriterTold::new(),
             trace: WriterTold::new(),
             strangers,
+            call_lines,
+            lost_ends: 0,
             spare: Vec::new(alloc),
+            spare_refusals: Vec::new(alloc),
+            spare_ends: Vec::new(alloc),
             legs: Rounds {
                 period: LEGS_MS,
                 since: now,
@@ -136,20 +149,26 @@ impl<'s> Told<'s> {
                 since: now,
             },
         };
-        match told.make_room() {
+        match told.make_room(call_lines.wanted(log)) {
             Ok(()) => Ok(told),
             Err(error) => Err(error),
         }
     }
 
-    // Room for the plan's peers and workers, and for strangers.
-    fn make_room(&mut self) -> Result<(), AllocError> {
+    // Room for the plan's peers and workers, for strangers, and for what is wanted.
+    fn make_room(&mut self, wanted: Wanted) -> Result<(), AllocError> {
         let plan = self.plan;
         for _ in 0..plan.peer_count() {
             self.peers.push(PeerTold::new())?;
         }
         for _ in plan.workers() {
             self.drops.push(0)?;
+        }
+        if wanted.refusals {
+            self.spare_refusals.reserve_exact(NOTED)?;
+        }
+        if wanted.ends {
+            self.spare_ends.reserve_exact(NOTED)?;
         }
         self.spare.reserve_exact(STRANGERS)
     }
@@ -271,6 +290,36 @@ impl<'s> Told<'s> {
         self.spare = seen;
     }
 
+    // Each datagram that was refused, by its peer and the name of the refusal.
+    fn tell_each_refusal<L: Log, R: Wait>(&mut self, rt: &R, log: &L, alloc: Global) {
+        let spare = mem::replace(&mut self.spare_refusals, Vec::new(alloc));
+        let mut refused = self.watch.take_refusals(rt, spare);
+        for (peer, refusal) in &refused {
+            if *peer < self.plan.peer_count() {
+                let (name, refusal) = (self.plan.name(*peer), refusal_name(*refusal));
+                let line = format_args!("refused {refusal} from {name}");
+                tell(log, Level::Debug, &line);
+            }
+        }
+        refused.clear();
+        self.spare_refusals = refused;
+    }
+
+    // Each leg that has ended.
+    fn tell_each_end<L: Log, R: Wait>(&mut self, rt: &R, log: &L, alloc: Global) {
+        let spare = mem::replace(&mut self.spare_ends, Vec::new(alloc));
+        let mut ended = self.watch.take_ends(rt, spare);
+        let (level, numbers) = match self.call_lines.are_told {
+            true => (Level::Info, self.call_lines.numbers),
+            false => (Level::Debug, ShownNumbers::No),
+        };
+        for leg in &ended {
+            tell_leg(log, alloc, self.plan, leg, level, numbers);
+        }
+        ended.clear();
+        self.spare_ends = ended;
+    }
+
     // What was refused and lost, and came from strangers, and failed, in a round of so many milliseconds.
     fn tell_round<L: Log>(&mut self, table: &mut SocketTable, log: &L, alloc: Global, lasted: u64) {
         let (watch, seconds) = (self.watch, lasted / 1000);
@@ -278,6 +327,16 @@ impl<'s> Told<'s> {
         self.strangers.tell(log, watch.strangers(), seconds);
         let faults = more_than(&mut self.faults, watch.faults());
         tell_count(log, Level::Warn, &"faults of the sockets", faults, seconds);
+        if self.call_lines.wanted(log).ends {
+            let lost = more_than(&mut self.lost_ends, watch.lost_ends());
+            tell_count(
+                log,
+                Level::Warn,
+                &"ended legs without a line",
+                lost,
+                seconds,
+            );
+        }
         if let Some(calls) = watch.calls() {
             self.calls
                 .tell_lost(log, "call records lost", calls.state().lost, seconds);
@@ -297,8 +356,8 @@ impl<'s> Told<'s> {
     }
 
     /// Tells the log what is to be told at this moment, in milliseconds since the exchange was opened, once `see_peer` has read
-    /// each peer at that moment: the stage, peers, the files of records and of the trace; legs once a second; refusals,
-    /// losses, strangers, faults, lost rows and drops once in ten.
+    /// each peer at that moment: the stage, peers, the files of records and of the trace, what it wants to be told one by one; legs once
+    /// a second; refusals, losses, strangers, faults, lost rows and drops once in ten.
     pub fn look<L: Log, R: Wait>(
         &mut self,
         rt: &R,
@@ -310,6 +369,8 @@ impl<'s> Told<'s> {
         self.tell_stage(log, self.watch.stage());
         self.tell_peers(log);
         self.see_strangers(rt, alloc);
+        self.tell_each_refusal(rt, log, alloc);
+        self.tell_each_end(rt, log, alloc);
         self.tell_files(log);
         if self.legs.due(now).is_some() {
             self.tell_legs(log);

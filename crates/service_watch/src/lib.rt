@@ -2,11 +2,14 @@
 //! the log.
 #![tactic(auto)]
 
+mod authentication;
+mod noted;
 mod peer_marks;
 mod service_watch;
 mod socket_table;
 mod waker_table;
 
+pub use authentication::{AUTH_FAILURES, AuthFailure};
 pub use peer_marks::{PeerMarksRead, REFUSALS, REJECTIONS};
-pub use service_watch::{STRANGERS, ServiceWatch};
+pub use service_watch::{NOTED, STRANGERS, ServiceWatch, Wanted};
 pub use socket_table::{DropCount, SocketTable, drop_counts};

@@ -1,11 +1,11 @@
 //! What is counted of a peer of a service.
-
+use crate::authentication::AuthFailure;
 use exchange_core::{Refusal, Rejection};
 use std::alloc::{AllocError, Global};
 use std::sync::atomic::{AtomicU64, Ordering};
 
 /// Why a datagram of a peer is refused: all reasons but `Stranger`.
-pub const REFUSALS: [Refusal; 14] = [
+pub const REFUSALS: [Refusal; 15] = [
     Refusal::StepsSpent,
     Refusal::TooLong,
     Refusal::Short,
@@ -13,6 +13,7 @@ pub const REFUSALS: [Refusal; 14] = [
     Refusal::EntryCut,
     Refusal::NoSource,
     Refusal::Cut,
+    Refusal::NoToken,
     Refusal::NoCall,
     Refusal::RecordFull,
     Refusal::SerialsSpent,
@@ -22,8 +23,13 @@ pub const REFUSALS: [Refusal; 14] = [
     Refusal::Memory,
 ];
 
-/// What an answer to a datagram of a peer rejects.
-pub const REJECTIONS: [Rejection; 2] = [Rejection::NoNumber, Rejection::Registration];
+/// What steps report of datagrams of a peer that came to be turned away.
+pub const REJECTIONS: [Rejection; 4] = [
+    Rejection::NoNumber,
+    Rejection::Registration,
+    Rejection::CallToken,
+    Rejection::Reflection,
+];
 
 // How many datagrams were refused for one reason.
 #[derive(Drop)]
@@ -44,6 +50,10 @@ pub(crate) struct PeerMarks {
     by_refusal: Vec<RefusalCount>,
     without_number: AtomicU64,
     registrations: AtomicU64,
+    without_token: AtomicU64,
+    reflections: AtomicU64,
+    wrong_answers: AtomicU64,
+    without_answer: AtomicU64,
     pub(crate) turned_away: AtomicU64,
     pub(crate) sent: AtomicU64,
     pub(crate) lost: AtomicU64,
@@ -87,6 +97,10 @@ impl PeerMarks {
             by_refusal: refusal_counts(alloc)?,
             without_number: AtomicU64::new(0),
             registrations: AtomicU64::new(0),
+            without_token: AtomicU64::new(0),
+            reflections: AtomicU64::new(0),
+            wrong_answers: AtomicU64::new(0),
+            without_answer: AtomicU64::new(0),
             turned_away: AtomicU64::new(0),
             sent: AtomicU64::new(0),
             lost: AtomicU64::new(0),
@@ -104,11 +118,21 @@ impl PeerMarks {
         None
     }
 
-    // How many datagrams asked for this and were rejected.
+    // How many datagrams this was reported of.
     pub(crate) fn rejected(&self, rejection: Rejection) -> &AtomicU64 {
         match rejection {
             Rejection::NoNumber => &self.without_number,
             Rejection::Registration => &self.registrations,
+            Rejection::CallToken => &self.without_token,
+            Rejection::Reflection => &self.reflections,
+        }
+    }
+
+    // How many of its calls failed to authenticate so.
+    pub(crate) fn unauthenticated(&self, failure: AuthFailure) -> &AtomicU64 {
+        match failure {
+            AuthFailure::WrongAnswer => &self.wrong_answers,
+            AuthFailure::NoAnswer => &self.without_answer,
         }
     }
 

@@ -1,8 +1,11 @@
 //! What the workers of a service ask, and what they tell of each peer.
 ghost use Rattle.std.specs.Prelude.{◌≡◌};
 
+use crate::authentication::AuthFailure;
+use crate::noted::Noted;
 use crate::peer_marks::{PeerMarks, PeerMarksRead, count_one};
 use crate::waker_table::WakerTable;
+use call_records::CallRow;
 use call_writer::CallOutlets;
 use exchange_core::{Refusal, Rejection, Retired};
 use exchange_report::call_row;
@@ -24,6 +27,18 @@ const ENDED: u64 = 2;
 /// How many endpoints of strangers are kept until the log takes them.
 pub const STRANGERS: usize = 256;
 
+/// How many refusals, and how many ended legs, are kept until the log takes them.
+pub const NOTED: usize = 1024;
+
+/// What the log wants to be told one by one.
+#[derive(Clone, Copy)]
+pub struct Wanted {
+    /// Each datagram of a peer that is refused.
+    pub refusals: bool,
+    /// Each leg that ends.
+    pub ends: bool,
+}
+
 /// How far a service is, and what its workers tell of each peer. All threads share it.
 pub struct ServiceWatch {
     stage: AtomicU64,
@@ -32,6 +47,10 @@ pub struct ServiceWatch {
     faults: AtomicU64,
     // The strangers that the log hasn't taken yet.
     seen: Mutex<Vec<Endpoint>>,
+    // The refusals, and the legs that have ended, that the log hasn't taken yet, where it wants them.
+    wanted: Wanted,
+    refusals: Noted<(u16, Refusal)>,
+    ends: Noted<CallRow>,
     wakers: WakerTable,
     // Where the rows of ended legs go, if they are wanted.
     calls: Option<CallOutlets>,
@@ -48,11 +67,24 @@ impl Drop for ServiceWatch {
             strangers: _,
             faults: _,
             seen: _,
+            wanted: _,
+            refusals: _,
+            ends: _,
             wakers: _,
             calls: _,
             trace: _,
         } = self;
     }
+}
+
+// Room for what the log wants to be told one by one.
+fn noted_of(
+    alloc: Global,
+    wanted: Wanted,
+) -> Result<(Noted<(u16, Refusal)>, Noted<CallRow>), AllocError> {
+    let refusals = Noted::new(alloc, if wanted.refusals { NOTED } else { 0 })?;
+    let ends = Noted::new(alloc, if wanted.ends { NOTED } else { 0 })?;
+    Ok((refusals, ends))
 }
 
 // The peers of a plan, of which nothing was heard, room for strangers, and for the wakers of the workers.
@@ -74,7 +106,7 @@ fn room_of(
 
 impl ServiceWatch {
     /// A service that serves, with the peers of a plan, of which nothing was heard. The rows of ended legs go to these outlets,
-    /// if there are some, and what the exchange is given is noted in the trace, if there is one.
+    /// if there are some, and what the exchange is given is noted in the trace, if there is one. What is wanted is kept for the log.
     ///
     /// `AllocError`: a request for memory was refused.
     pub fn new(
@@ -82,7 +114,9 @@ impl ServiceWatch {
         plan: &Plan,
         calls: Option<CallOutlets>,
         trace: Option<Trace>,
+        wanted: Wanted,
     ) -> Result<ServiceWatch, AllocError> {
+        let (refusals, ends) = noted_of(alloc, wanted)?;
         let (peers, seen, wakers) = room_of(alloc, plan)?;
         Ok(ServiceWatch {
             stage: AtomicU64::new(SERVING),
@@ -90,6 +124,9 @@ impl ServiceWatch {
             strangers: AtomicU64::new(0),
             faults: AtomicU64::new(0),
             seen: Mutex::new(seen),
+            wanted,
+            refusals,
+            ends,
             wakers,
             calls,
             trace,
@@ -125,6 +162,14 @@ impl ServiceWatch {
         }
     }
 
+    /// How many calls of a peer, by its place in the plan, failed to authenticate so, modulo 2^64; 0 of a place where there is none.
+    pub fn unauthenticated(&self, peer: u16, failure: AuthFailure) -> u64 {
+        match self.peers.get(usize::from(peer)) {
+            Some(marks) => marks.unauthenticated(failure).load(Ordering::Relaxed),
+            None => 0,
+        }
+    }
+
     /// Where the rows of ended legs go, if they are wanted.
     pub fn calls(&self) -> Option<&CallOutlets> {
         self.calls.as_ref()
@@ -150,6 +195,26 @@ impl ServiceWatch {
     pub fn take_strangers<R: Wait>(&self, rt: &R, spare: Vec<Endpoint>) -> Vec<Endpoint> {
         let mut seen = self.seen.lock(rt);
         mem::replace(&mut *seen, spare)
+    }
+
+    /// Gives the refusals since they were taken, each with the place of its peer, where they are wanted. The list `spare` takes
+    /// their place, as it is.
+    pub fn take_refusals<R: Wait>(
+        &self,
+        rt: &R,
+        spare: Vec<(u16, Refusal)>,
+    ) -> Vec<(u16, Refusal)> {
+        self.refusals.take(rt, spare)
+    }
+
+    /// Gives the legs that have ended since they were taken, where they are wanted. The list `spare` takes their place, as it is.
+    pub fn take_ends<R: Wait>(&self, rt: &R, spare: Vec<CallRow>) -> Vec<CallRow> {
+        self.ends.take(rt, spare)
+    }
+
+    /// How many legs that have ended found no place among those that are kept, modulo 2^64.
+    pub fn lost_ends(&self) -> u64 {
+        self.ends.lost()
     }
 
     /// Keeps the waker of the worker at this place of the plan, unless it has one.
@@ -201,6 +266,22 @@ impl ServiceWatch {
             if let Some(count) = marks.refused_for(refusal) {
                 count_one(count);
             }
+        }
+        if self.wanted.refusals {
+            self.refusals.note((peer, refusal));
+        }
+    }
+
+    // Counts a leg that has ended where its authentication failed, and keeps it for the log where that wants it.
+    fn see_end(&self, leg: &Retired) {
+        let row = call_row(leg, 0);
+        if let Some(failure) = AuthFailure::of(&row) {
+            if let Some(marks) = self.peers.get(usize::from(row.name.peer)) {
+                count_one(marks.unauthenticated(failure));
+            }
+        }
+        if self.wanted.ends {
+            self.ends.note(row);
         }
     }
 
@@ -273,6 +354,7 @@ impl Watch for ServiceWatch {
     }
 
     fn retire(&self, worker: u16, leg: &Retired) {
+        self.see_end(leg);
         if let Some(calls) = &self.calls {
             calls.hand_over(worker, call_row(leg, 0));
         }

@@ -262,7 +262,8 @@ impl<'t> TraceLane<'t> {
         }
     }
 
-    /// The turn has ended. Where nothing came, nothing went out and no leg was taken out, it isn't told.
+    /// The turn has ended. Where nothing came, nothing went out and no leg was taken out, it isn't told. Where a leg was taken out,
+    /// what waits goes out last, so that the leg ends there in a replay, too.
     pub fn end_turn<R: Wait>(&mut self, rt: &R) {
         if !self.is_in_turn {
             return;
@@ -275,7 +276,8 @@ impl<'t> TraceLane<'t> {
             }
             self.end();
         }
-        if self.peers != 0 {
+        // (a leg that was taken out is told where what waits goes out, be it nothing)
+        if self.peers != 0 || has_retired {
             let (peers, lost) = (self.peers, self.untaken);
             self.begin(rt, Input::Send { peers, lost }, b"", b"");
             self.end();

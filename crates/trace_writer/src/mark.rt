@@ -23,7 +23,8 @@ pub(crate) enum Input {
     Stranger { from: Endpoint },
     /// Time went on at each peer of the worker.
     Tick,
-    /// What waited for the worker's peers went out: to those whose bits are set. So many datagrams weren't taken by the socket.
+    /// What waited for the worker's peers went out: to those whose bits are set, or nothing to any of them where none is. So many
+    /// datagrams weren't taken by the socket.
     Send { peers: u32, lost: u32 },
     /// A call went out to a peer. The octets are the number that was called.
     Call { peer: u16 },

@@ -6,6 +6,7 @@ use std::fs::File;
 use std::io;
 use std::io::Write;
 use std::os::unix::fs::FileExt;
+use system_limits::{ABOVE_LIMIT, file_size_limit, octets_below};
 
 // How many files there are.
 const FILES: u64 = 8;
@@ -33,6 +34,8 @@ pub struct TraceFile {
     length: u64,
     // The end of these.
     tail: Vec<u8>,
+    // How many octets it may have by the limit of the process.
+    limit: u64,
 }
 
 // (Written out, so that whoever owns one proves a call where it is dropped, and not the drop of each field.)
@@ -44,6 +47,7 @@ impl Drop for TraceFile {
             file: _,
             length: _,
             tail: _,
+            limit: _,
         } = self;
     }
 }
@@ -52,6 +56,14 @@ fn fault_of(error: &io::Error) -> Fault {
     Fault {
         code: error.raw_os_error(),
     }
+}
+
+// Writes octets to a place of a file, where all of them are below the limit on its size: beyond that the system ends the process.
+fn write_below(file: &File, limit: u64, octets: &[u8], place: u64) -> io::Result<()> {
+    if octets_below(limit, place, octets.len()) < octets.len() {
+        return Err(io::Error::from_raw_os_error(ABOVE_LIMIT));
+    }
+    file.write_all_at(octets, place)
 }
 
 impl TraceFolder<'_> {
@@ -78,7 +90,8 @@ impl TraceFolder<'_> {
     fn begin<D: Folder>(&self, disk: &D, alloc: Global, place: u64) -> io::Result<TraceFile> {
         let path = self.path_of(alloc, place)?;
         let file = disk.begin(path.as_str())?;
-        if file.write_all_at(&[END], 0).is_err() {
+        let limit = file_size_limit();
+        if write_below(&file, limit, &[END], 0).is_err() {
             file.set_len(0)?;
         }
         Ok(TraceFile {
@@ -87,13 +100,15 @@ impl TraceFolder<'_> {
             file,
             length: 0,
             tail: Vec::new(alloc),
+            limit,
         })
     }
 
     /// Makes the folder, where there is none, and begins the one of its eight files that was changed longest ago. Of those that
     /// are left a new one is made first.
     ///
-    /// Errors are the system's, of the folder and then of the file; `OutOfMemory`: a request for memory was refused.
+    /// Errors are the system's, of the folder and then of the file; `OutOfMemory`: a request for memory was refused;
+    /// `PermissionDenied`: the folder isn't this user's alone; `InvalidInput`: what has the file's name is no regular file.
     pub fn open<D: Folder>(&self, disk: &D, alloc: Global) -> io::Result<TraceFile> {
         disk.make(self.path)?;
         let place = self.oldest(disk, alloc)?;
@@ -140,8 +155,9 @@ impl TraceFile {
         let Some((first, rest)) = lines.split_first() else {
             return Ok(());
         };
-        self.file.write_all_at(rest, self.length.saturating_add(1))?;
-        self.file.write_all_at(&[*first], self.length)
+        let next = self.length.saturating_add(1);
+        write_below(&self.file, self.limit, rest, next)?;
+        write_below(&self.file, self.limit, &[*first], self.length)
     }
 
     /// No more is written: the file ends with its lines.
@@ -189,7 +205,7 @@ impl TraceFile {
         }
         // (where there is no room for it, some lines make room)
         for length in [self.length, self.cut()] {
-            if self.file.write_all_at(&line, length).is_ok() {
+            if write_below(&self.file, self.limit, &line, length).is_ok() {
                 let _ = self.file.set_len(length.saturating_add(line.len() as u64));
                 return;
             }

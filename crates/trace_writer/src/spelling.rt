@@ -127,6 +127,17 @@ fn is_word(text: &[u8]) -> bool {
     !text.is_empty()
 }
 
+// What call tokens are made with, where a peer is asked for them.
+fn token_key(plan: &Plan) -> Option<[u8; 32]> {
+    for peer in 0..plan.peer_count() {
+        if let Some(tokens) = plan.call_tokens(peer) {
+            let key = tokens.key;
+            return Some(key);
+        }
+    }
+    None
+}
+
 // The name of a peer, by its place in the plan.
 fn name_of(plan: &Plan, peer: u16) -> &str {
     if peer < plan.peer_count() {
@@ -168,7 +179,7 @@ impl<'p> Script<'p> {
         self.lines.number(head.part);
         self.lines.text(".\n");
         if orders.is_some() {
-            self.write_prefix();
+            self.write_drawn();
         }
         self.lines.text("hold\n");
         match orders {
@@ -177,6 +188,15 @@ impl<'p> Script<'p> {
                 self.lines.put(orders);
             }
             None => self.write_moment("at "),
+        }
+    }
+
+    /// Says that so many datagrams of strangers aren't there.
+    pub(crate) fn leave_out(&mut self, strangers: u64) {
+        if strangers > 0 {
+            self.lines.text("# Left out: datagrams from strangers, ");
+            self.lines.number(strangers);
+            self.lines.text(" of them.\n");
         }
     }
 
@@ -238,11 +258,19 @@ impl<'p> Script<'p> {
         self.missing == 0 && !mark.is_beside && mark.now == self.now
     }
 
-    // What the challenges of the exchange begin with, if they begin alike.
-    fn write_prefix(&mut self) {
+    // What the exchange drew when it was opened: what its challenges begin with, and what its call tokens are made with, where a peer
+    // is asked for them.
+    fn write_drawn(&mut self) {
         if let Some(prefix) = self.plan.challenge_prefix() {
             self.lines.text("prefix ");
             self.lines.put(prefix.as_slice());
+            self.lines.text("\n");
+        }
+        if let Some(key) = token_key(self.plan) {
+            let mut digits = [0u8; 64];
+            let _ = hex::encode_to_slice(&key, &mut digits);
+            self.lines.text("key ");
+            self.lines.put(&digits);
             self.lines.text("\n");
         }
     }
@@ -270,6 +298,10 @@ impl<'p> Script<'p> {
             Input::Tick => {
                 let peers = peers_of(self.plan, thread);
                 write_peers(self.plan, "tick", peers, &mut self.lines);
+            }
+            Input::Send { peers: 0, lost } => {
+                let peers = peers_of(self.plan, thread);
+                self.write_sends(peers, lost);
             }
             Input::Send { peers, lost } => self.write_sends(peers, lost),
             Input::Call { peer } => self.write_call(peer, octets),

@@ -26,6 +26,9 @@ const MUCH: u64 = 3200;
 // takes to write some eight thousand octets.
 const PIECE: usize = 262_144;
 
+// One of so many octets of a file is a line of a stranger's datagram at most, so that strangers don't push calls out of the trace.
+const STRANGERS: u64 = 8;
+
 // There is no memory for the head of a file, or for those of its lines.
 const NO_MEMORY: Fault = Fault { code: Some(12) };
 
@@ -138,6 +141,9 @@ struct Writer<'a, D: Folder> {
     next: u64,
     // How many octets were written in this round.
     written: u64,
+    // How many octets of lines of strangers' datagrams the file has, and how many such datagrams it lacks.
+    strangers: u64,
+    left_out: u64,
 }
 
 impl<'a, D: Folder> Writer<'a, D> {
@@ -164,6 +170,8 @@ impl<'a, D: Folder> Writer<'a, D> {
                 part: 0,
                 next: 0,
                 written: 0,
+                strangers: 0,
+                left_out: 0,
             }),
             Err(_) => Err(NO_MEMORY),
         }
@@ -204,6 +212,7 @@ impl<'a, D: Folder> Writer<'a, D> {
 
     // The next file is begun.
     fn turn_over(&mut self, orders: Option<&[u8]>) -> Result<(), Fault> {
+        self.end_strangers();
         self.write()?;
         self.file.finish();
         self.file = self
@@ -211,6 +220,28 @@ impl<'a, D: Folder> Writer<'a, D> {
             .folder
             .next(self.disk, self.alloc, &self.file)?;
         self.begin_part(orders)
+    }
+
+    // The last line of a file says how many datagrams of strangers it lacks, if it lacks some.
+    fn end_strangers(&mut self) {
+        self.script.leave_out(self.left_out);
+        self.strangers = 0;
+        self.left_out = 0;
+    }
+
+    // The lines of a call of a stranger, as far as the file's share for them has room. Whether there was memory for them.
+    fn push_stranger(&mut self, thread: usize, mark: &Mark, octets: &[u8]) -> bool {
+        if self.strangers >= self.settings.folder.part() / STRANGERS {
+            self.left_out = self.left_out.saturating_add(1);
+            // (what is missing before it is said before the next)
+            return self.script.push(thread, &mark.emptied(), b"");
+        }
+        let before = self.script.lines.octets.len() as u64;
+        let is_pushed = self.script.push(thread, mark, octets);
+        let after = self.script.lines.octets.len() as u64;
+        let octets = after.saturating_sub(before);
+        self.strangers = self.strangers.saturating_add(octets);
+        is_pushed
     }
 
     // How many octets the file has once the lines are written.
@@ -229,7 +260,11 @@ impl<'a, D: Folder> Writer<'a, D> {
         } else if length >= part {
             self.turn_over(None)?;
         }
-        if !self.script.push(thread, mark, octets) {
+        let is_pushed = match mark.input {
+            Input::Stranger { .. } => self.push_stranger(thread, mark, octets),
+            _ => self.script.push(thread, mark, octets),
+        };
+        if !is_pushed {
             self.trace.count_lost();
         }
         if self.script.lines.octets.len() >= PIECE {
@@ -279,6 +314,7 @@ fn write_noted<R: Wait, D: Folder>(
         }
     }
     if are_over {
+        writer.end_strangers();
         writer.script.end();
     }
     writer.write()?;

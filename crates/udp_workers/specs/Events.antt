@@ -13,7 +13,7 @@ nothing = record { received = 0; refused = 0; sent = 0; lost = 0; faults = 0; re
 abbrev pub counted : TurnReport → Event → TurnReport
 counted report (events.Received peer now) = record report { received = report.received + 1 }
 counted report (events.Refused peer refusal) = record report { refused = report.refused + 1 }
-counted report (events.Rejected peer rejection) = report
+counted report (events.Rejected peer reported) = report
 counted report (events.TurnedAway peer) = record report { refused = report.refused + 1 }
 counted report (events.Stranger from) = record report { received = report.received + 1; refused = report.refused + 1 }
 counted report (events.Sent peer) = record report { sent = report.sent + 1 }

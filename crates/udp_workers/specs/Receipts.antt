@@ -16,6 +16,6 @@ TellsReceipt told plan from now =
 -- what was rejected is told of the peer that has this endpoint
 abbrev pub TellsRejection : (Event → Type 0) → PlanView → Endpoint → Option Rejection → Type 0
 TellsRejection told plan from None = Unit {0}
-TellsRejection told plan from (Some rejection) =
+TellsRejection told plan from (Some reported) =
     (peer : ℕ) × (option_map (λ peer. peer.endpoint) (slice_get plan.peers peer) ≡ Some from) ×
-    told (events.Rejected peer rejection)
+    told (events.Rejected peer reported)

@@ -4,7 +4,7 @@
 
 mod clock;
 mod digits;
-mod drawn_prefix;
+mod drawing;
 mod reports;
 mod seats;
 mod service_error;
@@ -14,7 +14,7 @@ mod traced_wire;
 
 pub use clock::SinceOpening;
 pub use digits::Digits;
-pub use drawn_prefix::with_drawn_prefix;
+pub use drawing::{with_drawn, with_drawn_key};
 pub use reports::{reports_of, tell_reports};
 pub use seats::{ServiceSeat, seats_of};
 pub use service_error::{ServiceError, service_error_name};

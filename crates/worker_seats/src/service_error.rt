@@ -19,8 +19,10 @@ pub enum ServiceError {
     Entropy,
     /// The writer can't write.
     Writer,
-    /// The folder of the trace can't be made, or no file in it.
+    /// The folder of the trace can't be made, isn't this user's alone, or no regular file is to be had in it.
     Trace,
+    /// The process may not open as many files as it needs.
+    Descriptors,
 }
 
 impl From<BindError> for ServiceError {
@@ -59,6 +61,7 @@ pub fn service_error_name(error: ServiceError) -> Option<&'static str> {
         ServiceError::Clock => Some("Clock"),
         ServiceError::Entropy => Some("Entropy"),
         ServiceError::Trace => Some("Trace"),
+        ServiceError::Descriptors => Some("Descriptors"),
         ServiceError::Writer => None,
     }
 }

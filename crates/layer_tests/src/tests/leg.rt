@@ -26,6 +26,7 @@ pub fn rules(ping_ms: u16) -> PeerRules
         secret: None,
         outbound_secret: None,
         challenge_prefix: None,
+        call_tokens: None,
         challenge_ms: None,
         formats: Formats {
             gsm: false,

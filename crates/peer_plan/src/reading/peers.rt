@@ -1,9 +1,9 @@
 //! The list of peers.
-ghost use Rattle.std.specs.Prelude.{◌≡◌, ◌≤◌, []};
+ghost use Rattle.std.specs.Prelude.{◌≡◌, ◌≤◌, [], Option};
 ghost use Rattle.std.specs.List.{list_any};
 ghost use Rattle.toml.specs.View.{table_view, items_view};
 ghost use Rattle.peer_plan.specs.Fields.{Gives, each};
-ghost use Rattle.peer_plan.specs.Reading.{window_in, poke_in, rules_from, peer_in, is_named, is_endpoint, has_same_name};
+ghost use Rattle.peer_plan.specs.Reading.{window_in, poke_in, call_tokens_in, tokens_if, rules_from, peer_in, is_named, is_endpoint, has_same_name};
 ghost use Rattle.peer_plan.specs.Reading.{has_same_endpoint, peers_in};
 
 use crate::endpoint::Endpoint;
@@ -13,6 +13,7 @@ use crate::peer::{Credentials, Limits, Media, Peer};
 use crate::reading::fields::{flag_at, list_at, number_at};
 use crate::reading::media::media;
 use crate::reading::texts::{credentials, endpoint, name_at};
+use call_auth::CallTokens;
 use call_signals::PeerRules;
 use std::alloc::Global;
 use toml::{Table, Value};
@@ -39,6 +40,37 @@ fn poke(table: &Table, format: u64) -> Result<bool, PlanError>
     }
 }
 
+// What the call tokens of an endpoint are made of, where they are asked for. The key is drawn when the exchange is opened.
+fn tokens_if(asked: bool, endpoint: Endpoint) -> Option<CallTokens>
+    ensures { result ≡ tokens_if asked endpoint }
+{
+    if asked {
+        let (key, address) = ([0; 32], endpoint.address);
+        Some(CallTokens {
+            key,
+            address,
+            port: endpoint.port,
+        })
+    } else {
+        None
+    }
+}
+
+// What the call tokens of a peer are made of, if it is asked for them.
+fn call_tokens(
+    table: &Table,
+    format: u64,
+    endpoint: Endpoint,
+) -> Result<Option<CallTokens>, PlanError>
+    ensures { result ≡ call_tokens_in format endpoint (table_view table.now) }
+{
+    if format != 4 {
+        return Ok(None);
+    }
+    let asked = flag_at(table, Key::CallToken, false)?;
+    Ok(tokens_if(asked, endpoint))
+}
+
 // What the legs of a peer go by. What its challenges begin with is drawn when the exchange is opened.
 fn rules_from(
     format: u64,
@@ -47,14 +79,16 @@ fn rules_from(
     media: Media,
     window: u8,
     poke: bool,
+    call_tokens: Option<CallTokens>,
 ) -> PeerRules
-    ensures { result ≡ rules_from format limits credentials media window poke }
+    ensures { result ≡ rules_from format limits credentials media window poke call_tokens }
 {
     PeerRules {
         user: credentials.user,
         secret: credentials.secret,
         outbound_secret: credentials.outbound_secret,
         challenge_prefix: None,
+        call_tokens,
         challenge_ms: limits.challenge_ms,
         formats: media.formats,
         trunk: media.trunk,
@@ -95,11 +129,20 @@ fn peer(table: &Table, format: u64, limits: Limits, workers: u64) -> Result<Peer
     let numbers = number_at(table, Key::Numbers, Ok(64), 1, 512)?;
     let window = window(table, format)?;
     let poke = poke(table, format)?;
+    let call_tokens = call_tokens(table, format, endpoint)?;
     Ok(Peer {
         name,
         endpoint,
         worker: worker as u16,
-        rules: rules_from(format, limits, credentials, media, window as u8, poke),
+        rules: rules_from(
+            format,
+            limits,
+            credentials,
+            media,
+            window as u8,
+            poke,
+            call_tokens,
+        ),
         numbers: numbers as u16,
     })
 }

@@ -23,7 +23,7 @@ returns-in-Ok-clause-refused g c =
     read_due g.J.Naming.first_steps c.args.self.now.accounts.steps c.args.datagram.now c.in-Ok.spelled
     (looked_at _ c.args.self.now g.J.Naming.first_steps c.is_spent.result _ c.args.datagram.now _ (Ok c.in-Ok.spelled) c.self.view_is c.is_spent.ensures.1
     c.if-is_spent.false c.if-datagram-gt2048.false c.datagram.invariant c.datagram.view_is c.in-Ok.is)
-    c.args.self.now c.arrive.result c.arrive.ensures.refused
+    c.args.self.now c.args.now c.arrive.result c.arrive.ensures.refused
 
 pub returns-in-Err-clause-refused : goal.returns-in-Err-clause-refused
 returns-in-Err-clause-refused g c =

@@ -1,0 +1,53 @@
+//! What the log says of a service that doesn't begin: what is refused, by its address or path, and the system's error.
+use crate::running::Settings;
+use control_server::NotBound;
+use log::{Log, error};
+use peer_plan::{Endpoint, Plan};
+use std::fmt::Display;
+use std::io;
+use std::net::{Ipv4Addr, Net, SocketAddr, SocketAddrV4, UdpSocket};
+
+// What is refused, and the system's error, where there is one.
+fn tell<L: Log, D: Display>(log: &L, what: &D, code: Option<i32>) {
+    match code {
+        Some(code) => error!(log; "{what}: {}", io::Error::from_raw_os_error(code)),
+        None => error!(log; "{what}"),
+    }
+}
+
+/// Tells which way in isn't bound.
+pub(crate) fn tell_not_bound<L: Log>(log: &L, settings: &Settings<'_>, fault: NotBound) {
+    let Settings {
+        control,
+        metrics,
+        ..
+    } = *settings;
+    match (fault.name, control, metrics) {
+        ("Control", Some(path), _) => {
+            tell(log, &format_args!("control socket {path}"), fault.code)
+        }
+        ("Metrics", _, Some(address)) => {
+            tell(log, &format_args!("metrics at {address}"), fault.code)
+        }
+        _ => {}
+    }
+}
+
+/// Tells which worker's address and port can't be bound, once none of the workers is bound any more.
+pub(crate) fn tell_workers<L: Log, R: Net>(rt: &R, log: &L, plan: &Plan) {
+    for (place, endpoint) in plan.workers().iter().enumerate() {
+        let Endpoint { address, port } = *endpoint;
+        let [a, b, c, d] = address;
+        let at = SocketAddrV4::new(Ipv4Addr::new(a, b, c, d), port);
+        if let Err(error) = UdpSocket::bind(rt, SocketAddr::V4(at)) {
+            let what = format_args!("worker {place} at {at}");
+            tell(log, &what, error.raw_os_error());
+            return;
+        }
+    }
+}
+
+/// Tells why no trace is written to a folder.
+pub(crate) fn tell_trace<L: Log>(log: &L, path: &str, error: &io::Error) {
+    error!(log; "trace in {path}, a folder of this user alone (mode 0700) with regular files: {error}");
+}

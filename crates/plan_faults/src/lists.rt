@@ -1,0 +1,78 @@
+//! Comparisons of the tables of a list.
+use crate::tables::{items_of, text_at};
+use peer_plan::{Key, Section};
+use toml::{Table, Value};
+
+/// Returns the place of the first table of a list, among so many, that has this text at a key.
+pub(crate) fn place_of_text(
+    root: &Table,
+    section: Section,
+    key: Key,
+    text: &str,
+    count: usize,
+) -> Option<usize> {
+    for (place, item) in items_of(root, section).iter().enumerate() {
+        if place >= count {
+            return None;
+        }
+        if let Some(table) = item.as_table()
+            && text_at(table, key) == Some(text)
+        {
+            return Some(place);
+        }
+    }
+    None
+}
+
+fn number_at(table: &Table, key: Key) -> Option<i64> {
+    match table.get(key.name()) {
+        Some(Value::Integer(number)) => Some(*number),
+        _ => None,
+    }
+}
+
+// Returns whether two tables have one address and one port.
+fn have_same_endpoint(table: &Table, other: &Table) -> bool {
+    let port = number_at(table, Key::Port);
+    let address = text_at(table, Key::Address);
+    port.is_some()
+        && address.is_some()
+        && port == number_at(other, Key::Port)
+        && address == text_at(other, Key::Address)
+}
+
+/// Returns the place of the first peer, among so many, that has a peer's address and port.
+pub(crate) fn same_endpoint(root: &Table, peer: &Table, count: usize) -> Option<usize> {
+    for (place, item) in items_of(root, Section::Peer).iter().enumerate() {
+        if place >= count {
+            return None;
+        }
+        if let Some(other) = item.as_table()
+            && have_same_endpoint(peer, other)
+        {
+            return Some(place);
+        }
+    }
+    None
+}
+
+// Returns whether two routes have one prefix, and one source or none.
+fn have_same_way(route: &Table, other: &Table, version: u64) -> bool {
+    text_at(route, Key::Prefix) == text_at(other, Key::Prefix)
+        && (version != 4 || text_at(route, Key::Source) == text_at(other, Key::Source))
+}
+
+/// Returns the place of the first route, among so many, that has a route's prefix and source.
+pub(crate) fn same_route(root: &Table, route: &Table, count: usize, version: u64) -> Option<usize> {
+    for (place, item) in items_of(root, Section::Route).iter().enumerate() {
+        if place >= count {
+            return None;
+        }
+        if let Some(other) = item.as_table()
+            && have_same_way(route, other, version)
+        {
+            return Some(place);
+        }
+    }
+    None
+}

@@ -1,0 +1,83 @@
+//! What an exchange draws of the system's entropy when it is opened.
+ghost use Rattle.std.specs.Prelude.{◌≡◌, ◌≤◌, ◌<◌, ℕ, IfOk, length, slice_index};
+
+use crate::service_error::ServiceError;
+use call_auth::Challenge;
+use peer_plan::{Drawn, Plan};
+use rand::rngs::StdRng;
+use rand::{RngExt, make_rng};
+use rand_core::Rng;
+use std::random::RandomSource;
+
+/// The plan of an exchange whose challenges begin with twelve letters, some 56 bits, and whose call tokens have a key of 256 bits,
+/// both drawn from the system's entropy. So an exchange recognizes its challenges if they come back, and two exchanges answer each
+/// other.
+///
+/// `Entropy`: the system gives no random octets.
+pub fn with_drawn<R: RandomSource>(rt: &R, plan: Plan) -> Result<Plan, ServiceError>
+    ensures workers { IfOk result (λ drawn. drawn.workers ≡ plan.workers) }
+    ensures passes { IfOk result (λ drawn. drawn.passes ≡ plan.passes) }
+    ensures peers { IfOk result (λ drawn. length drawn.peers ≡ length plan.peers) }
+{
+    let Ok(mut generator) = make_rng(rt) else {
+        return Err(ServiceError::Entropy);
+    };
+    let challenge_prefix = Challenge::new(&twelve_letters::<StdRng>(&mut generator));
+    let token_key = key::<StdRng>(&mut generator);
+    let drawn = Drawn {
+        challenge_prefix,
+        token_key,
+    };
+    Ok(plan.with_drawn(&drawn))
+}
+
+/// The plan of an exchange whose call tokens have a key of 256 bits, drawn from the system's entropy, where a peer is asked for them;
+/// its challenges don't begin alike.
+///
+/// `Entropy`: the system gives no random octets.
+pub fn with_drawn_key<R: RandomSource>(rt: &R, plan: Plan) -> Result<Plan, ServiceError>
+    ensures workers { IfOk result (λ drawn. drawn.workers ≡ plan.workers) }
+    ensures passes { IfOk result (λ drawn. drawn.passes ≡ plan.passes) }
+    ensures peers { IfOk result (λ drawn. length drawn.peers ≡ length plan.peers) }
+{
+    if !asks_for_tokens(&plan) {
+        return Ok(plan);
+    }
+    let Ok(mut generator) = make_rng(rt) else {
+        return Err(ServiceError::Entropy);
+    };
+    let token_key = key::<StdRng>(&mut generator);
+    let drawn = Drawn {
+        challenge_prefix: None,
+        token_key,
+    };
+    Ok(plan.with_drawn(&drawn))
+}
+
+// Whether a peer is asked for call tokens.
+fn asks_for_tokens(plan: &Plan) -> bool {
+    for peer in 0..plan.peer_count() {
+        if plan.call_tokens(peer).is_some() {
+            return true;
+        }
+    }
+    false
+}
+
+// 32 random octets.
+fn key<R: Rng>(generator: &mut R) -> [u8; 32] {
+    let mut key = [0; 32];
+    generator.fill_bytes(&mut key);
+    key
+}
+
+// Twelve lower-case letters.
+fn twelve_letters<R: Rng>(generator: &mut R) -> [u8; 12]
+    ensures { (k : ℕ) → k < 12 → (97 ≤ slice_index result k) × (slice_index result k ≤ 122) }
+{
+    let mut letters = [b'a'; 12];
+    for letter in letters.iter_mut() {
+        *letter = generator.random_range(b'a'..=b'z');
+    }
+    letters
+}

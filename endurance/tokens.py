@@ -1,0 +1,95 @@
+"""A sender that never sees what goes to the endpoint of its NEWs asks for as many calls as it can. The exchange takes no number and no memory
+for them, and carries the calls of that endpoint, which has the token, and of another peer."""
+import socket
+import struct
+import time
+
+from exchange import Exchange, plan_of, spare_ports, tell_accounts
+from fill import carry_a_call
+from peer import ACCEPT, FORMAT, IAX, NEW, Peer
+
+NUMBERS, NEWS, SHORT_NEWS = 512, 1_000_000, 40_000
+CALLTOKEN, TOKEN = 40, 0x36
+# By how much what is resident of the program may grow, in kilobytes.
+MOST = 4 * 1024
+
+
+def new_of(source, token):
+    """A NEW, with this element behind the others; `None` for none."""
+    element = b"" if token is None else bytes([TOKEN, len(token)]) + token
+    return struct.pack(">HHIBBBB", 0x8000 | source, 0, 0, 0, 0, IAX, NEW) + bytes([11, 2, 0, 2, 1, 1]) + b"8" + FORMAT + element
+
+
+def flood(port, worker, count, exchange):
+    """Sends so many NEWs: without a token, with invented ones, and with the empty one, which is answered. What is resident at most."""
+    most = 0
+    with socket.socket(socket.AF_INET, socket.SOCK_DGRAM) as it:
+        it.bind(("127.0.0.1", port))
+        it.connect(("127.0.0.1", worker))
+        it.setblocking(False)
+        for number in range(count):
+            token = (None, b"%032x" % number, b"")[number % 3]
+            try:
+                it.send(new_of(number % 32000 + 1, token))
+            except (BlockingIOError, ConnectionRefusedError):
+                pass
+            if number % 64 == 0:
+                # (the exchange has to come along, or its socket drops what comes)
+                time.sleep(0.001)
+            if number % 10_000 == 0:
+                most = max(most, exchange.kilobytes())
+    return max(most, exchange.kilobytes())
+
+
+def call_with_a_token(peer):
+    """Whether a NEW with the token that its empty one was answered by is accepted, and one with another endpoint's isn't answered."""
+    peer.socket.sendto(new_of(7, b""), peer.exchange)
+    asked = peer.expect(lambda it: (it.kind, it.subclass, it.destination) == (IAX, CALLTOKEN, 7), 5)
+    token = asked and asked.element(TOKEN)
+    if not token:
+        return False, False, None
+    peer.socket.sendto(new_of(7, token), peer.exchange)
+    accepted = peer.expect(lambda it: (it.kind, it.subclass, it.destination) == (IAX, ACCEPT, 7), 5)
+    return True, accepted is not None, token
+
+
+def run(tools, report, seconds, seed):
+    del seed
+    count = tools.some(SHORT_NEWS) if seconds is None else tools.some(NEWS)
+    names = ("worker", "forged", "other", "west", "east")
+    ports = dict(zip(names, spare_ports(len(names))))
+    peers = {
+        "forged": {"port": ports["forged"], "numbers": NUMBERS, "call_token": True},
+        "other": {"port": ports["other"], "call_token": True},
+        "west": {"port": ports["west"]},
+        "east": {"port": ports["east"]},
+    }
+    exchange = Exchange(tools.folder_of("tokens"), plan_of([ports["worker"]], peers, {"8": "east"}, format=4, retry_ms=500))
+    west, east, other, forged = Peer(ports["west"], ports["worker"]), Peer(ports["east"], ports["worker"]), Peer(ports["other"], ports["worker"]), None
+    try:
+        before = exchange.kilobytes()
+        most = flood(ports["forged"], ports["worker"], count, exchange)
+        legs = len(exchange.legs())
+        is_carried = carry_a_call(west, east)
+        forged = Peer(ports["forged"], ports["worker"])
+        is_given, is_accepted, token = call_with_a_token(forged)
+        refusals = 'iax_datagrams_refused_total{peer="%s",refusal="NoToken"}'
+        if token:
+            other.socket.sendto(new_of(9, token), other.exchange)
+        answered = other.expect(lambda it: True, 0.5)
+        metrics = exchange.metrics()
+        refused, strange = (metrics.get(refusals % it, 0) for it in ("forged", "other"))
+        given = metrics.get('iax_datagrams_rejected_total{peer="forged",rejection="CallToken"}', 0)
+        status, lines = exchange.stop()
+    finally:
+        for it in (west, east, other, forged):
+            if it:
+                it.close()
+        exchange.kill()
+    report.tell("NEWs without a token open no leg", legs == 0, news=count, refused=refused, tokens_given=given)
+    report.tell("they are refused by name, and counted", refused > 0 and given > 0 and refused <= count, NoToken=refused)
+    report.tell("they cost no memory", most - before < MOST, kilobytes_before=before, at_most=most)
+    report.tell("a call of another peer is carried", is_carried)
+    report.tell("who receives the token can call with it", is_given and is_accepted)
+    report.tell("another endpoint can't", strange == 1 and answered is None, NoToken=strange)
+    tell_accounts(report, "the exchange", status, lines, 0)
