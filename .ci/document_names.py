@@ -4,6 +4,8 @@ import os
 import re
 import sys
 
+import layers
+
 TOP = os.path.dirname(os.path.dirname(os.path.realpath(__file__)))
 counts = {"passed": 0, "failed": 0}
 
@@ -81,12 +83,13 @@ def check_command_line():
     options_in_page = re.findall(r"`(?:[a-z]+ PLAN SCRIPT )?--([a-z-]+)", "\n".join(it for it in page.split("\n") if it.startswith("|")))
     extra = {"help", "version"}
     names_agree("docs/CLI.md, options", set(options_in_page) - extra, options)
-    names_agree("exchange_main.1, options", set(re.findall(r"Fl Fl ([a-z-]+)", manual)) - extra, options)
+    # (what stops gracefully is an order of ctl)
+    names_agree("exchange_main.1, options", set(re.findall(r"Fl Fl ([a-z-]+)", manual)) - extra - {"graceful"}, options)
     table = page.split("\n## ")[0]
     names_agree("docs/CLI.md, commands", [it.split(" ")[0] for it in first_cells(table) if not it.startswith("--")], commands + ["help"])
     synopsis = re.sub(r"\.Cm (call|hangup|new|upgrade)\n", "", manual.split(".Sh DESCRIPTION")[0])
     names_agree("exchange_main.1, commands", re.findall(r"^\.Cm ([a-z]+)$", synopsis, re.M), commands + ["help"])
-    orders = re.findall(r'"(\w+)" => Some\(Order|word\.as_str\(\) == "(\w+)"', text_of("crates/control_client/src/order.rt"))
+    orders = re.findall(r'^ *"(\w+)" => Some\(Order|word\.as_str\(\) == "(\w+)"', text_of("crates/control_client/src/order.rt"), re.M)
     names_agree("docs/CLI.md, orders", [it.split(" ")[0] for it in first_cells(section_of(page, "## ctl"))], [a or b for a, b in orders])
 
 
@@ -206,6 +209,8 @@ def check_scripts_and_records():
     text = text_of("crates/call_records/src/columns.rt")
     endings = re.findall(r'=> "(\w+)"', function_of(text, "ending_name") + function_of(text, "failure_name"))
     names_agree("docs/RECORDS.md, endings", first_cells(section_of(page, "## How a call ends")), endings)
+    reasons = re.findall(r'"(\w+)"', text_of("crates/service_watch/src/reasons.rt"))
+    names_agree("docs/RECORDS.md, reasons", first_cells(section_of(page, "## Why a call failed")), reasons)
     stages = re.findall(r'=> "(\w+)"', function_of(text_of("crates/exchange_report/src/names.rt"), "stage_name"))
     names_agree("docs/GLOSSARY.md, stages", first_cells(section_of(text_of("docs/GLOSSARY.md"), "## Stage")), stages)
     runs = re.findall(r"^(?:side_by_side )?(\.ci/.*)$", text_of(".ci/run").partition("\nrt ci ")[2], re.M)
@@ -214,7 +219,75 @@ def check_scripts_and_records():
     names_agree("docs/CHECKS.md, parts", parts, gate + ["wrong_bodies", "rt ci"])
 
 
+def names_of_sources():
+    """The functions, types and variants of all sources, and each function and variant behind its type, as `Type::name`."""
+    names, kinds = set(), []
+    for line in sources(*os.listdir(f"{TOP}/crates")).split("\n"):
+        if re.match(r"(pub )?(impl|trait|enum)\b", line):
+            kinds = re.findall(r"\w+", line)
+        elif line.startswith("}"):
+            kinds = []
+        found = re.match(r"\s*(?:pub(?:\(crate\))? )?(?:fn|struct|enum|trait) (\w+)|    (\w+)[(,]", line)
+        if found:
+            name = found.group(1) or found.group(2)
+            names |= {name} | {f"{kind}::{name}" for kind in kinds}
+    return names
+
+
+def file_of(crate, name):
+    """The path of a file that docs/ARCHITECTURE.md names: a whole one, or one of the crate that was named before."""
+    if re.match(r"\w+/(specs|src)/", name):
+        return f"crates/{name}"
+    return f"crates/{crate}/{name}" if "/" in name else f"crates/{crate}/{'specs' if name.endswith('.antt') else 'src'}/{name}"
+
+
+def check_architecture():
+    page, names, faults, crate = text_of("docs/ARCHITECTURE.md"), names_of_sources(), [], ""
+    for word in re.findall(r"`([\w:]+)`", section_of(page, "## Four ways through the code")):
+        if word not in names and word not in ("west", "east") and not os.path.isdir(f"{TOP}/crates/{word}"):
+            faults.append(f"no source has {word}")
+    for word in re.findall(r"`([\w/.]+)`", page.split("\n## Where to look\n")[1]):
+        if os.path.isdir(f"{TOP}/crates/{word.split('/')[0]}"):
+            crate = word.split("/")[0]
+        if word.endswith((".rt", ".antt")) and not os.path.exists(f"{TOP}/{file_of(crate, word)}"):
+            faults.append(f"no file {file_of(crate, word)}")
+    judge("docs/ARCHITECTURE.md, names", faults)
+    text, faults = layers.picture(page)
+    is_so = text == text_of("docs/layers.svg")
+    judge("docs/layers.svg", faults + ([] if faults or is_so else [".ci/layers.py prints another picture"]))
+
+
+def check_clauses():
+    """The functions, clauses and definitions that the tables of docs/GUARANTEES.md name."""
+    page = text_of("docs/GUARANTEES.md").split("\n## Frames and elements\n")[1].split("\n## What is tested\n")[0]
+    crates = os.listdir(f"{TOP}/crates")
+    names = names_of_sources() | set(crates)
+    names |= set(re.findall(r"\b(?:ensures|requires|ghost|const|mod) (\w+)", sources(*crates)))
+    for crate in crates:
+        folder = f"{TOP}/crates/{crate}/specs"
+        for it in os.listdir(folder) if os.path.isdir(folder) else []:
+            names |= set(re.findall(r"\bpub (?:record |data )?(\w+)", text_of(f"crates/{crate}/specs/{it}")))
+    faults = []
+    for word in re.findall(r"`(\w+(?:::\w+)*)`", " ".join(it.split(" | ")[-1] for it in re.findall(r"^\| (.*) \|$", page, re.M))):
+        kind, _, name = "::".join(word.split("::")[-2:]).rpartition("::")
+        if f"{kind}::{name}" not in names if kind[:1].isupper() else name not in names and name != "laws":
+            faults.append(f"no source has {word}")
+    judge("docs/GUARANTEES.md, names", faults)
+
+
+def check_wrong_bodies():
+    """The wrong bodies that docs/GUARANTEES.md and docs/CHECKS.md name, which pages have."""
+    for name, heading in (("docs/GUARANTEES.md", "## From a promise to a wrong body"), ("docs/CHECKS.md", "## Wrong bodies")):
+        faults, found = [], re.findall(r"[` ](\w+)/(\w+)`?(?: \||\n|`;)", section_of(text_of(name), heading))
+        for crate, body in found:
+            folder = f"{TOP}/crates/{crate}/must-fail"
+            pages = [text_of(f"crates/{crate}/must-fail/{it}") for it in os.listdir(folder)] if os.path.isdir(folder) else []
+            faults += [] if any(f"## {body}\n" in it for it in pages) else [f"no page has {crate}/{body}"]
+        judge(f"{name}, wrong bodies", faults if found else ["it names none"])
+
+
 def check_names():
     """All references."""
-    for check in (check_command_line, check_plan_keys, check_plan_lines, check_http, check_refusals, check_metrics, check_scripts_and_records):
+    for check in (check_command_line, check_plan_keys, check_plan_lines, check_http, check_refusals, check_metrics,
+                  check_scripts_and_records, check_architecture, check_clauses, check_wrong_bodies):
         check()

@@ -8,7 +8,7 @@ import time
 from exchange import PATIENCE, PROGRAM, Exchange, Failed, ended, plan_of, reported, spare_ports
 from two_sites import tell_media
 
-COLUMNS = 30
+COLUMNS = 35
 # How soon a new call is answered, in seconds: by a machine that does nothing else, and by a busy one.
 SOON, LATE = 1, 10
 

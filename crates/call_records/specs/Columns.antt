@@ -3,6 +3,7 @@ use Rattle.std.specs.Prelude.{ℕ, List, [], ◌∷◌, ◌++◌, Some, codes, o
 use Rattle.call_records.specs.Courses.{talk_ms}
 use Rattle.call_records.specs.Rows.{side_text, format_text, failure_text, or_nothing, number_text, telephone_text, moment_columns}
 use Rattle.call_records.specs.Rows.{ending_text, end_moment, end_cause}
+use Rattle.call_records.specs.Reasons.{bill_ms, reason_text}
 use Rattle.call_records.specs.declared.call_row.CallRow.{CallRow}
 use Rattle.call_records.specs.declared.call_row.RowTexts.{RowTexts}
 
@@ -40,10 +41,16 @@ count_columns row =
     number_text (Some row.leg.sent) ∷ number_text (Some row.leg.acknowledged) ∷ number_text (Some row.leg.taken)
     ∷ number_text (Some row.resent) ∷ number_text (Some row.leg.digits_taken) ∷ number_text (Some row.leg.digits_sent) ∷ []
 
+-- when its call was accepted, answered and over by the exchange's clock, and why it wasn't answered
+abbrev pub outcome_columns : CallRow → List (List ℕ)
+outcome_columns row =
+    number_text row.moments.accepted ∷ number_text row.moments.answered ∷ number_text row.moments.over
+    ∷ number_text (bill_ms row.moments) ∷ reason_text row ∷ []
+
 abbrev pub row_columns : CallRow → RowTexts → List (List ℕ)
 row_columns row texts =
     name_columns row texts.peer.now ++ (party_columns row ++ (time_columns row texts.opened.now texts.ended.now
-    ++ (moments_columns row ++ (ending_columns row ++ count_columns row))))
+    ++ (moments_columns row ++ (ending_columns row ++ (count_columns row ++ outcome_columns row)))))
 
 -- their names
 abbrev pub column_names : List (List ℕ)
@@ -54,4 +61,5 @@ column_names =
     ∷ codes "accepted_ms" ∷ codes "accepted_clock" ∷ codes "answered_ms" ∷ codes "answered_clock" ∷ codes "end_ms"
     ∷ codes "end_clock" ∷ codes "talk_ms"
     ∷ codes "ending" ∷ codes "cause" ∷ codes "failure"
-    ∷ codes "sent" ∷ codes "acknowledged" ∷ codes "taken" ∷ codes "resent" ∷ codes "digits_taken" ∷ codes "digits_sent" ∷ []
+    ∷ codes "sent" ∷ codes "acknowledged" ∷ codes "taken" ∷ codes "resent" ∷ codes "digits_taken" ∷ codes "digits_sent"
+    ∷ codes "accepted_at_ms" ∷ codes "answered_at_ms" ∷ codes "over_at_ms" ∷ codes "bill_ms" ∷ codes "reason" ∷ []

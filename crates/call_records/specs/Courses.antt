@@ -6,6 +6,8 @@ use Rattle.info_elements.specs.Numbers.{CAUSECODE}
 use Rattle.call_signals.specs.declared.message.Message.{Message}
 use Rattle.call_signals.specs.declared.message.Message.TheVariants as messages
 use Rattle.call_records.specs.SideFrames.{SideFrame, meaning_of}
+use Rattle.call_records.specs.declared.counted.Counted.{Counted}
+use Rattle.call_records.specs.declared.counted.Counted.TheVariants.{Digits, Challenges}
 use Rattle.call_records.specs.declared.side.Side.{Side}
 use Rattle.call_records.specs.declared.side.Side.TheVariants.{Peer, Exchange}
 use Rattle.call_records.specs.declared.leg_moment.LegMoment.{LegMoment}
@@ -30,6 +32,14 @@ is_answer _ = false
 abbrev pub is_digit : Message → Bool
 is_digit (messages.Dtmf digit) = true
 is_digit _ = false
+
+abbrev pub is_challenge : Message → Bool
+is_challenge messages.AuthReq = true
+is_challenge _ = false
+
+abbrev pub is_of_kind : Counted → Message → Bool
+is_of_kind Digits message = is_digit message
+is_of_kind Challenges message = is_challenge message
 
 -- ---- how a call began
 
@@ -126,7 +136,7 @@ end_from opener accepted (f ∷ frames) =
 abbrev pub end_of : Option Side → List SideFrame → Option CallEnd
 end_of opener frames = end_from opener false frames
 
--- ---- digits
+-- ---- frames that are counted
 
 abbrev pub is_side : Side → Side → Bool
 is_side Peer Peer = true
@@ -135,8 +145,8 @@ is_side Exchange Peer = false
 is_side Exchange Exchange = true
 
 -- a DTMF frame of this side
-abbrev pub is_digit_by : Side → SideFrame → Bool
-is_digit_by side f = is_side side f.by && is_digit (meaning_of f)
+abbrev pub is_by : Counted → Side → SideFrame → Bool
+is_by kind side f = is_side side f.by && is_of_kind kind (meaning_of f)
 
 -- ---- how long a call lasted
 

@@ -7,3 +7,4 @@ pub mod Numbering
 pub mod Reader
 pub mod Rows
 pub mod SideFrames
+pub mod Reasons

@@ -4,9 +4,11 @@ ghost use Rattle.seq_window.specs.History.{sent_count, acked_count, taken_count}
 ghost use Rattle.call_signals.specs.NewElements.{new_elements};
 ghost use Rattle.call_records.specs.SideFrames.{frames_of};
 ghost use Rattle.call_records.specs.Courses as course;
+ghost use Rattle.call_records.specs.declared.counted.Counted.TheVariants.{Challenges, Digits};
 ghost use Rattle.call_records.specs.declared.side.Side.TheVariants.{Peer, Exchange};
 
 use crate::call_end::CallEnd;
+use crate::counted::Counted;
 use crate::courses;
 use crate::courses::Course;
 use crate::leg_moment::LegMoment;
@@ -38,6 +40,8 @@ pub struct CallRecord {
     pub digits_taken: usize,
     /// DTMF frames that were sent.
     pub digits_sent: usize,
+    /// AUTHREQ frames of the peer that were taken.
+    pub challenges_taken: usize,
 }
 
 impl CallRecord {
@@ -56,8 +60,10 @@ impl CallRecord {
         ensures sent { result.sent ≡ sent_count history.now.entries }
         ensures acknowledged { result.acknowledged ≡ acked_count history.now.entries }
         ensures taken { result.taken ≡ taken_count history.now.entries }
-        ensures digits_taken { result.digits_taken ≡ count_by (course.is_digit_by Peer) (frames_of history.now.entries) }
-        ensures digits_sent { result.digits_sent ≡ count_by (course.is_digit_by Exchange) (frames_of history.now.entries) }
+        ensures digits_taken { result.digits_taken ≡ count_by (course.is_by Digits Peer) (frames_of history.now.entries) }
+        ensures digits_sent { result.digits_sent ≡ count_by (course.is_by Digits Exchange) (frames_of history.now.entries) }
+        ensures challenges_taken { result.challenges_taken ≡
+            count_by (course.is_by Challenges Peer) (frames_of history.now.entries) }
     {
         let opened_by = courses::opener(history);
         let elements = courses::elements_of_new(history);
@@ -76,8 +82,9 @@ impl CallRecord {
             sent: history.sent_count(),
             acknowledged: history.acked_count(),
             taken: history.taken_count(),
-            digits_taken: courses::digits(history, Side::Peer),
-            digits_sent: courses::digits(history, Side::Exchange),
+            digits_taken: courses::count(history, Counted::Digits, Side::Peer),
+            digits_sent: courses::count(history, Counted::Digits, Side::Exchange),
+            challenges_taken: courses::count(history, Counted::Challenges, Side::Peer),
         }
     }
 

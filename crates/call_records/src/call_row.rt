@@ -3,6 +3,7 @@ ghost use Rattle.std.specs.Prelude.{◌≡◌, ◌++◌, OnOk, OnErr, IfOk};
 ghost use Rattle.csv.specs.Records.{fields_of};
 ghost use Rattle.csv.specs.Writing.{default_writer, row_text};
 ghost use Rattle.call_records.specs.Columns as columns;
+ghost use Rattle.call_records.specs.Reasons as reasons;
 
 use crate::call_record::CallRecord;
 use crate::columns::{
@@ -10,7 +11,8 @@ use crate::columns::{
     side_name,
 };
 use call_book::LegName;
-use call_signals::{Failure, Format};
+use crate::reason::reason_name;
+use call_signals::{Failure, Format, Moments};
 use csv::StringRecord;
 use std::alloc::{AllocError, Global};
 
@@ -29,6 +31,12 @@ pub struct CallRow {
     pub failure: Option<Failure>,
     /// How many full frames went out again, modulo 2^64.
     pub resent: u64,
+    /// When its call was first offered, accepted, answered and over, in milliseconds since the exchange was opened.
+    pub moments: Moments,
+    /// Whether its peer was challenged.
+    pub challenged: bool,
+    /// Whether it answered a challenge of its peer.
+    pub authenticated: bool,
     /// The moment at which it was opened, in milliseconds since the exchange was.
     pub opened: u64,
     /// The moment at which it was taken out, in milliseconds since the exchange was opened.
@@ -49,7 +57,7 @@ pub struct RowTexts<'a> {
 }
 
 // The names of the columns.
-const NAMES: [&str; 30] = [
+const NAMES: [&str; 35] = [
     "call",
     "peer",
     "number",
@@ -80,6 +88,11 @@ const NAMES: [&str; 30] = [
     "resent",
     "digits_taken",
     "digits_sent",
+    "accepted_at_ms",
+    "answered_at_ms",
+    "over_at_ms",
+    "bill_ms",
+    "reason",
 ];
 
 impl CallRow {
@@ -168,6 +181,27 @@ impl CallRow {
         push_number(alloc, fields, Some(self.leg.digits_sent as u64))
     }
 
+    // The milliseconds from the answer to the end, by the exchange's clock.
+    fn bill_ms(&self) -> Option<u64>
+        ensures { result ≡ reasons.bill_ms self.now.moments }
+    {
+        match (self.moments.answered, self.moments.over) {
+            (Some(answered), Some(over)) => Some(over.saturating_sub(answered)),
+            _ => None,
+        }
+    }
+
+    // Adds when its call was accepted, answered and over by the exchange's clock, and why it wasn't answered.
+    fn push_outcome(&self, alloc: Global, fields: &mut StringRecord) -> Result<(), AllocError>
+        ensures { OnOk result (fields_of fields.new ≡ fields_of fields.old ++ columns.outcome_columns self.now) }
+    {
+        push_number(alloc, fields, self.moments.accepted)?;
+        push_number(alloc, fields, self.moments.answered)?;
+        push_number(alloc, fields, self.moments.over)?;
+        push_number(alloc, fields, self.bill_ms())?;
+        fields.push_field(reason_name(self))
+    }
+
     // Adds all columns.
     fn push_columns(
         &self,
@@ -182,7 +216,8 @@ impl CallRow {
         self.push_times(alloc, fields, texts.opened, texts.ended)?;
         self.push_moments(alloc, fields)?;
         self.push_ending(alloc, fields)?;
-        self.push_counts(alloc, fields)
+        self.push_counts(alloc, fields)?;
+        self.push_outcome(alloc, fields)
     }
 
     // All columns.

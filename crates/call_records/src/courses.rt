@@ -6,6 +6,7 @@ ghost use Rattle.call_records.specs.SideFrames.{frames_of};
 ghost use Rattle.call_records.specs.Courses as course;
 
 use crate::call_end::CallEnd;
+use crate::counted::Counted;
 use crate::leg_moment::LegMoment;
 use crate::side::Side;
 use crate::side_frames::{SideFrameView, SideFrames};
@@ -83,14 +84,14 @@ pub(crate) fn course_of(history: &Record, opener: Option<Side>) -> Course
     }
 }
 
-// How many digits a side sent.
-pub(crate) fn digits(history: &Record, side: Side) -> usize
-    ensures { result ≡ count_by (course.is_digit_by side) (frames_of history.now.entries) }
+// How many frames of this kind a side sent.
+pub(crate) fn count(history: &Record, kind: Counted, side: Side) -> usize
+    ensures { result ≡ count_by (course.is_by kind side) (frames_of history.now.entries) }
 {
     let mut frames = SideFrames::of(history);
     let mut count = 0;
     while let Some(frame) = frames.next() {
-        if frame.is_digit_by(side) {
+        if frame.is_by(kind, side) {
             count += 1;
         }
     }

@@ -7,6 +7,7 @@ ghost use Rattle.call_records.specs.SideFrames.{frames_of, meaning_of, side_fram
 ghost use Rattle.call_records.specs.Courses as course;
 
 use crate::call_end::{CallEnd, Ending};
+use crate::counted::Counted;
 use crate::leg_moment::LegMoment;
 use crate::side::Side;
 use call_signals::Message;
@@ -131,11 +132,11 @@ impl<'a> SideFrameView<'a> {
         }
     }
 
-    // Whether it is a digit of this side.
-    pub(crate) fn is_digit_by(&self, side: Side) -> bool
-        ensures { result ≡ course.is_digit_by side (side_frame_of self.now) }
+    // Whether it is of this kind and of this side.
+    pub(crate) fn is_by(&self, kind: Counted, side: Side) -> bool
+        ensures { result ≡ course.is_by kind side (side_frame_of self.now) }
     {
-        side.is(self.by) && matches!(self.meaning(), Message::Dtmf(_))
+        side.is(self.by) && kind.has(&self.meaning())
     }
 
     // Its moment.

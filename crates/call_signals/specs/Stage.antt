@@ -29,5 +29,8 @@ is_ended stage = is_stage Ended stage
 abbrev pub is_over : Stage → Bool
 is_over stage = is_closing stage || is_ended stage
 
+abbrev pub is_up : Stage → Bool
+is_up stage = is_stage Up stage
+
 abbrev pub is_talking : Stage → Bool
-is_talking stage = is_linked stage || is_stage Up stage
+is_talking stage = is_linked stage || is_up stage

@@ -50,6 +50,13 @@ impl Stage {
         matches!(self, Stage::Linked)
     }
 
+    /// Whether the stage is `Up`.
+    pub fn is_up(self) -> bool
+        ensures { result ≡ stages.is_up self }
+    {
+        matches!(self, Stage::Up)
+    }
+
     /// Whether the stage is `Closing`.
     pub fn is_closing(self) -> bool
         ensures { result ≡ stages.is_closing self }

@@ -72,14 +72,14 @@ module _ (name : LegName) (first accepted : ℕ) where
       cond_both (brings_oldest leg number now) (oldest_step (vnak_noted leg number now) now) (resend_step (vnak_noted leg number now) now)
       (λ (s : Step). quiet s.signal) (λ _. none_quiet) (λ _. none_quiet)
 
-  inval_quiet : (leg : LegState) (frame : FullFrame) → quiet (inval_step leg frame).signal
-  inval_quiet leg frame =
-      cond_both (heeds_inval leg frame) (invalidated leg) (nothing_sent leg) (λ (s : Step). quiet s.signal) (λ _. hangup_quiet leg) (λ _. none_quiet)
+  inval_quiet : (leg : LegState) (frame : FullFrame) (now : ℕ) → quiet (inval_step leg frame now).signal
+  inval_quiet leg frame now =
+      cond_both (heeds_inval leg frame) (invalidated leg now) (nothing_sent leg) (λ (s : Step). quiet s.signal) (λ _. hangup_quiet leg) (λ _. none_quiet)
 
   -- the ways of a frame: an INVAL, a VNAK, which may not count, or another
   ways_quiet : (inval vnak counted : Bool) (leg prepared_leg : LegState) (frame : FullFrame) (numbered : Step) (number now : ℕ) → vnak ≡ true
-      → quiet (cond inval (inval_step leg frame) (cond vnak (cond counted (answer_step prepared_leg number now) (nothing_sent prepared_leg)) numbered)).signal
-  ways_quiet true vnak counted leg prepared_leg frame numbered number now is = inval_quiet leg frame
+      → quiet (cond inval (inval_step leg frame now) (cond vnak (cond counted (answer_step prepared_leg number now) (nothing_sent prepared_leg)) numbered)).signal
+  ways_quiet true vnak counted leg prepared_leg frame numbered number now is = inval_quiet leg frame now
   ways_quiet false true true leg prepared_leg frame numbered number now is = answer_quiet prepared_leg number now
   ways_quiet false true false leg prepared_leg frame numbered number now is = none_quiet
   ways_quiet false false counted leg prepared_leg frame numbered number now is = cc

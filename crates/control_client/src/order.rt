@@ -17,6 +17,12 @@ pub enum Order<'w> {
     HangUp(&'w str),
     /// `stop`
     Stop,
+    /// `stop --graceful`
+    StopGracefully,
+    /// `drain`
+    Drain,
+    /// `drain off`
+    EndDrain,
 }
 
 // The order of one word.
@@ -26,16 +32,21 @@ fn plain_order<'w>(word: &str) -> Option<Order<'w>> {
         "calls" => Some(Order::Calls),
         "accounts" => Some(Order::Accounts),
         "stop" => Some(Order::Stop),
+        "drain" => Some(Order::Drain),
         _ => None,
     }
 }
 
-/// The order that these words name: `peers`, `calls`, `accounts`, `call <peer> <number>`, `hangup <number>` or `stop`. None
-/// where they name none. Names and numbers aren't judged here.
+/// The order that these words name: `peers`, `calls`, `accounts`, `call <peer> <number>`, `hangup <number>`, `drain`, `drain off`,
+/// `stop` or `stop --graceful`. `None` if they name none. Names and numbers aren't judged here.
 pub fn order_of<'w>(words: &'w [String]) -> Option<Order<'w>> {
     match words {
         [word] => plain_order(word.as_str()),
         [word, number] if word.as_str() == "hangup" => Some(Order::HangUp(number.as_str())),
+        [word, how] if word.as_str() == "stop" && how.as_str() == "--graceful" => {
+            Some(Order::StopGracefully)
+        }
+        [word, how] if word.as_str() == "drain" && how.as_str() == "off" => Some(Order::EndDrain),
         [word, peer, number] if word.as_str() == "call" => Some(Order::Call {
             peer: peer.as_str(),
             number: number.as_str(),
@@ -49,8 +60,8 @@ impl<'w> Order<'w> {
     fn method(self) -> &'static str {
         match self {
             Order::Peers | Order::Calls | Order::Accounts => "GET",
-            Order::Call { .. } | Order::Stop => "POST",
-            Order::HangUp(_) => "DELETE",
+            Order::Call { .. } | Order::Stop | Order::StopGracefully | Order::Drain => "POST",
+            Order::HangUp(_) | Order::EndDrain => "DELETE",
         }
     }
 
@@ -62,6 +73,8 @@ impl<'w> Order<'w> {
             Order::Calls | Order::Call { .. } => ("/calls", ""),
             Order::HangUp(number) => ("/calls/", number),
             Order::Stop => ("/stop", ""),
+            Order::StopGracefully => ("/stop/graceful", ""),
+            Order::Drain | Order::EndDrain => ("/drain", ""),
         }
     }
 

@@ -43,6 +43,13 @@ fn call_text(alloc: Global, what: &str, body: &str) -> Option<String> {
     }
 }
 
+// What a service does, and how many legs are left.
+fn left_text(alloc: Global, what: &str, body: &str) -> Option<String> {
+    let value = Value::from_str(alloc, body).ok()?;
+    let legs = number_in(&value, "legs")?;
+    format!(in alloc; "{what}: {legs} legs are left\n").ok()
+}
+
 // What an order's answer says.
 fn text_of(alloc: Global, order: Order<'_>, body: &str) -> Option<String> {
     match order {
@@ -52,6 +59,9 @@ fn text_of(alloc: Global, order: Order<'_>, body: &str) -> Option<String> {
         Order::Call { .. } => call_text(alloc, "calls", body),
         Order::HangUp(_) => call_text(alloc, "hung up", body),
         Order::Stop => String::from_str(alloc, "stops\n").ok(),
+        Order::StopGracefully => left_text(alloc, "stops after the last call", body),
+        Order::Drain => left_text(alloc, "drains", body),
+        Order::EndDrain => String::from_str(alloc, "takes calls\n").ok(),
     }
 }
 

@@ -5,6 +5,7 @@ use Rattle.std.specs.Str.{bytes_eq}
 use Rattle.control_requests.specs.Digits.{number_of}
 use Rattle.control_requests.specs.declared.command.Command.{Command}
 use Rattle.control_requests.specs.declared.command.Command.TheVariants.{Table, Peers, Calls, Call, Accounts, Place, HangUp, Stop}
+use Rattle.control_requests.specs.declared.command.Command.TheVariants.{StopGracefully, Drain, EndDrain}
 use Rattle.control_requests.specs.declared.command.Methods.{Methods}
 use Rattle.control_requests.specs.declared.command.NoCommand.{NoCommand}
 use Rattle.control_requests.specs.declared.command.NoCommand.TheVariants.{NotFound, NotAllowed}
@@ -34,8 +35,10 @@ row_of path =
     if bytes_eq path (codes "/peers") then row (Some Peers) None None else (
     if bytes_eq path (codes "/calls") then row (Some Calls) (Some Place) None else (
     if bytes_eq path (codes "/accounts") then row (Some Accounts) None None else (
-    if bytes_eq path (codes "/stop") then row None (Some Stop) None else
-    call_row path))))
+    if bytes_eq path (codes "/stop") then row None (Some Stop) None else (
+    if bytes_eq path (codes "/stop/graceful") then row None (Some StopGracefully) None else (
+    if bytes_eq path (codes "/drain") then row None (Some Drain) (Some EndDrain) else
+    call_row path))))))
 
 -- what a method asks for in a row
 abbrev pub command_by : Row → List ℕ → Option Command

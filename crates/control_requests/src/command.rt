@@ -21,8 +21,14 @@ pub enum Command {
     Place,
     /// `DELETE /calls/<number>`: the leg of a local number, 1 to 32,767, hangs up.
     HangUp(u16),
-    /// `POST /stop`
+    /// `POST /stop`: each leg is hung up, and the workers end.
     Stop,
+    /// `POST /stop/graceful`: new calls are rejected, and the workers end once the last call has ended.
+    StopGracefully,
+    /// `POST /drain`: new calls are rejected.
+    Drain,
+    /// `DELETE /drain`: new calls are taken again.
+    EndDrain,
 }
 
 /// The methods that a path has.
@@ -96,6 +102,14 @@ fn row_of(path: &str) -> Option<Row>
         listed(Some(Command::Accounts), None)
     } else if path == "/stop" {
         listed(None, Some(Command::Stop))
+    } else if path == "/stop/graceful" {
+        listed(None, Some(Command::StopGracefully))
+    } else if path == "/drain" {
+        Some(Row {
+            get: None,
+            post: Some(Command::Drain),
+            delete: Some(Command::EndDrain),
+        })
     } else {
         call_row(path.as_bytes())
     }

@@ -55,6 +55,14 @@ fn is_event(line: &Line<'_>) -> bool {
     }
 }
 
+// All peers drain, or none does.
+fn drain<J: Naming, R: Wait, V: Viewer>(desk: &mut Desk<'_, R, J, V>, drains: bool) {
+    let exchange = desk.exchange;
+    for peer in 0..exchange.plan().peer_count() {
+        exchange.set_draining(desk.rt, desk.pass, peer, drains);
+    }
+}
+
 impl Player {
     /// At the beginning: moment 0, in milliseconds, challenge `0`, no leg. None where memory was refused.
     pub fn new(alloc: Global, plan: &Plan) -> Option<Player> {
@@ -116,6 +124,10 @@ impl Player {
             Line::HangUp(number) => self.hang_up(desk, *number),
             Line::Tick | Line::TickOf(_) => self.tick(desk, line),
             Line::Send | Line::SendTo(_) => self.send(desk, line),
+            Line::Drain(drains) => {
+                drain(desk, *drains);
+                Ok(())
+            }
             Line::Free(peer, numbers) => {
                 self.stages.doubt();
                 order_free(desk, peer, numbers, self.now, &self.challenge)

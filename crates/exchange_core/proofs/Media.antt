@@ -33,7 +33,7 @@ opens_silent peer name frame now challenge =
     let opening = opening_of peer.rules frame in
     let effect = opening_effect opening in
     let leg = leg_for_new peer.rules name.number frame now challenge in
-    cond_both (is_reply effect.answer && is_full leg.window) (no_room leg) (answered effect.answer (taken effect leg frame New) frame now effect.signal)
+    cond_both (is_reply effect.answer && is_full leg.window) (no_room leg) (answered effect.answer (taken effect leg frame New now) frame now effect.signal)
     (λ (s : Step). IsSilent (handed_up name s.signal))
     (λ _. record { within = λ len. tt; none = refl }) (λ _. effect_silent name opening)
 

@@ -58,11 +58,11 @@ tests false new first poked registers false head comes why = grind (arith, why)
 number_of : (n : ℕ) → (n == 0) ≡ true → n ≡ 0
 number_of n is = grind (arith, nat_tests, is)
 
-newcomer : (rules : PeerRules) (frame : FullFrame) (now : ℕ) (at : Option NamedLeg) → IsDue (delivery_refused (delivered rules at frame now)) errors.NeedsNumber → IsNewcomer frame
-newcomer rules frame now (Some named) why = absurd (at_leg (is_record_full named.leg) why)
-newcomer rules frame now None why =
+newcomer : (drains : Bool) (rules : PeerRules) (frame : FullFrame) (now : ℕ) (at : Option NamedLeg) → IsDue (delivery_refused (delivered drains rules at frame now)) errors.NeedsNumber → IsNewcomer frame
+newcomer drains rules frame now (Some named) why = absurd (at_leg (is_record_full named.leg) why)
+newcomer drains rules frame now None why =
     let are = tests (frame.head.destination == 0) (is_new (message_of frame.head)) (frame.head.oseqno == 0) (rules.poke && is_poke (message_of frame.head))
-    (rules.is_hardened && is_registration frame.head) (is_numbered (message_of frame.head)) frame.head (newcomer_at rules.call_tokens frame now) why in
+    (rules.is_hardened && is_registration frame.head) (is_numbered (message_of frame.head)) frame.head (newcomer_at drains rules.call_tokens frame now) why in
     record { destination = number_of frame.head.destination are.0; first = number_of frame.head.oseqno are.2; new = are.1 }
 
 module _ (credit made : ℕ) (octets : List ℕ) (peer : PeerView) (now : ℕ) where
@@ -74,7 +74,7 @@ module _ (credit made : ℕ) (octets : List ℕ) (peer : PeerView) (now : ℕ) w
 
   opens : (d : Datagram) → IsWorked credit made octets d → IsDue (datagram_refused peer d now) errors.NeedsNumber → SpellsOpening octets
   opens (Full frame) worked why =
-      let is = newcomer peer.rules frame now (found peer.legs frame) why in
+      let is = newcomer peer.drains peer.rules frame now (found peer.legs frame) why in
       record {
         frame = frame;
         spelled = worked.spelled;

@@ -20,6 +20,7 @@ mod peer_sections;
 mod rejections;
 mod routing;
 mod settlement;
+mod skipping;
 
 pub use answers::{Answer, CallError, Refusal, Retired};
 pub use exchange::Exchange;

@@ -63,6 +63,16 @@ impl<G: Gate, J: Naming> Exchange<G, J> {
         state.lost()
     }
 
+    /// How many legs a peer of the plan has, 0 ..= 512.
+    pub fn leg_count<R: Wait>(&self, rt: &R, _pass: &mut Pass<J>, peer: u16) -> usize
+        requires { peer < length self.now.peers }
+        ensures { _pass.new ≡ _pass.old }
+    {
+        let state = self.peers[usize::from(peer)].lock(rt);
+        self.gate.enter(peer);
+        state.leg_count()
+    }
+
     /// The leg that a leg is bridged with; `None` where it isn't bridged.
     pub fn partner_of<R: Wait>(&self, rt: &R, _pass: &mut Pass<J>, name: LegName) -> Option<LegName>
         ensures { _pass.new ≡ _pass.old }

@@ -32,6 +32,16 @@ impl<G: Gate, J: Naming> Exchange<G, J> {
         state
     }
 
+    /// Sets whether a peer of the plan drains. While it does, a NEW that no leg has is answered by REJECT with cause 42, in every
+    /// plan format, and opens no leg. Legs that are there go on, and calls that are being set up. It is no step.
+    pub fn set_draining<R: Wait>(&self, rt: &R, _pass: &mut Pass<J>, peer: u16, drains: bool)
+        requires { peer < length self.now.peers }
+        ensures { _pass.new ≡ _pass.old }
+    {
+        let mut state = self.locked(rt, peer);
+        state.set_draining(drains);
+    }
+
     /// Takes the oldest datagram for a peer of the plan, a frame that was written for it; `None` where none waits.
     pub fn take_out<R: Wait>(&self, rt: &R, _pass: &mut Pass<J>, peer: u16) -> Option<Out>
         requires { peer < length self.now.peers }

@@ -38,7 +38,8 @@ exchange_main records <plan> <script>\n       \
 exchange_main run <plan> [--control <socket>] [--metrics <address:port>] [--log <level>] \
 [--log-calls] [--log-numbers full|last4|no] [--drain <seconds>] \
 [--calls <file>] [--trace <folder>] [--trace-limit <mebibytes>] [--trace-digits yes|no] [--stop-at-end-of-input]\n       \
-exchange_main ctl <socket> peers | calls | accounts | call <peer> <number> | hangup <number> | stop";
+exchange_main ctl <socket> peers | calls | accounts | call <peer> <number> | hangup <number> | drain [off] | \
+stop [--graceful]";
 
 /// The system of the program: that of a service, with files, standard output and memory.
 trait Program: ServiceSystem + Files<File = File> + Print + Alloc {}

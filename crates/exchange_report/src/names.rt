@@ -43,6 +43,7 @@ pub fn refusal_name(refusal: Refusal) -> &'static str {
 pub fn rejection_name(rejection: Rejection) -> &'static str {
     match rejection {
         Rejection::NoNumber => "NoNumber",
+        Rejection::Draining => "Draining",
         Rejection::Registration => "Registration",
         Rejection::CallToken => "CallToken",
         Rejection::Reflection => "Reflection",

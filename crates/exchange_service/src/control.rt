@@ -118,7 +118,7 @@ impl<'s> Control<'s> {
             self.clients.wait(if self.is_behind { 0 } else { WAIT_MS });
             // as after one `POST /stop`
             if self.clients.takes_end_of_input() {
-                desk.watch.stop();
+                desk.watch.lifecycle().stop();
             }
             now = moment(rt, opened, now);
             self.clients.admit(now);
@@ -146,7 +146,7 @@ impl<'s> Control<'s> {
         }
         drain.go_on(rt, desk, now);
         desk.look_for_rest(rt, alloc, now);
-        desk.watch.has_ended() && self.are_answered(now)
+        desk.watch.lifecycle().has_ended() && self.are_answered(now)
     }
 
     // Whether no answer is sent any more to clients, once the workers are told to end: all are sent, or took too long.

@@ -25,7 +25,7 @@ use std::thread;
 use std::time::{Clock, Instant};
 use system_limits::{has_free, user};
 use udp_workers::{Intake, MOST_TURNS, Post, TurnReport, WatchedExchange};
-use worker_seats::{ServiceError, ServiceSeat, lane_of, reports_of, seats_of};
+use worker_seats::{ServiceError, ServiceSeat, lane_of, reports_of, seats_of, skip_numbers};
 
 /// The workers serve beside the control socket until they are told to end. False if a thread was refused: then they end at once.
 pub(crate) fn serve_seats<J: Naming, P: Post + Send + Sync, R: ServiceSystem>(
@@ -182,6 +182,11 @@ pub(crate) fn serve_watched<J: Naming, P: Post + Send + Sync, R: ServiceSystem, 
         let log = Journal::new(rt, alloc, settings.level);
         error!(log; "more files have to be opened than the process may open");
         return Err(ServiceError::Descriptors);
+    }
+    let pass = &mut passes[0];
+    match skip_numbers(rt, exchange, pass, watch.trace()) {
+        Ok(()) => {}
+        Err(error) => return Err(error),
     }
     let seats = told_seats::<J, P, R>(rt, alloc, plan, passes, settings, opened, watch);
     let seats = match seats {

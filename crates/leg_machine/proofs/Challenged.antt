@@ -11,7 +11,7 @@ use Rattle.seq_window.specs.Turn.{entries_for_acknowledgement, entries_for_frame
 use Rattle.seq_window.specs.Window.{count_of, entry_count, held_count, entries_for_count, entries_for_number, judged_acknowledgement, judged_number}
 use Rattle.seq_window.specs.declared.judgements.Received.{Received}
 use Rattle.seq_window.specs.declared.judgements.Received.TheVariants as received
-use Rattle.leg_machine.specs.Leg.{LegState, end_failure, entered, failed, is_challenged, is_overdue, is_record_full, is_short_of_entries, is_short_of_octets}
+use Rattle.leg_machine.specs.Leg.{LegState, end_failure, staged, failed, is_challenged, is_overdue, is_record_full, is_short_of_entries, is_short_of_octets}
 use Rattle.leg_machine.specs.LegTable.{challenged, effect_at, effect_of, is_reflected, waiting}
 use Rattle.leg_machine.specs.Effects.{hung_up, rejected, row}
 use Rattle.leg_machine.specs.Replies.{data_of, reply_frame}
@@ -85,12 +85,12 @@ number-kept received.Taken frame = omega arith
 number-kept received.Repeat frame = omega arith
 number-kept received.Gap frame = omega arith
 
-taken-kept : (effect : Effect) (leg : LegState) (frame : FullFrame) (message : Message)
-    → kept (taken_leg effect leg frame message) ≤ kept leg + length frame.payload
-taken-kept effect leg frame message =
+taken-kept : (effect : Effect) (leg : LegState) (frame : FullFrame) (message : Message) (now : ℕ)
+    → kept (taken_leg effect leg frame message now) ≤ kept leg + length frame.payload
+taken-kept effect leg frame message now =
     omega (
       arith,
-      more-kept leg.window.history _ _ (taken-history effect leg frame message),
+      more-kept leg.window.history _ _ (taken-history effect leg frame message now),
       number-kept (judged_number leg.window.history frame.head.oseqno) frame,
     )
 
@@ -118,7 +118,7 @@ prepared-stage : (leg : LegState) (frame : FullFrame) → leg.stage ≡ stages.C
 prepared-stage leg frame is =
     let mid = acknowledged (learnt leg frame.head.source) frame.head.iseqno in
     let none_held = held_count mid.window == 0 in
-    either_by (λ (l : LegState). l.stage ≡ stages.Challenged) (is_closing leg.stage && none_held) (entered mid stages.Ended) mid
+    either_by (λ (l : LegState). l.stage ≡ stages.Challenged) (is_closing leg.stage && none_held) (staged mid stages.Ended) mid
     (λ over. absurd (never (is_closing leg.stage) (ap is_closing is) (and-left (is_closing leg.stage) none_held over)))
     (λ on. is)
 
@@ -132,13 +132,13 @@ judged-adds : (r : Received) (leg : LegState) (frame : FullFrame) (message : Mes
 judged-adds received.Taken leg frame message now is =
     let mid = prepared leg frame in
     let effect = effect_of mid frame message in
-    let one = taken_leg effect mid frame message in
+    let one = taken_leg effect mid frame message now in
     either (Adds leg frame) _ (no_room mid) (answered effect.answer one frame now effect.signal)
     (adds-none leg frame (no_room mid) refl)
     (omega (
       arith,
       prepared-kept leg frame,
-      taken-kept effect mid frame message,
+      taken-kept effect mid frame message now,
       replied-kept one now effect.answer (short-at mid.stage mid frame message (prepared-stage leg frame is)),
     ))
 judged-adds received.Repeat leg frame message now is =
@@ -215,13 +215,13 @@ stays-little leg frame now is has room short =
 -- ---- a late answer
 
 ends : (grown : Bool) (leg : LegState) (now : ℕ) (full late : Bool) → late ≡ true
-    → cond (full || late) (quiet (failed leg (end_failure leg))) (due_frames grown leg now) ≡ quiet (failed leg (end_failure leg))
+    → cond (full || late) (quiet (failed leg (end_failure leg) now)) (due_frames grown leg now) ≡ quiet (failed leg (end_failure leg) now)
 ends grown leg now true late is = refl
 ends grown leg now false late is = rw is refl
 
 pub late-ends : (grown : Bool) (leg : LegState) (now : ℕ) → leg.stage ≡ stages.Challenged → is_overdue leg now ≡ true
-    → tick_step grown leg now ≡ quiet (failed leg (end_failure leg))
+    → tick_step grown leg now ≡ quiet (failed leg (end_failure leg) now)
 late-ends grown leg now is late =
-    either_by (λ (t : Tick). t ≡ quiet (failed leg (end_failure leg))) (is_ended leg.stage) (quiet leg) _
+    either_by (λ (t : Tick). t ≡ quiet (failed leg (end_failure leg) now)) (is_ended leg.stage) (quiet leg) _
     (λ over. absurd (never (is_ended leg.stage) (ap is_ended is) over))
     (λ on. ends grown leg now (is_record_full leg) (is_overdue leg now) late)

@@ -107,9 +107,9 @@ tries-finish leg now some = finishes (held_count leg.window) leg now some (due-l
 -- ---- a tick
 
 hung-finish : (grown : Bool) (leg : LegState) (now : ℕ) → 1 ≤ leg.rules.retry_ms
-    → IsFinished (tries (held_count leg.window) (sends_if grown leg (entered leg stages.Closing) now (replies.Hangup leg.cause)).leg now) now
+    → IsFinished (tries (held_count leg.window) (sends_if grown leg (entered leg stages.Closing now) now (replies.Hangup leg.cause)).leg now) now
 hung-finish true leg now some =
-    let hung = sends_if true leg (entered leg stages.Closing) now (replies.Hangup leg.cause) in
+    let hung = sends_if true leg (entered leg stages.Closing now) now (replies.Hangup leg.cause) in
     finishes (held_count leg.window) hung.leg now some
     (omega (arith, due-push now leg.rules.retry_ms 0 leg.window.sendings some, due-length now leg.rules.retry_ms leg.window.sendings))
 hung-finish false leg now some = tries-finish leg now some
@@ -118,7 +118,7 @@ pub tick-tries-finish : (grown : Bool) (leg : LegState) (now : ℕ) → 1 ≤ le
     → IsFinished (tries (held_count leg.window) (hang_up_step grown leg now).leg now) now
 tick-tries-finish grown leg now some =
     either (λ (hung : Tick). IsFinished (tries (held_count leg.window) hung.leg now) now) (must_hang_up leg)
-    (sends_if grown leg (entered leg stages.Closing) now (replies.Hangup leg.cause)) (quiet leg)
+    (sends_if grown leg (entered leg stages.Closing now) now (replies.Hangup leg.cause)) (quiet leg)
     (hung-finish grown leg now some) (tries-finish leg now some)
 
 -- ended, or holding nothing that is due
@@ -139,9 +139,9 @@ rules-tries (suc turns) leg now =
 rules-hung : (grown : Bool) (leg : LegState) (now : ℕ) → (hang_up_step grown leg now).leg.rules ≡ leg.rules
 rules-hung grown leg now =
     either (λ (hung : Tick). hung.leg.rules ≡ leg.rules) (must_hang_up leg)
-    (sends_if grown leg (entered leg stages.Closing) now (replies.Hangup leg.cause)) (quiet leg) (sent grown) refl
+    (sends_if grown leg (entered leg stages.Closing now) now (replies.Hangup leg.cause)) (quiet leg) (sent grown) refl
   where
-    sent : (g : Bool) → (sends_if g leg (entered leg stages.Closing) now (replies.Hangup leg.cause)).leg.rules ≡ leg.rules
+    sent : (g : Bool) → (sends_if g leg (entered leg stages.Closing now) now (replies.Hangup leg.cause)).leg.rules ≡ leg.rules
     sent true = refl
     sent false = refl
 
@@ -174,5 +174,5 @@ ended-is _ over = cc
 pub tick-done : (grown : Bool) (leg : LegState) (now : ℕ) → 1 ≤ leg.rules.retry_ms → EndedOrNoneDue (tick_step grown leg now).leg now
 tick-done grown leg now some =
     either_by (λ (t : Tick). EndedOrNoneDue t.leg now) (is_ended leg.stage) (quiet leg) _ (λ over. inl (ended-is leg.stage over))
-    (λ on. either (λ (t : Tick). EndedOrNoneDue t.leg now) (must_end leg now) (quiet (failed leg (end_failure leg))) (due_frames grown leg now)
+    (λ on. either (λ (t : Tick). EndedOrNoneDue t.leg now) (must_end leg now) (quiet (failed leg (end_failure leg) now)) (due_frames grown leg now)
     (inl refl) (due-done grown leg now some))

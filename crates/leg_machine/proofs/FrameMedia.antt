@@ -104,7 +104,7 @@ judged-media : (r : Received) (leg : LegState) (frame : FullFrame) (message : Me
 judged-media received.Taken leg frame message now =
     let effect = effect_of leg frame message in
     either (HandsUpMedia frame) (is_reply effect.answer && is_full leg.window) (no_room leg)
-    (answered effect.answer (taken effect leg frame message) frame now effect.signal) tt (row-at leg.stage leg frame message)
+    (answered effect.answer (taken effect leg frame message now) frame now effect.signal) tt (row-at leg.stage leg frame message)
 judged-media received.Repeat leg frame message now = tt
 judged-media received.Gap leg frame message now =
     either (HandsUpMedia frame) (wants_vnak leg now) (asking leg frame now) (not_asking leg) tt tt

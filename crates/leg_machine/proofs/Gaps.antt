@@ -54,9 +54,9 @@ judged-anew received.Taken leg frame message now =
     let mid = prepared leg frame in
     let effect = effect_of mid frame message in
     either (AsksAnew leg) (is_reply effect.answer && is_full mid.window) (no_room mid)
-    (answered effect.answer (taken effect mid frame message) frame now effect.signal)
+    (answered effect.answer (taken effect mid frame message now) frame now effect.signal)
     (λ other. absurd (other (same-count leg frame)))
-    (λ other. replied-anew (taken effect mid frame message) now effect.answer refl)
+    (λ other. replied-anew (taken effect mid frame message now) now effect.answer refl)
 judged-anew received.Repeat leg frame message now = λ other. absurd (other (same-count leg frame))
 judged-anew received.Gap leg frame message now =
     let mid = prepared leg frame in

@@ -65,7 +65,7 @@ finish grown leg now hung =
 
 due-tells : (leg : LegState) (now : ℕ) → Tells (due_frames true leg now) (due_frames false leg now)
 due-tells leg now =
-    let closing = entered leg stages.Closing in
+    let closing = entered leg stages.Closing now in
     let bye = replies.Hangup leg.cause in
     let after_hung = tries (held_count leg.window) (sends_if true leg closing now bye).leg now in
     let after = tries (held_count leg.window) leg now in
@@ -76,7 +76,7 @@ due-tells leg now =
 tick-tells : (leg : LegState) (now : ℕ) → Tells (tick_step true leg now) (tick_step false leg now)
 tick-tells leg now =
     both Tells (is_ended leg.stage) (quiet leg) _ (quiet leg) _ (refl, inl refl)
-    (both Tells (must_end leg now) (quiet (failed leg (end_failure leg))) (due_frames true leg now) (quiet (failed leg (end_failure leg))) (due_frames false leg now)
+    (both Tells (must_end leg now) (quiet (failed leg (end_failure leg) now)) (due_frames true leg now) (quiet (failed leg (end_failure leg) now)) (due_frames false leg now)
     (refl, inl refl) (due-tells leg now))
 
 -- the step of a tick is that with memory where nothing was skipped, and that without where something was
@@ -114,7 +114,7 @@ due-silent : (leg : LegState) (now : ℕ) → must_hang_up leg ≡ false → mus
 due-silent leg now stays silent =
     let tried = tries (held_count leg.window) leg now in
     let last = last-silent tried.spent tried.leg now (ping-tries (held_count leg.window) leg now ∙ silent) in
-    ap (λ (b : Bool). (finish false leg now (cond b (sends_if false leg (entered leg stages.Closing) now (replies.Hangup leg.cause)) (quiet leg))).skipped) stays
+    ap (λ (b : Bool). (finish false leg now (cond b (sends_if false leg (entered leg stages.Closing now) now (replies.Hangup leg.cause)) (quiet leg))).skipped) stays
     ∙ omega (arith, last)
 
 -- nothing is skipped where there was memory, or no need of it
@@ -123,7 +123,7 @@ unskipped : (grown : Bool) (leg : LegState) (now : ℕ) → (grown ≡ false →
 unskipped true leg now needless = (tick-tells leg now).0
 unskipped false leg now needless =
     either (λ (t : Tick). t.skipped ≡ 0) (is_ended leg.stage) (quiet leg) _ refl
-    (either (λ (t : Tick). t.skipped ≡ 0) (must_end leg now) (quiet (failed leg (end_failure leg))) (due_frames false leg now)
+    (either (λ (t : Tick). t.skipped ≡ 0) (must_end leg now) (quiet (failed leg (end_failure leg) now)) (due_frames false leg now)
     refl (due-silent leg now (needless refl).0 (needless refl).1))
 
 -- what a tick of a leg ensures, by what it skipped

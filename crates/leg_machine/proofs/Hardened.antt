@@ -53,8 +53,8 @@ pub inval-ignored : (leg : LegState) (frame : FullFrame) (now : ℕ) → leg.rul
     → names_leg leg frame ≡ false → full_step leg frame now ≡ nothing_sent leg
 inval-ignored leg frame now hardened inval others = rw (inval, hardened, others) refl
 
-pub inval-heeded : (leg : LegState) (frame : FullFrame) → leg.rules.is_hardened ≡ false → inval_step leg frame ≡ invalidated leg
-inval-heeded leg frame soft = rw soft refl
+pub inval-heeded : (leg : LegState) (frame : FullFrame) (now : ℕ) → leg.rules.is_hardened ≡ false → inval_step leg frame now ≡ invalidated leg now
+inval-heeded leg frame now soft = rw soft refl
 
 -- ---- digits
 

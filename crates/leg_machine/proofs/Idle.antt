@@ -44,7 +44,7 @@ no-tries (suc turns) leg now none =
 no-frames : (grown : Bool) (leg : LegState) (now : ℕ) → must_hang_up leg ≡ false → first_due now leg.rules.retry_ms leg.window.sendings ≡ None
     → must_ping leg now ≡ false → due_frames grown leg now ≡ quiet leg
 no-frames grown leg now stays none silent =
-    ap (λ (b : Bool). after (cond b (sends_if grown leg (entered leg stages.Closing) now (replies.Hangup leg.cause)) (quiet leg))) stays
+    ap (λ (b : Bool). after (cond b (sends_if grown leg (entered leg stages.Closing now) now (replies.Hangup leg.cause)) (quiet leg))) stays
     ∙ ap at_last (no-tries (held_count leg.window) leg now none)
     ∙ ap (λ (b : Bool). alone (cond b (sends_if grown leg (pinged leg now) now replies.Ping) (quiet leg))) silent
   where
@@ -67,7 +67,7 @@ idle-stays grown leg now idle =
     either_by (λ (t : Tick). t ≡ quiet leg) (is_ended leg.stage) (quiet leg) _ (λ over. refl)
     (λ on.
     let w = waits (is_ended leg.stage) (must_end leg now) (must_hang_up leg) (is_none_due leg now) (must_ping leg now) idle on in
-    ap (λ (b : Bool). cond b (quiet (failed leg (end_failure leg))) (due_frames grown leg now)) w.enough
+    ap (λ (b : Bool). cond b (quiet (failed leg (end_failure leg) now)) (due_frames grown leg now)) w.enough
     ∙ no-frames grown leg now w.stays (none-is (first_due now leg.rules.retry_ms leg.window.sendings) w.none_due) w.silent)
 
 -- ---- when a held frame is due

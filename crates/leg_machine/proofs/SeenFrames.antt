@@ -11,7 +11,7 @@ use Rattle.info_elements.specs.Numbers.{FORMAT, MD5_RESULT}
 use Rattle.leg_machine.specs.Effects.{row, no_effect, reply_alone, hung_up, rejected, goes_on, unless_over, marked, is_reply}
 use Rattle.call_signals.specs.Format.{same_format}
 use Rattle.leg_machine.specs.LegTable.{any_stage, challenged, waiting, talking, linked, effect_at, effect_of, is_answer, element_in, auth_rep_row, auth_rep_digits, is_wanted, voice_row, is_media}
-use Rattle.leg_machine.specs.Leg.{LegState, entered}
+use Rattle.leg_machine.specs.Leg.{LegState, entered, staged}
 use Rattle.call_signals.specs.Message.{message_of, is_numbered}
 use Rattle.leg_machine.specs.Seen.{SeenLeg, SeenEffect, seen, moved, SeenFrame, Plain, ProvesItself, FailsToProve, AcceptsCall, RejectsCall, BreaksOff, Indicates, AnswersCall, Dials, Speaks, HangsUp, AcknowledgesAll, seen_effect, frame_effect, IsSeenFrame}
 use Rattle.call_signals.specs.Stage.{is_over, is_closing}
@@ -131,9 +131,9 @@ seen-replied leg now Silent = refl
 
 -- a leg that takes a frame enters its row's stage
 pub seen-taken : (effect : Effect) (leg : LegState) (frame : FullFrame) (message : Message) (now : ℕ)
-    → seen (replied (taken effect leg frame message) now effect.answer) ≡ moved (seen leg) effect.stage
+    → seen (replied (taken effect leg frame message now) now effect.answer) ≡ moved (seen leg) effect.stage
 seen-taken effect leg frame message now =
-    seen-replied (taken effect leg frame message) now effect.answer ∙ seen-marked (entered (end_noted leg effect.stage frame message) effect.stage) effect.mark
+    seen-replied (taken effect leg frame message now) now effect.answer ∙ seen-marked (entered (end_noted leg effect.stage frame message) effect.stage now) effect.mark
 
 -- ---- what changes nothing
 
@@ -162,7 +162,7 @@ taken-seen leg frame message now =
     let effect = effect_of leg frame message in
     let one = row-at leg.stage leg frame message in
     either (λ (s : Step). IsSeenFrame (seen leg) (seen s.leg) s.signal) (is_reply effect.answer && is_full leg.window)
-    (no_room leg) (answered effect.answer (taken effect leg frame message) frame now effect.signal)
+    (no_room leg) (answered effect.answer (taken effect leg frame message now) frame now effect.signal)
     (plain leg)
     (one.0, seen-taken effect leg frame message now ∙ ap (moved (seen leg)) one.1, one.2)
 
@@ -221,7 +221,7 @@ prepared-seen : (leg : LegState) (frame : FullFrame) (new : SeenLeg) (signal : O
 prepared-seen leg frame new signal =
     let mid = acknowledged (learnt leg frame.head.source) frame.head.iseqno in
     either_by (λ (l : LegState). IsSeenFrame (seen l) new signal → IsSeenFrame (seen leg) new signal) (is_closing leg.stage && (held_count mid.window == 0))
-    (entered mid stages.Ended) mid
+    (staged mid stages.Ended) mid
     (λ test s. ended-seen (seen leg) new signal (closing-if leg.stage (held_count mid.window == 0) test) s)
     (λ test s. s)
 

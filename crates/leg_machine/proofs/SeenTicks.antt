@@ -49,7 +49,7 @@ opening-seen rules number frame now challenge some =
     let opening = opening_of rules frame in
     let effect = opening_effect opening in
     let leg = leg_for_new rules number frame now challenge in
-    let step : Step = answered effect.answer (taken effect leg frame New) frame now effect.signal in
+    let step : Step = answered effect.answer (taken effect leg frame New now) frame now effect.signal in
     let has_room = some-room rules.window (is_reply effect.answer) some in
     let goal : IsSeenOpening (seen step.leg) step.signal = (opening, seen-taken effect leg frame New now ∙ fresh opening, same-signal opening) in
     subst (λ (b : Bool). let s : Step = cond b (no_room leg) step in IsSeenOpening (seen s.leg) s.signal) (sym has_room) goal
@@ -123,9 +123,9 @@ finished grown leg now hung =
     (last_step grown tried.spent tried.leg now).leg
 
 hung-seen : (grown : Bool) (leg : LegState) (now : ℕ) → must_hang_up leg ≡ true
-    → IsSeenTick (seen leg) (seen (finished grown leg now (sends_if grown leg (entered leg stages.Closing) now (replies.Hangup leg.cause))))
+    → IsSeenTick (seen leg) (seen (finished grown leg now (sends_if grown leg (entered leg stages.Closing now) now (replies.Hangup leg.cause))))
 hung-seen true leg now must =
-    let hung = sends_if true leg (entered leg stages.Closing) now (replies.Hangup leg.cause) in
+    let hung = sends_if true leg (entered leg stages.Closing now) now (replies.Hangup leg.cause) in
     closes (seen leg) (seen (finished true leg now hung)) (and-left (leg.doomed && not (is_over leg.stage)) (not (is_full leg.window)) must)
     (tried-seen (held_count leg.window) true hung.leg now)
 hung-seen false leg now must = lives-on (seen leg) (seen (finished false leg now (quiet leg))) (tried-seen (held_count leg.window) false leg now)
@@ -133,12 +133,12 @@ hung-seen false leg now must = lives-on (seen leg) (seen (finished false leg now
 due-seen : (grown : Bool) (leg : LegState) (now : ℕ) → IsSeenTick (seen leg) (seen (due_frames grown leg now).leg)
 due-seen grown leg now =
     either_by (λ (hung : Tick). IsSeenTick (seen leg) (seen (finished grown leg now hung))) (must_hang_up leg)
-    (sends_if grown leg (entered leg stages.Closing) now (replies.Hangup leg.cause)) (quiet leg)
+    (sends_if grown leg (entered leg stages.Closing now) now (replies.Hangup leg.cause)) (quiet leg)
     (hung-seen grown leg now)
     (λ _. lives-on (seen leg) (seen (finished grown leg now (quiet leg))) (tried-seen (held_count leg.window) grown leg now))
 
 pub tick-seen : (grown : Bool) (leg : LegState) (now : ℕ) → IsSeenTick (seen leg) (seen (tick_step grown leg now).leg)
 tick-seen grown leg now =
     either (λ (t : Tick). IsSeenTick (seen leg) (seen t.leg)) (is_ended leg.stage) (quiet leg) _ (inl refl)
-    (either (λ (t : Tick). IsSeenTick (seen leg) (seen t.leg)) (must_end leg now) (quiet (failed leg (end_failure leg))) (due_frames grown leg now)
+    (either (λ (t : Tick). IsSeenTick (seen leg) (seen t.leg)) (must_end leg now) (quiet (failed leg (end_failure leg) now)) (due_frames grown leg now)
     (inr (Ends, refl)) (due-seen grown leg now))

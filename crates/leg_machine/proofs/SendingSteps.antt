@@ -15,7 +15,7 @@ use Rattle.seq_window.specs.declared.judgements.Resent.TheVariants as resents
 use Rattle.seq_window.specs.Window.{held_count, held_frames, held_at, is_full, judged_number, judged_acknowledgement, count_of, entries_for_count, entries_for_number, resent}
 use Rattle.leg_machine.specs.Effects.{is_reply}
 use Rattle.leg_machine.specs.LegTable.{effect_of}
-use Rattle.leg_machine.specs.Leg.{LegState, entered, failed, must_end, end_failure}
+use Rattle.leg_machine.specs.Leg.{LegState, entered, failed, obeyed, must_end, end_failure}
 use Rattle.leg_machine.specs.Media.{after_media, media_frames}
 use Rattle.call_signals.specs.Message.{message_of, is_numbered}
 use Rattle.leg_machine.specs.Openings.{leg_for_call, open_out_step}
@@ -91,9 +91,9 @@ answer-sent leg frame now Silent all = stays leg all
 pub taken-sent : (effect : Effect) (leg : LegState) (frame : FullFrame) (message : Message) (now : ℕ) → SendsNumbered leg
     → let s = taken_step effect leg frame message now in AllSent s.leg s.replies
 taken-sent effect leg frame message now all =
-    let next = taken effect leg frame message in
+    let next = taken effect leg frame message now in
     let numbered = (none-sent leg next
-    (ap sent_frames (taken-history effect leg frame message) ∙ sent-takes leg.window.history (judged_number leg.window.history frame.head.oseqno) (stored frame)) all).numbered in
+    (ap sent_frames (taken-history effect leg frame message now) ∙ sent-takes leg.window.history (judged_number leg.window.history frame.head.oseqno) (stored frame)) all).numbered in
     either (λ (s : Step). AllSent s.leg s.replies) (is_reply effect.answer && is_full leg.window) (no_room leg)
     (answered effect.answer next frame now effect.signal) (stays leg all) (answer-sent next frame now effect.answer numbered)
 
@@ -138,7 +138,7 @@ full-sent leg frame now all =
     let noted = vnak_noted mid frame.head.iseqno now in
     let judged = judged_number mid.window.history frame.head.oseqno in
     let Sends : Step → Type 0 = λ s. AllSent s.leg s.replies in
-    of-full-step Sends leg frame now (none-sent leg (invalidated leg).leg refl all) (stays leg all)
+    of-full-step Sends leg frame now (none-sent leg (invalidated leg now).leg refl all) (stays leg all)
     (of-vnak-step Sends counted mid frame.head.iseqno now (oldest-sent noted now numbered) (resend-sent noted now numbered) (stays mid numbered))
     (either Sends (is_numbered message) (judged_step judged mid frame message now) (nothing_sent mid) (judged-sent judged mid frame message now numbered) (stays mid numbered))
 
@@ -164,7 +164,7 @@ pub row-sent : (leg : LegState) (row : Option Ordered) (now : ℕ) → SendsNumb
     → HasSentOrMini (row_carried leg row now).leg (row_carried leg row now).datagrams
 row-sent leg None now all = record { numbered = all; sendings = All-nil (IsSendingOrMini leg) }
 row-sent leg (Some row) now all =
-    let leg_in = agreed (entered leg row.stage) row.reply in
+    let leg_in = agreed (obeyed leg row.stage now) row.reply in
     let new = (row_carried leg (Some row) now).leg in
     let frame = reply_frame leg_in now row.reply in
     let one = one-sent leg_in new frame refl all (reply-numbered leg_in now row.reply) in
@@ -239,7 +239,7 @@ ping-sent true leg now all =
 ping-sent false leg now all = record { sent = stays leg all; extends = extends-itself leg.window.history }
 
 last-sent : (grown spent : Bool) (leg : LegState) (now : ℕ) → SendsNumbered leg → LastSent leg (last_step grown spent leg now)
-last-sent grown true leg now all = last-quiet leg (failed leg failures.RetriesSpent) refl all
+last-sent grown true leg now all = last-quiet leg (failed leg failures.RetriesSpent now) refl all
 last-sent grown false leg now all =
     either (LastSent leg) (must_ping leg now) (sends_if grown leg (pinged leg now) now replies.Ping) (quiet leg)
     (ping-sent grown leg now all) (last-quiet leg leg refl all)
@@ -270,10 +270,10 @@ Finishes grown leg now hung =
     AllSent last.leg (hung.replies ++ tried.replies ++ last.replies)
 
 hung-sent : (grown : Bool) (leg : LegState) (now : ℕ) → SendsNumbered leg
-    → Finishes grown leg now (sends_if grown leg (entered leg stages.Closing) now (replies.Hangup leg.cause))
+    → Finishes grown leg now (sends_if grown leg (entered leg stages.Closing now) now (replies.Hangup leg.cause))
 hung-sent true leg now all =
     let bye = replies.Hangup leg.cause in
-    let closing = entered leg stages.Closing in
+    let closing = entered leg stages.Closing now in
     let frame = reply_frame closing now bye in
     let hung = sends_if true leg closing now bye in
     let tried = tries (held_count leg.window) hung.leg now in
@@ -296,7 +296,7 @@ pub tick-sent : (grown : Bool) (leg : LegState) (now : ℕ) → SendsNumbered le
 tick-sent grown leg now all =
     let Sends : Tick → Type 0 = λ t. AllSent t.leg t.replies in
     either Sends (is_ended leg.stage) (quiet leg) _ (stays leg all)
-    (either Sends (must_end leg now) (quiet (failed leg (end_failure leg))) (due_frames grown leg now)
-    (none-sent leg (failed leg (end_failure leg)) refl all)
-    (either (Finishes grown leg now) (must_hang_up leg) (sends_if grown leg (entered leg stages.Closing) now (replies.Hangup leg.cause)) (quiet leg)
+    (either Sends (must_end leg now) (quiet (failed leg (end_failure leg) now)) (due_frames grown leg now)
+    (none-sent leg (failed leg (end_failure leg) now) refl all)
+    (either (Finishes grown leg now) (must_hang_up leg) (sends_if grown leg (entered leg stages.Closing now) now (replies.Hangup leg.cause)) (quiet leg)
     (hung-sent grown leg now all) (tail-sent (held_count leg.window) grown leg now all)))

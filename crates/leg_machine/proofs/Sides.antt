@@ -86,11 +86,11 @@ order-sent leg (Hangup cause) now some few all = row-sent leg (order_row leg (Ha
 pub first-turn : (effect : Effect) (leg : LegState) (frame : FullFrame) (now : ℕ) → leg.window.history ≡ []
     → TakesFirstTurn frame (taken_step effect leg frame New now).leg
 first-turn effect leg frame now first =
-    let next = taken effect leg frame New in
+    let next = taken effect leg frame New now in
     let one = replied-adds next now effect.answer in
     let takes = entries_for_number (judged_number [] frame.head.oseqno) (stored frame) in
     let before : next.window.history ≡ takes =
-    taken-history effect leg frame New
+    taken-history effect leg frame New now
     ∙ ap (λ (h : List Entry). h ++ entries_for_number (judged_number h frame.head.oseqno) (stored frame)) first in
     either (λ (s : Step). TakesFirstTurn frame s.leg) (is_reply effect.answer && is_full leg.window) (no_room leg)
     (answered effect.answer next frame now effect.signal) (record { acknowledges = false; receives = false; reply = None }, first) (

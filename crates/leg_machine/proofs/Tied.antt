@@ -51,9 +51,9 @@ marked-window leg marks.Unquelches = refl
 marked-window leg marks.Authenticates = refl
 
 -- the record with a frame taken
-pub taken-history : (effect : Effect) (leg : LegState) (frame : FullFrame) (message : Message) → (taken_leg effect leg frame message).window.history ≡ leg.window.history ++ entries_for_number (judged_number leg.window.history frame.head.oseqno) (stored frame)
-taken-history effect leg frame message =
-    ap (λ (w : WindowState). (after_receiving w frame.head.oseqno (stored frame)).history) (marked-window (entered (end_noted leg effect.stage frame message) effect.stage) effect.mark)
+pub taken-history : (effect : Effect) (leg : LegState) (frame : FullFrame) (message : Message) (now : ℕ) → (taken_leg effect leg frame message now).window.history ≡ leg.window.history ++ entries_for_number (judged_number leg.window.history frame.head.oseqno) (stored frame)
+taken-history effect leg frame message now =
+    ap (λ (w : WindowState). (after_receiving w frame.head.oseqno (stored frame)).history) (marked-window (entered (end_noted leg effect.stage frame message) effect.stage now) effect.mark)
 
 pub replied-adds : (leg : LegState) (now : ℕ) (answer : Answering) → (reply : Option Frame) × ((replied leg now answer).window.history ≡ leg.window.history ++ entries_for_reply reply)
 replied-adds leg now (Answered reply) = (Some (reply_frame leg now reply), refl)
@@ -81,16 +81,16 @@ judged-later leg frame =
     (taken-acks leg.window.history (count_of (judged_acknowledgement leg.window.history frame.head.iseqno)))
 
 answered-turn : (leg : LegState) (frame : FullFrame) (effect : Effect) (message : Message) (now : ℕ) → is_numbered (message_of frame.head) ≡ true
-    → TakesTurn leg frame (replied (taken_leg effect (prepared leg frame) frame message) now effect.answer)
+    → TakesTurn leg frame (replied (taken_leg effect (prepared leg frame) frame message now) now effect.answer)
 answered-turn leg frame effect message now numbered =
     let h = leg.window.history in
     let acks = entries_for_acknowledgement h frame.head.iseqno in
     let judged = judged_number h frame.head.oseqno in
     let takes = entries_for_number judged (stored frame) in
-    let one = replied-adds (taken_leg effect (prepared leg frame) frame message) now effect.answer in
+    let one = replied-adds (taken_leg effect (prepared leg frame) frame message now) now effect.answer in
     let sends = entries_for_reply one.0 in
-    let before : (taken_leg effect (prepared leg frame) frame message).window.history ≡ (h ++ acks) ++ takes =
-    taken-history effect (prepared leg frame) frame message
+    let before : (taken_leg effect (prepared leg frame) frame message now).window.history ≡ (h ++ acks) ++ takes =
+    taken-history effect (prepared leg frame) frame message now
     ∙ (λ i. prepared-history leg frame i ++ entries_for_number (judged-later leg frame i) (stored frame)) in
     let as_frame : takes ≡ entries_for_frame judged (numbered_frame frame) =
     ap (λ (b : Bool). entries_for_frame judged (cond b (Some (stored frame)) None)) (sym numbered) in (
@@ -105,7 +105,7 @@ taken-turn : (leg : LegState) (frame : FullFrame) (effect : Effect) (message : M
     → TakesTurn leg frame (taken_step effect (prepared leg frame) frame message now).leg
 taken-turn leg frame effect message now numbered =
     let mid = prepared leg frame in
-    either (λ (s : Step). TakesTurn leg frame s.leg) _ (no_room mid) (answered effect.answer (taken_leg effect mid frame message) frame now effect.signal)
+    either (λ (s : Step). TakesTurn leg frame s.leg) _ (no_room mid) (answered effect.answer (taken_leg effect mid frame message now) frame now effect.signal)
     (acknowledges leg frame mid (prepared-history leg frame)) (answered-turn leg frame effect message now numbered)
 
 judged-turn : (r : Received) (leg : LegState) (frame : FullFrame) (message : Message) (now : ℕ) → is_numbered (message_of frame.head) ≡ true
@@ -149,18 +149,18 @@ vnak-turn leg frame j now =
     (acknowledges leg frame mid (prepared-history leg frame))
 
 -- what holds of the steps of an INVAL, heeded or not, of a VNAK and of any other frame holds of that of a full frame
-pub of-full-step : (P : Step → Type 0) (leg : LegState) (frame : FullFrame) (now : ℕ) → P (invalidated leg) → P (nothing_sent leg)
+pub of-full-step : (P : Step → Type 0) (leg : LegState) (frame : FullFrame) (now : ℕ) → P (invalidated leg now) → P (nothing_sent leg)
     → P (vnak_step (judged_acknowledgement leg.window.history frame.head.iseqno) (prepared leg frame) frame.head.iseqno now)
     → P (numbered_step (prepared leg frame) frame (message_of frame.head) now) → P (full_step leg frame now)
 of-full-step P leg frame now inval none vnak other =
     let message = message_of frame.head in
     let vnak_one = vnak_step (judged_acknowledgement leg.window.history frame.head.iseqno) (prepared leg frame) frame.head.iseqno now in
     let other_one = numbered_step (prepared leg frame) frame message now in
-    either P (is_inval message) (inval_step leg frame) (cond (is_vnak message) vnak_one other_one)
-    (either P (heeds_inval leg frame) (invalidated leg) (nothing_sent leg) inval none)
+    either P (is_inval message) (inval_step leg frame now) (cond (is_vnak message) vnak_one other_one)
+    (either P (heeds_inval leg frame) (invalidated leg now) (nothing_sent leg) inval none)
     (either P (is_vnak message) vnak_one other_one vnak other)
 
 pub full-turn : (leg : LegState) (frame : FullFrame) (now : ℕ) → TakesTurn leg frame (full_step leg frame now).leg
 full-turn leg frame now =
-    of-full-step (λ (s : Step). TakesTurn leg frame s.leg) leg frame now (same leg frame (invalidated leg).leg refl) (same leg frame leg refl)
+    of-full-step (λ (s : Step). TakesTurn leg frame s.leg) leg frame now (same leg frame (invalidated leg now).leg refl) (same leg frame leg refl)
     (vnak-turn leg frame (judged_acknowledgement leg.window.history frame.head.iseqno) now) (numbered-turn leg frame now)

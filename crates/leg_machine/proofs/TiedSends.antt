@@ -7,7 +7,7 @@ use Rattle.seq_window.specs.declared.judgements.Resent.{Resent}
 use Rattle.seq_window.specs.declared.judgements.Resent.TheVariants as resents
 use Rattle.seq_window.specs.Turn.{entries_for_reply}
 use Rattle.seq_window.specs.Window.{WindowState, resent, held_count}
-use Rattle.leg_machine.specs.Leg.{LegState, entered, failed, local_room, must_end, end_failure}
+use Rattle.leg_machine.specs.Leg.{LegState, entered, failed, obeyed, local_room, must_end, end_failure}
 use Rattle.leg_machine.specs.Media.{media_sent, after_media}
 use Rattle.leg_machine.specs.OrderTable.{order_row, row_carried, order_carried, doomed, paid}
 use Rattle.leg_machine.specs.Replies.{reply_frame, voice_frame}
@@ -34,7 +34,7 @@ none old new e = (None, e ∙ sym (append-nil old.window.history))
 
 pub row-sends : (leg : LegState) (row : Option Ordered) (now : ℕ) → SendsAtMostOne leg (row_carried leg row now).leg
 row-sends leg None now = none leg leg refl
-row-sends leg (Some row) now = (Some (reply_frame (agreed (entered leg row.stage) row.reply) now row.reply), refl)
+row-sends leg (Some row) now = (Some (reply_frame (agreed (obeyed leg row.stage now) row.reply) now row.reply), refl)
 
 pub media-sends : (sent : MediaSent) (leg : LegState) (octets : List ℕ) (now : ℕ) → SendsAtMostOne leg (after_media sent leg octets now)
 media-sends media.Quelched leg octets now = none leg leg refl
@@ -90,21 +90,21 @@ last-none grown false leg now e =
     ap (λ (b : Bool). (cond b (sends_if grown leg (pinged leg now) now replies.Ping) (quiet leg)).leg.window.history) (no-ping leg now e)
 
 last-sends : (grown spent : Bool) (leg : LegState) (now : ℕ) → SendsAtMostOne leg (last_step grown spent leg now).leg
-last-sends grown true leg now = none leg (failed leg failures.RetriesSpent) refl
+last-sends grown true leg now = none leg (failed leg failures.RetriesSpent now) refl
 last-sends grown false leg now =
     either (λ (t : Tick). SendsAtMostOne leg t.leg) (must_ping leg now) (sends_if grown leg (pinged leg now) now replies.Ping) (quiet leg)
     (sends-if grown leg (pinged leg now) now replies.Ping refl) (none leg leg refl)
 
 -- a tick whose doomed leg had memory, and one whose hadn't
 hung-sends : (grown : Bool) (leg : LegState) (now : ℕ)
-    → let hung = sends_if grown leg (entered leg stages.Closing) now (replies.Hangup leg.cause) in
+    → let hung = sends_if grown leg (entered leg stages.Closing now) now (replies.Hangup leg.cause) in
     let tried = tries (held_count leg.window) hung.leg now in
     SendsAtMostOne leg (last_step grown tried.spent tried.leg now).leg
 hung-sends true leg now =
-    let hung = sends_if true leg (entered leg stages.Closing) now (replies.Hangup leg.cause) in
+    let hung = sends_if true leg (entered leg stages.Closing now) now (replies.Hangup leg.cause) in
     let tried = tries (held_count leg.window) hung.leg now in
     let kept = kept-tries (held_count leg.window) hung.leg now in
-    (Some (reply_frame (entered leg stages.Closing) now (replies.Hangup leg.cause)), last-none true tried.spent tried.leg now kept.stage ∙ kept.history)
+    (Some (reply_frame (entered leg stages.Closing now) now (replies.Hangup leg.cause)), last-none true tried.spent tried.leg now kept.stage ∙ kept.history)
 hung-sends false leg now =
     let tried = tries (held_count leg.window) leg now in
     let kept = kept-tries (held_count leg.window) leg now in
@@ -115,11 +115,11 @@ due-sends grown leg now =
     let tried = tries (held_count leg.window) leg now in
     let kept = kept-tries (held_count leg.window) leg now in
     either (λ (hung : Tick). let after = tries (held_count leg.window) hung.leg now in SendsAtMostOne leg (last_step grown after.spent after.leg now).leg)
-    (must_hang_up leg) (sends_if grown leg (entered leg stages.Closing) now (replies.Hangup leg.cause)) (quiet leg)
+    (must_hang_up leg) (sends_if grown leg (entered leg stages.Closing now) now (replies.Hangup leg.cause)) (quiet leg)
     (hung-sends grown leg now) (later leg tried.leg (last_step grown tried.spent tried.leg now).leg kept.history (last-sends grown tried.spent tried.leg now))
 
 pub tick-sends : (grown : Bool) (leg : LegState) (now : ℕ) → SendsAtMostOne leg (tick_step grown leg now).leg
 tick-sends grown leg now =
     either (λ (t : Tick). SendsAtMostOne leg t.leg) (is_ended leg.stage) (quiet leg) _ (none leg leg refl)
-    (either (λ (t : Tick). SendsAtMostOne leg t.leg) (must_end leg now) (quiet (failed leg (end_failure leg))) (due_frames grown leg now)
-    (none leg (failed leg (end_failure leg)) refl) (due-sends grown leg now))
+    (either (λ (t : Tick). SendsAtMostOne leg t.leg) (must_end leg now) (quiet (failed leg (end_failure leg) now)) (due_frames grown leg now)
+    (none leg (failed leg (end_failure leg) now) refl) (due-sends grown leg now))

@@ -1,5 +1,5 @@
 -- A leg of a call, as its steps see it ("IAX Frames", "Message Transport").
-use Rattle.std.specs.Prelude.{ℕ, ◌+◌, ◌-◌, ◌/◌, ◌%◌, ◌^◌, ◌≤◌, Bool, true, false, ◌||◌, ◌&&◌, not, nat_le, nat_lt, is_some, List, Option, None, Some, if◌then◌else◌}
+use Rattle.std.specs.Prelude.{ℕ, ◌+◌, ◌-◌, ◌/◌, ◌%◌, ◌^◌, ◌≤◌, Bool, true, false, ◌||◌, ◌&&◌, not, nat_le, nat_lt, is_none, is_some, List, Option, None, Some, if◌then◌else◌, unwrap_or}
 use Rattle.seq_window.specs.History.{data_octets}
 use Rattle.seq_window.specs.Window.{WindowState, entry_count}
 use Rattle.call_signals.specs.declared.cause.Cause.{Cause}
@@ -13,7 +13,8 @@ use Rattle.call_signals.specs.declared.failure.Failure.TheVariants as failures
 use Rattle.call_signals.specs.declared.stage.Stage.TheVariants.{Challenged, Ended}
 use Rattle.leg_machine.specs.declared.machine.AnsweredVnak.{AnsweredVnak}
 use Rattle.leg_machine.specs.declared.machine.Machine.{Machine}
-use Rattle.call_signals.specs.Stage.{is_ended, is_over}
+use Rattle.call_signals.specs.declared.moments.Moments.{Moments}
+use Rattle.call_signals.specs.Stage.{is_ended, is_offered, is_over, is_talking, is_up}
 
 pub record LegState : Type 0 where
   pub rules : PeerRules
@@ -50,6 +51,8 @@ pub record LegState : Type 0 where
   pub failure : Option Failure
   -- so many full frames went out again, modulo 2 ^ 64
   pub resent : ℕ
+  -- when the call was offered, accepted, answered and over
+  pub moments : Moments
   -- the record, and when each held frame was last sent
   pub window : WindowState
 
@@ -80,6 +83,7 @@ leg_of m = record {
   vnak_answered = m.vnak_answered;
   failure = m.failure;
   resent = m.resent;
+  moments = m.moments;
   window = m.window.state;
 }
 
@@ -90,16 +94,42 @@ whole_leg m = record { state = leg_of m; spare = m.window.spare }
 abbrev pub capacity_of : Leg → ℕ
 capacity_of leg = entry_count leg.state.window + leg.spare
 
--- A leg enters a stage. From the first that is Closing or Ended on it owes.
-abbrev pub entered : LegState → Stage → LegState
-entered leg stage = record leg {
+-- A leg changes its stage. From the first that is Closing or Ended on it owes.
+abbrev pub staged : LegState → Stage → LegState
+staged leg stage = record leg {
   stage = stage;
   owes = leg.owes || (is_over stage && not (is_over leg.stage));
 }
 
--- The leg ends since it can't go on. What ended before stays as it ended.
-abbrev pub failed : LegState → Failure → LegState
-failed leg why = record (entered leg Ended) {
+-- the moment at which something was reached first
+abbrev pub first_at : Bool → Option ℕ → ℕ → Option ℕ
+first_at reached before now = if reached then Some (unwrap_or before now) else before
+
+-- The called side alone accepts and answers a call: the layer above by orders, if the call was offered to it, and else the other
+-- side by its frames.
+abbrev pub is_of_called : Bool → Moments → Bool
+is_of_called ordered moments = if ordered then is_some moments.offered else is_none moments.offered
+
+-- the moments of a leg that enters a stage at this one, by an order or else by a frame or a tick
+abbrev pub noted : Bool → Moments → Stage → ℕ → Moments
+noted ordered moments stage now = record {
+  offered = first_at (is_offered stage) moments.offered now;
+  accepted = first_at (is_talking stage && is_of_called ordered moments) moments.accepted now;
+  answered = first_at (is_up stage && is_of_called ordered moments) moments.answered now;
+  over = first_at (is_over stage) moments.over now;
+}
+
+-- A leg enters a stage by a frame or a tick, and notes when, if that is the first such moment.
+abbrev pub entered : LegState → Stage → ℕ → LegState
+entered leg stage now = record (staged leg stage) { moments = noted false leg.moments stage now }
+
+-- .. and by an order
+abbrev pub obeyed : LegState → Stage → ℕ → LegState
+obeyed leg stage now = record (staged leg stage) { moments = noted true leg.moments stage now }
+
+-- The leg ends because it can't continue. What ended before stays as it ended.
+abbrev pub failed : LegState → Failure → ℕ → LegState
+failed leg why now = record (entered leg Ended now) {
   failure = if is_ended leg.stage then leg.failure else Some why;
   cause = if leg.rules.carries_cause && not (is_over leg.stage) then failure_cause why else leg.cause;
 }

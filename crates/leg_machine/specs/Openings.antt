@@ -44,6 +44,7 @@ leg_for_call rules number format now = record {
   vnak_answered = None;
   failure = None;
   resent = 0;
+  moments = record { offered = None; accepted = None; answered = None; over = None };
   window = record { history = []; width = rules.window; limit = rules.record_limit; sendings = [] };
 }
 

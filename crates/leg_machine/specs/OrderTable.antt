@@ -4,7 +4,7 @@ use Rattle.std.specs.Prelude.{Some, if◌then◌else◌}
 use Rattle.iax_frames.specs.FullFrame.{spelling}
 use Rattle.iax_frames.specs.MiniFrame.{mini_spelling}
 use Rattle.seq_window.specs.Window.{held_count}
-use Rattle.leg_machine.specs.Leg.{LegState, entered, local_room, is_record_full}
+use Rattle.leg_machine.specs.Leg.{LegState, obeyed, local_room, is_record_full}
 use Rattle.leg_machine.specs.Media.{media_sent, after_media, media_frames}
 use Rattle.leg_machine.specs.Replies.{reply_frame, outgoing, next_byte}
 use Rattle.call_signals.specs.Stage.{is_offered, is_linked, is_talking, is_over}
@@ -113,7 +113,7 @@ pub record Carried : Type 0 where
 abbrev pub row_carried : LegState → Option Ordered → ℕ → Carried
 row_carried leg None now = record { leg = leg; datagrams = [] }
 row_carried leg (Some row) now =
-    let leg_in = agreed (entered leg row.stage) row.reply in
+    let leg_in = agreed (obeyed leg row.stage now) row.reply in
     let frame = reply_frame leg_in now row.reply in
     record { leg = sent leg_in frame now; datagrams = spelling (outgoing leg_in false (next_byte leg_in) frame) ∷ [] }
 

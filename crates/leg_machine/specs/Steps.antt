@@ -74,9 +74,9 @@ vnak_step acknowledgement leg number now =
 -- ---- a taken frame
 
 -- the leg with the frame taken: its row's stage and mark, and the frame recorded
-abbrev pub taken : Effect → LegState → FullFrame → Message → LegState
-taken effect leg frame message =
-    recorded (heard (marked (entered (end_noted leg effect.stage frame message) effect.stage) effect.mark) message) frame
+abbrev pub taken : Effect → LegState → FullFrame → Message → ℕ → LegState
+taken effect leg frame message now =
+    recorded (heard (marked (entered (end_noted leg effect.stage frame message) effect.stage now) effect.mark) message) frame
 
 -- a numbered reply goes out
 abbrev pub replied : LegState → ℕ → Answering → LegState
@@ -102,7 +102,7 @@ abbrev pub taken_step : Effect → LegState → FullFrame → Message → ℕ �
 taken_step effect leg frame message now =
     if is_reply effect.answer && is_full leg.window
     then no_room leg
-    else answered effect.answer (taken effect leg frame message) frame now effect.signal
+    else answered effect.answer (taken effect leg frame message now) frame now effect.signal
 
 -- ---- a gap
 
@@ -138,22 +138,22 @@ abbrev pub prepared : LegState → FullFrame → LegState
 prepared leg frame = settled (acknowledged (learnt leg frame.head.source) frame.head.iseqno)
 
 -- an INVAL that is heeded ends the leg
-abbrev pub invalidated : LegState → Step
-invalidated leg =
+abbrev pub invalidated : LegState → ℕ → Step
+invalidated leg now =
     record {
-      leg = failed leg failures.Inval;
+      leg = failed leg failures.Inval now;
       replies = [];
       judged = judged.Unnumbered;
       signal = unless_over leg.stage signals.Hangup;
     }
 
 -- an INVAL neither acknowledges nor teaches
-abbrev pub inval_step : LegState → FullFrame → Step
-inval_step leg frame = if heeds_inval leg frame then invalidated leg else nothing_sent leg
+abbrev pub inval_step : LegState → FullFrame → ℕ → Step
+inval_step leg frame now = if heeds_inval leg frame then invalidated leg now else nothing_sent leg
 
 abbrev pub message_step : Message → LegState → FullFrame → ℕ → Step
 message_step message leg frame now =
-    if is_inval message then inval_step leg frame
+    if is_inval message then inval_step leg frame now
     else if is_vnak message
     then vnak_step (judged_acknowledgement leg.window.history frame.head.iseqno) (prepared leg frame) frame.head.iseqno now
     else numbered_step (prepared leg frame) frame message now

@@ -40,7 +40,7 @@ must_hang_up leg = leg.doomed && not (is_over leg.stage) && not (is_full leg.win
 
 abbrev pub hang_up_step : Bool → LegState → ℕ → Tick
 hang_up_step grown leg now =
-    if must_hang_up leg then sends_if grown leg (entered leg stages.Closing) now (Hangup leg.cause) else quiet leg
+    if must_hang_up leg then sends_if grown leg (entered leg stages.Closing now) now (Hangup leg.cause) else quiet leg
 
 -- ---- PING
 
@@ -62,7 +62,7 @@ ping_step grown leg now = if must_ping leg now then sends_if grown leg (pinged l
 
 -- after the tries: a spent frame ends the leg and stops the tick
 abbrev pub last_step : Bool → Bool → LegState → ℕ → Tick
-last_step grown spent leg now = if spent then quiet (failed leg failures.RetriesSpent) else ping_step grown leg now
+last_step grown spent leg now = if spent then quiet (failed leg failures.RetriesSpent now) else ping_step grown leg now
 
 -- The doomed leg hangs up, then held frames that are due go out again, then a PING that is due.
 -- grown: there was memory for one frame more.
@@ -77,7 +77,7 @@ due_frames grown leg now =
 abbrev pub tick_step : Bool → LegState → ℕ → Tick
 tick_step grown leg now =
     if is_ended leg.stage then quiet leg
-    else if must_end leg now then quiet (failed leg (end_failure leg))
+    else if must_end leg now then quiet (failed leg (end_failure leg) now)
     else due_frames grown leg now
 
 -- ---- idleness

@@ -6,7 +6,7 @@ use Rattle.iax_frames.specs.declared.stored_frame.Frame.{Frame}
 use Rattle.seq_window.specs.declared.judgements.Acknowledged.{Acknowledged}
 use Rattle.seq_window.specs.declared.judgements.Acknowledged.TheVariants.{Acked, Ignored}
 use Rattle.seq_window.specs.Window.{held_count, after_acknowledgement, after_receiving, after_sending}
-use Rattle.leg_machine.specs.Leg.{LegState, entered, with_window}
+use Rattle.leg_machine.specs.Leg.{LegState, staged, with_window}
 use Rattle.leg_machine.specs.declared.machine.AnsweredVnak.{AnsweredVnak}
 use Rattle.call_signals.specs.Endings.{ending_cause}
 use Rattle.call_signals.specs.Message.{is_voice_in}
@@ -33,7 +33,7 @@ counts Ignored = false
 
 -- a closing leg that holds nothing has ended
 abbrev pub settled : LegState → LegState
-settled leg = if is_closing leg.stage && (held_count leg.window == 0) then entered leg Ended else leg
+settled leg = if is_closing leg.stage && (held_count leg.window == 0) then staged leg Ended else leg
 
 -- a frame as the record keeps it
 abbrev pub stored : FullFrame → Frame

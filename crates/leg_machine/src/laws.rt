@@ -87,8 +87,8 @@ pub fn hardening_is_by_the_rules()
     // By other rules each VNAK brings all held frames, each INVAL ends the leg, and a doomed leg takes digits.
     ensures all_vnaks { (leg : LegState) (number : ℕ) (now : ℕ) → leg.rules.is_hardened ≡ false →
         (answer_step leg number now).replies ≡ map (sent_again leg) (held_frames leg.window) }
-    ensures all_invals { (leg : LegState) (frame : FullFrame) → leg.rules.is_hardened ≡ false →
-        inval_step leg frame ≡ invalidated leg }
+    ensures all_invals { (leg : LegState) (frame : FullFrame) (now : ℕ) → leg.rules.is_hardened ≡ false →
+        inval_step leg frame now ≡ invalidated leg now }
     ensures all_digits { (leg : LegState) → leg.rules.is_hardened ≡ false → refuses_digits leg ≡ false }
 {}
 
@@ -104,7 +104,7 @@ pub fn challenges_are_by_the_rules()
         (entry_count (full_step leg frame now).leg.window ≤ 32) ×
         (data_octets (full_step leg frame now).leg.window.history ≤ 4096) }
     ensures late { (grown : Bool) (leg : LegState) (now : ℕ) → leg.stage ≡ Challenged → is_overdue leg now ≡ true →
-        tick_step grown leg now ≡ quiet (failed leg (end_failure leg)) }
+        tick_step grown leg now ≡ quiet (failed leg (end_failure leg) now) }
 {}
 
 /// Seen only by its stage, whether it is doomed, whether it owes and what it hands up, each step of a leg is one that callers at

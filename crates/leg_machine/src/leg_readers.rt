@@ -1,5 +1,5 @@
 //! What a leg tells without a change.
-ghost use Rattle.std.specs.Prelude.{◌≡◌, ℕ, ◌+◌, ◌^◌, ◌<◌, ◌≤◌, true, false, length, option_copied, if◌then◌else◌, IfSome};
+ghost use Rattle.std.specs.Prelude.{◌≡◌, ℕ, ◌+◌, ◌^◌, ◌<◌, ◌≤◌, true, false, length, option_copied, is_some, if◌then◌else◌, IfSome};
 ghost use Rattle.seq_window.specs.History.{IsLegal};
 ghost use Rattle.leg_machine.specs.Leg.{is_record_full};
 ghost use Rattle.leg_machine.specs.Media.{accepts_media};
@@ -16,7 +16,7 @@ use crate::machine::Machine;
 use call_signals::openings::offered_formats;
 use call_signals::{
     Caller, Cause, ElementText, Failure, Format, Formats, Indication, MediaIn, MediaSpan,
-    NewElements, Onward, Signal, Stage,
+    Moments, NewElements, Onward, Signal, Stage,
 };
 use iax_frames::CallNumber;
 use info_elements::{CALLED_NUMBER, CALLING_NUMBER, last_in};
@@ -110,6 +110,27 @@ impl Leg {
         self.machine.resent
     }
 
+    /// When the call was first offered, accepted, answered and over, in milliseconds.
+    pub fn moments(&self) -> Moments
+        ensures { result ≡ self.now.state.moments }
+    {
+        self.machine.moments
+    }
+
+    /// Whether a challenge was sent to the other side ("AUTHREQ").
+    pub fn was_challenged(&self) -> bool
+        ensures { result ≡ is_some self.now.state.challenge }
+    {
+        self.machine.challenge.is_some()
+    }
+
+    /// Whether a challenge of the other side was answered ("AUTHREP").
+    pub fn is_authenticated(&self) -> bool
+        ensures { result ≡ self.now.state.authenticated }
+    {
+        self.machine.authenticated
+    }
+
     /// The local number, 1 ..= 32,767.
     pub fn number(&self) -> CallNumber
         ensures value { result ≡ self.now.state.number }
@@ -169,6 +190,7 @@ impl Leg {
             vnak_answered: _,
             failure: _,
             resent: _,
+            moments: _,
             window,
         } = machine;
         window.into_record()

@@ -19,7 +19,7 @@ mod working_order;
 
 pub use call_signals::{
     Caller, Cause, Credential, Digit, ElementText, Failure, Format, Formats, Heard, Indication,
-    Judged, MediaIn, MediaSpan, Message, Onward, Order, OrderError, OrderKind, Outcome, PeerRules,
+    Judged, MediaIn, MediaSpan, Message, Moments, Onward, Order, OrderError, OrderKind, Outcome, PeerRules,
     Replies, Signal, Stage, StepError, TickOutcome,
 };
 pub use leg::Leg;

@@ -4,7 +4,7 @@ ghost use Rattle.iax_frames.specs.FullFrame.{spelling};
 ghost use Rattle.seq_window.specs.Record.{frame_of};
 ghost use Rattle.seq_window.specs.Window.{held_count, judged_acknowledgement};
 ghost use Rattle.call_signals.specs.PeerRules.{IsPeerRules};
-ghost use Rattle.leg_machine.specs.Leg.{local_room};
+ghost use Rattle.leg_machine.specs.Leg.{first_at, local_room, noted};
 ghost use Rattle.leg_machine.specs.Openings.{leg_for_call};
 ghost use Rattle.leg_machine.specs.Replies as replies;
 ghost use Rattle.leg_machine.specs.Working as steps;
@@ -12,7 +12,7 @@ ghost use Rattle.leg_machine.specs.Working as steps;
 use call_auth::Challenge;
 use call_signals::codes::{FRAME_IAX, IAX_ACK, IAX_VNAK};
 use call_signals::{
-    Cause, Failure, Format, Formats, LocalNumber, Message, PeerRules, Replies, Reply, Stage,
+    Cause, Failure, Format, Formats, LocalNumber, Message, Moments, PeerRules, Replies, Reply, Stage,
     ending_cause,
 };
 use iax_frames::{CallNumber, Full, FullHead, Payload};
@@ -50,6 +50,7 @@ pub struct Machine {
     pub vnak_answered: Option<AnsweredVnak>,
     pub failure: Option<Failure>,
     pub resent: u64,
+    pub moments: Moments,
     pub window: Window,
 }
 
@@ -65,8 +66,39 @@ pub fn stored<'a>(frame: &'a Full) -> FrameView<'a>
     }
 }
 
+// The moment at which something was reached first.
+fn first_at(is_reached: bool, before: Option<u64>, now: u64) -> Option<u64>
+    ensures { result ≡ first_at is_reached before now }
+{
+    if is_reached {
+        Some(before.unwrap_or(now))
+    } else {
+        before
+    }
+}
+
+// The moments of a leg that enters a stage at this one, by an order or else by a frame or a tick. The called side alone accepts and
+// answers a call: by orders if the call was offered, and else by frames.
+fn noted(is_order: bool, moments: Moments, stage: Stage, now: u64) -> Moments
+    ensures { result ≡ noted is_order moments stage now }
+{
+    let Moments {
+        offered,
+        accepted,
+        answered,
+        over,
+    } = moments;
+    let is_of_called = offered.is_some() == is_order;
+    Moments {
+        offered: first_at(stage.is_offered(), offered, now),
+        accepted: first_at(stage.is_talking() && is_of_called, accepted, now),
+        answered: first_at(stage.is_up() && is_of_called, answered, now),
+        over: first_at(stage.is_over(), over, now),
+    }
+}
+
 impl Machine {
-    ghost use Rattle.leg_machine.specs.Leg.{leg_of, whole_leg, capacity_of, entered, failed, HasRoom};
+    ghost use Rattle.leg_machine.specs.Leg.{leg_of, whole_leg, capacity_of, entered, failed, obeyed, staged, HasRoom};
 
     /// A leg that was opened at the moment `now`, in milliseconds, under this local number, 1 ..= 32,767, before its first frame. It
     /// waits for an answer to its NEW. `Err` comes only where memory was refused.
@@ -108,6 +140,12 @@ impl Machine {
             vnak_answered: None,
             failure: None,
             resent: 0,
+            moments: Moments {
+                offered: None,
+                accepted: None,
+                answered: None,
+                over: None,
+            },
             window,
         })
     }
@@ -120,13 +158,32 @@ impl Machine {
         self.remote = Some(self.remote.unwrap_or(source));
     }
 
-    /// Enters a stage. From the first that is Closing or Ended on the leg owes.
-    pub fn enter(&mut self, stage: Stage)
-        ensures leg { leg_of self.new ≡ entered (leg_of self.old) stage }
+    // Changes the stage. From the first that is Closing or Ended on the leg owes.
+    fn set_stage(&mut self, stage: Stage)
+        ensures leg { leg_of self.new ≡ staged (leg_of self.old) stage }
         ensures window { self.new.window ≡ self.old.window }
     {
         self.owes = self.owes || (stage.is_over() && !self.stage.is_over());
         self.stage = stage;
+    }
+
+    /// Enters a stage by a frame or a tick at the moment `now`, in milliseconds, and notes when the call was first offered, accepted,
+    /// answered and over.
+    pub fn enter(&mut self, stage: Stage, now: u64)
+        ensures leg { leg_of self.new ≡ entered (leg_of self.old) stage now }
+        ensures window { self.new.window ≡ self.old.window }
+    {
+        self.moments = noted(false, self.moments, stage, now);
+        self.set_stage(stage);
+    }
+
+    /// Enters a stage by an order at the moment `now`, in milliseconds, and notes the same.
+    pub fn obey(&mut self, stage: Stage, now: u64)
+        ensures leg { leg_of self.new ≡ obeyed (leg_of self.old) stage now }
+        ensures window { self.new.window ≡ self.old.window }
+    {
+        self.moments = noted(true, self.moments, stage, now);
+        self.set_stage(stage);
     }
 
     /// Why the leg ends is noted, where it ends by entering this stage, with this frame, and its rules carry causes.
@@ -149,9 +206,10 @@ impl Machine {
         }
     }
 
-    /// The leg ends since it can't go on, and notes why. What ended before stays as it ended.
-    pub fn fail(&mut self, failure: Failure)
-        ensures leg { leg_of self.new ≡ failed (leg_of self.old) failure }
+    /// The leg ends at the moment `now`, in milliseconds, because it can't continue, and notes why. What ended before stays as it
+    /// ended.
+    pub fn fail(&mut self, failure: Failure, now: u64)
+        ensures leg { leg_of self.new ≡ failed (leg_of self.old) failure now }
         ensures window { self.new.window ≡ self.old.window }
     {
         if !self.stage.is_ended() {
@@ -160,7 +218,7 @@ impl Machine {
         if self.rules.carries_cause && !self.stage.is_over() {
             self.cause = failure.cause();
         }
-        self.enter(Stage::Ended);
+        self.enter(Stage::Ended, now);
     }
 
     /// A closing leg that holds nothing has ended.
@@ -169,7 +227,7 @@ impl Machine {
         ensures window { self.new.window ≡ self.old.window }
     {
         if self.stage.is_closing() && self.window.held_len() == 0 {
-            self.enter(Stage::Ended);
+            self.set_stage(Stage::Ended);
         }
     }
 

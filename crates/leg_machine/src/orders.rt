@@ -130,7 +130,7 @@ impl Machine {
         ensures replies { outs.new ≡ (orders.row_carried (leg_of self.old) (Some row.now) now).datagrams }
         ensures capacity { capacity_of (whole_leg self.old) ≤ capacity_of (whole_leg self.new) }
     {
-        self.enter(row.stage);
+        self.obey(row.stage, now);
         self.agree(&row.reply);
         self.send(row.reply, now, outs);
     }

@@ -73,7 +73,7 @@ impl Machine {
         if !grown {
             return 1;
         }
-        self.enter(Stage::Closing);
+        self.enter(Stage::Closing, now);
         self.send(Reply::Hangup(self.cause), now, outs);
         0
     }
@@ -110,7 +110,7 @@ impl Machine {
         ensures capacity { capacity_of (whole_leg self.old) ≤ capacity_of (whole_leg self.new) }
     {
         if spent {
-            self.fail(Failure::RetriesSpent);
+            self.fail(Failure::RetriesSpent, now);
             return 0;
         }
         self.ping(grown, now, outs)
@@ -149,11 +149,11 @@ impl Machine {
             return 0;
         }
         if self.is_record_full() {
-            self.fail(Failure::RecordFull);
+            self.fail(Failure::RecordFull, now);
             return 0;
         }
         if self.is_overdue(now) {
-            self.fail(Failure::ChallengeTimeout);
+            self.fail(Failure::ChallengeTimeout, now);
             return 0;
         }
         self.due_frames(grown, now, outs)

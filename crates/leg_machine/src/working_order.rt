@@ -28,17 +28,17 @@ impl Machine {
     }
 
     // The next frame is taken, with this effect.
-    fn take_frame(&mut self, effect: &Effect, frame: &Full, message: &Message)
+    fn take_frame(&mut self, effect: &Effect, frame: &Full, message: &Message, now: u64)
         requires room { HasRoom 3 self.old }
         requires short { length frame.now.payload ≤ 1388 }
-        ensures leg { leg_of self.new ≡ steps.taken effect.now (leg_of self.old) frame.now message.now }
+        ensures leg { leg_of self.new ≡ steps.taken effect.now (leg_of self.old) frame.now message.now now }
         ensures room { HasRoom 2 self.new }
         ensures held { held_count self.new.window.state ≡ held_count self.old.window.state }
         ensures width { self.new.window.state.width ≡ self.old.window.state.width }
         ensures capacity { capacity_of (whole_leg self.old) ≤ capacity_of (whole_leg self.new) }
     {
         self.note_end(effect.stage, frame, message);
-        self.enter(effect.stage);
+        self.enter(effect.stage, now);
         self.mark(effect.mark);
         self.hear(message);
         self.record(frame);
@@ -86,7 +86,7 @@ impl Machine {
                 signal: None,
             };
         }
-        self.take_frame(effect, frame, message);
+        self.take_frame(effect, frame, message, now);
         self.answer(&effect.answer, frame, now, outs);
         Heard {
             judged: Judged::Taken,
@@ -180,10 +180,10 @@ impl Machine {
     }
 
     // An INVAL comes; it is never answered.
-    fn invalidate(&mut self, frame: &Full) -> Heard
-        ensures leg { leg_of self.new ≡ (steps.inval_step (leg_of self.old) frame.now).leg }
-        ensures silent { (steps.inval_step (leg_of self.old) frame.now).replies ≡ [] }
-        ensures heard { result ≡ steps.heard_of (steps.inval_step (leg_of self.old) frame.now) }
+    fn invalidate(&mut self, frame: &Full, now: u64) -> Heard
+        ensures leg { leg_of self.new ≡ (steps.inval_step (leg_of self.old) frame.now now).leg }
+        ensures silent { (steps.inval_step (leg_of self.old) frame.now now).replies ≡ [] }
+        ensures heard { result ≡ steps.heard_of (steps.inval_step (leg_of self.old) frame.now now) }
         ensures capacity { capacity_of (whole_leg self.old) ≤ capacity_of (whole_leg self.new) }
     {
         if !self.heeds_inval(frame) {
@@ -193,7 +193,7 @@ impl Machine {
             };
         }
         let signal = unless_over(self.stage, Signal::Hangup);
-        self.fail(Failure::Inval);
+        self.fail(Failure::Inval, now);
         Heard {
             judged: Judged::Unnumbered,
             signal,
@@ -249,7 +249,7 @@ impl Machine {
     {
         let message = Message::of(frame);
         if message.is_inval() {
-            return self.invalidate(frame);
+            return self.invalidate(frame, now);
         }
         let counts = self.prepare(frame);
         if !message.is_vnak() {

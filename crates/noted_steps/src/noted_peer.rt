@@ -1,5 +1,5 @@
 //! The state of a peer, as it lies under its lock.
-ghost use Rattle.std.specs.Prelude.{◌≡◌, ◌≤◌, ◌∷◌, [], option_map, MatchOption};
+ghost use Rattle.std.specs.Prelude.{◌≡◌, ◌≤◌, ◌∷◌, [], option_map, MatchOption, count_by, is_some};
 ghost use Rattle.std.specs.Bool.{OnTrue, OnFalse};
 ghost use Rattle.peer_lock.specs.Accounts.{shown};
 ghost use Rattle.peer_lock.specs.Descriptions.{description_of};
@@ -92,6 +92,21 @@ impl<J: Naming> NotedPeer<J> {
         ensures { result ≡ option_map description_of (leg_at self.now.state.legs number) }
     {
         self.state.describe(number)
+    }
+
+    /// Sets whether the peer drains: while it does, no NEW opens a leg. It is no step, and isn't noted.
+    pub fn set_draining(&mut self, drains: bool)
+        ensures state { self.new.state ≡ record self.old.state { drains = drains } }
+        ensures number { self.new.number ≡ self.old.number }
+    {
+        self.state.set_draining(drains);
+    }
+
+    /// How many legs the peer has, 0 ..= 512. It isn't noted.
+    pub fn leg_count(&self) -> usize
+        ensures { result ≡ count_by is_some self.now.state.legs.places }
+    {
+        self.state.leg_count()
     }
 
     /// The sums of the accounts, for whoever asks from outside: it isn't noted.

@@ -9,7 +9,7 @@ use Rattle.seq_window.specs.declared.judgements.Resent.TheVariants as resents
 use Rattle.seq_window.specs.Window.{held_count, judged_acknowledgement}
 use Rattle.leg_machine.specs.Effects.{marked}
 use Rattle.leg_machine.specs.LegTable.{effect_of}
-use Rattle.leg_machine.specs.Leg.{LegState, entered, failed, must_end, end_failure}
+use Rattle.leg_machine.specs.Leg.{LegState, entered, staged, failed, must_end, end_failure}
 use Rattle.leg_machine.specs.Media.{after_media, media_sent}
 use Rattle.leg_machine.specs.Message.{message_of, is_inval, is_vnak}
 use Rattle.leg_machine.specs.OrderTable.{order_row, row_carried, order_carried}
@@ -76,9 +76,9 @@ same_marked leg Quelches = record { number = refl; remote = refl; ruled = record
 same_marked leg Unquelches = record { number = refl; remote = refl; ruled = record { rules = refl; width = refl; limit = refl } }
 same_marked leg Authenticates = record { number = refl; remote = refl; ruled = record { rules = refl; width = refl; limit = refl } }
 
-same_taken : (effect : Effect) (leg : LegState) (frame : FullFrame) (message : Message) → IsSameCall leg (taken effect leg frame message)
-same_taken effect leg frame message =
-    let marks = same_marked (entered (end_noted leg effect.stage frame message) effect.stage) effect.mark in record { number = marks.number; remote = marks.remote; ruled = record { rules = marks.ruled.rules; width = marks.ruled.width; limit = marks.ruled.limit } }
+same_taken : (effect : Effect) (leg : LegState) (frame : FullFrame) (message : Message) (now : ℕ) → IsSameCall leg (taken effect leg frame message now)
+same_taken effect leg frame message now =
+    let marks = same_marked (entered (end_noted leg effect.stage frame message) effect.stage now) effect.mark in record { number = marks.number; remote = marks.remote; ruled = record { rules = marks.ruled.rules; width = marks.ruled.width; limit = marks.ruled.limit } }
 
 same_replied : (leg : LegState) (now : ℕ) (answer : Answering) → IsSameCall leg (replied leg now answer)
 same_replied leg now (Answered reply) = record { number = refl; remote = refl; ruled = record { rules = refl; width = refl; limit = refl } }
@@ -88,7 +88,7 @@ same_replied leg now Silent = same leg
 same_taken_step : (effect : Effect) (leg : LegState) (frame : FullFrame) (message : Message) (now : ℕ) → IsSameCall leg (taken_step effect leg frame message now).leg
 same_taken_step effect leg frame message now =
     chosen (λ (s : Step). IsSameCall leg s.leg) _ _ _ (same leg)
-    (both_same leg (taken effect leg frame message) _ (same_taken effect leg frame message) (same_replied (taken effect leg frame message) now effect.answer))
+    (both_same leg (taken effect leg frame message now) _ (same_taken effect leg frame message now) (same_replied (taken effect leg frame message now) now effect.answer))
 
 same_judged : (judged : Received) (leg : LegState) (frame : FullFrame) (message : Message) (now : ℕ) → IsSameCall leg (judged_step judged leg frame message now).leg
 same_judged received.Taken leg frame message now = same_taken_step (effect_of leg frame message) leg frame message now
@@ -111,7 +111,7 @@ same_vnak judged leg number now =
     (same leg)
 
 same_settled : (leg : LegState) → IsSameCall leg (settled leg)
-same_settled leg = chosen (IsSameCall leg) (is_closing leg.stage && (held_count leg.window == 0)) (entered leg Ended) leg (record { number = refl; remote = refl; ruled = record { rules = refl; width = refl; limit = refl } }) (same leg)
+same_settled leg = chosen (IsSameCall leg) (is_closing leg.stage && (held_count leg.window == 0)) (staged leg Ended) leg (record { number = refl; remote = refl; ruled = record { rules = refl; width = refl; limit = refl } }) (same leg)
 
 same_prepared : (leg : LegState) (frame : FullFrame) → IsSameCall (learnt leg frame.head.source) (prepared leg frame)
 same_prepared leg frame =
@@ -133,8 +133,8 @@ same_taught message leg frame now =
 message_learns : (message : Message) (leg : LegState) (frame : FullFrame) (now : ℕ) → MayLearn frame.head.source leg (message_step message leg frame now).leg
 message_learns message leg frame now =
     let learning = both_same (learnt leg frame.head.source) (prepared leg frame) (taught_step message leg frame now).leg (same_prepared leg frame) (same_taught message leg frame now) in
-    chosen (λ (s : Step). MayLearn frame.head.source leg s.leg) (is_inval message) (inval_step leg frame) (taught_step message leg frame now)
-    (chosen (λ (s : Step). MayLearn frame.head.source leg s.leg) (heeds_inval leg frame) (invalidated leg) (nothing_sent leg)
+    chosen (λ (s : Step). MayLearn frame.head.source leg s.leg) (is_inval message) (inval_step leg frame now) (taught_step message leg frame now)
+    (chosen (λ (s : Step). MayLearn frame.head.source leg s.leg) (heeds_inval leg frame) (invalidated leg now) (nothing_sent leg)
     (record { number = refl; remote = inl refl; ruled = record { rules = refl; width = refl; limit = refl } })
     (record { number = refl; remote = inl refl; ruled = record { rules = refl; width = refl; limit = refl } })) (record { number = learning.number; remote = inr learning.remote; ruled = record { rules = learning.ruled.rules; width = learning.ruled.width; limit = learning.ruled.limit } })
 
@@ -197,10 +197,10 @@ same_due grown leg now =
     (same_last grown tried.spent tried.leg now)
 
 abbrev unended_step : Bool → LegState → ℕ → Tick
-unended_step grown leg now = if must_end leg now then quiet (failed leg (end_failure leg)) else due_frames grown leg now
+unended_step grown leg now = if must_end leg now then quiet (failed leg (end_failure leg) now) else due_frames grown leg now
 
 pub same_tick : (grown : Bool) (leg : LegState) (now : ℕ) → IsSameCall leg (tick_step grown leg now).leg
 same_tick grown leg now =
     chosen (λ (t : Tick). IsSameCall leg t.leg) (is_ended leg.stage) (quiet leg) (unended_step grown leg now) (same leg)
-    (chosen (λ (t : Tick). IsSameCall leg t.leg) (must_end leg now) (quiet (failed leg (end_failure leg))) (due_frames grown leg now)
+    (chosen (λ (t : Tick). IsSameCall leg t.leg) (must_end leg now) (quiet (failed leg (end_failure leg) now)) (due_frames grown leg now)
     (record { number = refl; remote = refl; ruled = record { rules = refl; width = refl; limit = refl } }) (same_due grown leg now))

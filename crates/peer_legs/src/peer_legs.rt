@@ -1,6 +1,6 @@
 //! The legs of one peer, by their local numbers.
 ghost use Rattle.std.specs.Option.{ForSome};
-ghost use Rattle.std.specs.Prelude.{◌&&◌, nat_lt, nat_le, ◌≡◌, ◌+◌, ◌-◌, ◌^◌, ◌<◌, ◌≤◌, ◌↔◌, length, option_copied};
+ghost use Rattle.std.specs.Prelude.{◌&&◌, nat_lt, nat_le, ◌≡◌, ◌+◌, ◌-◌, ◌^◌, ◌<◌, ◌≤◌, ◌↔◌, length, option_copied, count_by, is_some};
 ghost use Rattle.std.specs.Prelude.{replicate, slice_get, true, None, Some, IfOk, IfSome};
 ghost use Rattle.std.specs.Prelude.{IsNone, IsSome};
 ghost use Rattle.call_signals.specs.declared.rules.PeerRules.{PeerRules};
@@ -104,6 +104,19 @@ impl PeerLegs {
     {
         let _sound = &self.first;
         self.places.len()
+    }
+
+    /// How many local numbers have a leg, 0 ..= 512.
+    pub fn leg_count(&self) -> usize
+        ensures { result ≡ count_by is_some self.now.places }
+    {
+        let mut legs = 0;
+        for place in &self.places {
+            if place.is_some() {
+                legs += 1;
+            }
+        }
+        legs
     }
 
     /// The leg of a local number; `None` where there is none.

@@ -1,7 +1,7 @@
 -- A VNAK brings no more frames than a window is wide.
 use Rattle.std.specs.Prelude.{option_map, ◌==◌}
 use Rattle.std.specs.Option.{option_to_list}
-use Rattle.std.proofs.Common.{◌≡◌, ◌≤◌, ℕ, ◌+◌, ◌&&◌, cond, List, [], ◌∷◌, Option, None, Some, length, subst, refl, arith}
+use Rattle.std.proofs.Common.{◌≡◌, ◌≤◌, ℕ, ◌+◌, ◌&&◌, Bool, cond, List, [], ◌∷◌, Option, None, Some, length, subst, refl, arith}
 use Rattle.std.proofs.lemmas.List.{length-map, length-drop, take_all}
 use Rattle.call_signals.specs.Message.{message_of, is_inval, is_vnak}
 use Rattle.call_signals.specs.Stage.{is_closing}
@@ -11,7 +11,7 @@ use Rattle.call_signals.specs.declared.stage.Stage.TheVariants.{Ended}
 use Rattle.iax_frames.specs.FullFrame.{FullFrame}
 use Rattle.iax_frames.specs.declared.datagram.Datagram.TheVariants.{Full}
 use Rattle.iax_frames.specs.declared.stored_frame.Frame.{Frame}
-use Rattle.leg_machine.specs.Leg.{LegState, entered}
+use Rattle.leg_machine.specs.Leg.{LegState, staged}
 use Rattle.leg_machine.specs.Replies.{sent_again}
 use Rattle.leg_machine.specs.Steps.{Step, answer_step, inval_step, message_step, nothing_sent, numbered_step, oldest_step, prepared, resend_step, vnak_step}
 use Rattle.leg_machine.specs.Tie.{IsLegOf}
@@ -55,7 +55,7 @@ prepared_few leg frame =
     let count : ℕ = count_of (judged_acknowledgement leg.window.history frame.head.iseqno) in
     let fewer : held_count judged.window ≤ held_count leg.window = omega (arith, length-drop count leg.window.sendings) in
     either (λ (l : LegState). held_count l.window ≤ held_count leg.window) (is_closing judged.stage && (held_count judged.window == 0))
-    (entered judged Ended) judged fewer fewer
+    (staged judged Ended) judged fewer fewer
 
 -- ---- what goes out again
 
@@ -85,8 +85,8 @@ message_few_at most message leg frame now some few =
     let judged : Acknowledged = judged_acknowledgement leg.window.history frame.head.iseqno in
     let asked : Step = vnak_step judged (prepared leg frame) frame.head.iseqno now in
     let P : Step → Type 0 = λ s. length s.replies ≤ most in
-    either P (is_inval message) (inval_step leg frame) (cond (is_vnak message) asked numbered)
-    (omega (arith, inval_few leg frame, some))
+    either P (is_inval message) (inval_step leg frame now) (cond (is_vnak message) asked numbered)
+    (omega (arith, inval_few leg frame now, some))
     (either P (is_vnak message) asked numbered
     (vnak_few_at most judged (prepared leg frame) frame.head.iseqno now some (omega (arith, prepared_few leg frame, few)))
     (omega (arith, numbered_few (prepared leg frame) frame message now, some)))
@@ -94,14 +94,14 @@ message_few_at most message leg frame now some few =
 -- ---- at a peer
 
 -- without a leg
-unknown_few : (rules : PeerRules) (frame : FullFrame) (now : ℕ) → (delivered_load (unknown_call rules frame now) frame now).datagrams ≤ 127
-unknown_few rules frame now =
-    of_each (λ d. (delivered_load d frame now).datagrams ≤ 127) rules frame now (omega arith) (omega arith) (omega arith) (omega arith) (omega arith) (omega arith)
+unknown_few : (drains : Bool) (rules : PeerRules) (frame : FullFrame) (now : ℕ) → (delivered_load (unknown_call drains rules frame now) frame now).datagrams ≤ 127
+unknown_few drains rules frame now =
+    of_each (λ d. (delivered_load d frame now).datagrams ≤ 127) drains rules frame now (omega arith) (omega arith) (omega arith) (omega arith) (omega arith) (omega arith) (omega arith)
     (λ tokens. omega arith)
 
 found_few : (peer : PeerView) (frame : FullFrame) (now : ℕ) (o : Option NamedLeg) → IsSoundPeer peer → found peer.legs frame ≡ o
-    → (delivered_load (delivered peer.rules o frame now) frame now).datagrams ≤ 127
-found_few peer frame now None sound is = unknown_few peer.rules frame now
+    → (delivered_load (delivered peer.drains peer.rules o frame now) frame now).datagrams ≤ 127
+found_few peer frame now None sound is = unknown_few peer.drains peer.rules frame now
 found_few peer frame now (Some named) sound is =
     let at = found_named peer.legs frame named sound.legs is in
     let few = held_few peer.rules named.leg (sound.kept.ruled named.name.number named at) in

@@ -10,6 +10,7 @@ pub mod Opened
 pub mod Packing
 pub mod Reached
 mod Tokens
+mod Draining
 pub mod Refusing
 pub mod Resting
 pub mod Room

@@ -50,8 +50,8 @@ pub taken_few : (effect : Effect) (leg : LegState) (frame : FullFrame) (message 
     → length (taken_step effect leg frame message now).replies ≤ 1
 taken_few effect leg frame message now =
     either (λ (s : Step). length s.replies ≤ 1) (is_reply effect.answer && is_full leg.window) (no_room leg)
-    (answered effect.answer (taken effect leg frame message) frame now effect.signal)
-    (omega arith) (answers_few effect.answer (taken effect leg frame message) frame now)
+    (answered effect.answer (taken effect leg frame message now) frame now effect.signal)
+    (omega arith) (answers_few effect.answer (taken effect leg frame message now) frame now)
 
 gap_few : (leg : LegState) (frame : FullFrame) (now : ℕ) → length (gap_step leg frame now).replies ≤ 1
 gap_few leg frame now =
@@ -69,17 +69,17 @@ numbered_few leg frame message now =
     (judged_step (judged_number leg.window.history frame.head.oseqno) leg frame message now) (nothing_sent leg)
     (judged_few (judged_number leg.window.history frame.head.oseqno) leg frame message now) (omega arith)
 
-pub inval_few : (leg : LegState) (frame : FullFrame) → length (inval_step leg frame).replies ≤ 1
-inval_few leg frame =
-    either (λ (s : Step). length s.replies ≤ 1) (heeds_inval leg frame) (invalidated leg) (nothing_sent leg) (omega arith) (omega arith)
+pub inval_few : (leg : LegState) (frame : FullFrame) (now : ℕ) → length (inval_step leg frame now).replies ≤ 1
+inval_few leg frame now =
+    either (λ (s : Step). length s.replies ≤ 1) (heeds_inval leg frame) (invalidated leg now) (nothing_sent leg) (omega arith) (omega arith)
 
 message_few : (message : Message) (leg : LegState) (frame : FullFrame) (now : ℕ) → is_vnak message ≡ false
     → length (message_step message leg frame now).replies ≤ 1
 message_few message leg frame now other =
     let numbered : Step = numbered_step (prepared leg frame) frame message now in
     let asked : Step = vnak_step (judged_acknowledgement leg.window.history frame.head.iseqno) (prepared leg frame) frame.head.iseqno now in
-    either (λ (s : Step). length s.replies ≤ 1) (is_inval message) (inval_step leg frame) (cond (is_vnak message) asked numbered)
-    (inval_few leg frame)
+    either (λ (s : Step). length s.replies ≤ 1) (is_inval message) (inval_step leg frame now) (cond (is_vnak message) asked numbered)
+    (inval_few leg frame now)
     (subst (λ (b : Bool). length (cond b asked numbered).replies ≤ 1) (sym other) (numbered_few (prepared leg frame) frame message now))
 
 delivered_few : (to : Delivery) (frame : FullFrame) (now : ℕ) → is_vnak (message_of frame.head) ≡ false → (delivered_load to frame now).datagrams ≤ 1

@@ -22,7 +22,7 @@ use Rattle.call_signals.specs.declared.stage.Stage.{Stage}
 use Rattle.call_signals.specs.declared.stage.Stage.TheVariants as stages
 use Rattle.peer_lock.specs.Arrivals.{delivered_step, reached_step, datagram_step, media_at, mini_span, entries_media, entry_span}
 use Rattle.peer_legs.specs.Finding.{found, if_reached, is_reached}
-use Rattle.peer_lock.specs.Delivery.{Delivery, NeedsNumber, NoToken, Gets, NoCall, delivered, inval_for, pong_for, regrej_for, token_for, unknown_call}
+use Rattle.peer_lock.specs.Delivery.{Delivery, NeedsNumber, NoToken, Gets, NoCall, delivered, drained_for, inval_for, pong_for, regrej_for, token_for, unknown_call}
 use Rattle.peer_legs.specs.Legs.{NamedLeg, PeerLegs, AreLegs, leg_at, leg_of_remote}
 use Rattle.peer_accounts.specs.Grants.{granted}
 use Rattle.peer_lock.specs.Peer.{PeerView, PeerStep, handed_up}
@@ -124,18 +124,19 @@ reached_seen law first peer named frame now at =
 nothing_seen : (old : PeerLegs) (step : PeerStep) → step.peer.legs ≡ old → step.signals ≡ [] → step.step.touched ≡ None → IsSeenDatagram old step
 nothing_seen old step same none untouched = inr (record { same = same; media = []; signals = none; touched = untouched })
 
-unknown_seen : (first : ℕ) (peer : PeerView) (frame : FullFrame) (now : ℕ) → IsSeenDatagram peer.legs (delivered_step first peer (unknown_call peer.rules frame now) frame now)
+unknown_seen : (first : ℕ) (peer : PeerView) (frame : FullFrame) (now : ℕ) → IsSeenDatagram peer.legs (delivered_step first peer (unknown_call peer.drains peer.rules frame now) frame now)
 unknown_seen first peer frame now =
     let P : Delivery → Type 0 = λ d. IsSeenDatagram peer.legs (delivered_step first peer d frame now) in
     let needs : P NeedsNumber = nothing_seen peer.legs _ refl refl refl in
     let gets : (answer : Answer) → P (Gets answer) = λ answer. nothing_seen peer.legs _ refl refl refl in
     let no_token : P NoToken = nothing_seen peer.legs _ refl refl refl in
     let no_call : P NoCall = nothing_seen peer.legs _ refl refl refl in
-    of_each P peer.rules frame now needs no_token no_call (gets (inval_for frame.head)) (gets (pong_for frame.head)) (gets (regrej_for frame.head))
+    of_each P peer.drains peer.rules frame now needs no_token no_call (gets (inval_for frame.head)) (gets (pong_for frame.head)) (gets (regrej_for frame.head))
+    (gets (drained_for frame.head))
     (λ tokens. gets (token_for tokens frame.head now))
 
 full_seen : (law : FramesAreSeen) (first : ℕ) (peer : PeerView) (frame : FullFrame) (now : ℕ) (o : Option NamedLeg) → AreLegs peer.legs → found peer.legs frame ≡ o
-    → IsSeenDatagram peer.legs (delivered_step first peer (delivered peer.rules o frame now) frame now)
+    → IsSeenDatagram peer.legs (delivered_step first peer (delivered peer.drains peer.rules o frame now) frame now)
 full_seen law first peer frame now (Some named) are is = inl (reached_seen law first peer named frame now (found_named peer.legs frame named are is))
 full_seen law first peer frame now None are is = unknown_seen first peer frame now
 

@@ -26,7 +26,7 @@ use Rattle.peer_legs.proofs.PlaceLaws.{placed_there, stands_at}
 use Rattle.peer_legs.proofs.RuleChanges.{number_fits}
 use Rattle.call_auth.specs.declared.call_token.CallTokens.{CallTokens}
 use Rattle.peer_lock.specs.Arrivals.{datagram_step, delivered_step}
-use Rattle.peer_lock.specs.Delivery.{Delivery, NeedsNumber, NoToken, Gets, NoCall, delivered, inval_for, pong_for, regrej_for, token_for, unknown_call}
+use Rattle.peer_lock.specs.Delivery.{Delivery, NeedsNumber, NoToken, Gets, NoCall, delivered, drained_for, inval_for, pong_for, regrej_for, token_for, unknown_call}
 use Rattle.peer_lock.specs.Openings.{opens_in, opens_out}
 use Rattle.peer_lock.specs.Orders.{order_refused_by, refused_at, ordered_if, ordered_at, ordered_step, counted_media, short_media, queued_media, waiting_media, carried_media, with_media}
 use Rattle.peer_lock.specs.Peer.{PeerView, flushed_if, with_datagram, with_sent}
@@ -47,7 +47,7 @@ use Rattle.peer_lock.proofs.SeenSteps.{free_name, ordered_legs, unspent}
 
 module _ (turns : (leg : LegState) (frame : FullFrame) (now : ℕ) → TakesTurn leg frame (full_step leg frame now).leg)
     (sends : (leg : LegState) (frame : FullFrame) (now : ℕ) → SendsNumbered leg → HasSent (full_step leg frame now).leg (map spelling (full_step leg frame now).replies)) where
-  unknown_side : (first : ℕ) (peer : PeerView) (frame : FullFrame) (now : ℕ) → ComesToNone peer frame (delivered_step first peer (unknown_call peer.rules frame now) frame now).peer
+  unknown_side : (first : ℕ) (peer : PeerView) (frame : FullFrame) (now : ℕ) → ComesToNone peer frame (delivered_step first peer (unknown_call peer.drains peer.rules frame now) frame now).peer
   unknown_side first peer frame now =
       let P : Delivery → Type 0 = λ d. ComesToNone peer frame (delivered_step first peer d frame now).peer in
       let needs : P NeedsNumber = record { legs = refl; outbox = inl refl } in
@@ -55,12 +55,13 @@ module _ (turns : (leg : LegState) (frame : FullFrame) (now : ℕ) → TakesTurn
       let inval : P (Gets (inval_for frame.head)) = record { legs = refl; outbox = inr (inl refl) } in
       let pong : P (Gets (pong_for frame.head)) = record { legs = refl; outbox = inr (inr (inl refl)) } in
       let regrej : P (Gets (regrej_for frame.head)) = record { legs = refl; outbox = inr (inr (inr (inl refl))) } in
-      let token : (tokens : CallTokens) → P (Gets (token_for tokens frame.head now)) = λ tokens. record { legs = refl; outbox = inr (inr (inr (inr (tokens, now, refl)))) } in
+      let drained : P (Gets (drained_for frame.head)) = record { legs = refl; outbox = inr (inr (inr (inr (inl refl)))) } in
+      let token : (tokens : CallTokens) → P (Gets (token_for tokens frame.head now)) = λ tokens. record { legs = refl; outbox = inr (inr (inr (inr (inr (tokens, now, refl))))) } in
       let no_call : P NoCall = record { legs = refl; outbox = inl refl } in
-      of_each P peer.rules frame now needs no_token no_call inval pong regrej token
+      of_each P peer.drains peer.rules frame now needs no_token no_call inval pong regrej drained token
 
   full_side : (first : ℕ) (peer : PeerView) (frame : FullFrame) (now : ℕ) (o : Option NamedLeg) → IsSoundPeer peer → found peer.legs frame ≡ o
-      → TakesTurnAtLeg peer frame (delivered_step first peer (delivered peer.rules o frame now) frame now).peer ⊎ ComesToNone peer frame (delivered_step first peer (delivered peer.rules o frame now) frame now).peer
+      → TakesTurnAtLeg peer frame (delivered_step first peer (delivered peer.drains peer.rules o frame now) frame now).peer ⊎ ComesToNone peer frame (delivered_step first peer (delivered peer.drains peer.rules o frame now) frame now).peer
   full_side first peer frame now None sound is = inr (unknown_side first peer frame now)
   full_side first peer frame now (Some named) sound is =
       let at = found_named peer.legs frame named sound.legs is in

@@ -40,8 +40,8 @@ few_quiet leg = omega arith
 
 few_hung : (grown : Bool) (leg : LegState) (now : ℕ) → (hang_up_step grown leg now).skipped ≤ 1
 few_hung grown leg now =
-    either (λ (t : Tick). t.skipped ≤ 1) (must_hang_up leg) (sends_if grown leg (entered leg stages.Closing) now (replies.Hangup leg.cause)) (quiet leg)
-    (few_sends grown leg (entered leg stages.Closing) now (replies.Hangup leg.cause)) (few_quiet leg)
+    either (λ (t : Tick). t.skipped ≤ 1) (must_hang_up leg) (sends_if grown leg (entered leg stages.Closing now) now (replies.Hangup leg.cause)) (quiet leg)
+    (few_sends grown leg (entered leg stages.Closing now) now (replies.Hangup leg.cause)) (few_quiet leg)
 
 few_pinged : (grown : Bool) (leg : LegState) (now : ℕ) → (ping_step grown leg now).skipped ≤ 1
 few_pinged grown leg now =
@@ -50,7 +50,7 @@ few_pinged grown leg now =
 
 few_last : (grown spent : Bool) (leg : LegState) (now : ℕ) → (last_step grown spent leg now).skipped ≤ 1
 few_last grown spent leg now =
-    either (λ (t : Tick). t.skipped ≤ 1) spent (quiet (failed leg failures.RetriesSpent)) (ping_step grown leg now) (few_quiet (failed leg failures.RetriesSpent)) (few_pinged grown leg now)
+    either (λ (t : Tick). t.skipped ≤ 1) spent (quiet (failed leg failures.RetriesSpent now)) (ping_step grown leg now) (few_quiet (failed leg failures.RetriesSpent now)) (few_pinged grown leg now)
 
 both_few : (a b : ℕ) → a ≤ 1 → b ≤ 1 → a + b ≤ 2
 both_few a b one other = omega arith
@@ -63,9 +63,9 @@ few_due grown leg now =
 
 few_ticked : (grown : Bool) (leg : LegState) (now : ℕ) → (tick_step grown leg now).skipped ≤ 2
 few_ticked grown leg now =
-    either (λ (t : Tick). t.skipped ≤ 2) (is_ended leg.stage) (quiet leg) (cond (must_end leg now) (quiet (failed leg (end_failure leg))) (due_frames grown leg now))
+    either (λ (t : Tick). t.skipped ≤ 2) (is_ended leg.stage) (quiet leg) (cond (must_end leg now) (quiet (failed leg (end_failure leg) now)) (due_frames grown leg now))
     (omega arith)
-    (either (λ (t : Tick). t.skipped ≤ 2) (must_end leg now) (quiet (failed leg (end_failure leg))) (due_frames grown leg now) (omega arith) (few_due grown leg now))
+    (either (λ (t : Tick). t.skipped ≤ 2) (must_end leg now) (quiet (failed leg (end_failure leg) now)) (due_frames grown leg now) (omega arith) (few_due grown leg now))
 
 few_placed : (skipped : ℕ) (place : Option NamedLeg) (now : ℕ) → (place_tick skipped place now).skipped ≤ 2
 few_placed skipped None now = omega arith

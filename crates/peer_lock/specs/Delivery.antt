@@ -103,6 +103,11 @@ abbrev pub reject_for : FullHead → Answer
 reject_for head =
     record { head = answer_head head IAX_REJECT; rejected = Some rejections.NoNumber; says = data_of.Why Congestion }
 
+-- REJECT to a NEW at a peer that drains ("REJECT"): congestion
+abbrev pub drained_for : FullHead → Answer
+drained_for head =
+    record { head = answer_head head IAX_REJECT; rejected = Some rejections.Draining; says = data_of.Why Congestion }
+
 -- REGREJ to a REGREQ or a REGREL ("REGREJ"): facility rejected, by Q.850
 abbrev pub regrej_for : FullHead → Answer
 regrej_for head =
@@ -127,25 +132,29 @@ by_token tokens head now (Some (digit ∷ digits)) =
     if is_given tokens now (digit ∷ digits) then NeedsNumber else NoToken
 
 -- a NEW that no leg has, which needs a token where tokens are asked for
-abbrev pub newcomer : Option CallTokens → FullFrame → ℕ → Delivery
-newcomer None frame now = NeedsNumber
-newcomer (Some tokens) frame now = by_token tokens frame.head now (element_in frame CALLTOKEN)
+abbrev pub welcome : Option CallTokens → FullFrame → ℕ → Delivery
+welcome None frame now = NeedsNumber
+welcome (Some tokens) frame now = by_token tokens frame.head now (element_in frame CALLTOKEN)
 
--- no leg is found, by the rules of the peer
-abbrev pub unknown_call : PeerRules → FullFrame → ℕ → Delivery
-unknown_call rules frame now =
+-- .. unless the peer drains
+abbrev pub newcomer : Bool → Option CallTokens → FullFrame → ℕ → Delivery
+newcomer drains tokens frame now = if drains then Gets (drained_for frame.head) else welcome tokens frame now
+
+-- no leg is found, by whether the peer drains and by its rules
+abbrev pub unknown_call : Bool → PeerRules → FullFrame → ℕ → Delivery
+unknown_call drains rules frame now =
     if frame.head.destination == 0
-    then (if is_new (message_of frame.head) && (frame.head.oseqno == 0) then newcomer rules.call_tokens frame now
+    then (if is_new (message_of frame.head) && (frame.head.oseqno == 0) then newcomer drains rules.call_tokens frame now
     else if rules.poke && is_poke (message_of frame.head) then Gets (pong_for frame.head)
     else if rules.is_hardened && is_registration frame.head then Gets (regrej_for frame.head) else NoCall)
     else (if is_numbered (message_of frame.head) then Gets (inval_for frame.head) else NoCall)
 
-abbrev pub delivered : PeerRules → Option NamedLeg → FullFrame → ℕ → Delivery
-delivered rules (Some named) frame now = Reaches named
-delivered rules None frame now = unknown_call rules frame now
+abbrev pub delivered : Bool → PeerRules → Option NamedLeg → FullFrame → ℕ → Delivery
+delivered drains rules (Some named) frame now = Reaches named
+delivered drains rules None frame now = unknown_call drains rules frame now
 
 abbrev pub delivery : PeerView → FullFrame → ℕ → Delivery
-delivery peer frame now = delivered peer.rules (found peer.legs frame) frame now
+delivery peer frame now = delivered peer.drains peer.rules (found peer.legs frame) frame now
 
 -- ---- refusals
 

@@ -31,6 +31,7 @@ abbrev pub open_in_refused : PeerView → ℕ → LegName → ℕ → Option Ope
 open_in_refused peer credit name source =
     if peer.accounts.steps == credit then Some errors.StepsSpent
     else if not (is_free_name peer.legs name) then Some errors.NumberBusy
+    else if peer.drains then Some errors.NumberBusy
     else if is_some (leg_of_remote peer.legs source) then Some errors.RemoteBusy
     else None
 

@@ -27,6 +27,8 @@ pub record PeerView : Type 0 where
   pub queue : List QueueEntry
   -- the moment at which the oldest of it was queued
   pub since : ℕ
+  -- no NEW opens a leg any more
+  pub drains : Bool
   pub accounts : Accounts
 
 -- the peer after a step, what the step answers and hands up, and the media octets that it accepted

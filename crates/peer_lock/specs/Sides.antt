@@ -14,7 +14,7 @@ use Rattle.leg_machine.specs.Leg.{LegState}
 use Rattle.leg_machine.specs.Tie.{numbered_frame, TakesTurn, SendsAtMostOne, TakesFirstTurn, HasSentAtMostOne}
 use Rattle.leg_machine.specs.Tie.{IsSendingOf, IsSending, IsSendingOrMini}
 use Rattle.peer_legs.specs.Legs.{PeerLegs, NamedLeg, leg_at, with_leg, with_place}
-use Rattle.peer_lock.specs.Delivery.{answer_octets, inval_for, pong_for, regrej_for, reject_for, token_for}
+use Rattle.peer_lock.specs.Delivery.{drained_for, answer_octets, inval_for, pong_for, regrej_for, reject_for, token_for}
 use Rattle.outbox.specs.Outbox.{put, extended}
 use Rattle.peer_lock.specs.Peer.{PeerView}
 use Rattle.peer_lock.specs.declared.unknown_calls.Answer.{Answer}
@@ -54,11 +54,12 @@ abbrev pub SendsAnswer : PeerView → Answer → PeerView → Type 0
 SendsAnswer old answer new = new.outbox ≡ put old.outbox (answer_octets answer ∷ [])
 
 -- A full frame comes to no leg: none changes, and at most an INVAL goes out, the PONG for a POKE, the REGREJ for a registration,
--- or the CALLTOKEN for a NEW.
+-- or the REJECT or the CALLTOKEN for a NEW.
 pub record ComesToNone (old : PeerView) (frame : FullFrame) (new : PeerView) : Type 0 where
   pub legs : new.legs ≡ old.legs
   pub outbox : (new.outbox ≡ old.outbox) ⊎ SendsAnswer old (inval_for frame.head) new ⊎ SendsAnswer old (pong_for frame.head) new
-      ⊎ SendsAnswer old (regrej_for frame.head) new ⊎ ((tokens : CallTokens) × (now : ℕ) × SendsAnswer old (token_for tokens frame.head now) new)
+      ⊎ SendsAnswer old (regrej_for frame.head) new ⊎ SendsAnswer old (drained_for frame.head) new
+      ⊎ ((tokens : CallTokens) × (now : ℕ) × SendsAnswer old (token_for tokens frame.head now) new)
 
 -- a NEW finds no number: no leg changes, and a REJECT goes out
 pub record RejectsNew (old : PeerView) (frame : FullFrame) (new : PeerView) : Type 0 where

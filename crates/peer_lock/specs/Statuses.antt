@@ -1,5 +1,5 @@
 -- How a leg stands, as those see it who look.
-use Rattle.std.specs.Prelude.{ℕ, ◌≤◌, List, ◌&&◌, not, Bool, false, Option, None, Some}
+use Rattle.std.specs.Prelude.{ℕ, ◌≤◌, List, ◌&&◌, not, Bool, false, Option, None, Some, is_some}
 use Rattle.leg_machine.specs.Stage.{is_ended}
 use Rattle.seq_window.specs.Entry.{Entry}
 use Rattle.seq_window.specs.History.{IsLegal}
@@ -26,6 +26,9 @@ facts_of named = record {
   remote = named.leg.remote;
   failure = named.leg.failure;
   resent = named.leg.resent;
+  moments = named.leg.moments;
+  challenged = is_some named.leg.challenge;
+  authenticated = named.leg.authenticated;
 }
 
 -- the leg has ended, and the layer above is done with it

@@ -24,6 +24,7 @@ pub struct ClosedPeer<J: Naming> {
     pub(crate) outbox: Outbox,
     pub(crate) queue: Packer,
     pub(crate) since: u64,
+    pub(crate) drains: bool,
     pub(crate) account: ClosedAccount<J>,
     pub(crate) replies: Box<Replies>,
 }
@@ -38,6 +39,7 @@ impl<J: Naming> Drop for ClosedPeer<J> {
             outbox: _,
             queue: _,
             since: _,
+            drains: _,
             account: _,
             replies: _,
         } = self;
@@ -50,10 +52,10 @@ impl<J: Naming> Model for ClosedPeer<J> {
 
     ghost Value = { PeerView };
 
-    ghost view = { λ s. record { rules = s.rules; legs = s.legs; outbox = s.outbox; queue = s.queue; since = s.since; accounts = s.account } };
+    ghost view = { λ s. record { rules = s.rules; legs = s.legs; outbox = s.outbox; queue = s.queue; since = s.since; drains = s.drains; accounts = s.account } };
 
     ghost invariant = { λ s.
-        IsKept (record { rules = s.rules; legs = s.legs; outbox = s.outbox; queue = s.queue; since = s.since; accounts = s.account }) };
+        IsKept (record { rules = s.rules; legs = s.legs; outbox = s.outbox; queue = s.queue; since = s.since; drains = s.drains; accounts = s.account }) };
 }
 
 impl<J: Naming> ClosedPeer<J> {
@@ -135,6 +137,7 @@ impl<J: Naming> ClosedPeer<J> {
             outbox,
             queue,
             since,
+            drains,
             account,
             replies,
         } = self;
@@ -145,6 +148,7 @@ impl<J: Naming> ClosedPeer<J> {
             outbox,
             queue,
             since,
+            drains,
             account: account.whole(octets, steps),
             replies,
         }

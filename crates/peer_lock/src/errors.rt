@@ -45,7 +45,7 @@ pub enum PeerError {
 pub enum OpenError {
     /// The peer has no step credit left.
     StepsSpent,
-    /// A leg has that number, or the lease isn't of this peer and its range.
+    /// A leg has that number, the lease isn't of this peer and its range, or the peer drains and a NEW came.
     NumberBusy,
     /// A leg has that remote number already.
     RemoteBusy,

@@ -21,11 +21,11 @@ ghost use Rattle.call_signals.specs.declared.rules.PeerRules.{PeerRules};
 ghost use Rattle.call_signals.specs.declared.stage.Stage.TheVariants.{Ended};
 ghost use Rattle.peer_lock.specs.Arrivals.{datagram_step};
 ghost use Rattle.peer_lock.specs.CarriedMedia.{CarriesItsOwn};
-ghost use Rattle.peer_lock.specs.Delivery.{BearsToken, full_refused, is_new};
+ghost use Rattle.peer_lock.specs.Delivery.{BearsToken, Gets, delivery, drained_for, found, full_refused, is_new};
 ghost use Rattle.peer_legs.specs.Legs.{AreLegs, IsLegOf, PeerLegs, NamedLeg, leg_at, leg_named, with_place};
 ghost use Rattle.peer_legs.specs.Legs.{is_free_name};
 ghost use Rattle.peer_lock.specs.Loads.{Load, Puts, datagram_load, load_of, no_load, order_load, plus, tick_load};
-ghost use Rattle.peer_lock.specs.Openings.{opens_in, opens_out, rejects_new};
+ghost use Rattle.peer_lock.specs.Openings.{open_in_refused, opens_in, opens_out, rejects_new};
 ghost use Rattle.peer_lock.specs.Orders.{order_refused_by, order_octets, ordered_step, IsOrderRefusal};
 ghost use Rattle.peer_lock.specs.Peer.{PeerView, counted, to_send, without_leg};
 ghost use Rattle.peer_lock.specs.Seen.{IsSeenDatagram, OpensIn, OpensOut, Obeys, IsSeenRefusal, TicksAll, Retires};
@@ -56,6 +56,16 @@ pub fn media_is_the_datagrams()
 pub fn calls_bear_tokens()
     ensures { (peer : PeerView) (frame : FullFrame) (now : ℕ) (tokens : CallTokens) → peer.rules.call_tokens ≡ Some tokens →
         full_refused peer frame now ≡ Some NeedsNumber → BearsToken tokens now frame }
+{}
+
+/// While a peer drains, no NEW opens a leg. One that no leg has is answered by REJECT with cause 42, in every plan format, and takes
+/// no number; under no name does a NEW open one.
+pub fn draining_peers_open_none()
+    ensures answered { (peer : PeerView) (frame : FullFrame) (now : ℕ) → peer.drains ≡ true → found peer.legs frame ≡ None →
+        frame.head.destination ≡ 0 → frame.head.oseqno ≡ 0 → is_new (message_of frame.head) ≡ true →
+        delivery peer frame now ≡ Gets (drained_for frame.head) }
+    ensures refused { (peer : PeerView) (credit : ℕ) (name : LegName) (source : ℕ) → peer.drains ≡ true →
+        open_in_refused peer credit name source ≢ None }
 {}
 
 /// Seen by the legs' names, their stages, whether they are doomed, whether they owe and what is handed up, each step of a peer,

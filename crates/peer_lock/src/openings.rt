@@ -62,6 +62,9 @@ impl<J: Naming> PeerState<J> {
         if let Some(refusal) = self.opening_refused(name) {
             return Some(refusal);
         }
+        if self.drains {
+            return Some(OpenError::NumberBusy);
+        }
         if self.legs.of_remote(frame.source()).is_some() {
             return Some(OpenError::RemoteBusy);
         }
@@ -81,9 +84,9 @@ impl<J: Naming> PeerState<J> {
     /// A NEW that came opens a leg, under the lease, at the moment `now`, in milliseconds: one step ("Call Setup"). It is one
     /// that `datagram` answers by `NeedsNumber`. What is handed up is written to the list, which is empty.
     ///
-    /// Refusals are looked for in this order: `StepsSpent`; `NumberBusy` where a leg has the lease's number or the lease isn't of
-    /// this peer; `RemoteBusy` where a leg has the NEW's source; `Memory`, which comes only where memory was refused. The lease
-    /// comes back, and nothing is changed.
+    /// Refusals are looked for in this order: `StepsSpent`; `NumberBusy` if a leg has the lease's number, the lease isn't of this
+    /// peer, or the peer drains; `RemoteBusy` if a leg has the NEW's source; `Memory`, which comes only if memory was refused. The
+    /// lease comes back, and nothing is changed.
     pub fn open_in(
         &mut self,
         pass: &mut Pass<J>,

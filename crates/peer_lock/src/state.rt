@@ -1,5 +1,5 @@
 //! What lies under the lock of one peer.
-ghost use Rattle.std.specs.Prelude.{◌≡◌, ◌+◌, ◌^◌, ◌<◌, ◌≤◌, [], ◌∷◌, ◌↔◌, length, replicate, option_map, None, Some, false, true};
+ghost use Rattle.std.specs.Prelude.{◌≡◌, ◌+◌, ◌^◌, ◌<◌, ◌≤◌, [], ◌∷◌, ◌↔◌, length, replicate, option_map, None, Some, false, true, count_by, is_some};
 ghost use Rattle.std.specs.Prelude.{IfOk, IfErr, IsErr, IsNone, IfNone, IfSome, OnSome, MatchOption};
 ghost use Rattle.std.specs.Bool.{OnTrue, OnFalse};
 ghost use Rattle.call_signals.specs.declared.rules.PeerRules.{PeerRules as PeerRulesValue};
@@ -42,6 +42,8 @@ pub struct PeerState<J: Naming> {
     pub(crate) queue: Packer,
     // The moment at which the oldest entry was queued, in milliseconds.
     pub(crate) since: u64,
+    // Whether no NEW opens a leg any more.
+    pub(crate) drains: bool,
     pub(crate) account: Account<J>,
     // What the step of a leg sends, on its way to the outbox.
     pub(crate) replies: Box<Replies>,
@@ -57,6 +59,7 @@ impl<J: Naming> Drop for PeerState<J> {
             outbox: _,
             queue: _,
             since: _,
+            drains: _,
             account: _,
             replies: _,
         } = self;
@@ -69,10 +72,10 @@ impl<J: Naming> Model for PeerState<J> {
 
     ghost Value = { PeerView };
 
-    ghost view = { λ s. record { rules = s.rules; legs = s.legs; outbox = s.outbox; queue = s.queue; since = s.since; accounts = s.account } };
+    ghost view = { λ s. record { rules = s.rules; legs = s.legs; outbox = s.outbox; queue = s.queue; since = s.since; drains = s.drains; accounts = s.account } };
 
     ghost invariant = { λ s.
-        IsKept (record { rules = s.rules; legs = s.legs; outbox = s.outbox; queue = s.queue; since = s.since; accounts = s.account }) };
+        IsKept (record { rules = s.rules; legs = s.legs; outbox = s.outbox; queue = s.queue; since = s.since; drains = s.drains; accounts = s.account }) };
 }
 
 // What a peer needs memory for.
@@ -136,11 +139,27 @@ impl<J: Naming> PeerState<J> {
                 outbox,
                 queue,
                 since: 0,
+                drains: false,
                 account: Account::new(octets, steps),
                 replies,
             }),
             Err(error) => Err((octets, steps, error)),
         }
+    }
+
+    /// Sets whether the peer drains: while it does, a NEW that no leg has is answered by REJECT with cause 42, in every plan
+    /// format, and opens no leg. Legs that are there go on. It is no step.
+    pub fn set_draining(&mut self, drains: bool)
+        ensures { self.new ≡ record self.old { drains = drains } }
+    {
+        self.drains = drains;
+    }
+
+    /// How many legs the peer has, 0 ..= 512.
+    pub fn leg_count(&self) -> usize
+        ensures count { result ≡ count_by is_some self.now.legs.places }
+    {
+        self.legs.leg_count()
     }
 
     // The whole queue goes out as one trunk frame if `goes` is true.
@@ -213,6 +232,9 @@ impl<J: Naming> PeerState<J> {
             remote: leg.remote(),
             failure: leg.failure(),
             resent: leg.resent(),
+            moments: leg.moments(),
+            challenged: leg.was_challenged(),
+            authenticated: leg.is_authenticated(),
         };
         let number = self.legs.call_number(name.number);
         let goes = self.rules.trunk_ms.is_some() && self.queue.has_call(number);
@@ -236,6 +258,7 @@ impl<J: Naming> PeerState<J> {
             outbox,
             queue,
             since,
+            drains,
             account,
             replies,
         } = self;
@@ -247,6 +270,7 @@ impl<J: Naming> PeerState<J> {
             outbox,
             queue,
             since,
+            drains,
             account,
             replies,
         };

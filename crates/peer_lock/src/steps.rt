@@ -4,7 +4,7 @@ ghost use Rattle.peer_lock.specs.Statuses.{status_of};
 
 use call_book::LegName;
 use iax_frames::CallNumber;
-use leg_machine::{Cause, Failure, Format, Judged, Stage};
+use leg_machine::{Cause, Failure, Format, Judged, Moments, Stage};
 use peer_legs::NamedLeg;
 use seq_window::Record;
 
@@ -13,6 +13,8 @@ use seq_window::Record;
 pub enum Rejection {
     /// A NEW that finds no free number, by REJECT ("REJECT"), in plan format 4.
     NoNumber,
+    /// A NEW at a peer that drains, by REJECT ("REJECT").
+    Draining,
     /// A REGREQ or a REGREL, by REGREJ ("REGREJ"), in plan format 4.
     Registration,
     /// A NEW that asks for a call token, by CALLTOKEN (chan_iax2's; RFC 5456 has none). Its sender is to send it again, with the
@@ -81,6 +83,12 @@ pub struct LegFacts {
     pub failure: Option<Failure>,
     /// How many full frames went out again, modulo 2^64 ("Message Transport": retransmission).
     pub resent: u64,
+    /// When its call was first offered, accepted, answered and over, in milliseconds.
+    pub moments: Moments,
+    /// Whether its peer was challenged ("AUTHREQ").
+    pub challenged: bool,
+    /// Whether it answered a challenge of its peer ("AUTHREP").
+    pub authenticated: bool,
 }
 
 /// A leg that was given up.

@@ -114,6 +114,17 @@ pub(crate) fn reject_for(frame: &Full) -> Answer
     }
 }
 
+// REJECT to a NEW at a peer that drains.
+fn drained_for(frame: &Full) -> Answer
+    ensures { result ≡ answers.drained_for frame.now.head }
+{
+    Answer {
+        head: answer_head(frame, IAX_REJECT),
+        rejected: Some(Rejection::Draining),
+        says: AnswerData::Why(Cause::Congestion),
+    }
+}
+
 // REGREJ to a REGREQ or a REGREL.
 fn regrej_for(frame: &Full) -> Answer
     ensures { result ≡ answers.regrej_for frame.now.head }
@@ -138,11 +149,19 @@ fn token_for(frame: &Full, tokens: &CallTokens, now: u64) -> Answer
     }
 }
 
-// What becomes of a NEW that no leg has, by its call token.
-fn answer_to_new(frame: &Full, rules: &PeerRules, now: u64) -> Result<Answer, PeerError>
-    ensures answer { IfOk result (λ answer. newcomer rules.now.call_tokens frame.now now ≡ Gets answer) }
-    ensures refused { IfErr result (λ e. Some e ≡ delivery_refused (newcomer rules.now.call_tokens frame.now now)) }
+// What becomes of a NEW that no leg has, by whether the peer drains and by its call token.
+fn answer_to_new(
+    frame: &Full,
+    drains: bool,
+    rules: &PeerRules,
+    now: u64,
+) -> Result<Answer, PeerError>
+    ensures answer { IfOk result (λ answer. newcomer drains rules.now.call_tokens frame.now now ≡ Gets answer) }
+    ensures refused { IfErr result (λ e. Some e ≡ delivery_refused (newcomer drains rules.now.call_tokens frame.now now)) }
 {
+    if drains {
+        return Ok(drained_for(frame));
+    }
     let Some(tokens) = &rules.call_tokens else {
         return Err(PeerError::NeedsNumber);
     };
@@ -159,15 +178,20 @@ fn answer_to_new(frame: &Full, rules: &PeerRules, now: u64) -> Result<Answer, Pe
     }
 }
 
-// What answers a frame which no leg has, by the rules of the peer.
-fn answer_to(frame: &Full, rules: &PeerRules, now: u64) -> Result<Answer, PeerError>
-    ensures answer { IfOk result (λ answer. unknown_call rules.now frame.now now ≡ Gets answer) }
-    ensures refused { IfErr result (λ e. Some e ≡ delivery_refused (unknown_call rules.now frame.now now)) }
+// What answers a frame that no leg has, by whether the peer drains and by its rules.
+fn answer_to(
+    frame: &Full,
+    drains: bool,
+    rules: &PeerRules,
+    now: u64,
+) -> Result<Answer, PeerError>
+    ensures answer { IfOk result (λ answer. unknown_call drains rules.now frame.now now ≡ Gets answer) }
+    ensures refused { IfErr result (λ e. Some e ≡ delivery_refused (unknown_call drains rules.now frame.now now)) }
 {
     let message = Message::of(frame);
     if frame.destination().get() == 0 {
         if is_new(&message) && frame.oseqno() == 0 {
-            return answer_to_new(frame, rules, now);
+            return answer_to_new(frame, drains, rules, now);
         }
         if rules.poke && is_poke(&message) {
             return Ok(pong_for(frame));
@@ -225,16 +249,16 @@ impl<J: Naming> PeerState<J> {
         now: u64,
     ) -> Result<Step, PeerError>
         requires { self.old.accounts.steps ≢ J.first_steps }
-        ensures peer { OnOk result ((answer : AnswerValue) → unknown_call self.old.rules frame.now now ≡ Gets answer →
+        ensures peer { OnOk result ((answer : AnswerValue) → unknown_call self.old.drains self.old.rules frame.now now ≡ Gets answer →
             self.new ≡ (answering self.old answer).peer) }
-        ensures answer { OnOk result ((answer : AnswerValue) × (unknown_call self.old.rules frame.now now ≡ Gets answer)) }
-        ensures step { IfOk result (λ step. (answer : AnswerValue) → unknown_call self.old.rules frame.now now ≡ Gets answer →
+        ensures answer { OnOk result ((answer : AnswerValue) × (unknown_call self.old.drains self.old.rules frame.now now ≡ Gets answer)) }
+        ensures step { IfOk result (λ step. (answer : AnswerValue) → unknown_call self.old.drains self.old.rules frame.now now ≡ Gets answer →
             step ≡ (answering self.old answer).step) }
         ensures credit { OnOk result (pass.new ≡ with_credit pass.old 0) }
-        ensures refused { IfErr result (λ e. Some e ≡ delivery_refused (unknown_call self.old.rules frame.now now)) }
+        ensures refused { IfErr result (λ e. Some e ≡ delivery_refused (unknown_call self.old.drains self.old.rules frame.now now)) }
         ensures err { OnErr result ((self.new ≡ self.old) × (pass.new ≡ pass.old)) }
     {
-        let answer = answer_to(frame, &self.rules, now)?;
+        let answer = answer_to(frame, self.drains, &self.rules, now)?;
         Ok(self.answer_alone(pass, &answer))
     }
 }

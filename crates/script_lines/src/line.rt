@@ -38,6 +38,8 @@ pub enum Line<'a> {
     SendTo(&'a [u8]),
     /// `free <peer> <numbers>`: the order in which the numbers of a peer that has no leg are given out, as `5-7,1,2-4`.
     Free(&'a [u8], &'a [u8]),
+    /// `drain`: all peers drain, and a NEW that would open a leg is rejected; `drain off`: no peer does.
+    Drain(bool),
     /// `settle`: the accounts are closed. No line follows it.
     Settle,
 }
@@ -81,10 +83,11 @@ enum Command {
     Hold,
     Send,
     Free,
+    Drain,
     Settle,
 }
 
-const COMMANDS: [(&[u8], Command); 14] = [
+const COMMANDS: [(&[u8], Command); 15] = [
     (b"at", Command::At),
     (b"back", Command::Back),
     (b"challenge", Command::Challenge),
@@ -98,6 +101,7 @@ const COMMANDS: [(&[u8], Command); 14] = [
     (b"hold", Command::Hold),
     (b"send", Command::Send),
     (b"free", Command::Free),
+    (b"drain", Command::Drain),
     (b"settle", Command::Settle),
 ];
 
@@ -116,6 +120,7 @@ fn said_by_one<'a>(command: Command) -> Option<Line<'a>> {
         Command::Tick => Some(Line::Tick),
         Command::Hold => Some(Line::Hold),
         Command::Send => Some(Line::Send),
+        Command::Drain => Some(Line::Drain(true)),
         Command::Settle => Some(Line::Settle),
         _ => None,
     }
@@ -129,6 +134,7 @@ fn said_by_two<'a>(command: Command, word: &'a [u8]) -> Option<Line<'a>> {
         Command::Key => return Some(Line::Key(word)),
         Command::Tick => return Some(Line::TickOf(word)),
         Command::Send => return Some(Line::SendTo(word)),
+        Command::Drain if word == b"off".as_slice() => return Some(Line::Drain(false)),
         _ => {}
     }
     let number = decimal(word)?;

@@ -20,7 +20,7 @@ use trace_writer::TraceLane;
 // What there is to ask, for whoever asks for `/`.
 const TABLE: &str =
     "{\"commands\":[\"GET /\",\"GET /peers\",\"GET /calls\",\"GET /calls/<number>\",\"GET /accounts\",\"POST /calls\",\
-    \"DELETE /calls/<number>\",\"POST /stop\"]}";
+    \"DELETE /calls/<number>\",\"POST /drain\",\"DELETE /drain\",\"POST /stop\",\"POST /stop/graceful\"]}";
 
 /// The exchange with a pass of its own, and what its workers tell.
 #[derive(Drop)]
@@ -82,14 +82,74 @@ impl<'x, J: Naming> Desk<'x, J> {
                 None => Answer::error(alloc, Status::NotFound, "NoLeg"),
             },
             Ok(Command::Stop) => {
-                self.watch.stop();
+                self.watch.lifecycle().stop();
                 answered(alloc, Status::Accepted, "{}")
             }
+            Ok(Command::StopGracefully) => {
+                self.watch.lifecycle().stop_gracefully();
+                self.set_draining(rt, true, now);
+                self.drained(alloc, rt)
+            }
+            Ok(Command::Drain) => {
+                self.watch.lifecycle().drain(true);
+                self.set_draining(rt, true, now);
+                self.drained(alloc, rt)
+            }
+            Ok(Command::EndDrain) => self.end_drain(rt, alloc, now),
             Err(NoCommand::NotFound) => Answer::error(alloc, Status::NotFound, "NotFound"),
             Err(NoCommand::NotAllowed(methods)) => {
                 Answer::error(alloc, Status::NotAllowed(methods), "NotAllowed")
             }
         }
+    }
+
+    // Has all peers drain, or no peer.
+    fn set_draining<R: Wait>(&mut self, rt: &R, drains: bool, now: u64) {
+        if let Some(lane) = &mut self.lane {
+            lane.begin_drain(rt, now, drains);
+        }
+        let exchange = self.exchange;
+        for peer in 0..exchange.plan().peer_count() {
+            exchange.set_draining(rt, &mut self.pass, peer, drains);
+        }
+        if let Some(lane) = &mut self.lane {
+            lane.end_order(rt);
+        }
+    }
+
+    // How many legs there are.
+    pub(crate) fn leg_count<R: Wait>(&mut self, rt: &R) -> u32 {
+        let exchange = self.exchange;
+        let mut legs: u32 = 0;
+        for peer in 0..exchange.plan().peer_count() {
+            let count = count_legs(rt, exchange, &mut self.pass, peer);
+            legs = legs.saturating_add(u32::from(count));
+        }
+        legs
+    }
+
+    // The answer to a request that has calls run out: how many legs are left.
+    fn drained<R: Wait>(&mut self, alloc: Global, rt: &R) -> Result<Answer, AllocError> {
+        let legs = self.leg_count(rt);
+        let body = format!(in alloc; "{{\"legs\":{}}}", legs)?;
+        Ok(Answer {
+            status: Status::Accepted,
+            body,
+        })
+    }
+
+    // `DELETE /drain`
+    fn end_drain<R: Wait>(
+        &mut self,
+        rt: &R,
+        alloc: Global,
+        now: u64,
+    ) -> Result<Answer, AllocError> {
+        if !self.watch.lifecycle().drain(false) {
+            return Answer::error(alloc, Status::Conflict, "Draining");
+        }
+        self.set_draining(rt, false, now);
+        answered(alloc, Status::Ok, "{}")
     }
 
     // `GET /peers`
@@ -207,7 +267,8 @@ impl<'x, J: Naming> Desk<'x, J> {
         order: &PlaceOrder,
         now: u64,
     ) -> Result<Answer, AllocError> {
-        if self.watch.is_draining() || self.watch.has_ended() {
+        let lifecycle = self.watch.lifecycle();
+        if lifecycle.drains() || lifecycle.is_stopping() || lifecycle.has_ended() {
             return Answer::error(alloc, Status::Unavailable, "Draining");
         }
         let Some(peer) = peer_named(self.exchange.plan(), order.peer.as_bytes()) else {

@@ -1,4 +1,4 @@
-//! The end of a service: each leg is hung up, and the workers end once no leg is left, or after so many milliseconds.
+//! The end of a service: calls run out or are hung up, and the workers end once no leg is left, or after so many milliseconds.
 use crate::desk::Desk;
 use peer_lock::Naming;
 use std::sync::Wait;
@@ -8,33 +8,57 @@ use std::sync::Wait;
 pub struct Drain {
     /// How long it lasts at most, in milliseconds.
     limit: u64,
-    // When it began.
+    // When legs began to be hung up.
     since: Option<u64>,
+    // When calls began to run out.
+    running_out_since: Option<u64>,
+}
+
+// How long it is since a moment, which is this one if there was none.
+fn age(since: &mut Option<u64>, now: u64) -> u64 {
+    let first = since.unwrap_or(now);
+    *since = Some(first);
+    now.saturating_sub(first)
 }
 
 impl Drain {
     /// A drain that hasn't begun, and lasts at most so many milliseconds.
     pub fn new(limit: u64) -> Drain {
-        Drain { limit, since: None }
+        Drain {
+            limit,
+            since: None,
+            running_out_since: None,
+        }
     }
 
-    // How long it has lasted at this moment, which begins it.
-    fn age(&mut self, now: u64) -> u64 {
-        let since = self.since.unwrap_or(now);
-        self.since = Some(since);
-        now.saturating_sub(since)
+    // While calls run out: ends the workers once no leg is left, and has calls hung up once the time is over.
+    fn wait_for_calls<R: Wait, J: Naming>(&mut self, rt: &R, desk: &mut Desk<'_, J>, now: u64) {
+        let age = age(&mut self.running_out_since, now);
+        if desk.leg_count(rt) == 0 {
+            desk.watch.lifecycle().end();
+        } else if age >= self.limit {
+            desk.watch.lifecycle().stop();
+        }
     }
 
-    /// Where the service drains, at a moment in milliseconds: hangs up what is still up, and ends the workers once no leg is
-    /// left or the time is over. The first such call begins the time.
+    /// Moves the end of the service on, at a moment in milliseconds. While calls are hung up: hangs up what is still up, and ends the
+    /// workers once no leg is left or the time is over. While they run out after a graceful stop: ends the workers once no leg is
+    /// left, and has calls hung up once the time is over. The first such call begins the time of each.
     pub fn go_on<R: Wait, J: Naming>(&mut self, rt: &R, desk: &mut Desk<'_, J>, now: u64) {
-        if !desk.watch.is_draining() {
+        let lifecycle = desk.watch.lifecycle();
+        if lifecycle.has_ended() {
             return;
         }
-        let age = self.age(now);
+        if !lifecycle.is_stopping() {
+            if lifecycle.ends_with_calls() {
+                self.wait_for_calls(rt, desk, now);
+            }
+            return;
+        }
+        let age = age(&mut self.since, now);
         let left = desk.hang_up_all(rt, now);
         if left == 0 || age >= self.limit {
-            desk.watch.end();
+            desk.watch.lifecycle().end();
         }
     }
 }

@@ -1,12 +1,11 @@
 //! What clients ask of a service: the exchange with a pass of its own, its legs, peers and accounts, and the metrics.
 #![tactic(auto)]
 
-mod authentications;
+mod by_name;
 mod desk;
 mod drain;
 mod legs;
 mod lost_frames;
-mod rejections;
 mod scraping;
 mod showing;
 

@@ -1,19 +1,18 @@
 //! The metrics of a service, as they are now.
 ghost use Rattle.std.specs.Prelude.{◌<◌, length};
 
-use crate::authentications::push_failures;
+use crate::by_name::{push_failed_calls, push_failures, push_refusals, push_rejections};
 use crate::desk::Desk;
 use crate::lost_frames::push_losses;
-use crate::rejections::push_rejections;
 use control_requests::{Answer, Methods, Request, Status};
 use exchange_core::{Exchange, NoGate, Pass};
-use exchange_report::{count_legs, refusal_name};
+use exchange_report::count_legs;
 use peer_lock::Naming;
 use peer_plan::Plan;
 use service_report::{
     Family, Figure, Kind, Label, Labels, Metrics, PeerFigures, Sample, Scrape, scrape_of,
 };
-use service_watch::{DropCount, REFUSALS, ServiceWatch, SocketTable, drop_counts};
+use service_watch::{DropCount, ServiceWatch, SocketTable, drop_counts};
 use std::alloc::{AllocError, Global};
 use std::iter;
 use std::sync::Wait;
@@ -60,12 +59,6 @@ const OF_SERVICE: [Told; 2] = [
         help: "Calls of the workers' sockets that failed.",
     },
 ];
-
-const REFUSED: Told = Told {
-    kind: Kind::Counter,
-    name: "iax_datagrams_refused_total",
-    help: "Datagrams of the peer that did nothing, by the name of the refusal.",
-};
 
 const DROPPED: Told = Told {
     kind: Kind::Counter,
@@ -208,42 +201,6 @@ fn push_peers<J: Naming, R: Wait>(
     push_figures(alloc, metrics, &peers)
 }
 
-// The refusals of a peer, by their names.
-fn push_refusals_of<'x>(
-    samples: &mut Vec<Sample<'x>>,
-    watch: &ServiceWatch,
-    peer: u16,
-    name: &'x str,
-) -> Result<(), AllocError> {
-    let of_peer = Label {
-        name: "peer",
-        value: name,
-    };
-    for refusal in &REFUSALS {
-        let of_refusal = Label {
-            name: "refusal",
-            value: refusal_name(*refusal),
-        };
-        let labels = Labels::Two(of_peer, of_refusal);
-        let value = watch.refused_for(peer, *refusal);
-        samples.push(Sample { labels, value })?;
-    }
-    Ok(())
-}
-
-fn push_refusals(
-    alloc: Global,
-    metrics: &mut Metrics,
-    plan: &Plan,
-    watch: &ServiceWatch,
-) -> Result<(), AllocError> {
-    let mut samples = Vec::new(alloc);
-    for peer in 0..plan.peer_count() {
-        push_refusals_of(&mut samples, watch, peer, plan.name(peer))?;
-    }
-    push_family(alloc, metrics, &REFUSED, &samples)
-}
-
 // The drops at the sockets of these workers, where they are known.
 fn push_counts(
     alloc: Global,
@@ -327,6 +284,7 @@ fn push_all<J: Naming, R: Wait>(
     push_refusals(alloc, metrics, exchange.plan(), watch)?;
     push_rejections(alloc, metrics, exchange.plan(), watch)?;
     push_failures(alloc, metrics, exchange.plan(), watch)?;
+    push_failed_calls(alloc, metrics, exchange.plan(), watch)?;
     push_losses(rt, alloc, metrics, exchange, &mut desk.pass)?;
     push_all_totals(alloc, metrics, watch)?;
     push_drops(table, alloc, metrics, exchange.plan())

@@ -4,6 +4,7 @@
 mod calls_told;
 mod ends_told;
 mod lines;
+mod news;
 mod peer_told;
 mod start_told;
 mod strangers;

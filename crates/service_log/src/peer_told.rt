@@ -1,8 +1,9 @@
 //! What the log tells of a peer.
-use crate::lines::{more_than, tell, tell_count};
+use crate::lines::{address_of, more_than, tell, tell_count};
 use exchange_core::Rejection;
 use exchange_report::{PeerLosses, refusal_name};
 use log::{Level, Log};
+use peer_plan::Endpoint;
 use service_report::{Hearing, News, news_of};
 use service_watch::{
     AUTH_FAILURES, AuthFailure, PeerMarksRead, REFUSALS, REJECTIONS, ServiceWatch,
@@ -13,6 +14,7 @@ use std::iter;
 fn report_of(rejection: Rejection) -> (Level, &'static str) {
     match rejection {
         Rejection::NoNumber => (Level::Warn, "rejected NoNumber"),
+        Rejection::Draining => (Level::Info, "rejected Draining"),
         Rejection::Registration => (Level::Warn, "rejected Registration"),
         Rejection::CallToken => (Level::Info, "call tokens given on request"),
         Rejection::Reflection => (Level::Warn, "challenges of this exchange sent back"),
@@ -117,6 +119,7 @@ impl PeerTold {
         watch: &ServiceWatch,
         peer: u16,
         name: &str,
+        from: Endpoint,
         seconds: u64,
     ) {
         for (told, failure) in iter::zip(self.unauthenticated.iter_mut(), &AUTH_FAILURES) {
@@ -125,7 +128,8 @@ impl PeerTold {
                 AuthFailure::WrongAnswer => "failed",
                 AuthFailure::NoAnswer => "wasn't answered",
             };
-            let what = format_args!("authentication of {name} {why}");
+            let from = address_of(from);
+            let what = format_args!("authentication of {name} at {from} {why}");
             tell_count(log, Level::Warn, &what, failed, seconds);
         }
     }
@@ -138,6 +142,7 @@ impl PeerTold {
         watch: &ServiceWatch,
         peer: u16,
         name: &str,
+        from: Endpoint,
         seconds: u64,
     ) {
         for (told, refusal) in iter::zip(self.refused.iter_mut(), &REFUSALS) {
@@ -152,7 +157,7 @@ impl PeerTold {
             let what = format_args!("{reported} from {name}");
             tell_count(log, level, &what, rejected, seconds);
         }
-        self.tell_authentication(log, watch, peer, name, seconds);
+        self.tell_authentication(log, watch, peer, name, from, seconds);
         let turned_away = more_than(&mut self.turned_away, watch.marks(peer).turned_away);
         let what = format_args!("turned away from {name}");
         tell_count(log, Level::Info, &what, turned_away, seconds);

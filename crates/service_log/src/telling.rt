@@ -3,6 +3,7 @@ ghost use Rattle.std.specs.Prelude.{◌<◌, length};
 
 use crate::ends_told::{CallLines, ShownNumbers, tell_leg};
 use crate::lines::{more_than, tell, tell_count};
+use crate::news::tell_news;
 use crate::peer_told::PeerTold;
 use crate::strangers::Strangers;
 use crate::writer_told::WriterTold;
@@ -12,7 +13,7 @@ use exchange_core::Refusal;
 use exchange_report::{PeerLosses, refusal_name};
 use log::{Level, Log, log_enabled};
 use peer_plan::{Endpoint, Plan};
-use service_report::{News, Rounds};
+use service_report::Rounds;
 use service_watch::{DropCount, NOTED, STRANGERS, ServiceWatch, SocketTable, Wanted, drop_counts};
 use std::alloc::{AllocError, Global};
 use std::sync::Wait;
@@ -37,6 +38,7 @@ pub struct Told<'s> {
     calls_path: Option<&'s str>,
     trace_path: Option<&'s str>,
     stage: ServiceStage,
+    drains: bool,
     peers: Vec<PeerTold>,
     // The drops of each worker's socket.
     drops: Vec<u64>,
@@ -61,36 +63,6 @@ fn silence_limit(plan: &Plan, peer: u16) -> u64
     match plan.rules(peer).ping_ms {
         0 => u64::MAX,
         ping_ms => PINGS.saturating_mul(ping_ms),
-    }
-}
-
-// A peer that says nothing is warned of where it has legs.
-fn tell_silence<L: Log>(log: &L, name: &str, silent_ms: u64, legs: u16) {
-    let seconds = silent_ms / 1000;
-    let silence = format_args!("{name} is silent for {seconds} s");
-    if legs > 0 {
-        tell(
-            log,
-            Level::Warn,
-            &format_args!("{silence}, and has {legs} legs"),
-        );
-    } else {
-        tell(log, Level::Info, &silence);
-    }
-}
-
-// The news of a peer that has so many legs.
-fn tell_news<L: Log>(log: &L, name: &str, news: News, legs: u16) {
-    match news {
-        News::FirstWord => {
-            tell(
-                log,
-                Level::Info,
-                &format_args!("{name} is heard for the first time"),
-            );
-        }
-        News::HeardAgain => tell(log, Level::Info, &format_args!("{name} is heard again")),
-        News::Silent(silent_ms) => tell_silence(log, name, silent_ms, legs),
     }
 }
 
@@ -129,6 +101,7 @@ impl<'s> Told<'s> {
             calls_path: calls,
             trace_path: trace,
             stage: ServiceStage::Serving,
+            drains: false,
             peers: Vec::new(alloc),
             drops: Vec::new(alloc),
             faults: 0,
@@ -227,6 +200,30 @@ impl<'s> Told<'s> {
         tell(log, Level::Info, &line);
     }
 
+    // Whether new calls are rejected from now on.
+    fn tell_drain<L: Log>(&mut self, log: &L, drains: bool) {
+        if drains == self.drains {
+            return;
+        }
+        self.drains = drains;
+        let line = match drains {
+            true => "drains: new calls are rejected",
+            false => "drains no more: new calls are taken",
+        };
+        tell(log, Level::Info, &line);
+    }
+
+    // How many legs are left, while calls run out.
+    fn tell_left<L: Log>(&mut self, log: &L) {
+        if self.drains && self.stage == ServiceStage::Serving {
+            let mut legs: u32 = 0;
+            for peer in &self.peers {
+                legs = legs.saturating_add(u32::from(peer.legs_now));
+            }
+            tell(log, Level::Info, &format_args!("drains: {legs} legs are left"));
+        }
+    }
+
     // Who was heard for the first time, who is silent, and who is heard again.
     fn tell_peers<L: Log>(&mut self, log: &L) {
         let plan = self.plan;
@@ -273,7 +270,7 @@ impl<'s> Told<'s> {
         for peer in 0..plan.peer_count() {
             let name = plan.name(peer);
             if let Some(told) = self.peers.get_mut(usize::from(peer)) {
-                told.tell_refusals(log, watch, peer, name, seconds);
+                told.tell_refusals(log, watch, peer, name, plan.endpoint(peer), seconds);
                 told.tell_losses(log, name, seconds);
             }
         }
@@ -323,6 +320,7 @@ impl<'s> Told<'s> {
     // What was refused and lost, and came from strangers, and failed, in a round of so many milliseconds.
     fn tell_round<L: Log>(&mut self, table: &mut SocketTable, log: &L, alloc: Global, lasted: u64) {
         let (watch, seconds) = (self.watch, lasted / 1000);
+        self.tell_left(log);
         self.tell_refusals(log, seconds);
         self.strangers.tell(log, watch.strangers(), seconds);
         let faults = more_than(&mut self.faults, watch.faults());
@@ -367,6 +365,7 @@ impl<'s> Told<'s> {
         now: u64,
     ) {
         self.tell_stage(log, self.watch.stage());
+        self.tell_drain(log, self.watch.lifecycle().drains());
         self.tell_peers(log);
         self.see_strangers(rt, alloc);
         self.tell_each_refusal(rt, log, alloc);

@@ -1,12 +1,11 @@
-//! Authentication that failed, as far as the record of a leg that has ended tells it.
-use call_records::{CallRow, Ending, Side};
-use call_signals::{Cause, Failure};
+//! Authentication that failed, as a leg that has ended shows it.
+use call_records::{CallRow, Ending};
+use call_signals::Failure;
 
 /// How the authentication of a call failed ("Authentication").
 #[derive(Clone, Copy, Debug, PartialEq, Eq)]
 pub enum AuthFailure {
-    /// The call was rejected after its answer to the challenge, with cause 21: the answer was wrong, or the call is for a peer that
-    /// has no format in common with it.
+    /// The answer to the challenge was wrong: the call was rejected before it was offered.
     WrongAnswer,
     /// No answer came in time (plan format 4).
     NoAnswer,
@@ -24,22 +23,16 @@ impl AuthFailure {
         }
     }
 
-    /// How the authentication of the call of a leg that has ended failed, if it did. A call that is rejected before it is challenged
-    /// was sent one frame alone.
+    /// How the authentication of the call of a leg that has ended failed, if it did.
     pub fn of(leg: &CallRow) -> Option<AuthFailure> {
         if leg.failure == Some(Failure::ChallengeTimeout) {
             return Some(AuthFailure::NoAnswer);
         }
-        let record = &leg.leg;
-        let is_rejected = match record.end {
-            Some(end) => {
-                matches!(end.how, Ending::RejectedHere)
-                    && end.cause == Some(Cause::CallRejected.code())
-            }
+        let is_rejected = match leg.leg.end {
+            Some(end) => matches!(end.how, Ending::RejectedHere),
             None => false,
         };
-        let is_called_in = matches!(record.opened_by, Some(Side::Peer));
-        if is_called_in && is_rejected && record.sent >= 2 && record.taken >= 2 {
+        if is_rejected && leg.challenged && leg.moments.offered.is_none() {
             Some(AuthFailure::WrongAnswer)
         } else {
             None

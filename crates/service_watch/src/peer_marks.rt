@@ -1,7 +1,9 @@
 //! What is counted of a peer of a service.
 use crate::authentication::AuthFailure;
+use crate::reasons::REASONS;
 use exchange_core::{Refusal, Rejection};
 use std::alloc::{AllocError, Global};
+use std::iter;
 use std::sync::atomic::{AtomicU64, Ordering};
 
 /// Why a datagram of a peer is refused: all reasons but `Stranger`.
@@ -24,8 +26,9 @@ pub const REFUSALS: [Refusal; 15] = [
 ];
 
 /// What steps report of datagrams of a peer that came to be turned away.
-pub const REJECTIONS: [Rejection; 4] = [
+pub const REJECTIONS: [Rejection; 5] = [
     Rejection::NoNumber,
+    Rejection::Draining,
     Rejection::Registration,
     Rejection::CallToken,
     Rejection::Reflection,
@@ -48,7 +51,10 @@ pub(crate) struct PeerMarks {
     pub(crate) received: AtomicU64,
     pub(crate) refused: AtomicU64,
     by_refusal: Vec<RefusalCount>,
+    // In the order of `REASONS`.
+    by_reason: Vec<AtomicU64>,
     without_number: AtomicU64,
+    while_draining: AtomicU64,
     registrations: AtomicU64,
     without_token: AtomicU64,
     reflections: AtomicU64,
@@ -86,6 +92,17 @@ fn refusal_counts(alloc: Global) -> Result<Vec<RefusalCount>, AllocError> {
     Ok(counts)
 }
 
+// No call failed for any reason.
+fn reason_counts(alloc: Global) -> Result<Vec<AtomicU64>, AllocError> {
+    let mut counts = Vec::with_capacity(alloc, REASONS.len())?;
+    for _ in &REASONS {
+        if counts.push(AtomicU64::new(0)).is_err() {
+            return Err(AllocError);
+        }
+    }
+    Ok(counts)
+}
+
 impl PeerMarks {
     // Nothing was heard of it, and nothing was sent to it.
     pub(crate) fn new(alloc: Global, worker: u16) -> Result<PeerMarks, AllocError> {
@@ -95,7 +112,9 @@ impl PeerMarks {
             received: AtomicU64::new(0),
             refused: AtomicU64::new(0),
             by_refusal: refusal_counts(alloc)?,
+            by_reason: reason_counts(alloc)?,
             without_number: AtomicU64::new(0),
+            while_draining: AtomicU64::new(0),
             registrations: AtomicU64::new(0),
             without_token: AtomicU64::new(0),
             reflections: AtomicU64::new(0),
@@ -122,10 +141,21 @@ impl PeerMarks {
     pub(crate) fn rejected(&self, rejection: Rejection) -> &AtomicU64 {
         match rejection {
             Rejection::NoNumber => &self.without_number,
+            Rejection::Draining => &self.while_draining,
             Rejection::Registration => &self.registrations,
             Rejection::CallToken => &self.without_token,
             Rejection::Reflection => &self.reflections,
         }
+    }
+
+    // How many of its calls failed for the reason of this name.
+    pub(crate) fn failed(&self, reason: &str) -> Option<&AtomicU64> {
+        for (name, count) in iter::zip(&REASONS, &self.by_reason) {
+            if *name == reason {
+                return Some(count);
+            }
+        }
+        None
     }
 
     // How many of its calls failed to authenticate so.

@@ -2,10 +2,11 @@
 ghost use Rattle.std.specs.Prelude.{◌≡◌};
 
 use crate::authentication::AuthFailure;
+use crate::lifecycle::Lifecycle;
 use crate::noted::Noted;
 use crate::peer_marks::{PeerMarks, PeerMarksRead, count_one};
 use crate::waker_table::WakerTable;
-use call_records::CallRow;
+use call_records::{CallRow, reason_name};
 use call_writer::CallOutlets;
 use exchange_core::{Refusal, Rejection, Retired};
 use exchange_report::call_row;
@@ -17,12 +18,6 @@ use std::sync::{Mutex, Wait};
 use trace_writer::Trace;
 use udp_wires::WireWaker;
 use worker_watch::{Event, ServiceStage, Watch};
-
-const SERVING: u64 = 0;
-
-const DRAINING: u64 = 1;
-
-const ENDED: u64 = 2;
 
 /// How many endpoints of strangers are kept until the log takes them.
 pub const STRANGERS: usize = 256;
@@ -41,7 +36,7 @@ pub struct Wanted {
 
 /// How far a service is, and what its workers tell of each peer. All threads share it.
 pub struct ServiceWatch {
-    stage: AtomicU64,
+    lifecycle: Lifecycle,
     peers: Vec<PeerMarks>,
     strangers: AtomicU64,
     faults: AtomicU64,
@@ -62,7 +57,7 @@ pub struct ServiceWatch {
 impl Drop for ServiceWatch {
     fn drop(self) {
         let ServiceWatch {
-            stage: _,
+            lifecycle: _,
             peers: _,
             strangers: _,
             faults: _,
@@ -119,7 +114,7 @@ impl ServiceWatch {
         let (refusals, ends) = noted_of(alloc, wanted)?;
         let (peers, seen, wakers) = room_of(alloc, plan)?;
         Ok(ServiceWatch {
-            stage: AtomicU64::new(SERVING),
+            lifecycle: Lifecycle::new(),
             peers,
             strangers: AtomicU64::new(0),
             faults: AtomicU64::new(0),
@@ -166,6 +161,18 @@ impl ServiceWatch {
     pub fn unauthenticated(&self, peer: u16, failure: AuthFailure) -> u64 {
         match self.peers.get(usize::from(peer)) {
             Some(marks) => marks.unauthenticated(failure).load(Ordering::Relaxed),
+            None => 0,
+        }
+    }
+
+    /// How many calls of a peer, by its place in the plan, failed for the reason of this name, modulo 2^64; 0 of a place where there is
+    /// none.
+    pub fn failed(&self, peer: u16, reason: &str) -> u64 {
+        match self.peers.get(usize::from(peer)) {
+            Some(marks) => match marks.failed(reason) {
+                Some(count) => count.load(Ordering::Relaxed),
+                None => 0,
+            },
             None => 0,
         }
     }
@@ -227,28 +234,9 @@ impl ServiceWatch {
         self.wakers.wake_all();
     }
 
-    /// Has the service drain; where it drains already, has its workers end.
-    pub fn stop(&self) {
-        if self.stage.load(Ordering::SeqCst) == SERVING {
-            self.stage.store(DRAINING, Ordering::SeqCst);
-        } else {
-            self.end();
-        }
-    }
-
-    /// Has the workers end: none of them begins a further turn.
-    pub fn end(&self) {
-        self.stage.store(ENDED, Ordering::SeqCst);
-    }
-
-    /// Whether it was told to stop, and its workers go on.
-    pub fn is_draining(&self) -> bool {
-        self.stage.load(Ordering::SeqCst) == DRAINING
-    }
-
-    /// Whether its workers are told to end.
-    pub fn has_ended(&self) -> bool {
-        self.stage.load(Ordering::SeqCst) == ENDED
+    /// How far the service is.
+    pub fn lifecycle(&self) -> &Lifecycle {
+        &self.lifecycle
     }
 
     // A datagram of a peer was received.
@@ -272,12 +260,15 @@ impl ServiceWatch {
         }
     }
 
-    // Counts a leg that has ended where its authentication failed, and keeps it for the log where that wants it.
+    // Counts a leg that has ended if its call or its authentication failed, and keeps it for the log if that wants it.
     fn see_end(&self, leg: &Retired) {
         let row = call_row(leg, 0);
-        if let Some(failure) = AuthFailure::of(&row) {
-            if let Some(marks) = self.peers.get(usize::from(row.name.peer)) {
+        if let Some(marks) = self.peers.get(usize::from(row.name.peer)) {
+            if let Some(failure) = AuthFailure::of(&row) {
                 count_one(marks.unauthenticated(failure));
+            }
+            if let Some(count) = marks.failed(reason_name(&row)) {
+                count_one(count);
             }
         }
         if self.wanted.ends {
@@ -330,13 +321,7 @@ impl ServiceWatch {
 
 impl Watch for ServiceWatch {
     fn stage(&self) -> ServiceStage {
-        if self.has_ended() {
-            ServiceStage::Ended
-        } else if self.is_draining() {
-            ServiceStage::Draining
-        } else {
-            ServiceStage::Serving
-        }
+        self.lifecycle.stage()
     }
 
     fn tell(&self, event: Event) {
@@ -365,7 +350,7 @@ impl Watch for ServiceWatch {
 
     // A service lacks no worker: where a thread is refused, the others end.
     fn no_thread(&self) {
-        self.end();
+        self.lifecycle.end();
     }
 
     fn wake(&self, worker: u16) {

@@ -50,7 +50,16 @@ fn write_run(lines: &mut TextBuffer, first: u16, last: u16) {
     }
 }
 
-/// The lines that give each peer the order of its free numbers.
+/// The line that has all peers drain, or none.
+pub(crate) fn drain_line(drains: bool) -> &'static str {
+    match drains {
+        true => "drain\n",
+        false => "drain off\n",
+    }
+}
+
+/// The lines with which a file begins while no call is up: they give each peer the order of its free numbers, and say that peers drain,
+/// if they do.
 pub(crate) fn orders_of(alloc: Global, trace: &Trace, plan: &Plan) -> TextBuffer {
     let mut lines = TextBuffer::new(alloc);
     for peer in 0..plan.peer_count() {
@@ -64,5 +73,17 @@ pub(crate) fn orders_of(alloc: Global, trace: &Trace, plan: &Plan) -> TextBuffer
         }
         lines.text("\n");
     }
+    if trace.drains() {
+        lines.text(drain_line(true));
+    }
     lines
+}
+
+/// The same lines for the first file of a trace: none, unless numbers were skipped before it begins.
+pub(crate) fn first_orders_of(alloc: Global, trace: &Trace, plan: &Plan) -> TextBuffer {
+    if trace.has_freed() {
+        orders_of(alloc, trace, plan)
+    } else {
+        TextBuffer::new(alloc)
+    }
 }

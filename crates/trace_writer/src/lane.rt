@@ -310,7 +310,15 @@ impl<'t> TraceLane<'t> {
         self.begin(rt, Input::HangUp { number }, b"", b"");
     }
 
-    /// The call or the hang-up that was begun last was made, or refused.
+    /// All peers drain next, or none does any more, at this moment, in milliseconds since the exchange was opened.
+    pub fn begin_drain<R: Wait>(&mut self, rt: &R, now: u64, drains: bool) {
+        self.resume(rt);
+        self.now = now;
+        self.trace.set_draining(drains);
+        self.begin(rt, Input::Drain { drains }, b"", b"");
+    }
+
+    /// The order that was begun last was made, or refused.
     pub fn end_order<R: Wait>(&mut self, rt: &R) {
         self.end();
         self.hand_over(rt);

@@ -30,6 +30,8 @@ pub(crate) enum Input {
     Call { peer: u16 },
     /// The leg of this number hung up.
     HangUp { number: u16 },
+    /// All peers drain from here on, or none does.
+    Drain { drains: bool },
     /// Nothing was done.
     Nothing,
     /// No call is up. The octets are the lines that give each peer the order of its free numbers.

@@ -3,6 +3,7 @@ ghost use Rattle.std.specs.Prelude.{◌≡◌, ◌++◌, ◌∷◌, ◌≤◌, [
 ghost use Rattle.hex.specs.Hex.{encode_lower};
 ghost use Rattle.trace_writer.specs.Digits.{spells_digit, hidden, shown};
 
+use crate::free_numbers::drain_line;
 use crate::hexadecimal::end_in_hex;
 use crate::mark::{Input, Mark};
 use peer_plan::{Endpoint, Plan};
@@ -32,7 +33,7 @@ pub(crate) struct Head<'a> {
 #[derive(Drop)]
 pub(crate) struct Script<'p> {
     alloc: Global,
-    plan: &'p Plan,
+    pub(crate) plan: &'p Plan,
     manner: Manner,
     // How the line of a datagram begins, of each peer by its place in the plan.
     heads: Vec<String>,
@@ -310,6 +311,7 @@ impl<'p> Script<'p> {
                 self.lines.number(u64::from(number));
                 self.lines.text("\n");
             }
+            Input::Drain { drains } => self.lines.text(drain_line(drains)),
             Input::Nothing | Input::Rest => {}
         }
     }

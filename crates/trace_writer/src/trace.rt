@@ -37,9 +37,11 @@ pub struct Trace {
     // How many workers are in a turn.
     turns: AtomicU64,
     lanes: Vec<Notes>,
-    // By number: one more than how many legs had been taken out when its last one was; 0 where it had none.
+    // By number: one more than how many numbers had been given back when it was last; 0 if it never was.
     freed: Vec<AtomicU64>,
     legs: AtomicU64,
+    // Whether all peers drain.
+    drains: AtomicBool,
     wants_rest: AtomicBool,
     has_ended: AtomicBool,
     are_over: AtomicBool,
@@ -57,6 +59,7 @@ impl Drop for Trace {
             lanes: _,
             freed: _,
             legs: _,
+            drains: _,
             wants_rest: _,
             has_ended: _,
             are_over: _,
@@ -91,6 +94,7 @@ impl Trace {
             lanes,
             freed: never_freed(alloc, numbers)?,
             legs: AtomicU64::new(0),
+            drains: AtomicBool::new(false),
             wants_rest: AtomicBool::new(false),
             has_ended: AtomicBool::new(false),
             are_over: AtomicBool::new(false),
@@ -125,6 +129,16 @@ impl Trace {
         }
     }
 
+    /// Notes whether all peers drain.
+    pub(crate) fn set_draining(&self, drains: bool) {
+        self.drains.store(drains, Ordering::SeqCst);
+    }
+
+    /// Whether all peers drain.
+    pub(crate) fn drains(&self) -> bool {
+        self.drains.load(Ordering::SeqCst)
+    }
+
     /// The datagram that the thread at this place has in its hands isn't handed to the exchange.
     pub fn turn_away(&self, thread: u16) {
         if let Some(notes) = self.lanes.get(usize::from(thread)) {
@@ -137,10 +151,25 @@ impl Trace {
         if let Some(notes) = self.lanes.get(usize::from(thread)) {
             notes.has_retired.store(true, Ordering::SeqCst);
         }
+        self.free(number);
+    }
+
+    /// This local number was skipped: it was reserved, and given back at once.
+    pub fn skip(&self, number: u16) {
+        self.free(number);
+    }
+
+    // This local number is free again, behind those that were before.
+    fn free(&self, number: u16) {
         if let Some(freed) = self.freed.get(usize::from(number)) {
             let legs = self.legs.fetch_add(1, Ordering::SeqCst);
             freed.store(legs.wrapping_add(1), Ordering::SeqCst);
         }
+    }
+
+    /// Whether a local number was given back.
+    pub(crate) fn has_freed(&self) -> bool {
+        self.legs.load(Ordering::SeqCst) != 0
     }
 
     /// How the trace is, by what the threads and the writer told last. Contracts don't speak of it.

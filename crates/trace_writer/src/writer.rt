@@ -1,5 +1,6 @@
 //! The thread that writes.
 use crate::folder::Folder;
+use crate::free_numbers::first_orders_of;
 use crate::handed::Handed;
 use crate::mark::{Batch, Input, Mark};
 use crate::parts::{TraceFile, TraceFolder};
@@ -332,7 +333,11 @@ fn write_rounds<R: Clock + Wait, D: Folder>(
     notes: &mut TraceNotes,
     writer: &mut Writer<'_, D>,
 ) -> Result<(), Fault> {
-    writer.begin_part(Some(b""))?;
+    let orders = first_orders_of(writer.alloc, writer.trace, writer.script.plan);
+    if orders.is_cut {
+        return Err(NO_MEMORY);
+    }
+    writer.begin_part(Some(&orders.octets))?;
     let mut rest_ms = REST_MS;
     for _ in rt.forever() {
         // (asked first, so that nothing is missed that a thread noted before its end)

@@ -11,7 +11,7 @@ pub returns-clause-all_vnaks : goal.returns-clause-all_vnaks
 returns-clause-all_vnaks c leg number now soft = all-brought leg number now soft
 
 pub returns-clause-all_invals : goal.returns-clause-all_invals
-returns-clause-all_invals c leg frame soft = inval-heeded leg frame soft
+returns-clause-all_invals c leg frame now soft = inval-heeded leg frame now soft
 
 pub returns-clause-all_digits : goal.returns-clause-all_digits
 returns-clause-all_digits c leg soft = digits-taken leg soft

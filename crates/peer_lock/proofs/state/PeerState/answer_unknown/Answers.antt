@@ -12,12 +12,12 @@ answer_in other _ = other
 
 pub returns-clause-peer : goal.returns-clause-peer
 returns-clause-peer g c = λ answer is.
-    let here = ap (λ (v : PeerView). unknown_call v.rules c.args.frame.now c.args.now) c.self.view_is in
+    let here = ap (λ (v : PeerView). unknown_call v.drains v.rules c.args.frame.now c.args.now) c.self.view_is in
     let same : c.in_ok-answer.answer ≡ answer = ap (answer_in answer) (sym c.in_ok-answer.ensures.answer ∙ here ∙ is) in
     c.answer_alone.ensures.peer ∙ ap (λ (a : Answer). (answering c.args.self.now a).peer) same
 
 pub returns-clause-step : goal.returns-clause-step
 returns-clause-step g c = λ answer is.
-    let here = ap (λ (v : PeerView). unknown_call v.rules c.args.frame.now c.args.now) c.self.view_is in
+    let here = ap (λ (v : PeerView). unknown_call v.drains v.rules c.args.frame.now c.args.now) c.self.view_is in
     let same : c.in_ok-answer.answer ≡ answer = ap (answer_in answer) (sym c.in_ok-answer.ensures.answer ∙ here ∙ is) in
     c.answer_alone.ensures.step ∙ ap (λ (a : Answer). (answering c.args.self.now a).step) same

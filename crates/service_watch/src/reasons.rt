@@ -1,0 +1,15 @@
+//! Why calls failed, as they are counted.
+
+/// The names that the column `reason` of call records has (`docs/RECORDS.md`).
+pub const REASONS: [&str; 10] = [
+    "wrong_secret",
+    "no_secret",
+    "no_common_format",
+    "no_route",
+    "no_number",
+    "rejected_by_peer",
+    "retries_spent",
+    "record_full",
+    "challenge_timeout",
+    "inval",
+];
