@@ -5,7 +5,7 @@ use clap::{Arg, ArgAction, Command};
 use std::alloc::{AllocError, Global};
 
 /// The version of the program.
-pub const VERSION: &str = "0.1.0";
+pub const VERSION: &str = "1.0.0";
 
 // What may stand at an argument.
 #[derive(Clone, Copy)]
