@@ -118,16 +118,17 @@ def check_plan_keys():
     judge("docs/PLAN.md, ranges", faults)
 
 
-def without_names(text):
-    """A text in which every number is 0, and every text in quotes is empty."""
-    return re.sub(r"\d+", "0", re.sub(r'"[^"]*"', '""', text))
+def without_names(line):
+    """A line in which every number is 0, and every text in quotes is empty."""
+    return re.sub(r"\d+", "0", re.sub(r'"(?:[^"\\]|\\.)*"', '""', line))
 
 
 def check_plan_lines():
-    """The faults and warnings of docs/PLAN.md, which are in the scenes' standard error or in a source."""
+    """The faults and warnings of docs/PLAN.md, which are in the scenes' standard error or in a text of a source."""
     folder = "crates/exchange_main/scenes"
-    printed = "".join(text_of(f"{folder}/{it}") for it in sorted(os.listdir(f"{TOP}/{folder}")) if it.endswith(".stderr"))
-    lines, page, faults = without_names(printed + sources("plan_faults")), text_of("docs/PLAN.md"), []
+    printed = [line for it in sorted(os.listdir(f"{TOP}/{folder}")) if it.endswith(".stderr") for line in text_of(f"{folder}/{it}").splitlines()]
+    texts = [it.replace('\\"', '"') for it in re.findall(r'"((?:[^"\\]|\\.)*)"', sources("plan_faults").replace("b'\"'", ""))]
+    lines, page, faults = "\n".join(map(without_names, printed + texts)), text_of("docs/PLAN.md"), []
     for heading, column in (("## Faults", 1), ("## Warnings", 0)):
         rows = re.findall(r"^\| (.*) \|$", section_of(page, heading), re.M)[1:]
         told = [it for row in rows for it in re.findall(r"`([^`]+)`", row.split(" | ")[column])]

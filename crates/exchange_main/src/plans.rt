@@ -11,8 +11,11 @@ use std::rt::Files;
 use std::{fs, io};
 use text_buffer::TextBuffer;
 
-// Reads a file to its end, or to an octet 0: no plan has one, and a device may give them without end.
-fn read_text<F: Read>(file: &mut F, octets: &mut Vec<u8>) -> io::Result<()> {
+// The most octets that are read from a pipe or a device, which may have no end.
+const MOST_PIPED: usize = 0x400_0000;
+
+// Reads a file to its end, or to an octet 0, which no plan has. `FileTooLarge`: it has more than so many octets.
+fn read_text<F: Read>(file: &mut F, most: usize, octets: &mut Vec<u8>) -> io::Result<()> {
     let mut piece = [0u8; 16384];
     for _ in 0..u64::MAX {
         let count = match file.read(&mut piece) {
@@ -25,15 +28,27 @@ fn read_text<F: Read>(file: &mut F, octets: &mut Vec<u8>) -> io::Result<()> {
         if count == 0 || read.contains(&0) {
             return Ok(());
         }
+        if octets.len() > most {
+            return Err(io::Error::from(ErrorKind::FileTooLarge));
+        }
     }
     Ok(())
 }
 
+// Returns the most octets that are read from a file.
+fn most_read<R: Files>(rt: &R, path: &str) -> usize {
+    match fs::metadata(rt, path) {
+        Ok(metadata) if metadata.is_file() => usize::MAX,
+        _ => MOST_PIPED,
+    }
+}
+
 // Returns the octets of a plan's file, up to the first octet 0.
 fn text_of<R: Files>(rt: &R, alloc: Global, path: &str) -> io::Result<Vec<u8>> {
+    let most = most_read(rt, path);
     let mut file = fs::open(rt, path)?;
     let mut octets = Vec::new(alloc);
-    read_text(&mut file, &mut octets)?;
+    read_text(&mut file, most, &mut octets)?;
     Ok(octets)
 }
 
@@ -44,6 +59,8 @@ fn print_file_error<R: Eprint>(rt: &R, path: &str, error: &io::Error) {
         ErrorKind::NotFound => "there is no such file",
         ErrorKind::PermissionDenied => "this user may not read it",
         ErrorKind::OutOfMemory => "memory ran out",
+        ErrorKind::FileTooLarge =>
+            "a pipe or a device gives more than 64 MiB; write the plan to a file",
         _ => "it can't be read",
     };
     let _ = eprintln!(rt; "{path}: {why}");

@@ -1,9 +1,13 @@
 //! A fault of a plan, with its place.
 ghost use Rattle.std.specs.Prelude.{◌≡◌, ◌≤◌, [], true, false};
+ghost use Rattle.plan_faults.specs.Values.{is_text, has_brace};
 
+use crate::names::is_name_before;
 use crate::rows::Form;
 use crate::walk::Entry;
 use peer_plan::{Key, Section};
+use std::alloc::Global;
+use toml_parser::bytes::byte_at;
 
 /// The kind of a fault.
 #[derive(Clone, Copy)]
@@ -38,16 +42,35 @@ pub(crate) struct Fault<'a> {
     pub(crate) place: usize,
     /// The place in the text, in octets from 0.
     pub(crate) at: usize,
-    /// The key, as it is written.
+    /// The name of the key, as `names` has names.
     pub(crate) name: &'a [u8],
     /// The value, as far as it may be shown.
     pub(crate) value: &'a [u8],
 }
 
-/// Returns the part of a value that may be shown: nothing of a secret.
+// Returns whether a value is written as a text: it begins with a quote.
+fn is_text(value: &[u8]) -> bool
+    ensures { result ≡ is_text value.now }
+{
+    let first = byte_at(value, 0);
+    first == b'"' || first == b'\''
+}
+
+fn has_brace(value: &[u8]) -> bool
+    ensures { result ≡ has_brace value.now }
+{
+    value.iter().any(|octet| *octet == b'{')
+}
+
+/// Returns the part of a value that may be shown: nothing of a secret, nor of a value with braces, since one of its keys may be a
+/// secret.
 pub(crate) fn shown(form: Form, value: &[u8]) -> &[u8]
     ensures secret { form ≡ Form.Secret → result.now ≡ [] }
+    ensures braces { is_text value.now ≡ false → has_brace value.now ≡ true → result.now ≡ [] }
 {
+    if !is_text(value) && has_brace(value) {
+        return &[];
+    }
     match form {
         Form::Secret => &[],
         _ => value,
@@ -64,11 +87,12 @@ pub(crate) fn rank(order: u8, place: usize, key: u8) -> u64 {
 pub(crate) const BEHIND_LIST: usize = 0xffff_ffff;
 
 /// Returns whether `Plan::read` meets a fault before another.
-pub(crate) fn is_before(fault: &Fault<'_>, other: &Fault<'_>) -> bool
+pub(crate) fn is_before(alloc: Global, fault: &Fault<'_>, other: &Fault<'_>) -> bool
     ensures before { result ≡ true → fault.now.rank ≤ other.now.rank }
     ensures behind { result ≡ false → other.now.rank ≤ fault.now.rank }
 {
-    fault.rank < other.rank || fault.rank == other.rank && fault.name < other.name
+    fault.rank < other.rank
+        || fault.rank == other.rank && is_name_before(alloc, fault.name, other.name)
 }
 
 /// Returns a fault of an entry. It shows nothing of the entry's value.
@@ -82,9 +106,4 @@ pub(crate) fn fault_of<'a>(entry: Entry<'a>, rank: u64, what: What) -> Fault<'a>
         name: entry.name,
         value: &[],
     }
-}
-
-/// Returns the fault of an entry with an unknown key.
-pub(crate) fn unknown_key<'a>(entry: Entry<'a>) -> Fault<'a> {
-    fault_of(entry, 0, What::Unknown)
 }

@@ -1,10 +1,16 @@
 //! The report of a plan's faults.
-use crate::findings::{Findings, MOST};
+ghost use Rattle.std.specs.Prelude.{◌≡◌, ◌≤◌, ◌<◌, ◌+◌, length};
+ghost use Rattle.plan_faults.specs.Lines.{Adds, lines_of};
+
+use crate::fault::Fault;
+use crate::findings::{Findings, MOST_OTHERS};
 use crate::judging::Judge;
 use crate::lines::{begin_line, line_at, write_shown};
+use crate::report::{Counts, push_line};
 use crate::syntax::write_syntax;
 use crate::tables::{items_of, version_of};
 use crate::walk::Walk;
+use crate::ways::ways_of;
 use crate::words::{Source, write_fault};
 use peer_plan::Section;
 use std::alloc::Global;
@@ -12,15 +18,18 @@ use text_buffer::TextBuffer;
 use toml::Table;
 
 // Returns the faults of a text that TOML accepts.
-fn find<'a>(root: &Table, workers: u64, text: &'a [u8]) -> Findings<'a> {
+fn find<'a>(alloc: Global, root: &Table, workers: u64, text: &'a [u8]) -> Findings<'a> {
+    let version = version_of(root);
+    let ways = ways_of(alloc, root, version);
     let judge = Judge {
         root,
-        version: version_of(root),
+        version,
         workers,
+        ways: &ways,
     };
-    let mut findings = Findings::new();
+    let mut findings = Findings::new(alloc);
     judge.judge_plan(&mut findings);
-    let mut walk = Walk::new(text);
+    let mut walk = Walk::new(alloc, text);
     for _ in 0..text.len().saturating_add(1) {
         match walk.next() {
             Some(entry) => judge.judge(entry, &mut findings),
@@ -30,6 +39,46 @@ fn find<'a>(root: &Table, workers: u64, text: &'a [u8]) -> Findings<'a> {
     findings
 }
 
+fn write_line(
+    source: Source<'_>,
+    path: &str,
+    text: &[u8],
+    fault: &Fault<'_>,
+    report: &mut TextBuffer,
+)
+    ensures { Adds 1 report.old report.new }
+{
+    let mut line = TextBuffer::new(source.alloc);
+    begin_line(path, line_at(text, fault.at), &mut line);
+    write_fault(source, fault, &mut line);
+    push_line(&line, report);
+}
+
+fn write_others(
+    source: Source<'_>,
+    path: &str,
+    text: &[u8],
+    others: &[Fault<'_>],
+    report: &mut TextBuffer,
+)
+    ensures { Adds (length others.now) report.old report.new }
+{
+    for fault in others {
+        write_line(source, path, text, fault, report);
+    }
+}
+
+/// Writes how many faults or warnings there are beyond those that are written.
+pub(crate) fn write_more(alloc: Global, path: &str, more: u64, what: &str, report: &mut TextBuffer)
+    ensures { Adds 1 report.old report.new }
+{
+    let mut line = TextBuffer::new(alloc);
+    write_shown(path.as_bytes(), &mut line);
+    line.labelled(": ", more);
+    line.text(what);
+    push_line(&line, report);
+}
+
 // Writes the first fault, the others that are kept, and how many there are beyond them.
 fn write_findings(
     source: Source<'_>,
@@ -37,27 +86,28 @@ fn write_findings(
     text: &[u8],
     findings: &Findings<'_>,
     report: &mut TextBuffer,
-) {
+) -> Counts
+    ensures most { result.written ≤ 20 }
+    ensures more { 0 < result.more → result.written ≡ 20 }
+    ensures lines { Adds (lines_of result) report.old report.new }
+{
     let Some(first) = &findings.first else {
-        return;
+        return Counts {
+            written: 0,
+            more: 0,
+        };
     };
-    begin_line(path, line_at(text, first.at), report);
-    write_fault(source, first, report);
-    let mut left = MOST.saturating_sub(1);
-    for (place, kept) in findings.kept.iter().enumerate() {
-        if let Some(fault) = kept
-            && place != findings.before_first
-            && left > 0
-        {
-            begin_line(path, line_at(text, fault.at), report);
-            write_fault(source, fault, report);
-            left -= 1;
-        }
+    write_line(source, path, text, first, report);
+    let others = findings.others();
+    write_others(source, path, text, others, report);
+    let written = others.len() as u64 + 1;
+    if others.len() < MOST_OTHERS || findings.more == 0 {
+        return Counts { written, more: 0 };
     }
-    if findings.count > MOST {
-        write_shown(path.as_bytes(), report);
-        report.labelled(": ", findings.count.saturating_sub(MOST) as u64);
-        report.text(" further faults\n");
+    write_more(source.alloc, path, findings.more, " further faults", report);
+    Counts {
+        written,
+        more: findings.more,
     }
 }
 
@@ -66,7 +116,11 @@ fn write_findings(
 ///
 /// Each line begins with the path and the number of the line, from 1. A text that isn't TOML has one fault. If memory runs out,
 /// fewer names are offered as the ones that were meant.
-pub fn write_faults(alloc: Global, path: &str, text: &[u8], report: &mut TextBuffer) {
+pub fn write_faults(alloc: Global, path: &str, text: &[u8], report: &mut TextBuffer) -> Counts
+    ensures most { result.written ≤ 20 }
+    ensures more { 0 < result.more → result.written ≡ 20 }
+    ensures lines { Adds (lines_of result) report.old report.new }
+{
     match toml::table_from_slice(alloc, text) {
         Ok(root) => {
             let workers = items_of(&root, Section::Worker).len().clamp(1, 64) as u64;
@@ -75,9 +129,9 @@ pub fn write_faults(alloc: Global, path: &str, text: &[u8], report: &mut TextBuf
                 root: &root,
                 workers,
             };
-            let findings = find(&root, workers, text);
-            write_findings(source, path, text, &findings, report);
+            let findings = find(alloc, &root, workers, text);
+            write_findings(source, path, text, &findings, report)
         }
-        Err(error) => write_syntax(path, text, &error, report),
+        Err(error) => write_syntax(alloc, path, text, &error, report),
     }
 }

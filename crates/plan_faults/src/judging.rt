@@ -1,11 +1,12 @@
 //! Faults of the entries of a plan's text.
 use crate::fault::{BEHIND_LIST, Fault, What, fault_of, rank, shown};
 use crate::findings::Findings;
-use crate::lists::{place_of_text, same_endpoint, same_route};
+use crate::lists::{place_of_text, same_endpoint};
 use crate::rows::{Form, KEY_COUNT, KeyRow, is_unknown, required_row, row_named, row_of};
 use crate::tables::{items_of, list_key, table_at};
 use crate::values::is_right;
 use crate::walk::{Entry, EntryKind};
+use crate::ways::{Way, first_way, source_of};
 use peer_plan::{Key, Section};
 use toml::{Table, Value};
 
@@ -16,10 +17,9 @@ pub(crate) struct Judge<'t> {
     pub(crate) version: u64,
     /// How many workers there are, at least 1.
     pub(crate) workers: u64,
+    /// The routes, as `ways_of` returns them.
+    pub(crate) ways: &'t [Way<'t>],
 }
-
-// Only the routes before this place are compared with those before them: each comparison is with all of these.
-const MOST_COMPARED: usize = 4096;
 
 // Returns the place of a list in the order of a plan's keys.
 fn list_order(section: Section) -> u8 {
@@ -152,9 +152,12 @@ impl<'t> Judge<'t> {
                     None => Some(What::NoPeer),
                 }
             }
-            (Section::Route, Key::Prefix) if place < MOST_COMPARED => {
-                let other = same_route(self.root, table, place, self.version)?;
-                Some(What::SameRoute(other))
+            (Section::Route, Key::Prefix) => {
+                let source = source_of(table, self.version);
+                match first_way(self.ways, text.as_bytes(), source) {
+                    Some(other) if other < place => Some(What::SameRoute(other)),
+                    _ => None,
+                }
             }
             _ => None,
         }

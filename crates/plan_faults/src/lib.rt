@@ -7,10 +7,13 @@
 mod fault;
 mod faults;
 mod findings;
+mod hints;
 mod judging;
 mod lines;
 mod lists;
 mod meant;
+mod names;
+mod report;
 mod rows;
 mod sample;
 mod scan;
@@ -20,9 +23,11 @@ mod upgrading;
 mod values;
 mod walk;
 mod warnings;
+mod ways;
 mod words;
 
 pub use faults::write_faults;
+pub use hints::write_warnings;
+pub use report::Counts;
 pub use sample::SAMPLE;
 pub use upgrading::{Upgrade, write_upgraded};
-pub use warnings::write_warnings;

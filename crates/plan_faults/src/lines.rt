@@ -2,6 +2,7 @@
 ghost use Rattle.std.specs.Prelude.{◌≡◌};
 ghost use Rattle.plan_faults.specs.Lines.{line_ends, line_at};
 
+use crate::names::is_quoted;
 use crate::tables::{list_key, table_at, text_at};
 use peer_plan::{Key, Section};
 use std::io::Write;
@@ -50,6 +51,15 @@ pub(crate) fn write_quoted(text: &[u8], report: &mut TextBuffer) {
     report.text("\"");
     write_shown(text, report);
     report.text("\"");
+}
+
+/// Writes the name of a key in quotes.
+pub(crate) fn write_name(name: &[u8], report: &mut TextBuffer) {
+    if is_quoted(name) {
+        write_shown(name, report);
+    } else {
+        write_quoted(name, report);
+    }
 }
 
 /// Writes the file and the line.

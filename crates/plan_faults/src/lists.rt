@@ -55,24 +55,3 @@ pub(crate) fn same_endpoint(root: &Table, peer: &Table, count: usize) -> Option<
     }
     None
 }
-
-// Returns whether two routes have one prefix, and one source or none.
-fn have_same_way(route: &Table, other: &Table, version: u64) -> bool {
-    text_at(route, Key::Prefix) == text_at(other, Key::Prefix)
-        && (version != 4 || text_at(route, Key::Source) == text_at(other, Key::Source))
-}
-
-/// Returns the place of the first route, among so many, that has a route's prefix and source.
-pub(crate) fn same_route(root: &Table, route: &Table, count: usize, version: u64) -> Option<usize> {
-    for (place, item) in items_of(root, Section::Route).iter().enumerate() {
-        if place >= count {
-            return None;
-        }
-        if let Some(other) = item.as_table()
-            && have_same_way(route, other, version)
-        {
-            return Some(place);
-        }
-    }
-    None
-}

@@ -1,4 +1,5 @@
 //! The known name that is nearest to an unknown one.
+use crate::names::text_of;
 use crate::rows::{KEY_COUNT, row_in};
 use crate::tables::{items_of, text_at};
 use peer_plan::{Key, Section};
@@ -50,11 +51,12 @@ pub(crate) fn meant_key(
     section: Section,
     version: u64,
 ) -> Option<&'static str> {
+    let text = text_of(alloc, name)?;
     let mut best: Option<(usize, &'static str)> = None;
     for place in 0..KEY_COUNT {
         if let Some(row) = row_in(place, section, version) {
             let key = row.key.name();
-            best = nearer(best, edits(alloc, name, key), key);
+            best = nearer(best, edits(alloc, text.as_bytes(), key), key);
         }
     }
     Some(best?.1)

@@ -171,33 +171,3 @@ pub(crate) fn trimmed(text: &[u8], from: usize, to: usize) -> &[u8] {
         None => &[],
     }
 }
-
-// Returns a key's first part, without its quotes, and the octets behind it.
-fn split_quoted(key: &[u8], quote: u8) -> (&[u8], &[u8]) {
-    let mut parts = key.splitn(2, |octet| *octet == quote);
-    (parts.next().unwrap_or(&[]), parts.next().unwrap_or(&[]))
-}
-
-/// Returns the first part of a key with dots, without its quotes, and the parts behind it.
-pub(crate) fn first_part(key: &[u8]) -> (&[u8], &[u8]) {
-    match key {
-        [quote @ (b'"' | b'\''), rest @ ..] => {
-            let (name, behind) = split_quoted(rest, *quote);
-            (name, behind_dot(behind))
-        }
-        _ => {
-            let mut parts = key.splitn(2, |octet| *octet == b'.');
-            let name = parts.next().unwrap_or(&[]);
-            let behind = parts.next().unwrap_or(&[]);
-            (name.trim_ascii(), behind.trim_ascii())
-        }
-    }
-}
-
-// Returns the octets behind a dot, if one comes next.
-fn behind_dot(rest: &[u8]) -> &[u8] {
-    match rest.trim_ascii() {
-        [b'.', parts @ ..] => parts.trim_ascii(),
-        _ => &[],
-    }
-}

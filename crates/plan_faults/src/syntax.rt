@@ -1,8 +1,14 @@
 //! The fault of a text that isn't TOML.
-use crate::lines::{begin_line, line_at, write_quoted, write_shown};
+ghost use Rattle.std.specs.Prelude.{◌≡◌, ◌≤◌};
+ghost use Rattle.plan_faults.specs.Lines.{Adds};
+
+use crate::lines::{begin_line, line_at, write_name, write_shown};
+use crate::names::first_part;
+use crate::report::{Counts, push_line};
 use crate::rows::{Form, row_anywhere};
-use crate::scan::{Stop, first_part, stop_at, trimmed};
+use crate::scan::{Stop, stop_at, trimmed};
 use crate::words::write_expected;
+use std::alloc::Global;
 use text_buffer::TextBuffer;
 use toml_parser::ErrorKind;
 use toml_parser::bytes::byte_at;
@@ -72,18 +78,27 @@ fn line_begin(text: &[u8], at: usize) -> usize {
     begin
 }
 
+// Returns the octets up to the end of the first line.
+fn first_line(text: &[u8]) -> &[u8] {
+    match text.split(|octet| *octet == b'\n').next() {
+        Some(line) => line.trim_ascii(),
+        None => text,
+    }
+}
+
 // Returns whether a text begins with the mark of UTF-16.
 fn is_utf_16(text: &[u8]) -> bool {
     text.starts_with(b"\xff\xfe") || text.starts_with(b"\xfe\xff")
 }
 
 // Writes that a value is none of TOML, with the value if its key has numbers or flags.
-fn write_value(text: &[u8], at: usize, words: &str, report: &mut TextBuffer) {
+fn write_value(alloc: Global, text: &[u8], at: usize, words: &str, report: &mut TextBuffer) {
     let begin = line_begin(text, at).min(text.len());
     let equals = stop_at(text, begin, Stop::Equals);
-    let (name, _) = first_part(trimmed(text, begin, equals));
+    let (name, _) = first_part(alloc, trimmed(text, begin, equals));
     let end = stop_at(text, equals, Stop::LineEnd);
-    let value = trimmed(text, equals.saturating_add(1), end);
+    // (brackets that stay open go on to other keys)
+    let value = first_line(trimmed(text, equals.saturating_add(1), end));
     let Some(row) = row_anywhere(name) else {
         return report.text(words);
     };
@@ -105,7 +120,7 @@ fn write_value(text: &[u8], at: usize, words: &str, report: &mut TextBuffer) {
 }
 
 // Writes that a key or a header is there already.
-fn write_doubled(text: &[u8], at: usize, report: &mut TextBuffer) {
+fn write_doubled(alloc: Global, text: &[u8], at: usize, report: &mut TextBuffer) {
     if byte_at(text, at) == b'[' {
         let end = stop_at(text, at.min(text.len()), Stop::LineEnd);
         write_shown(trimmed(text, at, end), report);
@@ -113,8 +128,8 @@ fn write_doubled(text: &[u8], at: usize, report: &mut TextBuffer) {
         return;
     }
     let equals = stop_at(text, at.min(text.len()), Stop::Equals);
-    let (name, _) = first_part(trimmed(text, at, equals));
-    write_quoted(name, report);
+    let (name, _) = first_part(alloc, trimmed(text, at, equals));
+    write_name(name, report);
     report.text(" is in its table a second time");
 }
 
@@ -127,7 +142,13 @@ fn write_octet_fault(text: &[u8], at: usize, report: &mut TextBuffer) {
     write_shown(trimmed(text, at, at.saturating_add(1)), report);
 }
 
-fn write_what(text: &[u8], at: usize, error: &toml::de::Error, report: &mut TextBuffer) {
+fn write_what(
+    alloc: Global,
+    text: &[u8],
+    at: usize,
+    error: &toml::de::Error,
+    report: &mut TextBuffer,
+) {
     if error.message() == ErrorKind::Utf8.description() {
         return write_octet_fault(text, at, report);
     }
@@ -137,23 +158,36 @@ fn write_what(text: &[u8], at: usize, error: &toml::de::Error, report: &mut Text
         );
     }
     match kind_of(error) {
-        Some((ErrorKind::Value, words)) => write_value(text, at, words, report),
+        Some((ErrorKind::Value, words)) => write_value(alloc, text, at, words, report),
         Some((_, words)) => report.text(words),
-        None => write_doubled(text, at, report),
+        None => write_doubled(alloc, text, at, report),
     }
 }
 
-/// Writes why a text isn't TOML.
+/// Writes why a text isn't TOML; nothing if memory ran out.
 pub(crate) fn write_syntax(
+    alloc: Global,
     path: &str,
     text: &[u8],
     error: &toml::de::Error,
     report: &mut TextBuffer,
-) {
+) -> Counts
+    ensures most { result.written ≤ 1 }
+    ensures no_more { result.more ≡ 0 }
+    ensures lines { Adds result.written report.old report.new }
+{
     let Some(span) = error.span() else {
-        return;
+        return Counts {
+            written: 0,
+            more: 0,
+        };
     };
-    begin_line(path, line_at(text, span.start), report);
-    write_what(text, span.start, error, report);
-    report.text("\n");
+    let mut line = TextBuffer::new(alloc);
+    begin_line(path, line_at(text, span.start), &mut line);
+    write_what(alloc, text, span.start, error, &mut line);
+    push_line(&line, report);
+    Counts {
+        written: 1,
+        more: 0,
+    }
 }

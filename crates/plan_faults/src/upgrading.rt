@@ -1,4 +1,7 @@
 //! A plan of an older version as one of the newest.
+ghost use Rattle.std.specs.Prelude.{◌≡◌, false, IsOk, IsErr};
+ghost use Rattle.peer_plan.specs.Reading.{plan_of};
+
 use crate::rows::is_unknown;
 use crate::tables::version_of;
 use crate::walk::{Entry, EntryKind, Walk};
@@ -51,6 +54,7 @@ const POKE: &str =
 // A plan that is written anew, and how far its text is copied.
 #[derive(Drop)]
 struct Copying<'t, 'o> {
+    alloc: Global,
     text: &'t [u8],
     root: &'t Table,
     version: u64,
@@ -151,7 +155,7 @@ impl Copying<'_, '_> {
     }
 
     fn write_all(&mut self) {
-        let mut walk = Walk::new(self.text);
+        let mut walk = Walk::new(self.alloc, self.text);
         for _ in 0..self.text.len().saturating_add(1) {
             match walk.next() {
                 Some(entry) => self.write_entry(entry),
@@ -162,12 +166,13 @@ impl Copying<'_, '_> {
     }
 }
 
-fn write_from(root: &Table, text: &[u8], out: &mut TextBuffer) {
+fn write_from(alloc: Global, root: &Table, text: &[u8], out: &mut TextBuffer) {
     let version = version_of(root);
     if version == 4 {
         return out.put(text);
     }
     let mut copying = Copying {
+        alloc,
         text,
         root,
         version,
@@ -181,7 +186,11 @@ fn write_from(root: &Table, text: &[u8], out: &mut TextBuffer) {
 /// and further comments say what to look at. A plan of version 4 is written as it is.
 ///
 /// The text is a plan only if the outcome is `Done`.
-pub fn write_upgraded(alloc: Global, text: &[u8], out: &mut TextBuffer) -> Upgrade {
+pub fn write_upgraded(alloc: Global, text: &[u8], out: &mut TextBuffer) -> Upgrade
+    ensures plan { result ≡ Upgrade.Done → IsOk (plan_of out.new.octets.items) }
+    ensures whole { result ≡ Upgrade.Done → out.new.is_cut ≡ false }
+    ensures refused { result ≡ Upgrade.Refused → IsErr (plan_of text.now) }
+{
     match Plan::read(alloc, text) {
         Ok(_) => {}
         Err(PlanError::Memory) => return Upgrade::Memory,
@@ -190,7 +199,7 @@ pub fn write_upgraded(alloc: Global, text: &[u8], out: &mut TextBuffer) -> Upgra
     let Ok(root) = toml::table_from_slice(alloc, text) else {
         return Upgrade::Memory;
     };
-    write_from(&root, text, out);
+    write_from(alloc, &root, text, out);
     if out.is_cut {
         return Upgrade::Memory;
     }

@@ -1,6 +1,8 @@
 //! The entries of a plan's text, in its order: tables of its lists, and keys with their values.
-use crate::scan::{Stop, first_part, skip_blanks, stop_at, trimmed};
+use crate::names::first_part;
+use crate::scan::{Stop, skip_blanks, stop_at, trimmed};
 use peer_plan::{Key, Section};
+use std::alloc::Global;
 use toml_parser::bytes::byte_at;
 
 /// The kind of an entry.
@@ -26,9 +28,9 @@ pub(crate) struct Entry<'a> {
     pub(crate) at: usize,
     /// The place at which its value ends.
     pub(crate) end: usize,
-    /// The key, without quotes.
+    /// The name of the key, as `names` has names.
     pub(crate) name: &'a [u8],
-    /// The value as it is written.
+    /// The value as it is written; nothing behind a key with dots.
     pub(crate) value: &'a [u8],
 }
 
@@ -53,6 +55,7 @@ struct Counts {
 /// A walk over a text that TOML accepts.
 #[derive(Clone, Copy)]
 pub(crate) struct Walk<'a> {
+    alloc: Global,
     text: &'a [u8],
     at: usize,
     section: Section,
@@ -106,13 +109,14 @@ fn with_one_more(counts: Counts, section: Section) -> Counts {
 }
 
 impl<'a> Walk<'a> {
-    pub(crate) fn new(text: &'a [u8]) -> Walk<'a> {
+    pub(crate) fn new(alloc: Global, text: &'a [u8]) -> Walk<'a> {
         let at = if text.starts_with(b"\xef\xbb\xbf") {
             3
         } else {
             0
         };
         Walk {
+            alloc,
             text,
             at,
             section: Section::Plan,
@@ -135,7 +139,7 @@ impl<'a> Walk<'a> {
     fn pair(&self, at: usize, stop: Stop, section: Section, place: usize) -> Entry<'a> {
         let text = self.text;
         let equals = stop_at(text, at.min(text.len()), Stop::Equals);
-        let (name, _) = first_part(trimmed(text, at, equals));
+        let (name, parts) = first_part(self.alloc, trimmed(text, at, equals));
         let from = equals.saturating_add(1).min(text.len());
         let end = stop_at(text, from, stop);
         Entry {
@@ -145,7 +149,11 @@ impl<'a> Walk<'a> {
             at,
             end,
             name,
-            value: trimmed(text, from, end),
+            value: if parts.is_empty() {
+                trimmed(text, from, end)
+            } else {
+                &[]
+            },
         }
     }
 
@@ -184,7 +192,7 @@ impl<'a> Walk<'a> {
         let from = at.saturating_add(if is_double { 2 } else { 1 });
         let close = stop_at(text, from.min(text.len()), Stop::Bracket);
         let end = stop_at(text, close, Stop::LineEnd);
-        let (name, parts) = first_part(trimmed(text, from, close));
+        let (name, parts) = first_part(self.alloc, trimmed(text, from, close));
         self.at = end;
         let entry = Entry {
             kind: EntryKind::Key,
@@ -224,7 +232,7 @@ impl<'a> Walk<'a> {
         if count_of(self.counts, section) == 0 {
             return entry;
         }
-        let (name, _) = first_part(parts);
+        let (name, _) = first_part(self.alloc, parts);
         Entry {
             section,
             place: self.last_place(section),

@@ -1,33 +1,31 @@
-//! Warnings of a right plan.
-ghost use Rattle.std.specs.Prelude.{◌<◌, length};
+//! The warnings found in a right plan.
+ghost use Rattle.std.specs.Prelude.{◌<◌, ◌≤◌, length};
 
-use crate::fault::unknown_key;
-use crate::findings::MOST;
-use crate::lines::{begin_line, line_at, write_quoted, write_shown, write_subject};
+use crate::hints::{Hint, Warning};
 use crate::rows::{is_unknown, row_named};
-use crate::tables::{items_of, version_of};
+use crate::tables::version_of;
 use crate::walk::{Entry, EntryKind, Walk};
-use crate::words::{Source, write_unknown};
+use crate::ways::{Way, prefix_count, ways_of};
 use call_signals::{Format, Formats};
 use peer_plan::{Key, Plan, Section};
 use plan_report::minutes_of_talk;
 use std::alloc::Global;
-use text_buffer::TextBuffer;
 use toml::Table;
 
 // A day, in minutes.
 const DAY: u64 = 1440;
 
-// The warnings of a plan as they are written, with the text that the plan was read from.
+/// The most warnings that are kept.
+pub(crate) const MOST_KEPT: usize = 20;
+
+/// The warnings of a plan in the order of its text: the first 20, and how many there are beyond them.
 #[derive(Drop)]
-struct Warnings<'t, 'r> {
+pub(crate) struct Warnings<'t> {
     plan: &'t Plan,
-    source: Source<'t>,
-    path: &'t str,
-    text: &'t [u8],
-    report: &'r mut TextBuffer,
-    // How many warnings there are. The first 20 are written.
-    count: usize,
+    root: &'t Table,
+    ways: Vec<Way<'t>>,
+    kept: Vec<Warning<'t>>,
+    pub(crate) more: u64,
 }
 
 // Returns the secret of a peer.
@@ -53,7 +51,8 @@ fn same_secret(plan: &Plan, peer: u16) -> Option<u16>
     None
 }
 
-fn has_secret(plan: &Plan) -> bool {
+/// Returns whether a peer has a secret.
+pub(crate) fn has_secret(plan: &Plan) -> bool {
     for peer in 0..plan.peer_count() {
         let rules = plan.rules(peer);
         if rules.secret.is_some() || rules.outbound_secret.is_some() {
@@ -72,31 +71,12 @@ fn is_led_to(plan: &Plan, peer: u16) -> bool {
     false
 }
 
-// Returns whether a caller has a route of its own with the prefix of a route for all.
-fn has_own_route(plan: &Plan, route: usize, caller: u16) -> bool
+// Returns whether no caller takes a route for all: each peer has a route of its own with the same prefix.
+fn is_unused(plan: &Plan, ways: &[Way<'_>], route: usize) -> bool
     requires { route < length plan.now.routes }
 {
-    for other in 0..plan.route_count() {
-        if plan.source(other) == Some(caller) && plan.prefix(other) == plan.prefix(route) {
-            return true;
-        }
-    }
-    false
-}
-
-// Returns whether no caller takes a route for all.
-fn is_unused(plan: &Plan, route: usize) -> bool
-    requires { route < length plan.now.routes }
-{
-    if plan.source(route).is_some() {
-        return false;
-    }
-    for caller in 0..plan.peer_count() {
-        if !has_own_route(plan, route, caller) {
-            return false;
-        }
-    }
-    true
+    let count = prefix_count(ways, plan.prefix(route).as_bytes());
+    plan.source(route).is_none() && count > usize::from(plan.peer_count())
 }
 
 fn have_common_format(formats: Formats, others: Formats) -> bool {
@@ -136,34 +116,38 @@ fn pattern_octet(prefix: &[u8]) -> Option<u8> {
     None
 }
 
-impl Warnings<'_, '_> {
-    // Begins the line of a warning, if not too many are written.
-    fn begin(&mut self, entry: Entry<'_>) -> bool {
-        self.count = self.count.saturating_add(1);
-        if self.count > MOST {
-            return false;
+impl<'t> Warnings<'t> {
+    // Adds a warning of an entry.
+    fn warn(&mut self, entry: Entry<'t>, hint: Hint) {
+        let warning = Warning {
+            hint,
+            section: entry.section,
+            place: entry.place,
+            at: entry.at,
+            name: entry.name,
+        };
+        if self.kept.len() >= MOST_KEPT || self.kept.push(warning).is_err() {
+            self.more = self.more.saturating_add(1);
         }
-        begin_line(self.path, line_at(self.text, entry.at), self.report);
-        self.report.text("warning: ");
-        write_subject(self.source.root, entry.section, entry.place, self.report);
-        true
+    }
+
+    /// Returns the warnings that are kept.
+    pub(crate) fn kept(&self) -> &[Warning<'t>]
+        ensures most { length result.now ≤ 20 }
+    {
+        &self.kept[..self.kept.len().min(MOST_KEPT)]
     }
 
     // Warns of a record limit that ends calls within a day.
-    fn warn_of_record(&mut self, entry: Entry<'_>) {
+    fn warn_of_record(&mut self, entry: Entry<'t>) {
         let minutes = minutes_of_talk(self.plan);
-        if minutes < DAY && self.begin(entry) {
-            self.report.labelled(
-                "record_limit ends a call that only talks after about ",
-                minutes / 60,
-            );
-            self.report.labelled(" h ", minutes % 60);
-            self.report.text(" min\n");
+        if minutes < DAY {
+            self.warn(entry, Hint::EndsCalls(minutes));
         }
     }
 
-    fn warn_of_plan(&mut self, entry: Entry<'_>, key: Key) {
-        let has_limit = self.source.root.get(Key::RecordLimit.name()).is_some();
+    fn warn_of_plan(&mut self, entry: Entry<'t>, key: Key) {
+        let has_limit = self.root.get(Key::RecordLimit.name()).is_some();
         match key {
             Key::RecordLimit => self.warn_of_record(entry),
             Key::Format if !has_limit => self.warn_of_record(entry),
@@ -171,19 +155,17 @@ impl Warnings<'_, '_> {
         }
     }
 
-    fn warn_of_port(&mut self, entry: Entry<'_>) {
+    fn warn_of_port(&mut self, entry: Entry<'t>) {
         let Some(endpoint) = self.plan.workers().get(entry.place) else {
             return;
         };
         let port = endpoint.port;
-        if port < 1024 && self.begin(entry) {
-            self.report.labelled("port ", u64::from(port));
-            self.report
-                .text(" is below 1024, which mostly root alone may bind\n");
+        if port < 1024 {
+            self.warn(entry, Hint::LowPort(port));
         }
     }
 
-    fn warn_of_secret(&mut self, entry: Entry<'_>, plan: &Plan, peer: u16, key: Key)
+    fn warn_of_secret(&mut self, entry: Entry<'t>, plan: &Plan, peer: u16, key: Key)
         requires { peer < length plan.now.peers }
     {
         let rules = plan.rules(peer);
@@ -194,71 +176,46 @@ impl Warnings<'_, '_> {
         };
         if let Some(secret) = secret
             && secret.as_slice().len() < 12
-            && self.begin(entry)
         {
-            self.report.text(key.name());
-            self.report
-                .text(" has fewer than 12 octets, and MD5 falls to guessing\n");
+            self.warn(entry, Hint::ShortSecret(key));
         }
     }
 
-    fn warn_of_same_secret(&mut self, entry: Entry<'_>, plan: &Plan, peer: u16)
+    fn warn_of_same_secret(&mut self, entry: Entry<'t>, plan: &Plan, peer: u16)
         requires { peer < length plan.now.peers }
     {
-        if let Some(other) = same_secret(plan, peer)
-            && self.begin(entry)
-        {
-            self.report.text("secret is that of peer ");
-            self.report.number(u64::from(other));
-            self.report.text(" too (counted from 0)\n");
+        if let Some(other) = same_secret(plan, peer) {
+            self.warn(entry, Hint::SameSecret(other));
         }
     }
 
-    fn warn_of_peer(&mut self, entry: Entry<'_>, peer: u16) {
-        if !is_led_to(self.plan, peer) && self.begin(entry) {
-            self.report.text("no route leads to it\n");
+    fn warn_of_peer(&mut self, entry: Entry<'t>, peer: u16) {
+        if !is_led_to(self.plan, peer) {
+            self.warn(entry, Hint::NotLedTo);
         }
     }
 
-    fn warn_of_pattern(&mut self, entry: Entry<'_>, plan: &Plan, route: usize)
+    fn warn_of_pattern(&mut self, entry: Entry<'t>, plan: &Plan, route: usize)
         requires { route < length plan.now.routes }
     {
-        if let Some(octet) = pattern_octet(plan.prefix(route).as_bytes())
-            && self.begin(entry)
-        {
-            write_quoted(&[octet], self.report);
-            self.report.text(" stands for itself: a prefix is no pattern of a dialplan\n");
+        if let Some(octet) = pattern_octet(plan.prefix(route).as_bytes()) {
+            self.warn(entry, Hint::Pattern(octet));
         }
     }
 
-    fn warn_of_route(&mut self, entry: Entry<'_>, plan: &Plan, route: usize)
+    fn warn_of_route(&mut self, entry: Entry<'t>, plan: &Plan, route: usize)
         requires { route < length plan.now.routes }
     {
-        if is_unused(plan, route) {
-            if self.begin(entry) {
-                self.report.text(
-                    "no call takes it: each peer has a route of its own with this prefix\n",
-                );
-            }
-            return;
+        if is_unused(plan, &self.ways, route) {
+            return self.warn(entry, Hint::Unused);
         }
-        if let Some(caller) = caller_without_format(plan, route)
-            && self.begin(entry)
-        {
-            self.report.labelled("calls of peer ", u64::from(caller));
-            self.report.text(" (counted from 0) have no format in common with its peer\n");
-        }
-    }
-
-    fn warn_of_unknown(&mut self, entry: Entry<'_>) {
-        if self.begin(entry) {
-            write_unknown(self.source, &unknown_key(entry), self.report);
-            self.report.text("; it is skipped\n");
+        if let Some(caller) = caller_without_format(plan, route) {
+            self.warn(entry, Hint::NoCommonFormat(caller));
         }
     }
 
     // Warns of a key of a peer.
-    fn warn_of_peer_key(&mut self, entry: Entry<'_>, key: Key) {
+    fn warn_of_peer_key(&mut self, entry: Entry<'t>, key: Key) {
         let Ok(peer) = u16::try_from(entry.place) else {
             return;
         };
@@ -277,7 +234,7 @@ impl Warnings<'_, '_> {
         }
     }
 
-    fn warn_of_route_key(&mut self, entry: Entry<'_>, key: Key) {
+    fn warn_of_route_key(&mut self, entry: Entry<'t>, key: Key) {
         let plan = self.plan;
         if key == Key::Prefix && entry.place < plan.route_count() {
             self.warn_of_pattern(entry, plan, entry.place);
@@ -285,14 +242,14 @@ impl Warnings<'_, '_> {
         }
     }
 
-    fn warn_of(&mut self, entry: Entry<'_>) {
+    fn warn_of(&mut self, entry: Entry<'t>) {
         let EntryKind::Key = entry.kind else {
             return;
         };
-        let version = version_of(self.source.root);
+        let version = version_of(self.root);
         // (a right plan of version 4 has no unknown key)
         if version < 4 && is_unknown(entry.section, version, entry.name) {
-            return self.warn_of_unknown(entry);
+            return self.warn(entry, Hint::Skipped);
         }
         let Some(row) = row_named(entry.section, version, entry.name) else {
             return;
@@ -305,74 +262,28 @@ impl Warnings<'_, '_> {
             (Section::Route, key) => self.warn_of_route_key(entry, key),
         }
     }
-
-    // Warns of each entry of the text.
-    fn warn_of_all(&mut self) {
-        let mut walk = Walk::new(self.text);
-        for _ in 0..self.text.len().saturating_add(1) {
-            match walk.next() {
-                Some(entry) => self.warn_of(entry),
-                None => return,
-            }
-        }
-    }
-
-    // Writes how many warnings there are beyond those that are written.
-    fn write_rest(&mut self) {
-        if self.count > MOST {
-            let more = self.count.saturating_sub(MOST) as u64;
-            write_shown(self.path.as_bytes(), self.report);
-            self.report.labelled(": ", more);
-            self.report.text(" further warnings\n");
-        }
-    }
 }
 
-// Writes the warnings of a plan that was read from a document.
-fn write_of(
+/// Returns the warnings of a plan that was read from a text, with the document of that text.
+pub(crate) fn warnings_of<'t>(
     alloc: Global,
-    plan: &Plan,
-    root: &Table,
-    path: &str,
-    text: &[u8],
-    report: &mut TextBuffer,
-) {
-    let source = Source {
-        alloc,
-        root,
-        workers: items_of(root, Section::Worker).len() as u64,
-    };
+    plan: &'t Plan,
+    root: &'t Table,
+    text: &'t [u8],
+) -> Warnings<'t> {
     let mut warnings = Warnings {
         plan,
-        source,
-        path,
-        text,
-        report,
-        count: 0,
+        root,
+        ways: ways_of(alloc, root, version_of(root)),
+        kept: Vec::new(alloc),
+        more: 0,
     };
-    warnings.warn_of_all();
-    warnings.write_rest();
-}
-
-/// Writes the warnings of a right plan, a line each in the order of the text: 20, and how many there are beyond these. It writes
-/// nothing for a plan that `Plan::read` refuses, or if memory runs out. No value of a secret is written.
-///
-/// The caller says whether every user of the machine may read the file.
-pub fn write_warnings(
-    alloc: Global,
-    path: &str,
-    text: &[u8],
-    is_open_to_others: bool,
-    report: &mut TextBuffer,
-) {
-    let Ok(plan) = Plan::read(alloc, text) else {
-        return;
-    };
-    if is_open_to_others && has_secret(&plan) {
-        write_shown(path.as_bytes(), report);
-        report.text(": warning: every user of this machine may read it, with its secrets\n");
+    let mut walk = Walk::new(alloc, text);
+    for _ in 0..text.len().saturating_add(1) {
+        match walk.next() {
+            Some(entry) => warnings.warn_of(entry),
+            None => return warnings,
+        }
     }
-    if let Ok(root) = toml::table_from_slice(alloc, text) {
-        write_of(alloc, &plan, &root, path, text, report);
-    }
+    warnings
 }

@@ -1,6 +1,6 @@
 //! The faults of a plan in words.
 use crate::fault::{Fault, What};
-use crate::lines::{write_quoted, write_shown, write_subject};
+use crate::lines::{write_name, write_quoted, write_shown, write_subject};
 use crate::meant::{meant_key, meant_peer};
 use crate::rows::{Form, row_anywhere, row_named};
 use crate::tables::{list_key, table_at, text_at, version_of};
@@ -97,7 +97,7 @@ fn is_misplaced(section: Section, version: u64, name: &[u8]) -> bool {
 pub(crate) fn write_unknown(source: Source<'_>, fault: &Fault<'_>, report: &mut TextBuffer) {
     let version = version_of(source.root);
     report.text("unknown key ");
-    write_quoted(fault.name, report);
+    write_name(fault.name, report);
     if let Some(row) = row_named(fault.section, 4, fault.name) {
         report.text(" in plan version ");
         report.counted(version, "; version ");
@@ -200,13 +200,12 @@ pub(crate) fn write_fault(source: Source<'_>, fault: &Fault<'_>, report: &mut Te
     if let What::Unknown = fault.what
         && is_misplaced(fault.section, version, fault.name)
     {
-        write_quoted(fault.name, report);
-        return report.text(" belongs above the first [[worker]], [[peer]] or [[route]]\n");
+        write_name(fault.name, report);
+        return report.text(" belongs above the first [[worker]], [[peer]] or [[route]]");
     }
     let is_list = matches!(fault.what, What::TooMany);
     if !is_list {
         write_subject(source.root, fault.section, fault.place, report);
     }
     write_what(source, fault, report);
-    report.text("\n");
 }
