@@ -10,8 +10,8 @@ use crate::columns::{
     ending_name, failure_name, format_name, push_moment, push_number, push_record, push_telephone,
     side_name,
 };
-use call_book::LegName;
 use crate::reason::reason_name;
+use call_book::LegName;
 use call_signals::{Failure, Format, Moments};
 use csv::StringRecord;
 use std::alloc::{AllocError, Global};

@@ -36,13 +36,7 @@ pub fn reason_name(row: &CallRow) -> &'static str
     match end.how {
         Ending::RejectedByPeer => "rejected_by_peer",
         Ending::HungUpByPeer => "",
-        Ending::HungUpHere => {
-            if is_unanswered(row) {
-                "no_secret"
-            } else {
-                ""
-            }
-        }
+        Ending::HungUpHere => { if is_unanswered(row) { "no_secret" } else { "" } }
         Ending::RejectedHere => {
             if row.moments.offered.is_some() {
                 routing_reason(end.cause)

@@ -15,8 +15,8 @@ use crate::leg_table::is_media;
 use crate::machine::Machine;
 use call_signals::openings::offered_formats;
 use call_signals::{
-    Caller, Cause, ElementText, Failure, Format, Formats, Indication, MediaIn, MediaSpan,
-    Moments, NewElements, Onward, Signal, Stage,
+    Caller, Cause, ElementText, Failure, Format, Formats, Indication, MediaIn, MediaSpan, Moments,
+    NewElements, Onward, Signal, Stage,
 };
 use iax_frames::CallNumber;
 use info_elements::{CALLED_NUMBER, CALLING_NUMBER, last_in};

@@ -19,8 +19,8 @@ mod working_order;
 
 pub use call_signals::{
     Caller, Cause, Credential, Digit, ElementText, Failure, Format, Formats, Heard, Indication,
-    Judged, MediaIn, MediaSpan, Message, Moments, Onward, Order, OrderError, OrderKind, Outcome, PeerRules,
-    Replies, Signal, Stage, StepError, TickOutcome,
+    Judged, MediaIn, MediaSpan, Message, Moments, Onward, Order, OrderError, OrderKind, Outcome,
+    PeerRules, Replies, Signal, Stage, StepError, TickOutcome,
 };
 pub use leg::Leg;
 pub use media::MediaSent;

@@ -12,8 +12,8 @@ ghost use Rattle.leg_machine.specs.Working as steps;
 use call_auth::Challenge;
 use call_signals::codes::{FRAME_IAX, IAX_ACK, IAX_VNAK};
 use call_signals::{
-    Cause, Failure, Format, Formats, LocalNumber, Message, Moments, PeerRules, Replies, Reply, Stage,
-    ending_cause,
+    Cause, Failure, Format, Formats, LocalNumber, Message, Moments, PeerRules, Replies, Reply,
+    Stage, ending_cause,
 };
 use iax_frames::{CallNumber, Full, FullHead, Payload};
 use seq_window::{Acknowledged, FrameView, Window};

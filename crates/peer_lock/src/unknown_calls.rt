@@ -179,12 +179,7 @@ fn answer_to_new(
 }
 
 // What answers a frame that no leg has, by whether the peer drains and by its rules.
-fn answer_to(
-    frame: &Full,
-    drains: bool,
-    rules: &PeerRules,
-    now: u64,
-) -> Result<Answer, PeerError>
+fn answer_to(frame: &Full, drains: bool, rules: &PeerRules, now: u64) -> Result<Answer, PeerError>
     ensures answer { IfOk result (λ answer. unknown_call drains rules.now frame.now now ≡ Gets answer) }
     ensures refused { IfErr result (λ e. Some e ≡ delivery_refused (unknown_call drains rules.now frame.now now)) }
 {

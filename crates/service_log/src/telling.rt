@@ -220,7 +220,11 @@ impl<'s> Told<'s> {
             for peer in &self.peers {
                 legs = legs.saturating_add(u32::from(peer.legs_now));
             }
-            tell(log, Level::Info, &format_args!("drains: {legs} legs are left"));
+            tell(
+                log,
+                Level::Info,
+                &format_args!("drains: {legs} legs are left"),
+            );
         }
     }
 

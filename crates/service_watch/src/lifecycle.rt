@@ -3,7 +3,9 @@ use std::sync::atomic::{AtomicBool, AtomicU64, Ordering};
 use worker_watch::ServiceStage;
 
 const SERVING: u64 = 0;
+
 const DRAINING: u64 = 1;
+
 const ENDED: u64 = 2;
 
 /// How far a service is: whether it takes new calls, whether it waits for the last one, and whether it stops or has ended. All threads
