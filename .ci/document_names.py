@@ -1,5 +1,6 @@
-"""What .ci/documents knows of names: those of options, commands, plan keys, requests, members, metrics, lines of the log, refusals, faults and
-warnings of a plan, lines of a script and columns, as the sources and the references have them; and what documents are made of."""
+"""The names that .ci/documents compares: options, commands, plan keys, requests, members, metrics, lines of the log,
+refusals, faults and warnings of a plan, lines of a script and columns, as the sources and the references have them; and the
+parts of documents."""
 import os
 import re
 import sys
@@ -31,7 +32,7 @@ def names_agree(what, in_reference, in_sources):
 
 
 def blocks_of(text):
-    """The indented blocks of a document, without their indent."""
+    """Returns the indented blocks of a document, without their indent."""
     blocks, lines = [], []
     for line in text.split("\n") + ["."]:
         if line.startswith("    ") or lines and not line.strip():
@@ -43,14 +44,14 @@ def blocks_of(text):
 
 
 def section_of(text, heading):
-    """What is under a heading, up to the next one as high."""
+    """Returns the text under a heading, up to the next one of the same level."""
     marks = re.match(r"#+", heading).group()
     rest = text.split(f"\n{heading}\n", 1)[1]
     return re.split(rf"\n#{{1,{len(marks)}}} ", rest)[0]
 
 
 def first_cells(text):
-    """The words in code of the first cells of a text's tables, their heads aside."""
+    """Returns the words in code of the first cells of a text's tables, without the head lines."""
     words, lines = [], text.split("\n")
     for line, after in zip(lines, lines[1:] + [""]):
         if line.startswith("| ") and not after.startswith("|--"):
@@ -62,7 +63,7 @@ def first_cells(text):
 
 
 def sources(*folders):
-    """The text of the sources of these crates."""
+    """Returns the text of the sources of these crates."""
     texts = []
     for folder in folders:
         for at, _, names in os.walk(f"{TOP}/crates/{folder}/src"):
@@ -71,7 +72,7 @@ def sources(*folders):
 
 
 def function_of(text, name):
-    """The text of a function, from its name to the end of its body."""
+    """Returns the text of a function, from its name to the end of its body."""
     return re.search(rf"\bfn {name}\b.*?\n}}", text, re.S).group()
 
 
@@ -83,7 +84,7 @@ def check_command_line():
     options_in_page = re.findall(r"`(?:[a-z]+ PLAN SCRIPT )?--([a-z-]+)", "\n".join(it for it in page.split("\n") if it.startswith("|")))
     extra = {"help", "version"}
     names_agree("docs/CLI.md, options", set(options_in_page) - extra, options)
-    # (what stops gracefully is an order of ctl)
+    # The order of ctl that stops gracefully.
     names_agree("exchange_main.1, options", set(re.findall(r"Fl Fl ([a-z-]+)", manual)) - extra - {"graceful"}, options)
     table = page.split("\n## ")[0]
     names_agree("docs/CLI.md, commands", [it.split(" ")[0] for it in first_cells(table) if not it.startswith("--")], commands + ["help"])
@@ -119,12 +120,12 @@ def check_plan_keys():
 
 
 def without_names(line):
-    """A line in which every number is 0, and every text in quotes is empty."""
+    """Returns a line with 0 in place of each number, and with empty quotes."""
     return re.sub(r"\d+", "0", re.sub(r'"(?:[^"\\]|\\.)*"', '""', line))
 
 
 def check_plan_lines():
-    """The faults and warnings of docs/PLAN.md, which are in the scenes' standard error or in a text of a source."""
+    """Checks that each fault and warning of docs/PLAN.md is in the scenes' standard error or in a text of a source."""
     folder = "crates/exchange_main/scenes"
     printed = [line for it in sorted(os.listdir(f"{TOP}/{folder}")) if it.endswith(".stderr") for line in text_of(f"{folder}/{it}").splitlines()]
     texts = [it.replace('\\"', '"') for it in re.findall(r'"((?:[^"\\]|\\.)*)"', sources("plan_faults").replace("b'\"'", ""))]
@@ -217,11 +218,12 @@ def check_scripts_and_records():
     runs = re.findall(r"^(?:side_by_side )?(\.ci/.*)$", text_of(".ci/run").partition("\nrt ci ")[2], re.M)
     gate = re.findall(r"\.ci/(\w+)", " ".join(runs))
     parts = [it.removeprefix(".ci/") for it in first_cells(section_of(text_of("docs/CHECKS.md"), "## Parts"))]
-    names_agree("docs/CHECKS.md, parts", parts, gate + ["wrong_bodies", "rt ci"])
+    names_agree("docs/CHECKS.md, parts", parts, gate + ["wrong_bodies", "tools/wrong_bodies/tests", "rt ci"])
 
 
 def names_of_sources():
-    """The functions, types and variants of all sources, and each function and variant behind its type, as `Type::name`."""
+    """Returns the functions, types and variants of all sources, and each function and variant behind its type, as
+    `Type::name`."""
     names, kinds = set(), []
     for line in sources(*os.listdir(f"{TOP}/crates")).split("\n"):
         if re.match(r"(pub )?(impl|trait|enum)\b", line):
@@ -236,7 +238,7 @@ def names_of_sources():
 
 
 def file_of(crate, name):
-    """The path of a file that docs/ARCHITECTURE.md names: a whole one, or one of the crate that was named before."""
+    """Returns the path of a file that docs/ARCHITECTURE.md names: a whole one, or one of the crate named last."""
     if re.match(r"\w+/(specs|src)/", name):
         return f"crates/{name}"
     return f"crates/{crate}/{name}" if "/" in name else f"crates/{crate}/{'specs' if name.endswith('.antt') else 'src'}/{name}"
@@ -259,7 +261,7 @@ def check_architecture():
 
 
 def check_clauses():
-    """The functions, clauses and definitions that the tables of docs/GUARANTEES.md name."""
+    """Checks that the functions, clauses and definitions that the tables of docs/GUARANTEES.md name exist."""
     page = text_of("docs/GUARANTEES.md").split("\n## Frames and elements\n")[1].split("\n## What is tested\n")[0]
     crates = os.listdir(f"{TOP}/crates")
     names = names_of_sources() | set(crates)
@@ -277,7 +279,7 @@ def check_clauses():
 
 
 def check_wrong_bodies():
-    """The wrong bodies that docs/GUARANTEES.md and docs/CHECKS.md name, which pages have."""
+    """Checks that the wrong bodies that docs/GUARANTEES.md and docs/CHECKS.md name are on pages."""
     for name, heading in (("docs/GUARANTEES.md", "## From a promise to a wrong body"), ("docs/CHECKS.md", "## Wrong bodies")):
         faults, found = [], re.findall(r"[` ](\w+)/(\w+)`?(?: \||\n|`;)", section_of(text_of(name), heading))
         for crate, body in found:
@@ -288,7 +290,7 @@ def check_wrong_bodies():
 
 
 def check_names():
-    """All references."""
+    """Checks all references."""
     for check in (check_command_line, check_plan_keys, check_plan_lines, check_http, check_refusals, check_metrics,
                   check_scripts_and_records, check_architecture, check_clauses, check_wrong_bodies):
         check()

@@ -16,7 +16,7 @@ WIDTH, MARGIN, ROW, BOX, HEAD = 1000, 12, 38, 22, 24
 
 
 def crates():
-    """The crates of crates.txt, each with the crates of this repository that it depends on."""
+    """Returns the crates of crates.txt, each with the crates of this repository that it depends on."""
     found = {}
     with open(f"{TOP}/crates.txt", encoding="utf-8") as it:
         for line in it:
@@ -27,14 +27,14 @@ def crates():
 
 
 def bands(page):
-    """The bands of the page: each a heading, and the crates of its rows."""
+    """Returns the bands of the page: each a heading, and the crates of its rows."""
     section = page.split("\n## The layers\n", 1)[1].split("\n## ")[0]
     parts = re.split(r"\n### (.*)\n", section)[1:]
     return [(head, re.findall(r"^\| `(\w+)` \|", rows, re.M)) for head, rows in zip(parts[::2], parts[1::2])]
 
 
 def faults_of(found, groups):
-    """The faults of the rows of the page."""
+    """Returns the faults of the rows of the page."""
     faults, seen = [], []
     for name in [name for _, names in groups for name in names]:
         faults += [f"{name} has two rows"] if name in seen else []
@@ -45,7 +45,7 @@ def faults_of(found, groups):
 
 
 def needed(found):
-    """The dependencies that no other dependency brings."""
+    """Returns the dependencies that no other dependency brings."""
     below = {}
 
     def reach(name):
@@ -57,7 +57,7 @@ def needed(found):
 
 
 def rows_of(names, found):
-    """The crates of a band in rows, the lowest first: a crate is above those of its band that it depends on."""
+    """Returns the crates of a band in rows, the lowest first: a crate is above those of its band that it depends on."""
     depth = {}
     for name in names:
         depth[name] = max([depth[it] + 1 for it in found[name] if it in depth], default=0)
@@ -69,7 +69,7 @@ def width_of(name):
 
 
 def placed(groups, found, edges):
-    """The middle of each box, and the top and height of each band; the first band is the lowest."""
+    """Returns the middle of each box, and the top and height of each band; the first band is the lowest."""
     places, frames, y, count = {}, [], 0, 0
     for head, names in groups:
         rows = rows_of(names, found)
@@ -79,7 +79,7 @@ def placed(groups, found, edges):
                 return sum(below) / len(below) if below else WIDTH / 2
             row = sorted(row, key=weight)
             gap = (WIDTH - 2 * MARGIN - sum(width_of(it) for it in row)) / (len(row) + 1)
-            # (rows are shifted, so that a line that passes a box isn't taken for one that ends there)
+            # Rows are shifted, so that a line that passes a box isn't mistaken for one that ends there.
             x = MARGIN + gap + (0, 60, -60, 30, -30, 90, -90)[count % 7] * min(1, gap / 100)
             count += 1
             for name in row:
@@ -92,7 +92,7 @@ def placed(groups, found, edges):
 
 
 def picture(page):
-    """The SVG and the faults of the page's rows; there is no SVG if there are faults."""
+    """Returns the SVG and the faults of the page's rows; there is no SVG if there are faults."""
     found, groups = crates(), bands(page)
     faults = faults_of(found, groups)
     if faults:

@@ -1,6 +1,6 @@
-"""What the parts of the gate share that run the program: peers on loopback, clients of a service, and the service itself.
+"""Shared parts of the gate's scripts that run the program: peers on loopback, clients of a service, and the service itself.
 
-They need the program as `rt ci` has built it. What isn't as it should be ends a part, with its name and a sentence."""
+They need the program as `rt ci` has built it. A failed check ends a script, with its name and a sentence."""
 import hashlib
 import itertools
 import json
@@ -16,10 +16,10 @@ import time
 TOP = os.path.dirname(os.path.dirname(os.path.realpath(__file__)))
 PROGRAM = os.environ.get("EXCHANGE_MAIN") or f"{TOP}/crates/exchange_main/out/exchange_main"
 PART = os.path.basename(sys.argv[0])
-# (below those of endurance/, which begin at 11000)
-PORTS = itertools.count(6000 + 1000 * ("service", "control", "call_files", "traces").index(PART))
+# Below those of endurance/, which begin at 11000.
+PORTS = itertools.count(6000 + 1000 * ("service", "control", "call_files", "traces", "sizes").index(PART))
 # IAX subclasses.
-NEW, HANGUP, ACK, ACCEPT, REJECT, AUTHREQ, AUTHREP = 1, 5, 4, 7, 6, 8, 9
+NEW, HANGUP, ACK, ACCEPT, REJECT, AUTHREQ, AUTHREP, PONG, POKE = 1, 5, 4, 7, 6, 8, 9, 3, 0x1E
 LOOPBACK = "127.0.0.1"
 
 
@@ -28,17 +28,17 @@ def same(what, found, wanted):
         raise SystemExit(f"{PART}: {what}: {found!r}, not {wanted!r}")
 
 
-# What a service that runs as root says of that, behind the level.
+# The message of a service that runs as root, behind the level.
 AS_ROOT = "runs as root: a user of its own is enough"
 
 
 def without_root(logged):
-    """The lines of a log but the one that says that the service runs as root."""
+    """Returns the lines of a log, except the one that says that the service runs as root."""
     return "".join(line for line in logged.splitlines(True) if not line.endswith(f" {AS_ROOT}\n"))
 
 
 def within(what, seconds, look):
-    """Waits until a look finds something, at most so long."""
+    """Waits until `look` finds something, at most `seconds` seconds."""
     end = time.monotonic() + seconds
     while time.monotonic() < end:
         found = look()
@@ -49,11 +49,15 @@ def within(what, seconds, look):
 
 
 def plan_text(workers, peers, head="format = 1"):
-    """The text of a plan: its head; workers, each an address and a port; peers, each a name, its port at loopback, the place of its worker, how
-    many numbers it has, and further lines. What begins with 3 leads to the peer `east`, where there is one."""
+    """Returns the text of a plan: its head, its workers, each an address and a port, and its peers. A peer is a name, its
+    port at loopback, the place of its worker, its number of call numbers, and further lines. Numbers that begin with 3 lead
+    to the peer `east`, if there is one."""
     text = head + "\n" + "".join(f'[[worker]]\naddress = "{address}"\nport = {port}\n' for address, port in workers)
     for name, port, worker, numbers, *lines in peers:
         text += f'[[peer]]\nname = "{name}"\naddress = "{LOOPBACK}"\nport = {port}\nworker = {worker}\n'
+        # (a peer of these tests expects no POKE, unless it says so)
+        if "format = 4" in head and not any(it.startswith("qualify_ms") for it in lines):
+            lines = [*lines, "qualify_ms = 0"]
         text += f'formats = ["ulaw"]\nnumbers = {numbers}\n' + "".join(f"{it}\n" for it in lines)
     return text + ('[[route]]\nprefix = "3"\npeer = "east"\n' if "east" in [it[0] for it in peers] else "")
 
@@ -66,7 +70,7 @@ def write_plan(file, worker, west, east):
 
 
 def element_of(frame, wanted):
-    """The value of an information element of a full frame."""
+    """Returns the value of an information element of a full frame."""
     at = 12
     while at + 2 <= len(frame):
         end = at + 2 + frame[at + 1]
@@ -77,17 +81,17 @@ def element_of(frame, wanted):
 
 
 def challenge_of(frame):
-    """The challenge of an AUTHREQ."""
+    """Returns the challenge of an AUTHREQ."""
     return element_of(frame, 0x0F)
 
 
 def answer_to(challenge, secret):
-    """The element MD5 RESULT that answers a challenge."""
+    """Returns the element MD5 RESULT that answers a challenge."""
     return b"\x10\x20" + hashlib.md5(challenge + secret).hexdigest().encode()
 
 
 def source_of(frame):
-    """The call number of a full frame's sender."""
+    """Returns the call number of a full frame's sender."""
     return struct.unpack(">H", frame[:2])[0] & 0x7FFF
 
 
@@ -133,8 +137,8 @@ class Peer:
 
 
 def spare(kind):
-    """A port that nobody has. Each part has its own ones, which the system gives nobody: parts run side by side, and a port that was
-    let go is another's before the program has it."""
+    """Returns a port that nobody has. Each part has its own ports, which the system gives nobody. Parts run at the same
+    time, so another program could get a released port before this one binds it."""
     for port in PORTS:
         with socket.socket(socket.AF_INET, kind) as it:
             try:
@@ -175,7 +179,7 @@ def status_and_body(octets):
 
 
 def said(path, octets):
-    """What the service answers to these octets."""
+    """Returns the service's answer to these octets."""
     with connected(path) as client:
         client.sendall(octets)
         return status_and_body(read_all(client))
@@ -188,7 +192,7 @@ def ask(path, method, target, body=None):
 
 
 def ctl(path, *words):
-    """What `ctl` prints, and its status."""
+    """Returns the output of `ctl`, and its status."""
     it = subprocess.run([PROGRAM, "ctl", path, *words], capture_output=True, text=True, timeout=20)
     return it.stdout, it.returncode
 
@@ -198,7 +202,7 @@ SAMPLE = re.compile(rf"([a-z_]+)(?:{{({LABEL}(?:,{LABEL})*)}})? ([0-9]+)")
 
 
 def samples_of(text):
-    """The samples of a text in Prometheus' form, by name and labels, each below the HELP and TYPE of its family."""
+    """Returns the samples of a text in Prometheus' form, by name and labels, each below the HELP and TYPE of its family."""
     samples, name, kind = {}, None, None
     for line in text.splitlines():
         if line.startswith("# HELP "):
@@ -219,7 +223,7 @@ def samples_of(text):
 
 
 def scraped(port, request=b"GET /metrics HTTP/1.1\r\nHost: x\r\n\r\n"):
-    """The status, the body and the fields of the answer at the metrics' address."""
+    """Returns the status, the body and the fields of the answer at the metrics' address."""
     with socket.create_connection(("127.0.0.1", port), timeout=10) as client:
         client.sendall(request)
         head, _, body = read_all(client).partition(b"\r\n\r\n")
@@ -240,7 +244,7 @@ def of(name, **labels):
 
 
 class Service:
-    """The program, running, with a limit on the size of files if one is given. What it logs goes to a file."""
+    """The program, running, with a limit on the size of files if one is given. Its log is written to a file."""
 
     def __init__(self, plan, path, *options, environment=None, limit=None):
         self.path = path
@@ -253,7 +257,8 @@ class Service:
         within("an answer at the control socket", 10, self.answers)
 
     def answers(self):
-        """Whether it answers. (Its control socket is bound before the sockets of its workers are, and answers once they are.)"""
+        """Returns whether it answers. (Its control socket is bound before the sockets of its workers are, and answers once
+        they are.)"""
         if self.process.poll() is not None:
             raise SystemExit(f"{PART}: ended with {self.process.returncode}: {self.process.stdout.read()}")
         try:

@@ -1,5 +1,5 @@
-// Counts what a program moves in memory: a library that stands before memcpy, memmove and memset of the C library. SIGTERM has it
-// print how many calls there were and how many octets they moved, on standard error, and ends the program.
+// Counts the memory that a program moves: a library that is loaded before memcpy, memmove and memset of the C library. At
+// SIGTERM it prints the number of calls and the octets that they moved, on standard error, and ends the program.
 //
 //     gcc -O2 -shared -fPIC -fno-builtin -o bench/out/count.so bench/count.c -ldl
 #define _GNU_SOURCE

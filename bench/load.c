@@ -1,18 +1,19 @@
-// Loads an exchange, or a plain relay, with calls that carry mini frames of 160 octets both ways, and says how many frames it
-// carried per second of its processor time.
+// Loads an exchange, or a plain relay, with calls that carry mini frames of 160 octets both ways, and prints the number of
+// frames carried per second of its processor time.
 //
 // load exchange|trunk|relay CALLS[/ENDS][@SITE][xSITES] SECONDS COMMAND [ARGUMENT..]
 //
-// It starts the command, which has to bind 127.0.0.1 port 4569; it is itself the peers at ports 5001 (west) and 5002 (east). To
-// an exchange it first sets up the calls, from west to the number 300. It then keeps a fixed number of frames on their way,
-// evenly over the calls, takes the processor time of the command over the given seconds, and ends the command. Of the set-up it
-// says what processor time each call took, of all that was carried how many frames there were, and how much memory was used.
-// Where ENDS is given, so many calls are hung up a second, one after another, and each is set up anew. To a trunk it sends the media of
-// eight calls in each datagram, and takes entries; to a relay a mini frame in each, as to an exchange. With 0 seconds no media is sent.
+// It starts the command, which has to bind 127.0.0.1 port 4569. Itself it plays the peers at ports 5001 (west) and 5002
+// (east). To an exchange it first sets up the calls, from west to the number 300. It then keeps a fixed number of frames on
+// their way, evenly over the calls, measures the processor time of the command over the given seconds, and ends the
+// command. It prints the processor time of each call's set-up, the number of frames carried, and the memory used. With
+// ENDS, this number of calls is hung up each second, one after another, and each is set up again. To a trunk it sends the
+// media of eight calls in each datagram, and counts entries; to a relay it sends a mini frame in each, as to an exchange.
+// With 0 seconds no media is sent.
 //
-// Where SITE is given, 0 to 7, all three ports are further on: by SITE that of the command, by two for each SITE those of the peers; and
-// 3SITE0 is called. With SITES there are so many such pairs of peers, each with a process and the calls of its own, from SITE on; the
-// command has to bind the port of each.
+// With SITE, 0 to 7, all three ports are higher: that of the command by SITE, those of the peers by two for each SITE; and
+// 3SITE0 is called. With SITES there are this number of pairs of peers, from SITE on, each with a separate process and
+// separate calls. The command has to bind the port of each.
 #define _GNU_SOURCE
 #include <arpa/inet.h>
 #include <netinet/in.h>
@@ -33,7 +34,7 @@ enum { PORT = 4569, WEST_PORT = 5001, MOST_SITES = 8 };
 enum { DTMF = 1, VOICE = 2, CONTROL = 4, IAX = 6 };
 enum { NEW = 1, PING = 2, PONG = 3, ACK = 4, HANGUP = 5, ACCEPT = 7, INVAL = 10, VNAK = 18, ANSWER = 4, ULAW = 4 };
 
-// One end of a call: our number is its place plus 1.
+// One end of a call: its number here is its place plus 1.
 struct leg {
     unsigned theirs;
     unsigned char sent, taken;
@@ -54,7 +55,8 @@ static struct peer west, east;
 static struct timespec begin;
 static int calls, ends, trunks, site;
 
-// What the process of each pair of peers tells the others: what it has carried, and whether its calls are set up.
+// The process of each pair of peers shares these with the others: the frames that it has carried, and whether its calls are
+// set up.
 struct told {
     volatile unsigned long carried;
     volatile int is_set_up;
@@ -112,7 +114,7 @@ static const unsigned char FORMAT_OF_CALL[] = {0x09, 4, 0, 0, 0, 4};
 static unsigned char NEW_FOR_300[] = {0x0b, 2, 0, 2, 0x01, 3, '3', '0', '0', 0x09, 4, 0, 0, 0, 4, 0x08, 4, 0, 0, 0, 4};
 enum { DIGIT_OF_SITE = 7 };
 
-// A full frame came in: it is acknowledged, and answered where the call has to go on.
+// Handles a full frame: acknowledges it, and answers it if the call has to continue.
 static void take_full(struct peer *peer, const unsigned char *frame) {
     unsigned theirs = ((unsigned)frame[0] << 8 | frame[1]) & 0x7fff, ours = ((unsigned)frame[2] << 8 | frame[3]) & 0x7fff;
     unsigned ts = (unsigned)frame[4] << 24 | (unsigned)frame[5] << 16 | (unsigned)frame[6] << 8 | frame[7];
@@ -151,14 +153,14 @@ static void take_full(struct peer *peer, const unsigned char *frame) {
     }
 }
 
-// Counts the entries of a trunk frame ("Trunk Frames"), without timestamps of their own.
+// Counts the entries of a trunk frame ("Trunk Frames") without timestamps.
 static int entries_of(const unsigned char *frame, unsigned length) {
     int entries = 0;
     for (unsigned at = TRUNK; at + ENTRY <= length; entries++) at += ENTRY + ((unsigned)frame[at + 2] << 8 | frame[at + 3]);
     return entries;
 }
 
-// Takes what is there.
+// Receives the available frames.
 static void take_all(struct peer *peer) {
     static unsigned char frames[BATCH][2049];
     struct iovec parts[BATCH];
@@ -195,7 +197,7 @@ static int both_open(int place) { return west.legs[place].open && east.legs[plac
 // Sets up the calls one after another.
 static int set_up(void) {
     for (int place = 0; place < calls; place++) {
-        // The first NEW may go out before the command has bound its socket, so it is sent again.
+        // The first NEW may be sent before the command has bound its socket, so it is repeated.
         for (int tries = 0; tries < 500 && !both_open(place); tries++) {
             if (tries % 50 == 0) {
                 west.legs[place].sent = 0;
@@ -219,7 +221,7 @@ static void open_voice(void) {
     }
 }
 
-// The next call in turn whose voice is open.
+// Returns the next call in turn whose voice is open.
 static int next_open(const struct peer *from, int *next) {
     for (int tries = 0; tries < calls && !from->legs[*next].open; tries++) *next = (*next + 1) % calls;
     int place = *next;
@@ -268,7 +270,7 @@ static void send_batch(struct peer *from, struct peer *to, int *next) {
     if (gone > 0) to->on_the_way += gone;
 }
 
-// Hangs up one call after another, so many a second, and sets each up anew.
+// Hangs up one call after another, at the given rate, and sets each up again.
 static void turn_over(double elapsed) {
     static const unsigned char media[MEDIA];
     static enum { STILL, HANGING, CALLING } stage;
@@ -297,7 +299,7 @@ static void turn_over(double elapsed) {
     }
 }
 
-// Keeps frames on their way both ways for so many seconds.
+// Keeps frames on their way both ways for this number of seconds.
 static void carry(double seconds) {
     static double began;
     int next_west = 0, next_east = 0;
@@ -309,21 +311,21 @@ static void carry(double seconds) {
         if (west.on_the_way < ON_THE_WAY) send_batch(&east, &west, &next_east);
         wait_for_any(1);
         if (ends) turn_over(seconds_of(CLOCK_MONOTONIC) - began);
-        // What is lost doesn't come: after a while nothing is on its way any more.
+        // A lost frame doesn't come: after a while no frame is on its way any more.
         if (west.carried + east.carried != before) quiet = 0;
         else if (quiet == 0) quiet = seconds_of(CLOCK_MONOTONIC);
         else if (seconds_of(CLOCK_MONOTONIC) > quiet + 0.1) west.on_the_way = east.on_the_way = 0, quiet = 0;
     }
 }
 
-// Sets up the calls of this pair of peers; false where a call wasn't set up.
+// Sets up the calls of this pair of peers. Returns false if a call wasn't set up.
 static int are_set_up(int is_relay) {
     if (is_relay || set_up() == calls) return 1;
     fprintf(stderr, "load: a call wasn't set up\n");
     return 0;
 }
 
-// The other pairs of peers, each in a process of its own, which carries until it is ended.
+// Starts the other pairs of peers, each in a separate process, which carries until it is ended.
 static void start_others(int first, int sites, int is_relay, double seconds) {
     for (int other = first + 1; other < first + sites; other++) {
         if (fork() != 0) continue;
@@ -340,7 +342,7 @@ static void start_others(int first, int sites, int is_relay, double seconds) {
     }
 }
 
-// Carries until the calls of all pairs are set up, for half a second at least; false where some can't be.
+// Carries until the calls of all pairs are set up, for half a second at least. Returns false if some can't be.
 static int wait_for_others(int first, int sites) {
     carry(0.5);
     for (int other = first + 1; other < first + sites; other++) {
@@ -356,7 +358,7 @@ static unsigned long carried_by_all(int first, int sites) {
     return carried;
 }
 
-// The most memory that the command has had, in kilobytes.
+// Returns the most memory that the command has had, in kilobytes.
 static long peak_of(pid_t command) {
     char path[64], line[256];
     snprintf(path, sizeof path, "/proc/%d/status", (int)command);

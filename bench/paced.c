@@ -19,8 +19,9 @@
 //   retry_ms=N   how long a peer waits for an acknowledgement, 400
 //   patience=S   the longest wait for the set-up, for the last media, and for the hang-ups, 20
 //
-// A frame carries the moment at which its sender handed it to the system. The system notes when it came, so a late reader adds no latency.
-// If the sender itself gets no processor, it leaves out whole turns of `every_ms` and counts them: bursts are never joined.
+// A frame has the moment at which its sender handed it to the system. The system notes the moment at which it came, so a
+// late reader adds no latency. If the sender itself gets no processor, it leaves out whole turns of `every_ms` and counts
+// them: bursts are never joined.
 #define _GNU_SOURCE
 #include <arpa/inet.h>
 #include <math.h>
@@ -37,7 +38,8 @@
 // The sender doesn't sleep through a shorter gap than this, in seconds.
 static const double NAP = 60e-6;
 
-// A datagram of each turn: when it is due, in seconds from the turn's begin, and whose frames it has.
+// A datagram of each turn: the moment at which it is due, in seconds from the turn's begin, and the ends of the calls whose
+// frames it has.
 struct parcel {
     double due;
     unsigned order, sender, first, count;
@@ -122,7 +124,7 @@ static void read_words(int count, char **words) {
     if (wanted.mtu < TRUNK + 6 + wanted.octets || wanted.mtu > MOST_OCTETS) stop("mtu has room for a frame, and is 2048 at most");
 }
 
-// How many frames a datagram of a sender has at most.
+// Returns the greatest number of frames in a datagram of a sender.
 static unsigned frames_in_one(void) {
     if (!wanted.trunk) return 1;
     return (wanted.mtu - TRUNK) / ((wanted.trunk == 2 ? 6 : 4) + wanted.octets);
@@ -131,7 +133,7 @@ static unsigned frames_in_one(void) {
 static int by_due(const void *one, const void *other) {
     const struct parcel *left = one, *right = other;
     if (left->due != right->due) return left->due < right->due ? -1 : 1;
-    // Senders take turns, a batch each, with what is due together.
+    // Senders take turns, a batch each, among the datagrams that are due together.
     if (left->order / BATCH != right->order / BATCH) return left->order < right->order ? -1 : 1;
     if (left->sender != right->sender) return left->sender < right->sender ? -1 : 1;
     return left->order < right->order ? -1 : 1;
@@ -142,7 +144,7 @@ static double due_of(unsigned order, unsigned count, unsigned sender) {
     return (order + (double)sender / peer_count) / count * wanted.every_ms / 1000;
 }
 
-// What goes out in each turn, in its order.
+// Prepares the datagrams of each turn, in their order.
 static void make_parcels(void) {
     for (int place = 0; place < peer_count; place++) ends_of[place] = malloc(2 * MOST_CALLS * sizeof **ends_of);
     for (int place = 0; place < call_count; place++)
@@ -242,7 +244,7 @@ static unsigned due_together(unsigned place, double moment) {
     return count;
 }
 
-// One turn: a frame of each call.
+// Sends one turn: a frame of each call.
 static void send_turn(double begin) {
     for (unsigned place = 0; place < parcel_count && !is_told_to_end;) {
         double due = begin + parcels[place].due;

@@ -1,4 +1,4 @@
-// What the files of `paced` share: its calls, what is wanted of them, and what was seen. See paced.c.
+// Shared parts of the files of `paced`: its calls, its parameters, and its results. See paced.c.
 #ifndef PACED_H
 #define PACED_H
 
@@ -6,15 +6,15 @@
 
 enum { MOST_PEERS = 32, MOST_CALLS = 8192, BATCH = 32, GSM = 2 };
 enum { MINI = 4, TRUNK = 8, HEADERS = 28, STAMP = 16, MOST_MEDIA = 160 };
-// A histogram of latencies: so many steps for each doubling, in nanoseconds.
+// A histogram of latencies in nanoseconds, with this number of steps for each doubling.
 enum { STEPS = 64, DOUBLINGS = 40 };
 
 struct call {
     int place, is_answered, is_over;
     struct peer *from, *to;
     struct leg *ends[2];
-    // By side: whether the first voice of the other came; frames sent and taken; the frame to come next; which of the 64 before that
-    // came, with the last as the lowest bit.
+    // By side: whether the first voice of the other came; frames sent and taken; the frame to come next; and the set of the
+    // 64 before that which came, with the last as the lowest bit.
     int has_voice[2];
     unsigned sent[2], taken[2], next[2];
     unsigned long long came[2];
@@ -30,14 +30,14 @@ struct stamp {
 
 _Static_assert(sizeof(struct stamp) == STAMP, "a stamp has no padding");
 
-// What the words say: see paced.c.
+// The parameters: see paced.c.
 struct wanted {
     double seconds, gap_us, patience;
     unsigned trunk, octets, every_ms, ways, relay, retry_ms, mtu, each;
     int process;
 };
 
-// What was seen, by the names that the report has.
+// The results, by the names that the report has.
 struct seen {
     unsigned long sent, taken, taken_in_time, twice, disordered, strange, unsent, turns, left_out, cut;
     unsigned long trunks_sent, trunks, entries, minis, voices, wire_octets, latencies[DOUBLINGS * STEPS];
@@ -52,12 +52,12 @@ extern struct wanted wanted;
 extern struct seen seen;
 
 void stop(const char *why) __attribute__((noreturn));
-// The system's time, by which it says when a datagram came.
+// The system's clock, which also gives the moments of datagrams.
 long long wall_ns(void);
 // The voice subclass of the calls' media.
 int format_of_calls(void);
 
-// Receives what comes, and waits so long at most for the first.
+// Receives datagrams, and waits at most this long for the first.
 void receive_any(double seconds);
 void resend_what_is_due(void);
 // Sets up all calls, with the first voice of both sides. Ends the program if one can't be set up.
@@ -66,7 +66,7 @@ void set_up(void);
 void hang_up(void);
 
 void count_latency(long long ns);
-// Prints what was seen, as one line of JSON.
+// Prints the results, as one line of JSON.
 void report(void);
 
 #endif

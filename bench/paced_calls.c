@@ -11,7 +11,7 @@
 #include "../endurance/program.h"
 #include "paced.h"
 
-// How many calls are set up, or hung up, at once; how many digits of a called number say which call it is.
+// The number of calls that are set up, or hung up, at once; the number of digits of a called number that identify the call.
 enum { AT_ONCE = 64, CALL_DIGITS = 4 };
 
 static int is_ending;
@@ -42,7 +42,7 @@ static int is_first(struct call *call, int side, unsigned place) {
     return 1;
 }
 
-// Media came to a side of a call.
+// Counts media that came to a side of a call.
 static void count_media(struct call *call, int side, const struct stamp *stamp, long long moment) {
     if (!stamp->is_counted || !is_first(call, side, stamp->place)) return;
     call->taken[side]++, seen.taken++;
@@ -190,7 +190,7 @@ static long long moment_of(struct msghdr *head) {
     return wall_ns();
 }
 
-// Receives what is there, a batch at most.
+// Receives the available datagrams, a batch at most.
 static void receive(struct peer *peer) {
     static unsigned char octets[BATCH][MOST_OCTETS], more[BATCH][64];
     struct iovec parts[BATCH];

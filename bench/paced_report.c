@@ -1,4 +1,4 @@
-// What `paced` prints at its end, and its histogram of latencies. See paced.h.
+// The output of `paced` at its end, and its histogram of latencies. See paced.h.
 #include <linux/sock_diag.h>
 #include <math.h>
 #include <stdio.h>
@@ -13,7 +13,7 @@ static unsigned long *latency_at(long long ns) {
     return &seen.latencies[(doubling + 1) * STEPS + (int)(ns >> doubling) - STEPS];
 }
 
-// The upper end of the step in which so much of all latencies lies, in microseconds.
+// Returns the upper end of the step that includes this share of all latencies, in microseconds.
 static double latency_within(double share) {
     unsigned long all = 0, below = 0;
     for (int place = 0; place < DOUBLINGS * STEPS; place++) all += seen.latencies[place];

@@ -1,7 +1,7 @@
-// A plain UDP relay between two peers, to compare the exchange with: what comes from one goes to the other, unread.
+// A plain UDP relay between two peers, to compare the exchange with: it sends the datagrams of one to the other, unread.
 //
-// relay PORT WEST_PORT EAST_PORT [ROOM], all on 127.0.0.1. It runs until it is ended. With ROOM it asks for so many octets of room for
-// datagrams that wait at its socket.
+// relay PORT WEST_PORT EAST_PORT [ROOM], all on 127.0.0.1. It runs until it is ended. With ROOM it asks for a receive
+// buffer of this number of octets at its socket.
 #include <arpa/inet.h>
 #include <netinet/in.h>
 #include <stdio.h>

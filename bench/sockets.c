@@ -1,6 +1,6 @@
-// Counts the processor time that a program spends in calls of its sockets, the kernel's included: a library that stands before recv, recvfrom,
-// send, sendto and epoll_wait of the C library. SIGTERM has it print how many calls there were and how many microseconds they took, on standard
-// error, and ends the program.
+// Counts the processor time that a program spends in calls of its sockets, including the kernel's: a library that is loaded
+// before recv, recvfrom, send, sendto and epoll_wait of the C library. At SIGTERM it prints the number of calls and the
+// microseconds that they took, on standard error, and ends the program.
 //
 //     gcc -O2 -shared -fPIC -o bench/out/sockets.so bench/sockets.c -ldl
 #define _GNU_SOURCE
@@ -15,7 +15,7 @@
 enum { TRIES = 10000 };
 
 static unsigned long calls, nanoseconds;
-// What it takes to ask for the time beside what stands between two such questions: it isn't the program's.
+// The time that a clock call takes on its own, which isn't the program's.
 static unsigned long asking;
 
 static unsigned long now(void) {

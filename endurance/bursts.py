@@ -1,5 +1,5 @@
-"""Peers send the media of all their calls at once, every 20 ms, as an Asterisk with `trunk=yes` does. The exchange loses no frame, and packs
-its trunk frames full. `bench/bursts` measures with the parts of this file."""
+"""Peers send the media of all their calls at once, every 20 ms, as an Asterisk with `trunk=yes` does. The exchange loses no
+frame, and packs its trunk frames full. `bench/bursts` measures with the parts of this file."""
 from typing import NamedTuple
 
 from exchange import PATIENCE, Exchange, plan_of, reported, spare_ports, tell_accounts
@@ -7,8 +7,9 @@ from exchange import PATIENCE, Exchange, plan_of, reported, spare_ports, tell_ac
 # The limits of the scene:
 # - the calls of a burst, the most that a peer can have, and the seconds for which they send;
 # - the most frames that the exchange may lose, apart from those that the system dropped at full sockets;
-# - the fewest entries of a trunk datagram, by the mean: eight frames of G.711 fill one of 1,400 octets. Plans before format 4, and a
-#   `trunk_ms` of 0, pack whatever is queued at each tick. So nothing is asked of these, nor of too few calls to fill several datagrams.
+# - the fewest entries of a trunk datagram, on average: eight frames of G.711 fill one of 1,400 octets. Plans before version 4,
+#   and a `trunk_ms` of 0, pack all queued media at each tick. So these have no limit, nor have too few calls to fill several
+#   datagrams.
 CALLS = 512
 SECONDS = 2
 MOST_LOST = 0
@@ -19,7 +20,7 @@ FORMAT = 4
 PEERS_MTU, MTU = 1240, 1400
 # Octets before the media: of a mini frame, of a trunk frame, of its entries without and with a timestamp, and of IPv4 and UDP.
 MINI, TRUNK, ENTRY, STAMPED, HEADERS = 4, 8, 4, 6, 28
-# How media goes, and the name that `paced` has for it.
+# The way in which media is sent, and its name for `paced`.
 KINDS = {"mini": 0, "trunk": 1, "timestamps": 2}
 FORMATS = {160: "ulaw", 33: "gsm"}
 
@@ -28,14 +29,14 @@ class Load(NamedTuple):
     """The media that peers send."""
 
     calls: int = CALLS
-    # Pairs of these call each other; or so many peers, if any, gather at one more.
+    # Pairs of these call each other; or this number of peers, if any, gather at one more.
     peers: int = 2
     gather: int = 0
-    # Octets of media in a frame; how it goes to the exchange, and from there.
+    # Octets of media in a frame; the way in which media is sent to the exchange, and from there.
     octets: int = 160
     sends: str = "trunk"
     gets: str = "trunk"
-    # Microseconds between two datagrams of a peer: 0 is back to back, -1 as many as there are.
+    # Microseconds between two datagrams of a peer: 0 is back to back, -1 spreads them over `every_ms`.
     gap_us: float = 0
     # Milliseconds between two frames of a call.
     every_ms: int = 20
@@ -43,7 +44,7 @@ class Load(NamedTuple):
     ways: int = 2
     # Peers that the plan has besides.
     silent: int = 0
-    # Workers, whose peers are theirs by turns, and how many endpoints these have: one for all, or one each.
+    # Workers, which serve the peers by turns, and the number of their endpoints: one for all, or one each.
     workers: int = 1
     endpoints: int = 1
 
@@ -63,7 +64,7 @@ class Load(NamedTuple):
         return sum(count for one, other, count in self.pairs() if peer in (one, other))
 
     def frames_in_one(self, kind, mtu):
-        """Returns the most frames that a datagram of this kind has."""
+        """Returns the greatest number of frames in a datagram of this kind."""
         if kind == "mini":
             return 1
         return (mtu - TRUNK) // (self.octets + (STAMPED if kind == "timestamps" else ENTRY))
@@ -108,8 +109,8 @@ def drops_on_the_way():
 
 
 def measured(tools, load, seconds, **keys):
-    """Sends a load through the exchange. Returns the report of `paced`, with the counts of the exchange and of the system; the exchange's
-    status; and its last lines."""
+    """Sends a load through the exchange. Returns the report of `paced` with the counts of the exchange and of the system, the
+    exchange's status, and its last lines."""
     ports, on_the_way = spare_ports(load.endpoints + load.talking() + load.silent), drops_on_the_way()
     exchange = Exchange(tools.folder_of("bursts"), plan_of_load(load, ports, keys))
     try:
@@ -142,7 +143,7 @@ def lost_by_system(load, seen):
 
 
 def entries_of(seen):
-    """Returns the entries of a trunk datagram, by the mean."""
+    """Returns the entries of a trunk datagram, on average."""
     return seen["entries"] / seen["trunks"] if seen["trunks"] else 0
 
 
@@ -176,10 +177,10 @@ def tell_pace(report, what, seen):
 
 
 def run(tools, report, seconds, seed, **keys):
-    # (with the gate's share of a half, too, these are all calls)
+    # With the gate's share of a half, too, these are all calls.
     calls, lasts = min(CALLS, tools.some(2 * CALLS)), seconds / 3 if seconds else SECONDS
     keys = {"format": FORMAT} | {name: value for name, value in keys.items() if value is not None}
-    # A burst of trunk frames that goes out as mini frames fills an outbox unless turns are bounded.
+    # A burst of trunk frames that is sent on as mini frames fills an outbox unless turns are bounded.
     for sends, gets in (("trunk", "trunk"), ("trunk", "mini"), ("mini", "mini")):
         load, what = Load(calls=calls, sends=sends, gets=gets), f"{sends} to {gets}"
         seen, status, lines = measured(tools, load, lasts, **keys)

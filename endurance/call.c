@@ -1,5 +1,5 @@
-// What happens on the calls of `calls`, and what is checked there: each digit once and in order, no media of another call, each call hung
-// up once at its far end. See call.h.
+// The events on the calls of `calls`, and the checks there: each digit once and in order, no media of another call, each
+// call hung up once at its far end. See call.h.
 #include "call.h"
 
 #include <stdio.h>
@@ -17,7 +17,7 @@ int is_closing;
 static struct call calls[SLOTS];
 static unsigned long last_id;
 
-// How long a call is watched after its end, for a second HANGUP, in seconds.
+// The time for which a call is watched after its end, for a second HANGUP, in seconds.
 static const double WATCH = 0.4;
 static const unsigned char FORMAT_OF_CALL[] = {9, 4, 0, 0, 0, ULAW};
 
@@ -47,13 +47,13 @@ static void tell(const struct call *call, const char *what) {
     if (told_count < MOST_TOLD) told[told_count++] = (struct told){call->id, what, now()};
 }
 
-// The exchange ended the call, or it makes no progress: what is left is hung up, and the call is watched no more.
 // Digits may be left out only right before an exchange ends their call: one had no room there.
 static void count_left_out(const struct call *call, int is_cut) {
     if (is_cut) seen.left_out_digits += call->left_out;
     else if (call->left_out) seen.wrong_digits += call->left_out, tell(call, "wrong_digits");
 }
 
+// The exchange ended the call, or it makes no progress: its other end is hung up, and it isn't watched any more.
 static void fail(struct call *call, unsigned long *counted, const char *what) {
     if (call->stage == FAILED || call->stage == OVER) return;
     ++*counted;
@@ -70,7 +70,7 @@ static struct call *slot_of(unsigned long id) { return &calls[id % SLOTS]; }
 void place_call(struct peer *from, struct peer *to) {
     struct call *call = slot_of(last_id);
     if (call->stage != NONE) {
-        // That place is taken by a call that lasts: the next one is tried.
+        // A call that lasts has that place: the next one is tried.
         last_id = (last_id + 1) % LARGEST_CALL;
         return;
     }
@@ -151,7 +151,7 @@ static void resend_what_is_due(struct call *call, double moment) {
     }
 }
 
-// Who hears nothing for a while asks whether the other side is still there.
+// A side that receives nothing for a while sends a PING.
 static void ping_where_quiet(struct call *call, double moment) {
     for (int side = 0; side < 2; side++) {
         struct leg *leg = call->ends[side];
@@ -167,7 +167,7 @@ static void count_lacking(const struct call *call) {
     if (sent > taken) seen.lacking_digits += sent - taken, tell(call, "lacking_digits");
 }
 
-// The call is counted, and its legs' numbers are free.
+// Counts the call, and frees its legs' numbers.
 static void close_call(struct call *call) {
     for (int side = 0; side < 2; side++)
         if (call->ends[side]) call->ends[side]->call = NULL, call->ends[side]->freed = now();
@@ -181,7 +181,7 @@ static void close_call(struct call *call) {
     call->stage = NONE;
 }
 
-// Media that is on its way is waited for, so that what lacks was lost.
+// Waits for media that is on its way, so that missing media was lost.
 static double quiet_seconds(void) { return wanted.media_ms ? 0.3 : 0; }
 
 void step_call(struct call *call, double moment) {
@@ -263,7 +263,7 @@ static void check_digest(struct leg *leg, unsigned timestamp, const unsigned cha
     answer_call(leg, timestamp);
 }
 
-// At which place of what was sent a digit stands, from this one on; one beyond all of them where it stands at none.
+// Returns the place of a digit among those sent, from this place on, or a place beyond all of them if it isn't there.
 static unsigned place_from(const struct call *call, int from, unsigned place, int digit) {
     while (place < call->digits_sent[from] && digit_of(call->id, from, place) != digit) place++;
     return place;
@@ -311,7 +311,7 @@ static void take_iax(struct leg *leg, int subclass, unsigned timestamp, const un
     }
 }
 
-// A numbered frame that was expected: it has its effect, and is acknowledged.
+// Handles the numbered frame that was expected, and acknowledges it.
 static void take_frame(struct leg *leg, const unsigned char *frame, unsigned length) {
     unsigned timestamp = get16(frame + 4) << 16 | get16(frame + 6);
     int type = frame[10], subclass = frame[11];
@@ -326,7 +326,7 @@ static void take_frame(struct leg *leg, const unsigned char *frame, unsigned len
     send_answer(leg, timestamp, ACK);
 }
 
-// The leg of a call that is offered: an old one where the NEW is a repeat.
+// Returns the leg of an offered call, an old one if the NEW is a repeat.
 static struct leg *offered(struct peer *peer, unsigned theirs, const unsigned char *data, unsigned length) {
     unsigned size = 0, prefix = (unsigned)strlen(peer->prefix);
     const unsigned char *called = element(data, length, CALLED_NUMBER, &size);
@@ -344,7 +344,7 @@ static struct leg *offered(struct peer *peer, unsigned theirs, const unsigned ch
     return call->to == peer && call->ends[1] && call->ends[1]->theirs == theirs ? call->ends[1] : NULL;
 }
 
-// INVAL ends a leg. After a HANGUP whose acknowledgement was lost it is what a repeat is answered by.
+// INVAL ends a leg. It also answers a repeated HANGUP whose acknowledgement was lost.
 static void take_inval(struct leg *leg) {
     struct call *call = leg->call;
     leg->peer->inval++;

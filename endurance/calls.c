@@ -1,11 +1,11 @@
-// Plays peers of one exchange, or of several, over sockets on loopback: places calls between them, talks on them, hangs up, and checks all
-// that comes back (call.c). Says at the end what was seen, as one line of JSON.
+// Plays peers of one exchange, or of several, over sockets on loopback: places calls between them, talks on them, hangs up,
+// and checks all answers (call.c). At the end it prints the results, as one line of JSON.
 //
 // calls peer=PORT:EXCHANGE_PORT:PREFIX[:SECRET] .. route=FROM:TO .. [total=CALLS] [seconds=S] [NAME=VALUE ..]
 //
-// Peers are counted from 0, and calls go over the routes in turn. With `total` it ends once so many calls are over, with `seconds` no call
-// is placed after that time, but for the `least` number of them; SIGTERM is the end of that time. A call
-// that stays in one stage for `patience` seconds, and `hold_ms`, is stuck.
+// Peers are counted from 0, and calls use the routes in turn. With `total` it ends once this number of calls is over. With
+// `seconds` no call is placed after that time, except for the `least` number of them; SIGTERM is the end of that time. A
+// call that stays in one stage for `patience` seconds, and `hold_ms`, is stuck.
 #define _GNU_SOURCE
 #include <arpa/inet.h>
 #include <linux/sock_diag.h>
@@ -142,7 +142,7 @@ static void run(void) {
     for (double end = now() + 0.6; now() < end; step_calls(now())) wait_for_any(TICK_MS);
 }
 
-// What the system dropped at a socket.
+// Returns the number of datagrams that the system dropped at a socket.
 static unsigned drops_of(const struct peer *peer) {
     unsigned counts[SK_MEMINFO_VARS] = {0};
     socklen_t size = sizeof counts;

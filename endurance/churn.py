@@ -1,5 +1,5 @@
-"""Calls set up and ended at half the rate that the exchange can do, with challenges both ways: memory doesn't grow, numbers come round, and the
-call records of all legs add up."""
+"""Calls set up and ended at half the rate that the exchange can handle, with challenges both ways: memory doesn't grow,
+numbers are used again, and the call records of all legs add up."""
 import os
 import time
 from collections import namedtuple
@@ -9,9 +9,9 @@ from memory import Memory, resident_octets
 from two_sites import tell_calls
 
 NUMBERS, AT_ONCE, DIGITS = 48, 32, 2
-# How much more memory may be resident than after the first minute, or the first third of a shorter run, in kilobytes, where it
-# isn't in large blocks; how many more octets may be held at rest than after the first calls; and how many kilobytes may be
-# resident beyond all that was ever held at once: the program's own, its threads' stacks, and what the C library keeps.
+# The limits, in kilobytes: the growth of resident memory outside large blocks, since the first minute or the first third of a
+# shorter run; in octets, the growth of the memory held at rest, since the first calls; and in kilobytes, the resident memory
+# beyond the most that was ever held at once: the program's own, its threads' stacks, and what the C library keeps.
 GROWTH, AT_REST, BESIDE = 1024, 1024, 4096
 
 
@@ -24,7 +24,7 @@ class Records:
         self.halves, self.serials, self.uses, self.challenged = {}, {}, {}, 0
 
     def turn(self):
-        """Reads what was renamed before, to which nothing is written by now, and renames what there is."""
+        """Reads the file that was renamed before, to which nothing is written by now, and renames the current one."""
         if self.moved:
             self.read(self.moved)
             os.remove(self.moved)
@@ -53,7 +53,8 @@ class Records:
             self.compare(other, row)
 
     def compare(self, one, other):
-        """The two legs of a call: one was opened by the peer and one by the exchange, one was hung up by the peer and one here."""
+        """The two legs of a call: the peer opened one and the exchange the other; the peer hung up one, and the exchange the
+        other."""
         found = sorted((one["opened_by"], other["opened_by"])) + sorted((one["ending"], other["ending"]))
         if found != ["exchange", "peer", "hung_up_by_peer", "hung_up_here"]:
             self.faults.append(f"call {one['call']}: {found}")
@@ -72,8 +73,7 @@ def a_run(tools, ports, seconds, **load):
 
 
 class Look(namedtuple("Look", "elapsed resident held blocks")):
-    """What is resident and what is held at a moment, in kilobytes, and each large block, as what of it is resident and how large
-    it is."""
+    """The resident and the held memory at a moment, in kilobytes, and each large block, as its resident part and its size."""
 
     def in_large(self):
         return sum(resident for resident, _ in self.blocks)
@@ -88,9 +88,9 @@ class Look(namedtuple("Look", "elapsed resident held blocks")):
 
 
 class Looks:
-    """What a program holds, and what of it is resident, by the seconds since the start. Large blocks are rings and lists that are
-    reserved as the program starts, for what may have to wait; memory comes to them page by page, as they are used for the first
-    time."""
+    """The held and the resident memory of a program, by the seconds since the start. Large blocks are rings and lists that
+    are reserved when the program starts, for entries that may have to wait. Their memory is allocated page by page, when they
+    are used for the first time."""
 
     def __init__(self, exchange, memory):
         self.exchange, self.memory, self.begun, self.all = exchange, memory, time.monotonic(), []
@@ -120,7 +120,7 @@ class Looks:
 
 
 def at_rest(exchange, memory):
-    """Octets and blocks that are held while no leg is up, at the least: threads that write go on for a while."""
+    """Returns the least octets and blocks held while no leg is up. Threads that write continue for a while."""
     exchange.until_idle()
     found = []
     for _ in range(15):

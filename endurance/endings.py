@@ -1,10 +1,12 @@
-"""Why exchanges ended calls that their peers hadn't hung up, as the call records of both say it."""
+"""The reasons for which exchanges ended calls that their peers hadn't hung up, by the call records of both."""
 from exchange import rows_of
 
-# What `calls` counts of calls that an exchange ended, and how many exchanges hung their peer up then, at least. `hangups_back` are
-# those that a peer hung up as well, so that the HANGUPs crossed: its exchange sent one before it had taken one.
+# The counts that `calls` has of calls ended by an exchange, each with the least number of exchanges that hung up their peer
+# then. `hangups_back` are those that a peer hung up as well, so that the HANGUPs crossed: its exchange sent one before it had
+# taken one.
 ENDED = {"cut": 1, "inval": 0, "stuck": 0, "rejected": 0, "hangups_back": 2}
-# How a leg ends by itself. An INVAL is no reason: it says that the leg of the other exchange is gone, which has one.
+# The ways in which a leg ends without a hang-up. An INVAL is no reason: it says that the leg of the other exchange is gone,
+# which has one.
 BY_ITSELF = ("retries_spent", "record_full", "challenge_timeout")
 HUNG_UP = "hung_up_here"
 # The causes of an exchange that hangs up, and of one that has no number left.
@@ -12,12 +14,12 @@ CLEARING, NO_NUMBER = "16", "34"
 
 
 def lacks_a_digit(one, other):
-    """Whether a digit that one leg of a call took wasn't sent by the other."""
+    """Returns whether a digit that one leg of a call took wasn't sent by the other."""
     return any(int(it["digits_taken"]) > int(to["digits_sent"]) for it, to in ((one, other), (other, one)))
 
 
 def reason_of(rows):
-    """Why an exchange ended a call of its own accord, by its rows of the two legs; None where it didn't."""
+    """Returns the reason why an exchange ended a call on its own, by its rows of the two legs; None if it didn't."""
     endings = [(it["ending"], it["cause"]) for it in rows]
     for ending, cause in endings:
         if ending in BY_ITSELF:
@@ -29,10 +31,10 @@ def reason_of(rows):
 
 
 class Endings:
-    """How calls ended at both exchanges, by the calls' numbers, which follow so many digits of a prefix."""
+    """The ends of calls at both exchanges, by the calls' numbers, which follow `prefix` digits."""
 
     def __init__(self, paths, prefix, trunk):
-        # Why one was ended, at the first exchange that had a reason; which exchanges hung their peer up.
+        # The reason of each end, at the first exchange that had one; and the exchanges that hung up their peer.
         self.why, self.hung_up = {}, {}
         for path in paths:
             calls = {}
@@ -48,6 +50,7 @@ class Endings:
             self.hung_up.setdefault(call, set()).add(path)
 
     def why_of(self, what, call):
-        """Why an exchange ended a call, where that is what was seen of it and fits the rows; None else."""
+        """Returns the reason why an exchange ended a call, if it agrees with what `calls` saw and with the rows; otherwise
+        None."""
         fits = what in ENDED and len(self.hung_up.get(call, ())) >= ENDED[what]
         return self.why.get(call) if fits else None

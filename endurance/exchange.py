@@ -1,6 +1,7 @@
-"""The program under load: its plan, its start and stop, what its control socket, metrics and accounts say; and the C programs of this folder.
+"""The program under load: its plan, its start and stop, and the output of its control socket, metrics and accounts; and the C
+programs of this folder.
 
-EXCHANGE_MAIN gives another program than the one that `rt ci` or `rt run` has built."""
+EXCHANGE_MAIN names a program other than the one that `rt ci` or `rt run` has built."""
 import csv
 import ctypes
 import json
@@ -13,24 +14,24 @@ import time
 
 HERE = os.path.dirname(os.path.realpath(__file__))
 PROGRAM = os.environ.get("EXCHANGE_MAIN", f"{os.path.dirname(HERE)}/crates/exchange_main/out/exchange_main").split()
-# How long what has to happen may take on a busy machine, in seconds.
+# The time that a step may take on a busy machine, in seconds.
 PATIENCE = 60
-# How long a frame waits for its acknowledgement in a plan that doesn't say it, in milliseconds; with twenty retries a machine may stand still
-# for some seconds before a call is given up.
+# The time for which a frame waits for its acknowledgement unless a plan sets it, in milliseconds; with twenty retries a
+# machine may stand still for some seconds before a call is given up.
 RETRY_MS = 400
 
 
 def ends_with_this():
-    """Has a process that is started end where this one does, however that is (PR_SET_PDEATHSIG)."""
+    """Makes a started process end when this one does, for any reason (PR_SET_PDEATHSIG)."""
     ctypes.CDLL(None).prctl(1, signal.SIGKILL)
 
 
 class Failed(Exception):
-    """The scene can't go on."""
+    """The scene can't continue."""
 
 
 class Report:
-    """One line for each promise of a scene, with what was seen."""
+    """One line for each promise of a scene, with the values seen."""
 
     def __init__(self, scene):
         self.scene, self.broken, self.count = scene, 0, 0
@@ -46,7 +47,8 @@ class Report:
 
 
 class Tools:
-    """The C programs of this folder and of bench/, each built once it is wanted, and where scenes keep what they write."""
+    """The C programs of this folder and of bench/, each built when it is first needed, and the folder for the files of
+    scenes."""
 
     FILES = {
         "calls": (("calls.c", "call.c", "leg.c", "md5.c", "program.c"), ["-lm"]),
@@ -69,12 +71,12 @@ class Tools:
         return path
 
     def start(self, name, *words, **named):
-        """One of them, running: `reported` waits for its end."""
+        """Starts one of them; `reported` waits for its end."""
         words = [self.built(name), *words, *(f"{name}={value}" for name, value in named.items() if value is not None)]
         return subprocess.Popen(words, stdout=subprocess.PIPE, text=True, preexec_fn=ends_with_this)
 
     def some(self, count):
-        """So much of a load, or a share of it for a program that is slow."""
+        """This part of a load, or a share of it for a program that is slow."""
         return max(1, round(count * self.share))
 
     def folder_of(self, name):
@@ -84,7 +86,7 @@ class Tools:
 
 
 def reported(process, seconds):
-    """What a C program has printed at its end, which is awaited so long."""
+    """Returns the output of a C program at its end, for which it waits this long."""
     try:
         printed, _ = process.communicate(timeout=seconds)
     except subprocess.TimeoutExpired as late:
@@ -96,7 +98,7 @@ def reported(process, seconds):
 
 
 def ended(process, seconds=PATIENCE):
-    """Tells it to end, and what it printed."""
+    """Ends it, and returns its output."""
     process.send_signal(signal.SIGTERM)
     return reported(process, seconds)
 
@@ -116,14 +118,14 @@ def is_spare(port):
     return True
 
 
-# Ports that the system gives nobody by itself, in blocks: scenes that run beside each other take theirs from different ones, so that none
-# takes a port that another has found to be spare. Each goes round in its block.
+# Ports that the system gives nobody on its own, in blocks. Scenes that run at the same time use different blocks, so that
+# none takes a port that another has found to be spare. Each goes round in its block.
 BLOCK, FIRST_PORT, BLOCKS = 120, 11000, 175
 next_port = 0
 
 
 def spare_ports(count):
-    """So many ports, no two the same."""
+    """This number of ports, no two the same."""
     global next_port
     found = []
     for _ in range(BLOCK):
@@ -146,19 +148,22 @@ def within(what, look, seconds=PATIENCE):
 
 
 def plan_of(workers, peers, routes, **keys):
-    """A plan: the workers' ports, the peers by name with their keys, the routes by prefix."""
+    """Returns a plan by the workers' ports, the peers by name with their keys, and the routes by prefix."""
     values = {"format": 2, "retry_ms": RETRY_MS, "max_retries": 20, "ping_ms": 2000, "record_limit": 65536} | keys
     text = "".join(f"{name} = {value}\n" for name, value in values.items() if value is not None)
     for port in workers:
         text += f'[[worker]]\naddress = "127.0.0.1"\nport = {port}\n'
     for name, given in peers.items():
         given = {"name": name, "address": "127.0.0.1", "worker": 0, "formats": ["ulaw"]} | given
+        if values["format"] == 4:
+            # its peers expect no POKE
+            given = {"qualify_ms": 0} | given
         text += "[[peer]]\n" + "".join(f"{key} = {json.dumps(value)}\n" for key, value in given.items())
     return text + "".join(f'[[route]]\nprefix = "{prefix}"\npeer = "{name}"\n' for prefix, name in routes.items())
 
 
 class Exchange:
-    """The program, running as a service. What it logs is a file beside its plan."""
+    """The program, running as a service. Its log is a file next to its plan."""
 
     def __init__(self, folder, plan, *options, environment=None):
         os.makedirs(folder, exist_ok=True)
@@ -200,7 +205,7 @@ class Exchange:
         return {it["name"]: it for it in self.ask("GET", "/peers")["peers"]}
 
     def metrics(self):
-        """Each sample by its name and labels, as the text has them."""
+        """Returns each sample by its name and labels, as the text has them."""
         with socket.create_connection(("127.0.0.1", self.metrics_port), timeout=20) as it:
             it.sendall(b"GET /metrics HTTP/1.1\r\nHost: x\r\n\r\n")
             answer = b""
@@ -210,7 +215,7 @@ class Exchange:
         return {it.rpartition(" ")[0]: int(it.rpartition(" ")[2]) for it in lines if not it.startswith("#")}
 
     def kilobytes(self):
-        """Resident memory, but for that of files, which the system takes and gives back as it likes."""
+        """Resident memory, without that of files, which the system takes and gives back as it likes."""
         with open(f"/proc/{self.process.pid}/status", encoding="ascii") as it:
             return int(re.search(r"RssAnon:\s+(\d+)", it.read())[1])
 
@@ -226,7 +231,7 @@ class Exchange:
         within("no leg is left", self.is_idle, seconds)
 
     def stop(self):
-        """Tells it to stop: what it printed, as its status and its lines."""
+        """Stops it, and returns its output, as its status and its lines."""
         self.ask("POST", "/stop")
         return self.printed()
 
@@ -249,20 +254,20 @@ class Exchange:
 
 
 def accounts_of(lines):
-    """Accepted, packed, queued and dropped octets of media, as the program printed them at its end."""
+    """Accepted, packed, queued and dropped octets of media, from the program's output at its end."""
     found = [it.split()[1:] for it in lines if it.startswith("octets ")]
     return [int(it) for it in found[0]] if len(found) == 1 else None
 
 
 def tell_accounts(report, what, status, lines, least=1):
-    """That the program ended well, with accounts that balance over at least so many octets."""
+    """Reports whether the program ended well, with accounts that balance over at least `least` octets."""
     octets = accounts_of(lines)
     is_kept = status == 0 and octets is not None and octets[0] == sum(octets[1:]) and octets[0] >= least
     report.tell(f"the accounts of {what} balance", is_kept, f"status {status}", "octets accepted, packed, queued, dropped", *(octets or [lines]))
 
 
 def rows_of(path):
-    """The rows of a file of call records, whole ones."""
+    """Returns the complete rows of a file of call records."""
     with open(path, encoding="utf-8", newline="") as it:
         text = it.read()
     return list(csv.DictReader(text[: text.rfind("\n") + 1].splitlines()))

@@ -1,5 +1,6 @@
-// Stands before the C library, and has the system fail a program as a page of numbers says that it shares with whoever maps the file
-// FAULTS: a disk that is full, clocks that jump, sends that fail, no memory. It counts there what it refused.
+// A library that is loaded before the C library and makes the system fail a program, by a page of numbers in the file
+// FAULTS, which other processes can map too: a disk that is full, clocks that jump, sends that fail, no memory. It counts
+// the failures there.
 #define _GNU_SOURCE
 #include <dlfcn.h>
 #include <errno.h>
@@ -14,7 +15,7 @@
 #include <time.h>
 #include <unistd.h>
 
-// Places in the page: what is wanted, and, eight further, how often it was done.
+// Places in the page: the requested fault, and, eight further, its count.
 enum { DISK_IS_FULL, WALL_CLOCK_MS, MONOTONIC_CLOCK_MS, ONE_SEND_IN, ONE_REQUEST_IN, COUNTS = 8, PLACES = 16 };
 
 extern void *__libc_malloc(size_t size);
@@ -37,7 +38,7 @@ static int64_t wanted(int place) { return __atomic_load_n(&page[place], __ATOMIC
 
 static void count(int place) { __atomic_add_fetch(&page[COUNTS + place], 1, __ATOMIC_RELAXED); }
 
-// One in so many, spread without a pattern.
+// Returns true once in this number of calls, spread without a pattern.
 static int is_refused(int place) {
     static uint64_t asked[COUNTS];
     int64_t one_in = wanted(place);
@@ -76,7 +77,8 @@ int clock_gettime(clockid_t clock, struct timespec *time) {
     return 0;
 }
 
-// What a socket that is connected to its peer refuses the exchange sends by the worker's own socket: that refuses it, too, so it is lost.
+// If a connected socket refuses a datagram, the exchange sends it by the worker's own socket. That refuses it, too, so it
+// is lost.
 static _Thread_local int is_refused_again;
 
 static int is_send_refused(void) {

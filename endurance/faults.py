@@ -1,5 +1,5 @@
-"""A disk that is full, clocks that jump, sends that fail, no memory: each by a library that stands before the C library, for a while, with calls
-that go on. The exchange goes on too, or ends by name."""
+"""A disk that is full, clocks that jump, sends that fail, no memory: each for a while, by a library that is loaded before the
+C library, during calls. The exchange continues too, or ends by name."""
 import datetime
 import mmap
 import re
@@ -15,7 +15,7 @@ DAY, HOUR = 86_400_000, 3_600_000
 
 
 class Page:
-    """What is to fail, and how often it did."""
+    """The faults to be made, and their counts."""
 
     def __init__(self, path):
         with open(path, "wb") as it:
@@ -31,7 +31,7 @@ class Page:
 
 
 class Faulty:
-    """An exchange with the library before it, and calls that go on."""
+    """An exchange with the library loaded before it, during calls."""
 
     def __init__(self, tools, name, seed, *options):
         self.folder = tools.folder_of(f"faults_{name}")
@@ -52,7 +52,7 @@ class Faulty:
         return self.tools.start("calls", *self.words, **talk, **more, at_once=some(16), rate=some(40), seed=self.seed)
 
     def end(self):
-        """The calls end, then the exchange: what was seen, and what it printed."""
+        """Ends the calls, then the exchange; returns the results and the program's output."""
         seen = ended(self.calls, 2 * PATIENCE)
         self.exchange.until_idle()
         metrics = self.exchange.metrics()
@@ -66,7 +66,7 @@ class Faulty:
 
 
 def rounds(lasts):
-    """At least one, and more until so many seconds are over."""
+    """At least one, and more until this number of seconds is over."""
     end = time.monotonic() + lasts
     yield
     while time.monotonic() < end:
@@ -105,7 +105,7 @@ def jumping_clocks(tools, report, lasts, seed):
             for place, by in ((WALL, DAY), (WALL, -2 * DAY), (MONOTONIC, ahead + 10_000), (MONOTONIC, ahead + HOUR), (WALL, 0)):
                 faulty.page.set(place, by)
                 time.sleep(0.6)
-            # This clock never goes back.
+            # This clock is never set back.
             ahead += HOUR
         seen, _, (status, lines) = faulty.end()
     finally:
@@ -141,8 +141,8 @@ def failing_sends(tools, report, lasts, seed):
 
 
 def no_memory(tools, report, lasts, seed):
-    """One request in so many is refused. A call that can't go on for want of memory is hung up, as it should; nothing is crossed or taken
-    twice, and once there is memory, calls go on as ever. Or the exchange says why it ended."""
+    """One request in some number is refused. A call that can't continue for want of memory is hung up, as it should; nothing
+    is crossed or taken twice, and once there is memory, calls continue as ever. Otherwise the exchange prints why it ended."""
     faulty = Faulty(tools, "memory", seed)
     try:
         for _ in rounds(lasts):
@@ -161,7 +161,7 @@ def no_memory(tools, report, lasts, seed):
 
 
 def tell_memory_again(report, faulty):
-    """The exchange goes on: what the calls saw while there was no memory, and what those see that are placed then."""
+    """The exchange continues: the results of calls while there was no memory, and of those that are placed then."""
     seen = ended(faulty.calls, 2 * PATIENCE)
     faulty.exchange.until_idle()
     names = ("wrong_digits", "wrong_media", "lacking_digits", "hangups_twice", "hangups_back", "offered_twice", "misrouted")

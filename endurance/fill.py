@@ -1,5 +1,5 @@
-"""A sender without the secret opens as many calls as the peer has numbers, again and again, and fills each with the longest full frames. The
-exchange holds little of it, says why it ends those legs, and carries the call of another peer."""
+"""A sender without the secret opens as many calls as the peer has numbers, again and again, and fills each with the longest
+full frames. The exchange keeps little of it, reports why it ends those legs, and carries the call of another peer."""
 import socket
 import struct
 import time
@@ -9,9 +9,9 @@ from exchange import Exchange, plan_of, rows_of, spare_ports, tell_accounts
 from peer import ACCEPT, ACK, ANSWER, AUTHREQ, CONTROL, IAX, NEW, Peer
 
 NUMBERS, LONGEST, TEXT = 512, 1388, 7
-# What is resident of the program at most, in kilobytes.
+# The limit on the program's resident memory, in kilobytes.
 MOST = 64 * 1024
-# A leg's full frames go out so far ahead of what the exchange acknowledged.
+# The number of full frames that a leg sends ahead of the exchange's acknowledgements.
 AHEAD = 8
 
 
@@ -24,7 +24,7 @@ class Filler:
         self.socket.bind(("127.0.0.1", port))
         self.socket.connect(("127.0.0.1", worker))
         self.socket.setblocking(False)
-        # By our number: theirs, how many frames we sent, and how many of them were taken.
+        # By this sender's number: the exchange's, the number of frames sent, and of those that were taken.
         self.calls, self.next, self.count = {}, 0, Counter()
 
     def close(self):
@@ -63,7 +63,7 @@ class Filler:
                 call = self.calls[ours]
                 call[2] += (iseq - call[2]) & 255
             else:
-                # It is over: an INVAL, or whatever ends it.
+                # It is over: an INVAL, or another end.
                 del self.calls[ours]
 
     def fill(self):
@@ -74,7 +74,7 @@ class Filler:
                 call[1] += 1
 
     def run(self, exchange, seconds):
-        """The most that is resident in that time, in kilobytes."""
+        """Returns the greatest resident memory in that time, in kilobytes."""
         end, most, looked = time.monotonic() + seconds, 0, 0
         while time.monotonic() < end:
             for _ in range(max(0, min(16, NUMBERS - len(self.calls)))):
@@ -83,13 +83,13 @@ class Filler:
             self.fill()
             if time.monotonic() > looked + 0.1:
                 looked, most = time.monotonic(), max(most, exchange.kilobytes())
-                # What was filled to the end gets no answer any more.
+                # A leg that was filled to the end gets no answer any more.
                 self.calls = {ours: it for ours, it in self.calls.items() if it[1] < it[2] + AHEAD}
         return most
 
 
 def carry_a_call(west, east):
-    """Whether a call of another peer is set up and answered."""
+    """Sets up a call between two other peers. Returns whether it is answered."""
     caller = west.call("8")
     callee, new = east.called(5)
     if not new:

@@ -1,10 +1,12 @@
-// Sends a great many datagrams to an exchange, as fast as it takes them: valid frames, mutated ones, cut ones, and octets by chance, from a
-// socket of its own; so under its own endpoint alone. It hears what comes back, and uses the call numbers that it finds there.
+// Sends a great many datagrams to an exchange, as fast as it takes them: valid frames, mutated ones, cut ones, and random
+// octets. It has a separate socket, and so only one endpoint. It receives the answers, and uses the call numbers that it
+// finds there.
 //
 // flood from=PORT to=EXCHANGE_PORT count=DATAGRAMS seconds=S prefix=CALLED [long_burst=DATAGRAMS] [seed=N]
 //
-// After each burst it waits until the exchange's socket is nearly empty, as /proc/net/udp has it; each eighth burst is long, as
-// long as the socket has room for and longer. It ends after so many datagrams, or seconds, and says what it has sent, as one line of JSON.
+// After each burst it waits until the exchange's socket is nearly empty, by /proc/net/udp. Each eighth burst is long: it
+// fills the room of the socket, and more. It ends after the given number of datagrams, or of seconds, and prints the counts
+// of the sent datagrams, as one line of JSON.
 #define _GNU_SOURCE
 #include <arpa/inet.h>
 #include <stdio.h>
@@ -21,7 +23,7 @@ enum kind { CALL, FRAME, MINI, TRUNK, VIDEO, CHANCE, KINDS };
 
 static const char *const names[KINDS] = {"calls", "frames", "minis", "trunks", "videos", "by_chance"};
 static unsigned long counts[KINDS], mutated, cut, sent, heard, bursts, long_bursts;
-// Pairs of a call number of the exchange and one of ours, as they came back.
+// Pairs of a call number of the exchange and one of this sender, from the answers.
 static unsigned pairs[PAIRS][2], pair_count;
 static int wire;
 static unsigned long burst_lengths[2] = {BURST, 20000};
@@ -53,7 +55,7 @@ static unsigned write_call(unsigned char *octets) {
     return length + sizeof format;
 }
 
-// A frame of a call that is up, or of one that isn't.
+// Writes a frame of a call that is up, or of one that isn't.
 static unsigned write_frame(unsigned char *octets) {
     static const int types[] = {IAX, IAX, IAX, IAX, DTMF, VOICE, CONTROL, TEXT};
     int type = types[below(8)], subclass = type == IAX     ? (int)below(48)
@@ -100,14 +102,14 @@ static unsigned write_datagram(unsigned char *octets) {
     case TRUNK: length = write_trunk(octets); break;
     default: by_chance(octets, length = below(64) ? 1 + below(300) : MOST_OCTETS); break;
     }
-    // Meta frames: video, and commands that there are none of.
+    // Meta frames: video, and unknown commands.
     if (kind == VIDEO) memset(octets, 0, 2), octets[2] = (unsigned char)below(256);
     if (below(5) == 0) mutated++, octets[below(length)] ^= (unsigned char)(1 + below(255));
     if (below(8) == 0) cut++, length = below(length + 1);
     return length;
 }
 
-// Takes what came back, and keeps its call numbers.
+// Receives the answers, and keeps their call numbers.
 static void hear(void) {
     unsigned char octets[2048];
     for (ssize_t length; (length = recv(wire, octets, sizeof octets, MSG_DONTWAIT)) >= 0; heard++) {
@@ -118,7 +120,7 @@ static void hear(void) {
     }
 }
 
-// How many octets wait at the socket that has a port.
+// Returns the number of octets that wait at the socket of a port.
 static unsigned long waiting_at(unsigned port) {
     char line[512];
     unsigned found_port;

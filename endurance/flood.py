@@ -1,5 +1,5 @@
-"""A peer of the plan and strangers send as many datagrams as the exchange takes, of all kinds, while the calls of other peers go on: these lose
-nothing but media that a full socket dropped."""
+"""A peer of the plan and strangers send as many datagrams as the exchange takes, of all kinds, during the calls of other
+peers. These calls lose nothing but media that a full socket dropped."""
 import socket
 
 from exchange import PATIENCE, Exchange, plan_of, reported, spare_ports, tell_accounts
@@ -12,7 +12,8 @@ REFUSALS = {"Short", "NoCall", "NoSource", "Cut", "EntryCut", "MetaCommand", "To
 
 
 def plan_of_flood(ports):
-    """The calls' peers have a worker, and the peer that isn't trusted has one of its own, with a peer for its calls who never answers."""
+    """The calls' peers have one worker. The peer that isn't trusted has another, with a peer for its calls that never
+    answers."""
     peers = {
         "west": {"port": ports["west"], "user": "west", "secret": "of the west"},
         "east": {"port": ports["east"]},
@@ -24,7 +25,7 @@ def plan_of_flood(ports):
 
 
 def start_floods(tools, ports, count, burst, seconds, seed):
-    """The peer at its worker; a stranger at each worker."""
+    """Starts the flood of the peer at its worker, and that of a stranger at each worker. Returns their programs."""
     floods = [("flood", "worker1"), ("stranger0", "worker0"), ("stranger1", "worker1")]
     return [
         tools.start("flood", f"from={ports[name]}", f"to={ports[worker]}", count=count, seconds=seconds, prefix=FLOOD, long_burst=burst, seed=seed + place)

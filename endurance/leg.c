@@ -1,4 +1,4 @@
-// The legs of a peer: their numbers, what they send and hold, and what they send again. See leg.h.
+// The legs of a peer: their numbers, the frames that they send and hold, and their retransmissions. See leg.h.
 #include "leg.h"
 
 #include <errno.h>
@@ -8,7 +8,8 @@
 
 #include "program.h"
 
-// How long a number stays unused after its leg, in seconds: what was repeated on the way isn't taken for the next call's.
+// The time for which a number stays unused after its leg, in seconds. So a repeated frame isn't taken for one of the next
+// call.
 static const double REST = 0.3;
 
 unsigned get16(const unsigned char *at) { return (unsigned)at[0] << 8 | at[1]; }

@@ -1,5 +1,5 @@
-// One end of a call, as a peer has it ("Call Legs", "Message Transport" of RFC 5456): numbers, held frames, what is sent again. Shared by
-// the files of `calls`.
+// One end of a call, as a peer has it ("Call Legs", "Message Transport" of RFC 5456): its numbers, its held frames, and its
+// retransmissions. Shared by the files of `calls`.
 #ifndef LEG_H
 #define LEG_H
 
@@ -52,7 +52,7 @@ unsigned timestamp_of(const struct leg *leg);
 struct leg *open_leg(struct peer *peer, struct call *call, int side);
 void learn(struct leg *leg, unsigned theirs);
 unsigned held_frames(const struct leg *leg);
-// Sends a numbered frame, which is held; 0 where too many are.
+// Sends a numbered frame, which is held. Returns 0 if too many are.
 int send_numbered(struct leg *leg, unsigned timestamp, int type, int subclass, const void *data, unsigned length);
 void send_answer(struct leg *leg, unsigned timestamp, int subclass);
 void send_octets(struct peer *peer, const void *octets, unsigned length);

@@ -1,6 +1,6 @@
-// Stands before the C library, and counts what a program holds of the memory that it asked for, in a file that it shares with
-// whoever maps it: its environment has the path as MEMORY. What a request holds is what the C library gave it, which is a little
-// more than was asked for.
+// A library that is loaded before the C library and counts the memory that a program holds, in a file that it shares with
+// other processes. The environment has the file's path as MEMORY. A request counts with the memory that the C library gave
+// it, which is a little more than was requested.
 #define _GNU_SOURCE
 #include <errno.h>
 #include <fcntl.h>
@@ -10,11 +10,13 @@
 #include <sys/mman.h>
 #include <unistd.h>
 
-// Of at least so many octets a block is large: it is told where it lies, or lay. What was given back may have memory still.
+// A block of at least this number of octets is large: its present or former place is listed. A freed block may still have
+// memory.
 enum { LARGE = 1 << 17, MOST_LARGE = 250 };
 
 static struct page {
-    // What is held now, and the most that was held at once; how often memory was given; large blocks that found no place.
+    // The memory held now, and the most that was held at once; the number of requests; large blocks that found no place in
+    // the list.
     int64_t octets, blocks, most_octets, requests, untold;
     // The large blocks, each once for its place; one without octets is none.
     struct {
@@ -35,7 +37,7 @@ __attribute__((constructor)) static void map_page(void) {
     struct page *found = mmap(NULL, sizeof *page, PROT_READ | PROT_WRITE, MAP_SHARED, file, 0);
     close(file);
     if (found == MAP_FAILED) return;
-    // What was held before is held still.
+    // Memory that was held before is still held.
     *found = none;
     page = found;
 }
@@ -85,7 +87,7 @@ void free(void *at) {
     errno = before;
 }
 
-// What is refused leaves the old block as it was.
+// A refused request leaves the old block as it was.
 void *realloc(void *from, size_t size) {
     given_back(from);
     void *found = __libc_realloc(from, size);

@@ -1,4 +1,5 @@
-"""What a program holds of memory: as a library before the C library counts it (memory.c), and as the system has it."""
+"""The memory of a program: as counted by a library that is loaded before the C library (memory.c), and as the system reports
+it."""
 import mmap
 import os
 import struct
@@ -20,11 +21,12 @@ class Memory:
         self.environment = {"MEMORY": path, "LD_PRELOAD": tools.built("memory.so")}
 
     def counts(self):
-        """Octets and blocks that are held; the most octets that were held at once; requests; large blocks that aren't told."""
+        """Returns the octets and blocks that are held, the most octets that were held at once, the requests, and the large
+        blocks that weren't listed."""
         return struct.unpack_from("=5q", self.words)
 
     def large(self):
-        """Where large blocks lie or lay, as addresses and octets; places that have a part in common are one."""
+        """Returns the places of present and former large blocks, as addresses and octets; overlapping places are one."""
         words = struct.unpack_from(f"={2 * LARGE}q", self.words, 8 * COUNTS)
         found = []
         for address, octets in sorted(it for it in zip(words[::2], words[1::2]) if it[0] and it[1]):
@@ -37,7 +39,7 @@ class Memory:
 
 
 def resident_octets(process, blocks):
-    """How many octets of these blocks of a process have memory: those of them that were touched."""
+    """Returns the number of octets of these blocks that have memory, because they were touched."""
     found = 0
     with open(f"/proc/{process}/pagemap", "rb") as it:
         for address, octets in blocks:

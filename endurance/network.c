@@ -1,17 +1,18 @@
-// A network between two exchanges, on loopback: it loses, repeats, delays and reorders datagrams, by a seed, and counts them by their
-// causes. It ends at SIGTERM, or after so many seconds, and then says what it has seen, as one line of JSON.
+// A network between two exchanges, on loopback: it loses, repeats, delays and reorders datagrams, by a seed, and counts
+// them by their causes. It ends at SIGTERM, or after the given seconds, and then prints its counts, as one line of JSON.
 //
 // network a=PORT:EXCHANGE_PORT b=PORT:EXCHANGE_PORT [loss=PERCENT] [repeats=PERCENT] [delay_ms=N] [reorder_ms=N] [retry_ms=N] [seed=N]
 //         [seconds=S] [path_kbit=N] [queue_ms=N] [line_s=S] [spoil=digits|media|calls|hangups|again]
 //
-// What the exchange at the end `a` sends to PORT of `a` goes on from PORT of `b` to the exchange at the end `b`, and the other
-// way round. With `path_kbit` each of the two ways begins with a line of so many thousand bits a second, which sends one datagram
-// after the other, each with the 28 octets of its IPv4 and UDP headers. What comes to it waits for `queue_ms` at most; where it
-// would have to wait longer, it is lost. What the line has sent is then lost, repeated and delayed as it is without it. What
-// lines send is counted for `line_s` seconds after the first digit.
-// A frame that is sent again counts as sent for a VNAK where it was last sent less than `retry_ms` ago and its leg has just got one, else
-// as sent by the timer. `spoil` has it change what it carries, to show that this is noticed: digits, media, one digit in fifty to a
-// HANGUP, no HANGUP at all, or each HANGUP a second time with the next number.
+// A datagram that the exchange at the end `a` sends to PORT of `a` is sent from PORT of `b` to the exchange at the end `b`,
+// and the other way round. With `path_kbit` each of the two directions begins with a line of this number of thousand bits a
+// second. The line sends one datagram after the other, each with the 28 octets of its IPv4 and UDP headers. A datagram
+// waits for it at most `queue_ms`; if it would have to wait longer, it is lost. The datagrams that the line has sent are
+// then lost, repeated and delayed as without it. They are counted for `line_s` seconds after the first digit.
+//
+// A retransmitted frame counts as sent for a VNAK if it was last sent less than `retry_ms` ago and its leg has just got
+// one, otherwise as sent by the timer. `spoil` makes the network change datagrams, to show that this is noticed: digits,
+// media, one digit in fifty to a HANGUP, no HANGUP at all, or each HANGUP a second time with the next number.
 #define _GNU_SOURCE
 #include <arpa/inet.h>
 #include <poll.h>
@@ -36,8 +37,8 @@ struct datagram {
 
 static const char *const names[CAUSES] = {"first", "by_timer", "for_vnak", "acks", "vnaks", "invals", "media"};
 static unsigned long counts[CAUSES], digits, lost, repeated, orders, carried;
-// By way: until when its line sends what it was given. Of both: what found no room in a queue, and how many the others were, with
-// how many octets, and how long they waited.
+// By direction: the moment until which its line is busy. Of both: the datagrams that found no room in a queue; and of the
+// others the count, the octets, and the time that they waited.
 static double busy_until[2], waited, first_digit;
 static unsigned long no_room, lined, line_octets;
 static struct datagram *heap[ROOM];
@@ -85,12 +86,13 @@ static enum cause cause_of(int from, const unsigned char *octets, unsigned lengt
         if (octets[10] == DTMF && !digits++) first_digit = moment;
         return FIRST;
     }
-    // A worker looks at what is due once a turn, and the datagram came some time after it was sent.
+    // A worker checks due frames once a turn, and the datagram came some time after it was sent.
     int is_due = moment - before >= retry_ms * 0.98 / 1000, has_vnak = moment - last_vnak[from][source] < retry_ms / 2 / 1000;
     return !is_due && has_vnak ? FOR_VNAK : BY_TIMER;
 }
 
-// When the line of this way has sent a datagram that comes to it now; before now where it finds no room in the queue.
+// Returns the moment at which the line of this direction has sent a datagram that comes to it now, or one before now if it
+// finds no room in the queue.
 static double sent_by_line(int from, unsigned length, double moment) {
     if (path_kbit <= 0) return moment;
     double wait = busy_until[from] > moment ? busy_until[from] - moment : 0;
@@ -119,7 +121,7 @@ static int is_hangup(const unsigned char *octets, unsigned length) {
     return length >= FULL && octets[0] & 0x80 && octets[10] == IAX && octets[11] == HANGUP;
 }
 
-// Changes what is carried, or says that it is lost.
+// Changes a datagram, or returns that it is lost.
 static int spoilt(unsigned char *octets, unsigned length) {
     int is_full = length >= FULL && octets[0] & 0x80;
     if (spoil == 'd' && is_full && octets[10] == DTMF && chance() < 0.05) octets[11] ^= 1;

@@ -1,4 +1,4 @@
-"""A peer that does just what it is told, frame by frame: for scenes in which one falls silent or is forgotten."""
+"""A peer whose frames a scene sends one by one: for scenes in which a peer falls silent or is forgotten."""
 import select
 import socket
 import struct
@@ -29,7 +29,7 @@ class Frame:
 
 
 class Leg:
-    """One end of a call: its numbers, and how many frames it sent and took."""
+    """One end of a call: its numbers, and its counts of sent and taken frames."""
 
     def __init__(self, peer, number):
         self.peer, self.number, self.theirs, self.sent, self.taken = peer, number, 0, 0, 0
@@ -48,7 +48,7 @@ class Leg:
         self.send(IAX, ACK, is_numbered=False)
 
     def expect(self, kind, subclass, seconds=20):
-        """The next frame of this kind to this leg; others are left out."""
+        """Returns the next frame of this kind to this leg. Others are skipped."""
         found = self.peer.expect(lambda it: (it.kind, it.subclass, it.destination) == (kind, subclass, self.number), seconds)
         if found and not self.theirs:
             self.theirs = found.source
@@ -102,7 +102,7 @@ class Peer:
         return leg
 
     def called(self, seconds=20):
-        """A call that comes: its leg, and the NEW."""
+        """Receives a call. Returns its leg, and the NEW."""
         new = self.expect(lambda it: (it.kind, it.subclass) == (IAX, NEW), seconds)
         if not new:
             return None, None

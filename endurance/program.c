@@ -1,4 +1,4 @@
-// How the programs of this folder end, their clock, their seed (program.h).
+// The end of this folder's programs, their clock, and their seed (program.h).
 #define _GNU_SOURCE
 #include <stdlib.h>
 #include <time.h>

@@ -1,4 +1,4 @@
-// What the programs of this folder have in common: how they end, their clock, their seed.
+// Shared parts of this folder's programs: their end, their clock, their seed.
 #ifndef PROGRAM_H
 #define PROGRAM_H
 
@@ -8,7 +8,7 @@
 extern volatile sig_atomic_t is_told_to_end;
 
 void end_at_sigterm(void);
-// Seconds, by a clock that nobody sets.
+// Seconds, by a monotonic clock.
 double now(void);
 // By the number that this text spells, `draw` gives the same numbers of 31 bits each time.
 void set_seed(const char *text);

@@ -1,4 +1,4 @@
-"""The exchange is ended by SIGKILL under load, and started again: old calls get INVAL, new ones work soon, and the files that it wrote are
+"""The exchange is ended by SIGKILL under load, and started again: old calls get INVAL, new ones work soon, and its files are
 readable to their last whole line."""
 import csv
 import os
@@ -26,7 +26,7 @@ class Restarted:
         self.started = 0
 
     def start(self):
-        # (the least, so that files are written over)
+        # The least, so that files are overwritten.
         trace = ("--trace", f"{self.folder}/trace", "--trace-limit", "1")
         self.exchange = Exchange(self.folder, self.plan, "--calls", f"{self.folder}/calls.csv", *trace)
         self.started += 1
@@ -34,18 +34,18 @@ class Restarted:
     def load(self):
         worker, west, east = self.ports[:3]
         peers = [f"peer={west}:{worker}:1", f"peer={east}:{worker}:2"]
-        # No call ends by itself: each is cut by the SIGKILL, but for those that are hung up early.
+        # No call ends on its own: each is cut by the SIGKILL, except those that are hung up early.
         talk = {"digits": 400, "digit_ms": 100, "early": 3, "media_ms": 100, "retry_ms": 500, "ping_ms": 1000, "patience": PATIENCE}
         return self.tools.start("calls", *peers, "route=0:1", "route=1:0", **talk, at_once=self.tools.some(32), seed=self.seed)
 
     def probe(self):
-        """A call of two other peers, from its NEW to its end."""
+        """Starts a call of two other peers, from its NEW to its end. Returns its program."""
         worker, probe1, probe2 = self.ports[0], *self.ports[3:]
         peers = [f"peer={probe1}:{worker}:3", f"peer={probe2}:{worker}:4"]
         return self.tools.start("calls", *peers, "route=0:1", total=1, digits=4, retry_ms=100, patience=PATIENCE, seed=self.seed)
 
     def legs_that_talk(self):
-        """So many legs were up at once, which end by nothing but the SIGKILL."""
+        """This number of legs were up at once, and only the SIGKILL ends them."""
         end = time.monotonic() + PATIENCE
         while time.monotonic() < end:
             found = sum(it["stage"] == "Up" for it in self.exchange.legs())
@@ -61,14 +61,14 @@ def tell_records(report, path, started):
     rows = list(csv.reader(text[: text.rfind("\n") + 1].splitlines()))
     short = sum(len(it) != COLUMNS for it in rows)
     headers = sum(it[:2] == ["call", "peer"] for it in rows)
-    # Where a SIGKILL has cut a row, the next start ends its line: such a row is short.
+    # If a SIGKILL has cut a row, the next start ends its line: such a row is short.
     is_kept = headers == 1 and len(rows) > 1 and short < started and len(rows[-1]) == COLUMNS
     report.tell("the call records are readable to their last whole line", is_kept, rows=len(rows) - 1, headers=headers, cut_rows=short)
 
 
 def tell_traces(report, folder, plan):
-    """Each file as the SIGKILL left it: its lines end at its end, or at an octet 0 with older ones behind it. A moment that goes
-    backward is refused, and so are lines that run into older ones."""
+    """Each file as the SIGKILL left it: its lines end at its end, or at an octet 0 with older ones behind it. A moment that
+    goes backward is refused, and so are lines that run into older ones."""
     files = sorted(os.listdir(folder))
     lines, older, refused = 0, 0, []
     for name in files:
@@ -84,7 +84,8 @@ def tell_traces(report, folder, plan):
 
 
 def a_restart(place, limit):
-    """Load, SIGKILL, a new start: how many legs were up, how soon the new start answered a call, what the peers saw."""
+    """Load, SIGKILL, a new start: the number of legs that were up, the time until the new start answered a call, and the
+    peers' results."""
     load = place.load()
     try:
         up = place.legs_that_talk()

@@ -1,4 +1,5 @@
-"""Peers that fall silent in each stage of a call: what frees the numbers of their legs, and when, beside what docs/SECURITY.md says."""
+"""Peers that fall silent in each stage of a call: which event frees the numbers of their legs, and when, compared with
+docs/SECURITY.md."""
 import time
 
 from exchange import Exchange, Failed, plan_of, spare_ports, tell_accounts
@@ -6,14 +7,14 @@ from peer import ACCEPT, ANSWER, AUTHREQ, CONTROL, DTMF, FORMAT, HANGUP, IAX, PO
 from peer import PING as PING_FRAME
 
 RETRY, RETRIES, PING = 200, 2, 1000
-# A frame that nobody acknowledges ends its leg after this time, in milliseconds.
+# A frame without an acknowledgement ends its leg after this time, in milliseconds.
 SPENT = RETRY * (RETRIES + 1)
-# What a busy machine may add, and how much earlier than reckoned something may be seen.
+# The delay that a busy machine may add, and how much earlier than computed an event may be seen.
 LATE, EARLY = 6000, 150
 
 
 class Place:
-    """An exchange with two peers, or three: `guarded` has a secret. Nobody else speaks here."""
+    """An exchange with two peers, or three: `guarded` has a secret. Nobody else sends here."""
 
     def __init__(self, folder, ping_ms=PING):
         ports = spare_ports(4)
@@ -35,7 +36,7 @@ class Place:
         return {it["number"]: (it["peer"], it["stage"]) for it in self.exchange.legs()}
 
     def linked(self, answers=True):
-        """A call from the west to the east that is accepted, and answered; all frames are acknowledged."""
+        """Sets up a call from the west to the east, which accepts and answers it. All frames are acknowledged."""
         west = self.west.call("200")
         east, _ = self.east.called()
         if not east:
@@ -59,7 +60,7 @@ class Place:
 
 
 def freed_after(place, most):
-    """Milliseconds until no leg is left, or None if some are after the most."""
+    """Returns the milliseconds until no leg is left, or None if some are left after the limit."""
     begun = time.monotonic()
     while (elapsed := (time.monotonic() - begun) * 1000) < most + LATE:
         if not place.legs():
@@ -69,7 +70,7 @@ def freed_after(place, most):
 
 
 def tell_freed(report, what, place, least, most):
-    """That the numbers are free after so many milliseconds, by what the plan says."""
+    """Reports whether the numbers are free after this number of milliseconds, as the plan sets it."""
     found = freed_after(place, most)
     is_kept = found is not None and least - EARLY <= found <= most + LATE
     seen = "never" if found is None else f"after {found:.0f} ms"
@@ -77,7 +78,7 @@ def tell_freed(report, what, place, least, most):
 
 
 def tell_kept(report, what, place, wanted, milliseconds):
-    """That the legs are still there after so long, as is said; then they are hung up by an order."""
+    """Reports whether the legs are still there after this time; then an order hangs them up."""
     time.sleep(milliseconds / 1000)
     found = sorted(place.legs().values())
     report.tell(f"silent {what}: it keeps its number, as is said", found == wanted, f"after {milliseconds} ms", found)
@@ -87,7 +88,8 @@ def tell_kept(report, what, place, wanted, milliseconds):
 
 
 def tell_hung_up(report, what, place, west):
-    """That the caller of a silent peer is hung up once frames to that peer are spent; once it says that it has the HANGUP it is free."""
+    """Reports whether the caller of a silent peer is hung up once frames to that peer are spent, and is free once it
+    acknowledges the HANGUP."""
     begun = time.monotonic()
     hangup = west.expect(IAX, HANGUP)
     elapsed = (time.monotonic() - begun) * 1000
@@ -109,7 +111,7 @@ def after_new_at_the_called(report, place):
 
 
 def after_the_first_acknowledgement(report, place):
-    """The called peer acknowledges the NEW and says no more."""
+    """The called peer acknowledges the NEW and then sends nothing."""
     west = place.west.call("200")
     west.acknowledge(west.expect(IAX, ACCEPT))
     east, new = place.east.called()
@@ -118,7 +120,7 @@ def after_the_first_acknowledgement(report, place):
 
 
 def after_the_first_acknowledgement_alone(report, place):
-    """The same, while the caller goes on and answers each PING: nothing but frames ends it."""
+    """The same, while the caller continues and answers each PING: only frames end it."""
     west = place.west.call("200")
     west.acknowledge(west.expect(IAX, ACCEPT))
     east, new = place.east.called()
@@ -163,7 +165,7 @@ def after_hangup(report, place):
 
 
 def in_the_middle_of_a_window(report, place):
-    """The west sends digits, and the east acknowledges three of eight; then it is silent, and the west keeps to the rules."""
+    """The west sends digits, and the east acknowledges three of eight. Then it is silent, and the west follows the protocol."""
     west, east = place.linked()
     for digit in b"12345678":
         west.send(DTMF, digit)
@@ -173,7 +175,7 @@ def in_the_middle_of_a_window(report, place):
 
 
 def without_pings(tools, report):
-    """Without PINGs a call that is up stays so, whoever is silent."""
+    """Without PINGs a call that is up stays up, whichever peer is silent."""
     place = Place(tools.folder_of("silence_without_pings"), ping_ms=0)
     try:
         place.linked()

@@ -1,6 +1,6 @@
-"""VNAK storms: twenty calls send digits both ways over a bad network between two exchanges, as fast as some digits on their way
-allow. A table of the datagrams between the exchanges by their cause: for each loss rate and each window, without `vnak_ms` and
-with it; and on paths that carry so much a second and no more, for several `vnak_ms`."""
+"""VNAK storms: twenty calls send digits both ways over a bad network between two exchanges, as fast as a few digits on their
+way allow. A table of the datagrams between the exchanges by their cause: for each loss rate and each window, without
+`vnak_ms` and with it; and on paths of a limited rate, for several `vnak_ms`."""
 import itertools
 import time
 from collections import Counter, namedtuple
@@ -9,13 +9,14 @@ from endings import ENDED, Endings
 from exchange import PATIENCE, Failed, reported
 from two_sites import PREFIX, TRUNK_NAME, Sites
 
-# What is lost, of a hundred; the window of the trunk's peers; thousand bits a second, each way, or 0 for no bound; how long a
-# datagram waits for such a path at most; the plan's `retry_ms`, and its `vnak_ms`, where 0 is a plan that doesn't speak of it.
+# The loss in percent; the window of the trunk's peers; the rate in thousand bits a second, each way, or 0 for no limit; how
+# long a datagram waits for such a path at most; the plan's `retry_ms`, and its `vnak_ms`, where 0 is a plan without the key.
 Storm = namedtuple("Storm", "loss window path_kbit queue_ms retry_ms vnak_ms")
 REPEATS, REORDER, CALLS, ON_THE_WAY = 5, 40, 20, 10
-# What a storm is by what was not given.
+# The values of a storm that weren't given.
 USUAL = Storm(loss=[20], window=[64], path_kbit=[0], queue_ms=[200], retry_ms=[1000], vnak_ms=[0])
-# What a long run has: no bound; paths with a queue as it should be, and two retry_ms; with longer ones; other losses on one.
+# The storms of a long run: no limit; paths with a queue of the right length, and two retry_ms; with longer ones; other losses
+# on one.
 TABLES = (
     {"loss": [0, 5, 10, 20, 30], "window": [64, 16, 8, 4], "vnak_ms": [0, 60]},
     {"path_kbit": [64, 128, 256, 512, 1024, 2048], "vnak_ms": [0, 20, 40, 60, 100, 200, 400]},
@@ -25,7 +26,7 @@ TABLES = (
     {"loss": [5, 10, 30], "path_kbit": [1024], "vnak_ms": [0, 60, 200]},
 )
 SHORT = ({"loss": [0]}, {"window": [64, 8]}, {"path_kbit": [512], "vnak_ms": [200]})
-# What is wrong wherever it is seen: of digits, and of offered and hung up calls.
+# The results that are wrong in any storm: of digits, and of offered and hung up calls.
 DIGITS, OFFERS = ("wrong_digits", "lacking_digits"), ("offered_twice", "misrouted", "hangups_twice")
 CAUSES = ("first", "by_timer", "for_vnak", "acks", "vnaks", "invals")
 NAMES = (
@@ -35,9 +36,9 @@ NAMES = (
 
 
 def on_the_way(window):
-    """How many digits a peer has on their way to the far peer. A leg sends `window - window / 4` frames while none is
-    acknowledged, and a call whose leg has no room for a digit is hung up. A digit that has come may be held until its ACK is
-    back, so these are half of that room at most."""
+    """Returns the number of digits that a peer has on their way to the far peer. A leg sends `window - window / 4` frames
+    without an acknowledgement, and a call whose leg has no room for a digit is hung up. A digit may be held until its ACK
+    is back, so this is at most half of that room."""
     return min(ON_THE_WAY, (window - window // 4) // 2)
 
 
@@ -48,7 +49,7 @@ def network_of(storm, seconds):
 
 
 def a_storm(tools, storm, seconds, seed, spoil=None):
-    """What `calls` and the network saw, and how calls ended at the exchanges."""
+    """Returns the results of `calls` and of the network, and the ends of calls at the exchanges."""
     keys = {"retry_ms": storm.retry_ms, "max_retries": 20, "ping_ms": 20000}
     if storm.vnak_ms:
         keys |= {"format": 4, "vnak_ms": storm.vnak_ms}
@@ -72,18 +73,18 @@ def a_storm(tools, storm, seconds, seed, spoil=None):
 
 
 def ended_there(seen):
-    """Calls that an exchange ended."""
+    """Returns the calls that an exchange ended."""
     return sum(seen[it] for it in ENDED)
 
 
 def for_each(seen, network):
-    """Datagrams between the exchanges for each digit that came, media apart."""
+    """Returns the number of datagrams between the exchanges for each digit that came, without media."""
     return sum(network[it] for it in CAUSES) / max(1, seen["digits_taken"])
 
 
 def line_of(storm, seconds, seen, network):
-    """A row of the table. Datagrams are those of the whole run, and so is what there is of them for each digit; digits are those
-    that came in time."""
+    """Returns a row of the table. Datagrams are those of the whole run, also for each digit; digits are those that came in
+    time."""
     each, in_time = for_each(seen, network), seen["digits_in_time"]
     path = [storm.path_kbit, storm.queue_ms] if storm.path_kbit else ["any", ""]
     place = [storm.loss, storm.window, *path, storm.retry_ms, storm.vnak_ms]
@@ -93,8 +94,8 @@ def line_of(storm, seconds, seen, network):
 
 
 class Pace:
-    """How long each storm lasts, so that all of them take about the time that is given: each goes on after its time until what it
-    has sent has come. One without a bound, which takes what processors there are, lasts five seconds at most."""
+    """The duration of each storm, so that all of them take about the given time: each continues after its time until all its
+    frames have come. A storm without a rate limit, which takes all processors, lasts at most five seconds."""
 
     def __init__(self, seconds, count):
         self.end = seconds and time.monotonic() + seconds
@@ -116,20 +117,20 @@ class Pace:
 
 
 class Sums:
-    """What all storms have in common, and the datagrams for each digit by storm."""
+    """The results that all storms share, and the datagrams for each digit by storm."""
 
     def __init__(self):
         self.seen, self.why, self.taken, self.each = Counter(), Counter(), [], {}
 
     def add(self, storm, seen, network, endings):
-        """Answers what was wrong, by kind: how often, and where first."""
+        """Returns the wrong results, by kind: how often, and the first place."""
         self.taken.append(seen["digits_taken"])
         self.each[storm] = for_each(seen, network)
         self.seen.update({it: seen[it] for it in (*DIGITS, *OFFERS, *ENDED, "left_out_digits")})
         told = [(*it, endings.why_of(*it[:2])) for it in seen["told"]]
         ended = [why for what, _, _, why in told if what in ENDED]
         self.why.update(why or "unknown" for why in ended)
-        # What `calls` has counted, and had no room to tell.
+        # The ends that `calls` has counted but had no room to list.
         self.why["unknown"] += ended_there(seen) - len(ended)
         wrong = [(what, f"call {call} after {moment:.1f} s") for what, call, moment, why in told if not why]
         first = dict(reversed(wrong))

@@ -1,5 +1,5 @@
-"""A sender that never sees what goes to the endpoint of its NEWs asks for as many calls as it can. The exchange takes no number and no memory
-for them, and carries the calls of that endpoint, which has the token, and of another peer."""
+"""A sender that never receives the datagrams to the endpoint of its NEWs requests as many calls as it can. The exchange uses
+no number and no memory for them, and carries the calls of that endpoint, which has the token, and of another peer."""
 import socket
 import struct
 import time
@@ -10,18 +10,19 @@ from peer import ACCEPT, FORMAT, IAX, NEW, Peer
 
 NUMBERS, NEWS, SHORT_NEWS = 512, 1_000_000, 40_000
 CALLTOKEN, TOKEN = 40, 0x36
-# By how much what is resident of the program may grow, in kilobytes.
+# The limit on the growth of the program's resident memory, in kilobytes.
 MOST = 4 * 1024
 
 
 def new_of(source, token):
-    """A NEW, with this element behind the others; `None` for none."""
+    """Returns a NEW, with this element behind the others; `None` for none."""
     element = b"" if token is None else bytes([TOKEN, len(token)]) + token
     return struct.pack(">HHIBBBB", 0x8000 | source, 0, 0, 0, 0, IAX, NEW) + bytes([11, 2, 0, 2, 1, 1]) + b"8" + FORMAT + element
 
 
 def flood(port, worker, count, exchange):
-    """Sends so many NEWs: without a token, with invented ones, and with the empty one, which is answered. What is resident at most."""
+    """Sends `count` NEWs: without a token, with invented ones, and with the empty one, which is answered. Returns the
+    greatest resident memory."""
     most = 0
     with socket.socket(socket.AF_INET, socket.SOCK_DGRAM) as it:
         it.bind(("127.0.0.1", port))
@@ -34,7 +35,7 @@ def flood(port, worker, count, exchange):
             except (BlockingIOError, ConnectionRefusedError):
                 pass
             if number % 64 == 0:
-                # (the exchange has to come along, or its socket drops what comes)
+                # The exchange has to keep up, or its socket drops datagrams.
                 time.sleep(0.001)
             if number % 10_000 == 0:
                 most = max(most, exchange.kilobytes())
@@ -42,7 +43,8 @@ def flood(port, worker, count, exchange):
 
 
 def call_with_a_token(peer):
-    """Whether a NEW with the token that its empty one was answered by is accepted, and one with another endpoint's isn't answered."""
+    """Returns whether a NEW with the token in the answer to its empty one is accepted, and one with another endpoint's
+    isn't answered."""
     peer.socket.sendto(new_of(7, b""), peer.exchange)
     asked = peer.expect(lambda it: (it.kind, it.subclass, it.destination) == (IAX, CALLTOKEN, 7), 5)
     token = asked and asked.element(TOKEN)

@@ -1,12 +1,12 @@
-"""Two exchanges, joined by a trunk over a network that loses, repeats, delays and reorders: calls both ways, with digits and media both ways,
-hung up from both ends."""
+"""Two exchanges, joined by a trunk over a network that loses, repeats, delays and reorders: calls both ways, with digits and
+media both ways, hung up from both ends."""
 from exchange import PATIENCE, RETRY_MS, Exchange, ended, plan_of, reported, spare_ports, tell_accounts
 
 LOSS, REPEATS, DELAY, REORDER = 8, 5, 5, 20
 SECRET = "between the two sites"
 # The name that each exchange has for the other.
 TRUNK_NAME = "far"
-# How many digits of a called number say which peer is called.
+# The number of digits of a called number that select the called peer.
 PREFIX = 2
 TRUNK = {"user": "site", "secret": SECRET, "trunk": True, "numbers": 256}
 
@@ -40,7 +40,7 @@ class Sites:
         return {"user": name, "secret": f"a secret of {name}"} if name.endswith("1") else {}
 
     def peer_words(self):
-        """The peers as `calls` takes them: 0 and 1 in the west, 2 and 3 in the east."""
+        """Returns the peers as `calls` takes them: 0 and 1 in the west, 2 and 3 in the east."""
         words = []
         for name, worker, prefix in (("west1", "a", "11"), ("west2", "a", "12"), ("east1", "b", "21"), ("east2", "b", "22")):
             secret = self.secret_of(name).get("secret")
@@ -48,7 +48,7 @@ class Sites:
         return words
 
     def stop(self):
-        """The end of all: what each exchange printed, and what the network saw."""
+        """Ends everything; returns the output of each exchange, and the network's counts."""
         printed = [it.stop() for it in self.exchanges]
         return printed, ended(self.network)
 
@@ -61,7 +61,7 @@ class Sites:
 
 
 def tell_calls(report, seen):
-    """What is promised of calls that were placed, whatever lies between their ends."""
+    """Reports the promises about calls that were placed, whatever is between their ends."""
     refused = {name: seen[name] for name in ("rejected", "cut", "inval", "stuck")}
     is_whole = seen["placed"] == seen["answered"] == seen["ended"] > 0 and not any(refused.values())
     counts = {name: seen[name] for name in ("placed", "answered", "ended")}

@@ -1,13 +1,14 @@
-//! Call tokens, by which a caller shows that it receives what goes to its endpoint (chan_iax2's CALLTOKEN; RFC 5456 has none).
+//! Call tokens, by which a caller shows that it receives datagrams at its endpoint (chan_iax2's CALLTOKEN; RFC 5456 has
+//! none).
 ghost use Rattle.std.specs.Prelude.{◌≡◌, ◌/◌};
 ghost use Rattle.call_auth.specs.CallToken.{call_token, is_given};
 
 use sha2::{Digest, Sha256};
 
-/// How long one token is given out: 5,000 milliseconds. It is accepted for as long again.
+/// The time for which one token is given out: 5,000 milliseconds. It is accepted for as long again.
 pub const TOKEN_MS: u64 = 5_000;
 
-/// What the call tokens of one endpoint are made of. Nothing is kept of a token that was given out.
+/// The source of one endpoint's call tokens. No state is kept of a token that was given out.
 #[derive(Clone, Copy, Debug)]
 pub struct CallTokens {
     /// The key of the exchange, which nobody else knows.
@@ -19,7 +20,7 @@ pub struct CallTokens {
 }
 
 impl CallTokens {
-    // The token of the period of five seconds that has this number.
+    // Returns the token of the period of five seconds that has this number.
     fn of_period(&self, period: u64) -> [u8; 32]
         ensures { result ≡ call_token self.now period }
     {
@@ -35,16 +36,16 @@ impl CallTokens {
         digits
     }
 
-    /// The token that the endpoint is given at the moment `now`, in milliseconds: 32 lower-case hexadecimal digits. It takes no
-    /// memory.
+    /// Returns the token that the endpoint is given at the moment `now`, in milliseconds: 32 lower-case hexadecimal digits.
+    /// It takes no memory.
     pub fn token_at(&self, now: u64) -> [u8; 32]
         ensures { result ≡ call_token self.now (now / 5000) }
     {
         self.of_period(now / TOKEN_MS)
     }
 
-    /// Whether a text is a token that the endpoint was given in these five seconds or in the five before, at the moment `now`, in
-    /// milliseconds. It takes no memory.
+    /// Returns whether a text is a token that the endpoint was given in these five seconds or in the five before, at the
+    /// moment `now`, in milliseconds. It takes no memory.
     pub fn accepts(&self, now: u64, text: &[u8]) -> bool
         ensures { result ≡ is_given self.now now text.now }
     {

@@ -24,7 +24,7 @@ impl Model for Challenge {
 }
 
 impl Challenge {
-    /// The challenge of a text, or `None` where the text isn't 1 to 32 octets, each of them 0x21 ..= 0x7e.
+    /// Returns the challenge of a text, or `None` if the text isn't 1 to 32 octets, each of them 0x21 ..= 0x7e.
     pub fn new(text: &[u8]) -> Option<Challenge>
         ensures found { IsSome result ↔ IsChallenge text.now }
         ensures octets { IfSome result (λ c. c ≡ text.now) }
@@ -40,7 +40,7 @@ impl Challenge {
         Some(Challenge { octets })
     }
 
-    /// The octets, 1 to 32 of them.
+    /// Returns the octets, 1 to 32 of them.
     pub fn as_slice(&self) -> &[u8]
         ensures octets { result.now ≡ self.now }
         ensures form { IsChallenge self.now }
@@ -48,7 +48,7 @@ impl Challenge {
         self.octets.as_slice()
     }
 
-    /// The same challenge once more. It takes no memory, so it can't fail.
+    /// Returns a copy of the challenge. It takes no memory, so it can't fail.
     pub fn copied(&self) -> Challenge
         ensures { result ≡ self.now }
     {

@@ -5,8 +5,8 @@ ghost use Rattle.call_auth.specs.Md5Answer.{md5_answer};
 
 use md5::{Digest, Md5};
 
-/// The answer to a challenge: the MD5 digest (RFC 1321) of the challenge followed by the secret,
-/// as 32 lower-case hexadecimal digits. It takes no memory.
+/// Returns the answer to a challenge: the MD5 digest (RFC 1321) of the challenge followed by the secret, as 32 lower-case
+/// hexadecimal digits. It takes no memory.
 pub fn answer(challenge: &[u8], secret: &[u8]) -> [u8; 32]
     ensures { result ≡ md5_answer challenge.now secret.now }
 {
@@ -18,7 +18,7 @@ pub fn answer(challenge: &[u8], secret: &[u8]) -> [u8; 32]
     digits
 }
 
-/// Whether a result is the answer to a challenge, in hexadecimal digits of either case. It takes no memory.
+/// Returns whether a result is the answer to a challenge, in hexadecimal digits of either case. It takes no memory.
 pub fn accepts(challenge: &[u8], secret: &[u8], result_digits: &[u8]) -> bool
     ensures { IsTrue result ↔ (map to_ascii_lowercase result_digits.now ≡ md5_answer challenge.now secret.now) }
 {

@@ -1,4 +1,4 @@
--- What a change of the book keeps.
+-- The properties that a change of the book keeps.
 use Rattle.std.proofs.Common.{◌≡◌, ◌≢◌, ℕ, zero, suc, ◌+◌, ◌<◌, List, [], ◌∷◌, length, get_or, Option, Some, None, IsSome, Bool, true, false, nat_cmp, refl, sym, ap, subst, ◌∙◌, arith, inl, inr, ◌⊎◌, is_some, ◌==◌, ◌^◌, ◌-◌, map, ◌++◌, option_to_list, length-set}
 use Rattle.std.proofs.Math.ListN.{set}
 use Rattle.std.proofs.lemmas.Bool.{cases_Bool, true≢false}
@@ -20,7 +20,7 @@ get-insert_here m k v = get-insert nat_cmp_total m k v k ∙ rw (eq_itself k) re
 pub get-insert_apart : {A : Type 0} (m : FinMap nat_cmp A) (k : ℕ) (v : A) (q : ℕ) → q ≢ k → get (insert m k v) q ≡ get m q
 get-insert_apart m k v q ne = get-insert nat_cmp_total m k v q ∙ rw (eq_apart q k ne) refl
 
--- a number that no leg has stays so as another gets a name
+-- a number that no leg has stays free when another gets a name
 free_kept : (counts : List ℕ) (names : FinMap nat_cmp LegName) (p : ℕ) (ns : List ℕ) (k : ℕ) (v : LegName) → AllByRecursion (λ m. m ≢ k) ns → AreFree counts names p ns → AreFree counts (insert names k v) p ns
 free_kept counts names p [] k v ne h = tt
 free_kept counts names p (n ∷ ns) k v ne h = (h.0, get-insert_apart names k v n ne.0 ∙ h.1, h.2, free_kept counts names p ns k v ne.1 h.3)
@@ -34,7 +34,7 @@ pub contained_behind : (n k : ℕ) (ns : List ℕ) → k ≢ n → Contains (n �
 contained_behind n k ns ne (zero, lt, e) = absurd (ne (sym e))
 contained_behind n k ns ne (suc i, lt, e) = (i, omega arith, e)
 
--- what the map has after an insert
+-- the entries of a map after an insert
 insert_cases : {A : Type 0} (m : FinMap nat_cmp A) (k : ℕ) (v : A) (q : ℕ) (a : A) → get (insert m k v) q ≡ Some a → ((q ≡ k) × (v ≡ a)) ⊎ ((q ≢ k) × (get m q ≡ Some a))
 insert_cases m k v q a e =
     elim (cases_Bool (eq_by_cmp nat_cmp q k)) [
@@ -145,7 +145,7 @@ bridge_keeps book a b ne has_a has_b free_a free_b h =
       ];
     }
 
--- a name that the book has stands at its number
+-- a name that the book has is at its number
 pub name_found : (o : Option LegName) (name : LegName) → is_name_in o name ≡ true → o ≡ Some name
 name_found None name h = cc
 name_found (Some found) name h =
@@ -154,7 +154,7 @@ name_found (Some found) name h =
     let r : found.serial ≡ name.serial = grind (arith, nat_tests) in
     λ i. Some (record { peer = p i; number = q i; serial = r i })
 
--- two names of the book that differ stand at different numbers
+-- two different names of the book are at different numbers
 pub numbers_apart : (book : Book) (a b : LegName) → (a ≡ b → ⊥) → get book.names a.number ≡ Some a → get book.names b.number ≡ Some b → a.number ≢ b.number
 numbers_apart book a b ne has_a has_b = λ e.
     let same : Some a ≡ Some b = sym has_a ∙ ap (get book.names) e ∙ has_b in
@@ -167,7 +167,7 @@ none_from (Some x) h = cc
 pub place_within : (book : Book) (a : LegName) → IsBook book → get book.names a.number ≡ Some a → a.number < total_of book.counts + 1
 place_within book a h at = number_within book.counts a.peer a.number (h.placed a.number a at).1
 
--- where a name of the book stands
+-- the place of a name of the book
 pub record Stands (book : Book) (name : LegName) : Type 0 where
   pub has : get book.names name.number ≡ Some name
   pub place : name.number < total_of book.counts + 1

@@ -1,4 +1,4 @@
--- What reserving, bridging and releasing make of the names of a book, and that it stays a book.
+-- The names of a book after reserving, bridging and releasing; it stays a book.
 use Rattle.std.proofs.Common.{◌≡◌, ◌≢◌, ℕ, zero, suc, ◌+◌, ◌<◌, ◌≤◌, List, [], ◌∷◌, ◌++◌, length, get_or, Option, Some, None, IsSome, Bool, true, false, cond, nat_cmp, refl, sym, ap, subst, ◌∙◌, arith, inl, inr, ◌⊎◌, is_some, ◌==◌, ◌^◌, ◌-◌, ◌&&◌, length-set, map}
 use Rattle.std.specs.Prelude.{Result, Ok, Err, not, IfSome}
 use Rattle.std.proofs.Math.ListN.{set}
@@ -21,7 +21,7 @@ use Rattle.call_book.proofs.NameLaws.{is_same_itself, same_name, is_same_apart, 
 
 -- ---- reserve
 
--- what a reservation found and did
+-- the result of a reservation
 pub record IsReserved (book : Book) (peer : ℕ) (name : LegName) : Type 0 where
   pub owner : name.peer ≡ peer
   pub range : IsNumberOf book.counts peer name.number
@@ -281,7 +281,7 @@ module _ (book : Book) (a b : LegName) (did : IsBridged book a b) where
   bridged_before x p not_a not_b is =
       partner_from book x p (partner_has (bridged book a b) x p is) (sym (elsewhere x not_a not_b) ∙ partner_at (bridged book a b) x p is)
 
-  -- whoever had a partner keeps it
+  -- a name that had a partner keeps it
   pub bridged_after : (x p : LegName) → partner_of book x ≡ Some p → partner_of (bridged book a b) x ≡ Some p
   bridged_after x p is =
       let at : get book.partners x.number ≡ Some p = partner_at book x p is in

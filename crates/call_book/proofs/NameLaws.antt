@@ -1,4 +1,4 @@
--- The names of a book: when two are one, and what an insert and a removal make of them.
+-- The names of a book: when two are the same, and how an insert and a removal change them.
 use Rattle.std.proofs.Common.{◌≡◌, ◌≢◌, ℕ, zero, suc, ◌+◌, ◌<◌, ◌≤◌, List, [], ◌∷◌, ◌++◌, length, get_or, Option, Some, None, IsSome, Bool, true, false, cond, nat_cmp, refl, sym, ap, subst, ◌∙◌, arith, inl, inr, ◌⊎◌, is_some, ◌==◌, ◌^◌, ◌-◌, ◌&&◌, length-set, map}
 use Rattle.std.specs.Prelude.{Result, Ok, Err, not, IfSome}
 use Rattle.std.proofs.Math.ListN.{set}

@@ -41,13 +41,13 @@ ranges_apart counts p q m n ne h k =
     let down : q < p → n < m = λ lt. ranges_rise counts q p n m lt k h in
     λ same. grind (arith, up, down)
 
--- ---- what they add up to
+-- ---- their sum
 
 pub total-push : (counts : List ℕ) (count : ℕ) → total_of (counts ++ count ∷ []) ≡ total_of counts + count
 total-push [] count = omega arith
 total-push (c ∷ cs) count = let rest = total-push cs count in omega (arith, rest)
 
--- what so many peers with at most so many numbers each add up to
+-- the sum over peers with at most this number of numbers each
 pub total_within : (counts : List ℕ) (most : ℕ) → ((i : ℕ) → i < length counts → get_or counts i 0 ≤ most) → total_of counts ≤ most * length counts
 total_within [] most h = omega arith
 total_within (c ∷ cs) most h =

@@ -1,4 +1,4 @@
--- An array and the map that it stands for.
+-- An array and the map that it represents.
 use Rattle.std.proofs.Common.{◌≡◌, ◌≢◌, ℕ, zero, suc, ◌+◌, ◌<◌, ◌≤◌, List, [], ◌∷◌, length, get_or, Option, Some, None, true, false, cond, Ordering, Less, Equal, Greater, nat_cmp, is_eq, refl, sym, ap, ◌∙◌, arith, inl, inr, length-set}
 use Rattle.std.proofs.Math.ListN.{set, replicate}
 use Rattle.std.proofs.lemmas.Bool.{cases_Bool, true≢false}
@@ -21,7 +21,7 @@ eq_apart x y h = apart_by (nat_cmp x y) x y refl h
 pub eq_itself : (x : ℕ) → eq_by_cmp nat_cmp x x ≡ true
 eq_itself x = rw (tied_itself nat_cmp_total x) refl
 
--- nothing stands below the first index
+-- there is nothing below the first index
 find_below : {A : Type 0} (xs : List (Option A)) (i q : ℕ) → q < i → find nat_cmp q (filled i xs) ≡ None
 find_below [] i q h = refl
 find_below (None ∷ xs) i q h = find_below xs (suc i) q (omega arith)
@@ -65,7 +65,7 @@ pub table_of-clear : {A : Type 0} (xs : List (Option A)) (k : ℕ) → k < lengt
 table_of-clear xs k lt = same_map nat_cmp_total nat_cmp-IsAntisymmetric _ _ (λ q.
     get-table_of (set xs k None) q ∙ get_at xs k None q lt ∙ ap (cond (eq_by_cmp nat_cmp q k) None) (sym (get-table_of xs q)) ∙ sym (get-remove nat_cmp_total (table_of xs) k q))
 
--- what reading the array at an index says of the map
+-- the map's value, read from the array at an index
 pub get_read : {A : Type 0} (xs : List (Option A)) (m : FinMap nat_cmp A) (q i : ℕ) (x : Option A) → table_of xs ≡ m → i ≡ q → i < length xs → x ≡ get_or xs i x → x ≡ get m q
 get_read xs m q i x is at lt e = e ∙ get_or_default xs i x None lt ∙ sym (get-table_of xs i) ∙ ap (get (table_of xs)) at ∙ ap (λ n. get n q) is
 

@@ -1,4 +1,4 @@
--- The book of calls: which leg has each number, which legs are bridged, and which numbers are free.
+-- The book of calls: the leg of each number, the bridges, and the free numbers.
 use Rattle.std.specs.Prelude.{◌≡◌, ◌≢◌, ℕ, ◌+◌, ◌-◌, ◌*◌, ◌^◌, ◌<◌, ◌≤◌, ◌==◌, ◌&&◌, Bool, false, not, is_some, List, [], ◌∷◌}
 use Rattle.std.specs.Prelude.{◌++◌, Option, Some, None, Result, Ok, Err, IsSome, Contains, length, slice_index_or, slice_set}
 use Rattle.std.specs.Prelude.{if◌then◌else◌, refl}
@@ -15,7 +15,7 @@ use Rattle.call_book.specs.declared.errors.BridgeError.{BridgeError}
 use Rattle.call_book.specs.declared.errors.BridgeError.TheVariants.{Same, Stale, Bridged}
 
 pub record Book : Type 0 where
-  -- how many numbers each peer has
+  -- the count of each peer's numbers
   pub counts : List ℕ
   -- the leg that has each number
   pub names : FinMap nat_cmp LegName
@@ -46,18 +46,18 @@ has_name book name = is_name_in (get book.names name.number) name
 abbrev pub free_of : Book → ℕ → List ℕ
 free_of book peer = slice_index_or book.free peer []
 
--- the numbers are of the peer, no leg has one of them, and none stands twice
+-- the numbers are of the peer, no leg has one of them, and none is listed twice
 abbrev pub AreFree : List ℕ → FinMap nat_cmp LegName → ℕ → List ℕ → Type 0
 AreFree counts names peer [] = Unit {0}
 AreFree counts names peer (n ∷ ns) =
     IsNumberOf counts peer n × (get names n ≡ None) × AllByRecursion (λ m. m ≢ n) ns × AreFree counts names peer ns
 
--- what is so of every book
+-- the invariant of every book
 pub record IsBook (book : Book) : Type 0 where
-  -- the ranges lie within 1 ..= 16,384, and each peer has a list of free numbers
+  -- the ranges are within 1 ..= 16,384, and each peer has a list of free numbers
   pub limit : total_of book.counts ≤ 32 * 512
   pub peers : length book.free ≡ length book.counts
-  -- a name stands at its number, which is one of its peer's, and has a serial that was given out
+  -- a name is at its number, which is one of its peer's, and has a serial that was given out
   pub placed : (n : ℕ) (a : LegName) → get book.names n ≡ Some a →
       (a.number ≡ n) × IsNumberOf book.counts a.peer n × (a.serial < book.next)
   -- a serial is given out once
@@ -66,7 +66,7 @@ pub record IsBook (book : Book) : Type 0 where
   pub paired : (n : ℕ) (b : LegName) → get book.partners n ≡ Some b →
       (b.number ≢ n) × (get book.names b.number ≡ Some b) × IsSome (get book.names n) ×
       (get book.partners b.number ≡ get book.names n)
-  -- what is listed as free is free, and listed once
+  -- each number listed as free is free, and listed once
   pub free : (peer : ℕ) → AreFree book.counts book.names peer (free_of book peer)
   -- a number without a leg is listed as free
   pub every : (peer n : ℕ) → IsNumberOf book.counts peer n → get book.names n ≡ None → Contains (free_of book peer) n
@@ -115,7 +115,7 @@ bridged book a b = record book { partners = insert (insert book.partners a.numbe
 abbrev pub partner_of : Book → LegName → Option LegName
 partner_of book name = if has_name book name then get book.partners name.number else None
 
--- the book once a name is given back: its number is free again, at the end, and its bridge is gone on both sides
+-- the book once a name is returned: its number is free again, at the end, and its bridge is removed on both sides
 abbrev pub unbridged : FinMap nat_cmp LegName → ℕ → Option LegName → FinMap nat_cmp LegName
 unbridged partners number None = partners
 unbridged partners number (Some partner) = remove (remove partners number) partner.number

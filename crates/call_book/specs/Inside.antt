@@ -1,4 +1,4 @@
--- The book that the arrays stand for.
+-- The book that the arrays represent.
 use Rattle.std.specs.Prelude.{◌≡◌, ◌+◌, ◌≤◌, ℕ, map, slice_index}
 use Rattle.std.specs.VecDeque.{deque_capacity}
 use Rattle.call_book.specs.declared.book.CallBook.TheInside.{Inside}

@@ -2,7 +2,7 @@
 use Rattle.std.specs.Prelude.{ℕ, ◌+◌, ◌<◌, ◌≤◌, zero, suc, List, [], ◌∷◌, slice_index}
 use Rattle.std.specs.List.{range_with_len}
 
--- how many numbers a peer may have
+-- the number of call numbers that a peer may have
 abbrev pub IsCount : ℕ → Type 0
 IsCount count = (1 ≤ count) × (count ≤ 512)
 
@@ -12,7 +12,7 @@ first_number [] peer = 1
 first_number (count ∷ counts) zero = 1
 first_number (count ∷ counts) (suc peer) = count + first_number counts peer
 
--- how many numbers there are
+-- the number of all call numbers
 abbrev pub total_of : List ℕ → ℕ
 total_of [] = 0
 total_of (count ∷ counts) = count + total_of counts

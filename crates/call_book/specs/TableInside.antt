@@ -1,4 +1,4 @@
--- The table that an array stands for.
+-- The table that an array represents.
 use Rattle.std.specs.Prelude.{length}
 use Rattle.call_book.specs.declared.name_table.NameTable.TheInside.{Inside}
 use Rattle.call_book.specs.Table.{Table, table_of}

@@ -13,10 +13,10 @@ use std::alloc::{AllocError, Global};
 use std::collections::VecDeque;
 use std::marker::Model;
 
-/// Which leg has each number, which legs are bridged, and which numbers are free.
+/// The leg of each number, the bridges, and the free numbers.
 ///
-/// All of its memory is taken by `new`; each other call makes a fixed number of look-ups.
-/// Every number of a peer's range is either free or has one name, which `reserve` gave out and no `release` took back.
+/// `new` takes all of its memory; each other call makes a fixed number of look-ups. Every number of a peer's range is
+/// either free or has one name, which `reserve` gave out and no `release` took back.
 #[derive(Drop)]
 pub struct CallBook {
     counts: Vec<u16>,
@@ -47,9 +47,9 @@ impl CallBook {
     ghost use Rattle.call_book.specs.Book.{IsBook, IsNumberOf, IsCount, fresh_book, has_name, is_same, reserve_answer};
     ghost use Rattle.call_book.specs.Book.{after_reserve, bridge_answer, bridged, partner_of, released};
 
-    /// A book of as many peers as there are counts (1 to 32), in which the peer at place i has the next `counts[i]` numbers (1 to
-    /// 512), from 1 on. All of them are free. The first name has the serial `first_serial`. `Err` comes only where memory was
-    /// refused.
+    /// Returns a book of as many peers as there are counts (1 to 32). The peer at place i has the next `counts[i]` numbers
+    /// (1 to 512), from 1 on. All of them are free. The first name has the serial `first_serial`. Returns `Err` only if
+    /// memory was refused.
     pub fn new(alloc: Global, counts: &[u16], first_serial: u64) -> Result<CallBook, AllocError>
         requires some { 1 ≤ length counts.now }
         requires peers { length counts.now ≤ 32 }
@@ -73,10 +73,10 @@ impl CallBook {
         })
     }
 
-    /// Gives out the peer's number that was freed longest ago, at first in ascending order, under the next serial.
+    /// Reserves the peer's number that was freed longest ago, at first in ascending order, under the next serial.
     ///
-    /// Refusals are looked for in this order: `SerialsSpent` where the next serial would be 2^64 - 1, `NoNumber` where no number
-    /// of the peer is free, or the book doesn't know the peer.
+    /// Refusals are checked in this order. `SerialsSpent`: the next serial would be 2^64 - 1. `NoNumber`: no number of the
+    /// peer is free, or the book doesn't know the peer.
     pub fn reserve(&mut self, peer: u16) -> Result<Lease, ReserveError>
         ensures answer { result ≡ reserve_answer self.old peer }
         ensures book { self.new ≡ after_reserve self.old peer }
@@ -106,7 +106,14 @@ impl CallBook {
         Ok(Lease::on(name))
     }
 
-    /// Whether the book has this very name.
+    /// The serial of the next name.
+    pub fn next_serial(&self) -> u64
+        ensures { result ≡ self.now.next }
+    {
+        self.next
+    }
+
+    /// Returns whether the book has exactly this name.
     pub fn contains(&self, name: LegName) -> bool
         ensures found { result ≡ has_name self.now name }
         ensures sound { IsBook self.now }
@@ -117,7 +124,7 @@ impl CallBook {
         }
     }
 
-    /// The partner of a name; `None` where the book hasn't the name, or it isn't bridged.
+    /// Returns the partner of a name, or `None` if the book hasn't the name or it isn't bridged.
     pub fn partner(&self, name: LegName) -> Option<LegName>
         ensures partner { result ≡ partner_of self.now name }
         ensures mutual { IfSome result (λ partner. partner_of self.now partner ≡ Some name) }
@@ -132,8 +139,8 @@ impl CallBook {
 
     /// Makes two names partners of each other.
     ///
-    /// Refusals are looked for in this order: `Same` where they are one name, `Stale` where the book hasn't one of them,
-    /// `Bridged` where one has a partner already; then nothing is changed.
+    /// Refusals are checked in this order: `Same` if they are one name, `Stale` if the book hasn't one of them, `Bridged`
+    /// if one has a partner already; then nothing is changed.
     pub fn bridge(&mut self, a: LegName, b: LegName) -> Result<(), BridgeError>
         ensures answer { result ≡ bridge_answer self.old a b }
         ensures ok { OnOk result (self.new ≡ bridged self.old a b) }
@@ -162,9 +169,9 @@ impl CallBook {
     }
 
     /// Takes a name back: its number is free again, behind the peer's other free numbers, and its bridge ends on both
-    /// sides. Gives the former partner.
+    /// sides. Returns the former partner.
     ///
-    /// `Stale` exactly where the book hasn't the name; the lease comes back.
+    /// Returns `Stale` if and only if the book hasn't the name; the lease comes back.
     pub fn release(&mut self, lease: Lease) -> Result<Option<LegName>, (Lease, Stale)>
         ensures stale { IsErr result ↔ (has_name self.old lease ≡ false) }
         ensures partner { IfOk result (λ partner. partner ≡ partner_of self.old lease) }

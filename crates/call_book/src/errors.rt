@@ -1,6 +1,6 @@
-//! Why the book refuses.
+//! The refusals of the book.
 
-/// Why no name was given out.
+/// The reason why no name was given out.
 #[derive(Clone, Copy, Debug, PartialEq, Eq)]
 pub enum ReserveError {
     /// The next serial would be 2^64 - 1, which is never given out.
@@ -9,7 +9,7 @@ pub enum ReserveError {
     NoNumber,
 }
 
-/// Why two names were not bridged.
+/// The reason why two names were not bridged.
 #[derive(Clone, Copy, Debug, PartialEq, Eq)]
 pub enum BridgeError {
     /// They are one name.

@@ -21,14 +21,14 @@ impl Model for Lease {
 }
 
 impl Lease {
-    // The lease on a name that the book has just given out.
+    // Returns the lease on a name that the book has just given out.
     pub(crate) fn on(name: LegName) -> Lease
         ensures { result ≡ name }
     {
         Lease { name }
     }
 
-    /// The name that the lease is for.
+    /// Returns the name that the lease is for.
     pub fn name(&self) -> LegName
         ensures { result ≡ self.now }
     {

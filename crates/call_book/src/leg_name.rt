@@ -5,7 +5,7 @@
 pub struct LegName {
     /// The place of the leg's peer in the plan, from 0 on.
     pub peer: u16,
-    /// The call number on our side, one of its peer's range.
+    /// The local call number, within its peer's range.
     pub number: u16,
     /// How many names were given out before, plus the first serial.
     pub serial: u64,

@@ -6,7 +6,7 @@ use crate::leg_name::LegName;
 use std::alloc::{AllocError, Global};
 use std::marker::Model;
 
-// Names by number: an array, which contracts see as a map and how many places there are.
+// Names by number, in an array. Contracts see a map and the number of places.
 #[derive(Drop)]
 pub(crate) struct NameTable {
     places: Vec<Option<LegName>>,
@@ -25,7 +25,7 @@ impl Model for NameTable {
 }
 
 impl NameTable {
-    // So many places without a name.
+    // Returns `places` places without a name.
     pub(crate) fn new(alloc: Global, places: usize) -> Result<NameTable, AllocError>
         ensures { IfOk result (λ table. table ≡ record { names = empty; places = places }) }
     {
@@ -34,7 +34,7 @@ impl NameTable {
         })
     }
 
-    // The name at a number.
+    // Returns the name at a number.
     pub(crate) fn get(&self, number: u16) -> Option<LegName>
         ensures { result ≡ get self.now.names number }
     {

@@ -6,7 +6,7 @@ ghost use Rattle.std.specs.List.{range_with_len};
 use std::alloc::{AllocError, Global};
 use std::collections::VecDeque;
 
-// So many numbers in ascending order, with room for no more.
+// Returns `count` numbers in ascending order, with room for no more.
 pub(crate) fn numbers_from(
     alloc: Global,
     first: u16,

@@ -3,7 +3,7 @@ use Rattle.std.proofs.Common.{◌≡◌, ℕ, ◌+◌, List, ◌++◌, Option, S
 use Rattle.std.proofs.lemmas.List.{append_assoc, take-append-drop, drop-drop}
 use Rattle.call_files.specs.Lines.{followed_by}
 
--- what is written from the front of a rest goes behind the file, and the rest is shorter by it
+-- octets written from the front of the rest go behind the file's content, and the rest is shorter by them
 pub followed_by_written : (contents : Option (List ℕ)) (octets : List ℕ) (written count : ℕ)
     → followed_by (drop (written + count) octets) (followed_by (take count (drop written octets)) contents)
     ≡ followed_by (drop written octets) contents

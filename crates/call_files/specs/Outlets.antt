@@ -3,9 +3,9 @@ use Rattle.std.specs.Prelude.{List, ◌++◌, refl}
 use Rattle.std.specs.Coded.{Coded, code_by, coded×, coded_list}
 
 pub record Handed (T : Type 0) : Type 0 where
-  -- what went into the ring, the oldest first
+  -- the rows that went into the ring, the oldest first
   pub gone : List T
-  -- what found no room there, and is kept
+  -- the rows for which the ring had no room, and which are kept
   pub kept : List T
 
 module _ {T : Type 0} where

@@ -1,35 +1,37 @@
-//! A file that is opened, looked after and written to, line by line, whatever it does.
+//! A file to which lines are appended. It is checked, opened again and written to as often as needed, whatever fails.
 ghost use Rattle.std.specs.Prelude.{◌≡◌, None, Some, IfOk, OnOk, OnErr, is_some, IsFalse, length};
-ghost use Rattle.call_files.specs.Lines.{followed_by, rest_of, with_lines};
+ghost use Rattle.call_files.specs.Lines.{followed_by, rest_of, row_octets, with_lines, whole, begun};
+ghost use Rattle.call_files.specs.Logs.{IsBegun, IsUnopened, IsFaced};
 
 use crate::line::Line;
 use crate::row_file::{Beginning, Fault, RowFile, Whereabouts};
 use std::marker::Model;
 
-// How long a file may be idle until it is looked at, in milliseconds.
+// The time after which an idle file is checked, in milliseconds.
 const IDLE_MS: u64 = 3000;
 
-// How long it takes until one that can't be opened is tried again, in milliseconds.
+// The time after which a file that couldn't be opened is tried again, in milliseconds.
 const RETRY_MS: u64 = 1000;
 
-// How long octets may be written and not on the disk, in milliseconds, but for the round that they were written in.
+// The time for which octets may be written and not synced, in milliseconds. The round that wrote them isn't counted.
 const SYNC_MS: u64 = 900;
 
-/// What is wrong with a file.
+/// The trouble of a file.
 #[derive(Clone, Copy, Debug, PartialEq, Eq)]
 pub enum Trouble {
     /// It can't be opened.
     Open(Fault),
     /// It can't be written to.
     Write(Fault),
-    /// What was written isn't known to be on the disk.
+    /// Its last octets couldn't be synced to the disk.
     Sync(Fault),
 }
 
-/// A file, the line that is on its way to it, and what is wrong with it.
+/// A file, the line that is being written to it, and its trouble.
 ///
-/// Before the line go the header, where the file was empty, and the end of a line that was cut. Moments are in milliseconds.
-/// Contracts see the row that is on its way, if one is.
+/// The header is written before the line if the file was empty, and the end of a line if its last one was cut. Moments are
+/// in milliseconds. Contracts see the file's content, if it is known, and the lines: the end of a line, the header, and the
+/// row that is being written, if there is one.
 #[derive(Drop)]
 pub struct Appender<F: RowFile + Drop> {
     file: F,
@@ -37,16 +39,16 @@ pub struct Appender<F: RowFile + Drop> {
     line_end: Line,
     header: Line,
     row: Option<Line>,
-    // When the file was last looked at, or tried.
+    // The moment at which the file was last checked or tried.
     looked: u64,
-    // Since when something may be written and not on the disk.
+    // The moment since which octets may be written but not synced.
     unsynced: Option<u64>,
     trouble: Option<Trouble>,
     sync_fault: Option<Fault>,
 }
 
-// Writes what is left of a line. What stands in the file, with what is left of the line behind it, is the same before and after,
-// however the file fails: so no octet is left out, and none is written twice.
+// Writes the rest of a line. The file's content followed by the rest of the line stays the same, however the write fails:
+// no octet is left out or written twice.
 fn write_line<F: RowFile>(file: &mut F, line: &mut Line) -> Result<(), Fault>
     ensures whole { OnOk result (line.new.written ≡ length line.new.octets) }
     ensures octets { line.new.octets ≡ line.old.octets }
@@ -65,7 +67,7 @@ fn write_line<F: RowFile>(file: &mut F, line: &mut Line) -> Result<(), Fault>
     Err(Fault { code: None })
 }
 
-// The lines that are on their way are written, each to its end before the next. True: the last of them was a row.
+// Writes the pending lines, each to its end before the next. Returns whether the last of them was a row.
 fn write_lines<F: RowFile>(
     file: &mut F,
     line_end: &mut Line,
@@ -75,7 +77,7 @@ fn write_lines<F: RowFile>(
     ensures same { with_lines line_end.new header.new row.new (F.contents file.new) ≡
         with_lines line_end.old header.old row.old (F.contents file.old) }
     ensures done { IfOk result (λ is_row. (is_row ≡ is_some row.old) × (row.new ≡ None)) }
-    ensures kept { OnErr result (is_some row.new ≡ is_some row.old) }
+    ensures kept { OnErr result (row_octets row.new ≡ row_octets row.old) }
 {
     write_line(file, line_end)?;
     write_line(file, header)?;
@@ -88,18 +90,27 @@ fn write_lines<F: RowFile>(
 }
 
 impl<F: RowFile + Drop> Model for Appender<F> {
-    ghost use Rattle.std.specs.Prelude.{Option};
-    ghost use Rattle.call_files.specs.Lines.{LineView};
+    ghost use Rattle.call_files.specs.Lines.{FileView};
 
-    ghost Value = { Option LineView };
+    ghost Value = { FileView };
 
-    ghost view = { λ appender. appender.row };
+    ghost view = { λ appender. record {
+      contents = F.contents appender.file;
+      line_end = appender.line_end;
+      header = appender.header;
+      row = appender.row;
+    } };
 }
 
 impl<F: RowFile + Drop> Appender<F> {
-    /// A file that isn't open, with the octets of an end of a line and of the header. No row is on its way.
+    /// Returns a file that isn't open, with the octets of a line's end and of the header. No row is being written.
     pub fn new(file: F, line_end: Vec<u8>, header: Vec<u8>) -> Appender<F>
-        ensures { result ≡ None }
+        ensures { result ≡ record {
+          contents = F.contents file;
+          line_end = record { octets = line_end.items; written = 0 };
+          header = record { octets = header.items; written = 0 };
+          row = None;
+        } }
     {
         Appender {
             file,
@@ -114,8 +125,8 @@ impl<F: RowFile + Drop> Appender<F> {
         }
     }
 
-    /// What is wrong: that the file can't be opened or written to; else that what was written isn't known to be on the disk.
-    /// None where nothing is.
+    /// Returns the file's trouble: it can't be opened or written to, or otherwise its last octets couldn't be synced.
+    /// Returns `None` if there is none.
     pub fn trouble(&self) -> Option<Trouble> {
         match (self.trouble, self.sync_fault) {
             (Some(trouble), _) => Some(trouble),
@@ -124,12 +135,13 @@ impl<F: RowFile + Drop> Appender<F> {
         }
     }
 
-    /// Opens the file that the name leads to, at a moment in milliseconds. Before the next row go the header, where the file is
-    /// empty, or the end of a line that was cut; a row that is on its way is written whole.
+    /// Opens the file that the name leads to, at `now`, in milliseconds. The header is written before the next row if the
+    /// file is empty, or the end of a line if its last one was cut. A row that is being written starts again.
     ///
-    /// `Fault`: the system refuses it. Then the file isn't open, and `trouble` is `Open`.
+    /// Returns `Fault` if the system refuses; then the file isn't open, and `trouble` is `Open`.
     pub fn open(&mut self, now: u64) -> Result<(), Fault>
-        ensures { is_some self.new ≡ is_some self.old }
+        ensures ok { OnOk result (IsBegun self.old self.new) }
+        ensures err { OnErr result (IsUnopened self.old self.new) }
     {
         self.looked = now;
         self.is_open = false;
@@ -145,9 +157,9 @@ impl<F: RowFile + Drop> Appender<F> {
         }
     }
 
-    // What has to stand before the next row. A row that was cut is written whole.
+    // Chooses the octets before the next row. A row that was cut is written again from its start.
     fn begin(&mut self, beginning: Beginning)
-        ensures { is_some self.new ≡ is_some self.old }
+        ensures { self.new ≡ begun beginning self.old }
     {
         self.is_open = true;
         self.header.leave_out();
@@ -162,9 +174,9 @@ impl<F: RowFile + Drop> Appender<F> {
         }
     }
 
-    // Looks where the name leads, and opens the file there where that is another one. False: it can't be opened.
+    // Checks where the name leads, and opens the file there if it is another. Returns false if that can't be opened.
     fn follow_name(&mut self, now: u64) -> bool
-        ensures { is_some self.new ≡ is_some self.old }
+        ensures { IsFaced self.old self.new }
     {
         self.looked = now;
         match self.file.look() {
@@ -180,10 +192,10 @@ impl<F: RowFile + Drop> Appender<F> {
         }
     }
 
-    /// Whether the file is open, and is the one that the name leads to, at a moment in milliseconds. It is looked at where
-    /// something is to be written, or once in three seconds; one that can't be opened is tried once a second.
+    /// Returns whether the file is open and is the one that the name leads to, at `now`, in milliseconds. It is checked if
+    /// something is to be written, or once in three seconds. A file that can't be opened is tried once a second.
     pub fn is_ready(&mut self, now: u64, is_wanted: bool) -> bool
-        ensures { is_some self.new ≡ is_some self.old }
+        ensures { IsFaced self.old self.new }
     {
         let age = now.saturating_sub(self.looked);
         if !self.is_open {
@@ -195,20 +207,22 @@ impl<F: RowFile + Drop> Appender<F> {
         true
     }
 
-    // Whether a line is on its way.
+    // Returns whether a line is being written.
     fn is_due(&self) -> bool
-        ensures { IsFalse result → self.now ≡ None }
+        ensures { IsFalse result → self.now.row ≡ None }
     {
         self.row.is_some() || !self.header.is_whole() || !self.line_end.is_whole()
     }
 
-    /// Writes the lines that are on their way, to a file that is ready, at a moment in milliseconds. `Ok(true)`: a row was
-    /// written to its end.
+    /// Writes the pending lines to a file that is ready, at `now`, in milliseconds. Returns true if a row was written to
+    /// its end.
     ///
-    /// `Fault`: the file doesn't take all of it. Then `trouble` is `Write`, and the next call goes on where this one stopped.
+    /// Returns `Fault` if the file doesn't take all of it. Then `trouble` is `Write`, and the next call continues at the
+    /// same octet.
     pub fn go_on(&mut self, now: u64) -> Result<bool, Fault>
-        ensures written { IfOk result (λ is_row. (is_row ≡ is_some self.old) × (self.new ≡ None)) }
-        ensures kept { OnErr result (is_some self.new ≡ is_some self.old) }
+        ensures whole { whole self.new ≡ whole self.old }
+        ensures written { IfOk result (λ is_row. (is_row ≡ is_some self.old.row) × (self.new.row ≡ None)) }
+        ensures kept { OnErr result (row_octets self.new.row ≡ row_octets self.old.row) }
     {
         if !self.is_due() {
             self.trouble = None;
@@ -232,22 +246,22 @@ impl<F: RowFile + Drop> Appender<F> {
         }
     }
 
-    /// Whether a row is on its way.
+    /// Returns whether a row is being written.
     pub fn has_row(&self) -> bool
-        ensures { result ≡ is_some self.now }
+        ensures { result ≡ is_some self.now.row }
     {
         self.row.is_some()
     }
 
-    /// The row of these octets is the next, and none of it is written. No row may be on its way.
+    /// Sets the octets of the next row. None of them is written yet. No row may be pending.
     pub fn take(&mut self, octets: Vec<u8>)
-        requires { self.old ≡ None }
-        ensures { self.new ≡ Some (record { octets = octets.items; written = 0 }) }
+        requires { self.old.row ≡ None }
+        ensures { self.new ≡ record self.old { row = Some (record { octets = octets.items; written = 0 }) } }
     {
         self.row = Some(Line::new(octets));
     }
 
-    // Has on the disk what was written. Where that fails it is tried again later.
+    // Syncs the written octets to the disk. If that fails, it is tried again later.
     fn sync(&mut self, now: u64)
         ensures { self.new ≡ self.old }
     {
@@ -266,8 +280,8 @@ impl<F: RowFile + Drop> Appender<F> {
         }
     }
 
-    /// Has on the disk what was written, where the file is open and that is due: 900 milliseconds after the first of it was
-    /// written, or after the last try.
+    /// Syncs the written octets to the disk if the file is open and the sync is due. It is due 900 milliseconds after the
+    /// first of them was written, or after the last try.
     pub fn sync_in_time(&mut self, now: u64)
         ensures { self.new ≡ self.old }
     {
@@ -278,7 +292,7 @@ impl<F: RowFile + Drop> Appender<F> {
         }
     }
 
-    /// Has on the disk what was written, where the file is open.
+    /// Syncs the written octets to the disk, if the file is open.
     pub fn end(&mut self, now: u64)
         ensures { self.new ≡ self.old }
     {

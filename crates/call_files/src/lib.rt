@@ -1,5 +1,5 @@
-//! Rows on their way from the threads that make them to a file: none is lost while a bound isn't passed, and none is torn,
-//! whatever the file does. Nothing here opens, reads or waits by itself: the file is whatever is one.
+//! Rows on their way from the threads that make them to a file. None is lost below a bound, and none is torn, whatever the
+//! file does. Nothing here opens, reads or waits: the file is a trait.
 #![tactic(auto)]
 
 mod appender;

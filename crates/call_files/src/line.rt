@@ -4,7 +4,7 @@ ghost use Rattle.call_files.specs.Lines.{rest_of};
 
 use std::marker::Model;
 
-/// Octets that go to a file, and how many of them were written.
+/// Octets that are written to a file, and the number of those already written.
 #[derive(Drop)]
 pub struct Line {
     octets: Vec<u8>,
@@ -23,7 +23,7 @@ impl Model for Line {
 }
 
 impl Line {
-    /// These octets, none of which was written.
+    /// Returns a line of these octets. None of them is written yet.
     pub fn new(octets: Vec<u8>) -> Line
         ensures octets { result.octets ≡ octets.items }
         ensures written { result.written ≡ 0 }
@@ -31,21 +31,21 @@ impl Line {
         Line { octets, written: 0 }
     }
 
-    /// The octets that weren't written yet.
+    /// Returns the octets that weren't written yet.
     pub fn rest(&self) -> &[u8]
         ensures { result.now ≡ rest_of self.now }
     {
         &self.octets[self.written..]
     }
 
-    /// Whether all of it was written.
+    /// Returns whether all of it was written.
     pub fn is_whole(&self) -> bool
         ensures { IsTrue result ↔ (self.now.written ≡ length self.now.octets) }
     {
         self.written == self.octets.len()
     }
 
-    /// So many more octets were written, at most as many as are left.
+    /// Records that `count` more octets were written, at most as many as are left.
     pub fn wrote(&mut self, count: usize)
         requires { self.old.written + count ≤ length self.old.octets }
         ensures { self.new ≡ record self.old { written = self.old.written + count } }
@@ -53,14 +53,14 @@ impl Line {
         self.written += count;
     }
 
-    /// It is to be written from its first octet on.
+    /// Starts again from its first octet.
     pub fn begin_again(&mut self)
         ensures { self.new ≡ record self.old { written = 0 } }
     {
         self.written = 0;
     }
 
-    /// It isn't to be written, or not on.
+    /// Skips the rest of it.
     pub fn leave_out(&mut self)
         ensures { self.new ≡ record self.old { written = length self.old.octets } }
     {

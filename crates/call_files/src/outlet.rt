@@ -1,4 +1,4 @@
-//! Where a thread hands rows over to another one without waiting for it.
+//! The outlet by which a thread hands rows to another one without waiting for it.
 ghost use Rattle.std.specs.Prelude.{◌≡◌, [], ◌∷◌, ◌++◌, if◌then◌else◌, length};
 ghost use Rattle.call_files.specs.Outlets.{all_of};
 ghost use Rattle.rtrb.specs.Ring.{sent};
@@ -8,8 +8,8 @@ use rtrb::{Producer, PushError};
 use std::marker::Model;
 use std::mem;
 
-/// A ring to another thread, and the rows that found no room in it, in their order. The next of these goes into the ring before
-/// any row that comes later. Contracts see what went into the ring, and what is kept.
+/// A ring to another thread, and the rows for which it had no room, in their order. These go into the ring before any later
+/// row. Contracts see the rows that went into the ring, and those that are kept.
 #[derive(Drop)]
 pub struct Outlet<T: Drop> {
     ring: Producer<T>,
@@ -28,14 +28,14 @@ impl<T: Drop> Model for Outlet<T> {
 }
 
 impl<T: Drop> Outlet<T> {
-    /// A ring, and room for rows that are kept. Rows that are there already count as kept.
+    /// Returns an outlet with a ring, and room for rows that are kept. Rows already in `kept` count as kept.
     pub fn new(ring: Producer<T>, kept: Backlog<T>) -> Outlet<T>
         ensures { result ≡ record { gone = sent ring; kept = kept.waiting } }
     {
         Outlet { ring, kept }
     }
 
-    // The oldest row that is kept goes on. False: none does, since none is kept or the ring has no room.
+    // Moves the oldest kept row into the ring. Returns false if none is kept or the ring has no room.
     #[tactic(auto, using(crate::proofs::RowLaws::front_goes_on, crate::proofs::RowLaws::nobody_goes_on))]
     fn pass_one(&mut self) -> bool
         ensures { all_of self.new ≡ all_of self.old }
@@ -52,7 +52,7 @@ impl<T: Drop> Outlet<T> {
         }
     }
 
-    // The rows that are kept go on, as far as the ring has room.
+    // Moves the kept rows into the ring, as far as it has room.
     fn pass_on(&mut self)
         ensures { all_of self.new ≡ all_of self.old }
     {
@@ -63,7 +63,7 @@ impl<T: Drop> Outlet<T> {
         }
     }
 
-    /// Hands a row over, or keeps it. False: there was no room for it either, and it is lost.
+    /// Hands a row over, or keeps it. Returns false if there was no room for it either, and it is lost.
     pub fn hand_over(&mut self, row: T) -> bool
         ensures { all_of self.new ≡ (if result then all_of self.old ++ row ∷ [] else all_of self.old) }
     {
@@ -77,14 +77,14 @@ impl<T: Drop> Outlet<T> {
         }
     }
 
-    /// How many rows are kept since the ring had no room for them.
+    /// Returns the number of rows that are kept because the ring had no room for them.
     pub fn kept(&self) -> usize
         ensures { result ≡ length self.now.kept }
     {
         self.kept.len()
     }
 
-    /// The rows that are kept, all of which come later than those in the ring. What is given takes their place, and has none.
+    /// Takes the kept rows, which all come after those in the ring. The empty `spare` replaces them.
     pub fn take_kept(&mut self, spare: Backlog<T>) -> Backlog<T>
         requires { spare.waiting ≡ [] }
         ensures rows { result.waiting ≡ self.old.kept }

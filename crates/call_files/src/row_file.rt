@@ -1,25 +1,26 @@
-//! A file that rows are appended to, by what is asked of it.
-ghost use Rattle.std.specs.Prelude.{◌≡◌, ◌≤◌, length, take, IfOk, OnErr};
-ghost use Rattle.call_files.specs.Lines.{followed_by};
+//! The operations of a file to which rows are appended.
+ghost use Rattle.std.specs.Prelude.{◌≡◌, ◌≢◌, ◌≤◌, [], length, take, IfOk, IfSome, OnErr};
+ghost use Rattle.call_files.specs.Lines.{followed_by, beginning_of};
+ghost use Rattle.call_files.specs.declared.row_file.Whereabouts.TheVariants.{Emptied};
 
-/// Why the system refused something: by its number of the error, where it gave one.
+/// The reason why the system refused a call: its error number, if it gave one.
 #[derive(Clone, Copy, Debug, PartialEq, Eq)]
 pub struct Fault {
     pub code: Option<i32>,
 }
 
-/// What stands in a file that was just opened.
+/// The state of the content of a file that was just opened.
 #[derive(Clone, Copy)]
 pub enum Beginning {
     /// Nothing.
     Empty,
     /// Whole lines.
     Lines,
-    /// Lines, of which the last has no end.
+    /// Lines; the last has no end.
     CutLine,
 }
 
-/// Where the name of a file leads that is open.
+/// The file to which the name of an open file leads now.
 #[derive(Clone, Copy)]
 pub enum Whereabouts {
     /// To the file that is open.
@@ -34,22 +35,26 @@ pub enum Whereabouts {
 pub trait RowFile {
     ghost use Rattle.std.specs.Prelude.{ℕ, List, Option, None};
 
-    /// What stands in the file that is open, where that is known.
+    /// The content of the open file, if it is known.
     ghost contents: { Self → Option (List ℕ) } = { λ _. None };
 
-    /// Opens the file that the name leads to, and makes it where there is none. What was open before is closed.
-    /// `Fault`: the system refuses it.
-    fn open(&mut self) -> Result<Beginning, Fault>;
+    /// Opens the file that the name leads to, or makes it if there is none. The file that was open is closed. Returns
+    /// `Fault` if the system refuses.
+    fn open(&mut self) -> Result<Beginning, Fault>
+        ensures { IfOk result (λ beginning. IfSome (contents self.new) (λ octets. beginning ≡ beginning_of octets)) };
 
-    /// Where the name leads now.
-    fn look(&mut self) -> Whereabouts;
+    /// Returns where the name leads now.
+    fn look(&mut self) -> Whereabouts
+        ensures same { result ≢ Emptied → contents self.new ≡ contents self.old }
+        ensures emptied { result ≡ Emptied → IfSome (contents self.new) (λ octets. octets ≡ []) };
 
-    /// Writes octets to the end, as many as the system takes. Gives how many these were. `Fault`: the system took none.
+    /// Appends octets, as many as the system takes. Returns how many these were, or `Fault` if the system took none.
     fn append(&mut self, octets: &[u8]) -> Result<usize, Fault>
         ensures within { IfOk result (λ count. count ≤ length octets.now) }
         ensures taken { IfOk result (λ count. contents self.new ≡ followed_by (take count octets.now) (contents self.old)) }
         ensures refused { OnErr result (contents self.new ≡ contents self.old) };
 
-    /// Has all that was written on the disk. `Fault`: the system refuses it.
-    fn sync(&mut self) -> Result<(), Fault>;
+    /// Syncs all written octets to the disk. Returns `Fault` if the system refuses.
+    fn sync(&mut self) -> Result<(), Fault>
+        ensures same { contents self.new ≡ contents self.old };
 }

@@ -1,7 +1,7 @@
-//! Rows that wait for a file, and go to it one after the other.
-ghost use Rattle.std.specs.Prelude.{◌≡◌, ◌+◌, ◌<◌, ◌↔◌, None, IsTrue, is_some, length};
+//! Rows that wait for a file, and are written to it one after the other.
+ghost use Rattle.std.specs.Prelude.{◌≡◌, ◌+◌, ◌<◌, ◌↔◌, ◌++◌, None, IsTrue, OnOk, OnErr, ℕ, List, is_some, length};
 ghost use Rattle.call_records.specs.Backlog.{with_row};
-ghost use Rattle.call_files.specs.Logs.{row_count};
+ghost use Rattle.call_files.specs.Logs.{IsBegun, IsUnopened, IsWritten, IsMoved, row_count};
 
 use crate::appender::{Appender, Trouble};
 use crate::row_file::{Fault, RowFile};
@@ -9,16 +9,23 @@ use call_records::Backlog;
 use std::alloc::{AllocError, Global};
 use std::marker::Model;
 
-/// The text of rows.
+/// Formats rows.
 pub trait Spelling<T> {
-    /// Adds a row's line, with its end. Where memory fails, what was added is of no use.
-    fn spell(&self, row: &T, octets: &mut Vec<u8>) -> Result<(), AllocError>;
+    ghost use Rattle.std.specs.Prelude.{ℕ, List};
+
+    /// These octets are the line of a row, with its end.
+    ghost is_line: { Self → T → List ℕ → Type 0 };
+
+    /// Adds a row's line, with its end. If a request for memory is refused, the added octets are of no use.
+    fn spell(&self, row: &T, octets: &mut Vec<u8>) -> Result<(), AllocError>
+        ensures line { OnOk result ((line : List ℕ) × is_line self.now row.now line
+            × (octets.new.items ≡ octets.old.items ++ line)) };
 }
 
-/// Rows that wait for a file, in their order, and the file. None is lost while a bound isn't passed: a row that the file didn't
-/// take to its end is gone on with, where the file is the same, and written whole where it is another one.
+/// Rows that wait for a file, in their order, and the file. None is lost below a bound. A row that the file didn't take to
+/// its end is continued if the file is the same, and written again from its start to another file.
 ///
-/// Moments are in milliseconds. Contracts see what waits, and the row that is on its way, if one is.
+/// Moments are in milliseconds. Contracts see the waiting rows, and the file with the lines that are being written to it.
 #[derive(Drop)]
 pub struct RowLog<F: RowFile + Drop, T: Drop> {
     alloc: Global,
@@ -33,13 +40,13 @@ impl<F: RowFile + Drop, T: Drop> Model for RowLog<F, T> {
 
     ghost coded = { log_code T.code };
 
-    ghost view = { λ log. record { backlog = log.waiting; row = log.appender } };
+    ghost view = { λ log. record { backlog = log.waiting; file = log.appender } };
 }
 
 impl<F: RowFile + Drop, T: Drop> RowLog<F, T> {
-    /// The rows that wait, and the file, with the row that is on its way to it, if one is.
+    /// Returns a log of these waiting rows and this file, with its pending row if it has one.
     pub fn new(alloc: Global, appender: Appender<F>, waiting: Backlog<T>) -> RowLog<F, T>
-        ensures { result ≡ record { backlog = waiting; row = appender } }
+        ensures { result ≡ record { backlog = waiting; file = appender } }
     {
         RowLog {
             alloc,
@@ -48,17 +55,18 @@ impl<F: RowFile + Drop, T: Drop> RowLog<F, T> {
         }
     }
 
-    /// Opens the file, at a moment in milliseconds.
+    /// Opens the file, at `now`, in milliseconds.
     ///
-    /// `Fault`: the system refuses it. The rows are kept, and `write` tries again.
+    /// Returns `Fault` if the system refuses. The rows are kept, and `write` tries again.
     pub fn open(&mut self, now: u64) -> Result<(), Fault>
         ensures waiting { self.new.backlog ≡ self.old.backlog }
-        ensures row { is_some self.new.row ≡ is_some self.old.row }
+        ensures ok { OnOk result (IsBegun self.old.file self.new.file) }
+        ensures err { OnErr result (IsUnopened self.old.file self.new.file) }
     {
         self.appender.open(now)
     }
 
-    /// One more row waits. False: the bound is passed, and it is lost.
+    /// Adds a row behind the others. Returns false if the bound is reached, and the row is lost.
     pub fn push(&mut self, row: T) -> bool
         ensures kept { IsTrue result ↔ (length self.old.backlog.waiting < self.old.backlog.capacity) }
         ensures after { self.new ≡ record self.old { backlog = with_row self.old.backlog row } }
@@ -66,36 +74,36 @@ impl<F: RowFile + Drop, T: Drop> RowLog<F, T> {
         self.waiting.push(row)
     }
 
-    /// How many rows wait, beside the one that is on its way.
+    /// Returns the number of waiting rows, not counting the one that is being written.
     pub fn waiting(&self) -> usize
         ensures { result ≡ length self.now.backlog.waiting }
     {
         self.waiting.len()
     }
 
-    /// Whether a row is on its way.
+    /// Returns whether a row is being written.
     pub fn has_row(&self) -> bool
-        ensures { result ≡ is_some self.now.row }
+        ensures { result ≡ is_some self.now.file.row }
     {
         self.appender.has_row()
     }
 
-    /// How many rows were lost, modulo 2^64.
+    /// Returns the number of lost rows, modulo 2^64.
     pub fn lost(&self) -> u64
         ensures { result ≡ self.now.backlog.lost }
     {
         self.waiting.lost()
     }
 
-    /// What is wrong with the file; none where nothing is.
+    /// Returns the file's trouble, if it has any.
     pub fn trouble(&self) -> Option<Trouble> {
         self.appender.trouble()
     }
 
-    // The next row is on its way. False: none waits, or there is no memory for its text.
+    // Begins the next row. Returns false if none waits, or if there is no memory for its text.
     fn take_next<S: Spelling<T>>(&mut self, spelling: &S) -> bool
-        requires { self.old.row ≡ None }
-        ensures { row_count self.new ≡ row_count self.old }
+        requires { self.old.file.row ≡ None }
+        ensures { IsWritten (S.is_line spelling.now) self.old 0 self.new }
     {
         let Some(row) = self.waiting.front() else {
             return false;
@@ -109,9 +117,10 @@ impl<F: RowFile + Drop, T: Drop> RowLog<F, T> {
         true
     }
 
-    // Writes to a file that is ready what waits, as far as it takes it. Gives how many rows were written to their ends.
+    // Writes the waiting rows to a file that is ready, as far as it takes them. Returns the number of rows written to their
+    // ends.
     fn write_all<S: Spelling<T>>(&mut self, spelling: &S, now: u64) -> u64
-        ensures { result + row_count self.new ≡ row_count self.old }
+        ensures { IsWritten (S.is_line spelling.now) self.old result self.new }
     {
         let mut count = 0;
         for _ in 0..u64::MAX {
@@ -128,11 +137,13 @@ impl<F: RowFile + Drop, T: Drop> RowLog<F, T> {
         count
     }
 
-    /// Writes what waits, as far as the file takes it, at a moment in milliseconds, and gives how many rows were written to
-    /// their ends. What was written is on the disk within a second where this is called every tenth of one.
+    /// Writes the waiting rows as far as the file takes them, at `now`, in milliseconds. Returns the number of rows written
+    /// to their ends. Called every tenth of a second, it syncs written rows to the disk within a second.
     pub fn write<S: Spelling<T>>(&mut self, spelling: &S, now: u64) -> u64
-        // No row is lost: each that was there is written, or there still.
-        ensures { result + row_count self.new ≡ row_count self.old }
+        // The oldest rows are written as their lines, in order.
+        ensures lines { IsMoved (S.is_line spelling.now) self.old result self.new }
+        // No row is lost: each was written, or still waits.
+        ensures count { result + row_count self.new ≡ row_count self.old }
     {
         let mut count = 0;
         let is_wanted = self.appender.has_row() || !self.waiting.is_empty();
@@ -143,10 +154,11 @@ impl<F: RowFile + Drop, T: Drop> RowLog<F, T> {
         count
     }
 
-    /// Writes what waits as `write` does, and gives how many rows were written to their ends; then all that was written is on
-    /// the disk, as far as the system lets it.
+    /// Writes the waiting rows as `write` does, and returns the number written to their ends. Then it syncs them to the
+    /// disk, as far as the system allows.
     pub fn end<S: Spelling<T>>(&mut self, spelling: &S, now: u64) -> u64
-        ensures { result + row_count self.new ≡ row_count self.old }
+        ensures lines { IsMoved (S.is_line spelling.now) self.old result self.new }
+        ensures count { result + row_count self.new ≡ row_count self.old }
     {
         let count = self.write(spelling, now);
         self.appender.end(now);

@@ -1,4 +1,4 @@
--- A run is put in place of one of its key, with more.
+-- A run is replaced by a longer one with the same key.
 use Rattle.std.proofs.Common.{◌≡◌, ℕ, ◌+◌, ◌<◌, List, Bool, length, get_or, set, sum_by, ap, ◌∙◌, arith, if◌then◌else◌}
 use Rattle.std.proofs.lemmas.List.Sums.{sum_by-set}
 use Rattle.std.proofs.lemmas.Option.{get_or_from_slice_get}
@@ -7,7 +7,7 @@ use Rattle.call_ladder.specs.declared.media_runs.RunKey.{RunKey}
 use Rattle.call_ladder.specs.declared.media_runs.MediaPiece.{MediaPiece}
 use Rattle.call_ladder.specs.declared.media_runs.MediaRun.{MediaRun}
 
--- what a run counts, where its key is chosen, grows by what is chosen
+-- the count of a run, if its key is chosen, grows by the chosen frame
 counted : (a b k : Bool) (n m o : ℕ) → a ≡ k → b ≡ k → n ≡ m + o →
     (if a then n else 0) ≡ (if b then m else 0) + (if k then o else 0)
 counted a b k n m o p q e = grind arith

@@ -4,27 +4,27 @@ use Rattle.call_ladder.specs.declared.media_runs.RunKey.{RunKey}
 use Rattle.call_ladder.specs.declared.media_runs.MediaPiece.{MediaPiece}
 use Rattle.call_ladder.specs.declared.media_runs.MediaRun.{MediaRun}
 
--- how many frames, and octets of media, the runs of chosen keys have
+-- the frames, and the octets of media, in the runs of chosen keys
 abbrev pub frames_of : (RunKey → Bool) → List MediaRun → ℕ
 frames_of chosen runs = sum_by (λ run. if chosen run.key then run.frames else 0) runs
 
 abbrev pub octets_of : (RunKey → Bool) → List MediaRun → ℕ
 octets_of chosen runs = sum_by (λ run. if chosen run.key then run.octets else 0) runs
 
--- one frame more, where its key is chosen
+-- one more frame, if its key is chosen
 abbrev pub one_more : (RunKey → Bool) → RunKey → ℕ
 one_more chosen key = if chosen key then 1 else 0
 
 abbrev pub octets_more : (RunKey → Bool) → MediaPiece → ℕ
 octets_more chosen piece = if chosen piece.key then piece.octets else 0
 
--- a run of the piece's key that still counts one more
+-- a run of the piece's key that can still count one more
 pub record Takes (run : MediaRun) (piece : MediaPiece) : Type 0 where
   pub key : run.key ≡ piece.key
   pub frames : run.frames + 1 < 2 ^ 64
   pub octets : run.octets + piece.octets < 2 ^ 64
 
--- this run of the piece's key stands at the place, and with the piece it is that
+-- a run of the piece's key is at this place, and with the piece it becomes more
 pub record Extends (runs : List MediaRun) (piece : MediaPiece) (place : ℕ) (more : MediaRun) : Type 0 where
   pub run : MediaRun
   pub at : slice_get runs place ≡ Some run

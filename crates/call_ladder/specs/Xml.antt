@@ -1,8 +1,8 @@
--- Text in XML ("Character Data and Markup", "Predefined Entities"), and what a reader has of it.
+-- Text in XML ("Character Data and Markup", "Predefined Entities"), and the text that a reader gets back.
 use Rattle.std.specs.Prelude.{ℕ, ◌==◌, List, [], ◌∷◌, ◌++◌, codes, Option, Some, None, if◌then◌else◌}
 use Rattle.std.specs.Str.{bytes_eq}
 
--- an octet of a text: what would be read as markup is written as an entity
+-- an octet of a text: one that could be read as markup is written as an entity
 abbrev pub xml_octet : ℕ → List ℕ
 xml_octet octet =
     if octet == 38 then codes "&amp;" else (
@@ -17,7 +17,7 @@ entity name =
     if bytes_eq name (codes "lt") then 60 else (
     if bytes_eq name (codes "gt") then 62 else 34))
 
--- a text, as a reader of XML has it: within an entity, of whose name so much was read, or not
+-- a text, as a reader of XML decodes it; name is the part of an entity's name read so far, if the reader is within one
 abbrev pub read_from : Option (List ℕ) → List ℕ → List ℕ
 read_from name [] = []
 read_from None (octet ∷ octets) =

@@ -8,24 +8,24 @@ use info_elements::{
 };
 use text_buffer::TextBuffer;
 
-// What the octets of an element are.
+// The form of an element's value.
 #[derive(Clone, Copy)]
 enum Form {
     // A number of one octet, and of two.
     Octet,
     Pair,
-    // The methods of authentication, of which MD5 is bit 0x0002.
+    // The methods of authentication. MD5 is bit 0x0002.
     Methods,
-    // Whether the number that calls may be shown, by two bits; the others say who vouches for it.
+    // Whether the caller ID may be shown, by two bits; the other bits say who verified it.
     Presentation,
     Formats,
     Text,
     Quoted,
-    // Nobody is to read them.
+    // A secret that nobody may read.
     Hidden,
 }
 
-// The kinds of elements: the number, what is written first, and what the octets are.
+// The kinds of elements: the number, the label, and the form of the value.
 const KINDS: [(u8, &str, Form); 17] = [
     (FORMAT, "", Form::Formats),
     (CAPABILITY, "can ", Form::Formats),
@@ -42,13 +42,13 @@ const KINDS: [(u8, &str, Form); 17] = [
     (USERNAME, "user ", Form::Text),
     (CHALLENGE, "challenge ", Form::Text),
     (CAUSE, "", Form::Quoted),
-    // (the digits would let a listener try secrets)
+    // The digits would let a reader try secrets.
     (MD5_RESULT, "MD5 result", Form::Hidden),
-    // (and the token to call in another's name, for some seconds)
+    // The token would let a reader place calls in another's name for some seconds.
     (CALLTOKEN, "call token", Form::Hidden),
 ];
 
-// What is written first of an element, and what its octets are, where they are what they should be.
+// Returns an element's label and the form of its value, if the value has that form.
 fn kind_of(number: u8, value: &[u8]) -> Option<(&'static str, Form)> {
     for (known, name, form) in &KINDS {
         if *known == number && fits(*form, value.len()) {
@@ -67,7 +67,7 @@ fn fits(form: Form, octets: usize) -> bool {
     }
 }
 
-// The number that octets are.
+// Returns the number in the octets of a value.
 fn number_in(value: &[u8]) -> u32 {
     let mut number: u32 = 0;
     for octet in value {
@@ -76,7 +76,7 @@ fn number_in(value: &[u8]) -> u32 {
     number
 }
 
-// A number, and what it means.
+// Writes a number and its meaning.
 fn write_number(form: Form, number: u32, out: &mut TextBuffer) {
     match form {
         Form::Formats => return write_formats(number, out),
@@ -92,7 +92,7 @@ fn write_number(form: Form, number: u32, out: &mut TextBuffer) {
     }
 }
 
-// An element.
+// Writes an element.
 fn write_element(number: u8, value: &[u8], out: &mut TextBuffer) {
     let Some((name, form)) = kind_of(number, value) else {
         out.text("element 0x");
@@ -113,7 +113,7 @@ fn write_element(number: u8, value: &[u8], out: &mut TextBuffer) {
     }
 }
 
-// Whether an element says nothing that isn't known: version 2, and a capability that is the format.
+// Returns whether an element adds nothing: version 2, or a capability equal to the format.
 fn is_left_out(number: u8, value: &[u8], elements: &[u8]) -> bool {
     match number {
         VERSION => value == [0, 2].as_slice(),

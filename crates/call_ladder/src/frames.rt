@@ -1,4 +1,4 @@
-//! Full frames in words.
+//! Full frames as text.
 use crate::elements::write_elements;
 use crate::words::{write_count, write_octets};
 use call_signals::Message;
@@ -6,13 +6,13 @@ use iax_frames::Full;
 use peer_plan::format_name;
 use text_buffer::TextBuffer;
 
-// How much data a frame has.
+// Writes the length of a frame's data.
 fn write_payload(frame: &Full<'_>, out: &mut TextBuffer) {
     out.text(", ");
     write_count(frame.payload().len() as u64, "octet", "octets", out);
 }
 
-/// Writes the name of a full frame, and what it says. What has no name of its own has its type and its subclass.
+/// Writes the name of a full frame and its content. A frame without a name has its type and its subclass.
 pub(crate) fn write_full(frame: &Full<'_>, out: &mut TextBuffer) {
     let message = Message::of(frame);
     out.text(message.name());

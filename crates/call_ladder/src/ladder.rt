@@ -1,4 +1,4 @@
-//! A ladder: what it is told of.
+//! A ladder, and the events that are added to it.
 use crate::frames::{write_full, write_numbers};
 use crate::media_runs::{Direction, MediaKind, MediaPiece, MediaRuns, RunKey};
 use crate::number_pairs::NumberPairs;
@@ -17,26 +17,26 @@ use std::{io, mem};
 pub struct DatagramEvent<'a> {
     /// In milliseconds.
     pub moment: u64,
-    /// The place of the peer: peers are told of from 0 on.
+    /// The place of the peer: peers are added from 0 on.
     pub peer: u16,
     pub direction: Direction,
     pub octets: &'a [u8],
-    /// Why the exchange refused it, if so.
+    /// The exchange's refusal, if it refused the datagram.
     pub refusal: Option<&'static str>,
 }
 
-/// A ladder. It is told of the peers first, and then of what happens, in its order.
+/// A ladder. The peers are added first, and then the events, in their order.
 #[derive(Drop)]
 pub struct Ladder {
     alloc: Global,
     peers: Vec<Peer>,
     rows: Rows,
-    // What came since the last row.
+    // The media since the last row.
     runs: MediaRuns,
     pairs: NumberPairs,
 }
 
-// The rows, and whether a request for memory was refused, which nobody was told yet.
+// The rows, and whether a request for memory was refused since the last call of `outcome`.
 #[derive(Drop)]
 struct Rows {
     list: Vec<Row>,
@@ -44,7 +44,7 @@ struct Rows {
 }
 
 impl Rows {
-    // A row that is done is the last one.
+    // Adds a finished row at the end.
     fn push(&mut self, row: Row) {
         let is_cut = row.text.is_cut || row.numbers.is_cut;
         if is_cut || self.list.push(row).is_err() {
@@ -52,7 +52,7 @@ impl Rows {
         }
     }
 
-    // Whether a request for memory was refused since this was asked last.
+    // Returns an error if a request for memory was refused since the last call.
     fn outcome(&mut self) -> io::Result<()> {
         if mem::take(&mut self.is_cut) {
             return Err(io::Error::from(AllocError));
@@ -62,7 +62,7 @@ impl Rows {
 }
 
 impl Ladder {
-    /// A ladder without a peer and without a row. It takes no memory.
+    /// Returns a ladder without peers and rows. It takes no memory.
     pub fn new(alloc: Global) -> Ladder {
         Ladder {
             alloc,
@@ -76,18 +76,18 @@ impl Ladder {
         }
     }
 
-    /// One peer more, with its name in ASCII, the first of its call numbers at the exchange, and how many it has.
+    /// Adds a peer, with its name in ASCII, the first of its call numbers at the exchange, and the count of these.
     ///
-    /// An error is a refused request for memory.
+    /// Returns an error if a request for memory was refused.
     pub fn peer(&mut self, name: &str, first: u16, count: u16) -> io::Result<()> {
         let name = String::from_str(self.alloc, name)?;
         Ok(self.peers.push(Peer { name, first, count })?)
     }
 
-    /// A datagram ("Frame Types"). Media that isn't refused is folded into the run of its call; what is no frame has a row that
-    /// says so.
+    /// Adds a datagram ("Frame Types"). Accepted media is folded into the run of its call. Octets that aren't a frame have
+    /// a row that says so.
     ///
-    /// An error is a refused request for memory.
+    /// Returns an error if a request for memory was refused.
     pub fn datagram(&mut self, event: &DatagramEvent<'_>) -> io::Result<()> {
         match read(event.octets) {
             Ok(Datagram::Full(frame)) => self.full(event, &frame),
@@ -103,9 +103,9 @@ impl Ladder {
         self.rows.outcome()
     }
 
-    /// What the script asked for at a moment in milliseconds, of the leg of a local number or of none.
+    /// Adds an event of the script at a moment in milliseconds, of the leg of a local number or of none.
     ///
-    /// An error is a refused request for memory.
+    /// Returns an error if a request for memory was refused.
     pub fn order(&mut self, moment: u64, text: &[u8], number: Option<u16>) -> io::Result<()> {
         self.end_runs();
         let mut row = Row::new(self.alloc, RowKind::Order, moment);
@@ -115,10 +115,10 @@ impl Ladder {
         self.rows.outcome()
     }
 
-    /// What was asked for last at this moment, in milliseconds, was refused, by this name. Where nothing was asked for then, it
-    /// was a tick.
+    /// Adds the refusal, by its name, of the last event at this moment, in milliseconds. Without such an event, a tick was
+    /// refused.
     ///
-    /// An error is a refused request for memory.
+    /// Returns an error if a request for memory was refused.
     pub fn refused(&mut self, moment: u64, name: &str) -> io::Result<()> {
         self.end_runs();
         let was_asked = match self.rows.list.last() {
@@ -135,9 +135,10 @@ impl Ladder {
         self.rows.outcome()
     }
 
-    /// The leg of a local number has come to the stage of this name at a moment in milliseconds, or the number is free again.
+    /// Adds the new stage of the leg of a local number, by its name, at a moment in milliseconds, or that the number is
+    /// free again.
     ///
-    /// An error is a refused request for memory.
+    /// Returns an error if a request for memory was refused.
     pub fn stage(&mut self, moment: u64, number: u16, name: &str, is_free: bool) -> io::Result<()> {
         self.end_runs();
         let mut row = Row::new(self.alloc, RowKind::Stage, moment);
@@ -153,16 +154,16 @@ impl Ladder {
         self.rows.outcome()
     }
 
-    /// The ladder as the octets of an SVG: of all, or of the leg of one local number.
+    /// Returns the ladder as the octets of an SVG: of all legs, or of the leg of one local number.
     ///
-    /// An error is a refused request for memory.
+    /// Returns an error if a request for memory was refused.
     pub fn into_svg(mut self, leg: Option<u16>) -> io::Result<Vec<u8>> {
         self.draw(leg, false)
     }
 
-    /// The ladder as plain text, of at most 100 columns: of all, or of the leg of one local number.
+    /// Returns the ladder as plain text of at most 100 columns: of all legs, or of the leg of one local number.
     ///
-    /// An error is a refused request for memory.
+    /// Returns an error if a request for memory was refused.
     pub fn into_text(mut self, leg: Option<u16>) -> io::Result<Vec<u8>> {
         self.draw(leg, true)
     }
@@ -188,7 +189,7 @@ impl Ladder {
         Ok(page.into_octets()?)
     }
 
-    // The peer that has a number at the exchange.
+    // Returns the peer that has a number at the exchange.
     fn peer_of(&self, number: u16) -> Option<u16> {
         for (place, peer) in self.peers.iter().enumerate() {
             if peer.has(number) {
@@ -198,7 +199,7 @@ impl Ladder {
         None
     }
 
-    // The runs so far end: what comes is another row.
+    // Ends the runs so far: the next event has another row.
     fn end_runs(&mut self) {
         for run in self.runs.as_slice() {
             let local = match run.key.direction {
@@ -210,7 +211,7 @@ impl Ladder {
         self.runs.clear();
     }
 
-    // An arrow without a word.
+    // Returns an arrow without text.
     fn arrow(&self, event: &DatagramEvent<'_>) -> Row {
         let mut row = Row::new(self.alloc, RowKind::Frame, event.moment);
         row.peer = Some(event.peer);
@@ -218,7 +219,7 @@ impl Ladder {
         row
     }
 
-    // An arrow that is done, but for its refusal, and that its frame was sent again.
+    // Adds a finished arrow. Sets its refusal, and whether its frame is a retransmission.
     fn push_arrow(&mut self, mut row: Row, event: &DatagramEvent<'_>) {
         if let Some(name) = event.refusal {
             row.refuse(name);
@@ -229,7 +230,7 @@ impl Ladder {
         self.rows.push(row);
     }
 
-    // An arrow of a datagram that is no full frame.
+    // Adds an arrow for a datagram that isn't a full frame.
     fn no_frame(&mut self, event: &DatagramEvent<'_>, what: &str) {
         self.end_runs();
         let mut row = self.arrow(event);
@@ -239,7 +240,7 @@ impl Ladder {
         self.push_arrow(row, event);
     }
 
-    // An arrow of a full frame.
+    // Adds an arrow for a full frame.
     fn full(&mut self, event: &DatagramEvent<'_>, frame: &Full<'_>) {
         self.end_runs();
         let mut row = self.arrow(event);
@@ -254,7 +255,8 @@ impl Ladder {
         self.push_arrow(row, event);
     }
 
-    // The number of a full frame's leg at the exchange. One that goes out tells which number the peer has for it.
+    // Returns the number of a full frame's leg at the exchange. A frame to the peer also shows the peer's number of that
+    // leg.
     fn local_of(&mut self, event: &DatagramEvent<'_>, frame: &Full<'_>) -> Option<u16> {
         let source = frame.source().get();
         let destination = frame.destination().get();
@@ -270,7 +272,7 @@ impl Ladder {
         self.pairs.local(event.peer, source)
     }
 
-    // Two numbers name one leg, and so they did in the rows that wait to know.
+    // Learns that two numbers name one leg, and sets the local number of earlier rows that lack it.
     fn learn(&mut self, peer: u16, remote: u16, local: u16) {
         if self.pairs.local(peer, remote) == Some(local) {
             return;
@@ -285,7 +287,7 @@ impl Ladder {
         }
     }
 
-    // One frame with media: an arrow of its own only where it is refused.
+    // Adds one frame with media. It has a separate arrow only if it is refused.
     fn media(
         &mut self,
         event: &DatagramEvent<'_>,
@@ -312,7 +314,7 @@ impl Ladder {
         }
     }
 
-    // The entries of a trunk frame.
+    // Adds the entries of a trunk frame.
     fn trunk(&mut self, event: &DatagramEvent<'_>, frame: &Trunk<'_>) {
         if event.refusal.is_some() {
             return self.no_frame(event, "trunk frame");

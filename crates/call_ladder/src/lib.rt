@@ -1,8 +1,9 @@
-//! Pictures of calls: a lifeline for each peer and for the exchange, an arrow for each frame with its name and elements in
-//! words, media folded, the stages of legs beside them; as SVG, or as plain text of at most 100 columns.
+//! Diagrams of calls, as SVG or as plain text of at most 100 columns. Each peer and the exchange have a lifeline. Each
+//! frame is an arrow with its name and elements. Media is folded, and the stages of legs appear next to the exchange's
+//! lifeline.
 //!
-//! `Ladder` is told of peers, datagrams, orders and stages in the order in which they come, and then drawn. Nothing here waits,
-//! reads or writes.
+//! Add the peers, and then the datagrams, orders and stages in the order in which they come, to a `Ladder`, and draw it.
+//! Nothing here waits, reads or writes.
 #![tactic(auto)]
 
 mod elements;

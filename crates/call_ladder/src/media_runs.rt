@@ -6,7 +6,7 @@ ghost use Rattle.call_ladder.specs.declared.media_runs.RunKey.{RunKey};
 use std::alloc::{AllocError, Global};
 use std::marker::Model;
 
-/// Which way a datagram goes.
+/// The direction of a datagram.
 #[derive(Clone, Copy, PartialEq, Eq)]
 pub enum Direction {
     /// From the peer to the exchange.
@@ -24,7 +24,7 @@ pub enum MediaKind {
     Video,
 }
 
-/// What the frames of a run have in common.
+/// The properties that the frames of a run share.
 #[derive(Clone, Copy, PartialEq, Eq)]
 pub struct RunKey {
     /// The place of the peer.
@@ -52,12 +52,12 @@ pub struct MediaRun {
     pub first: u64,
     pub last: u64,
     pub frames: u64,
-    /// Of media, in all frames.
+    /// Octets of media, in all frames.
     pub octets: u64,
 }
 
 impl MediaRun {
-    // A run of one frame.
+    // Returns a run of one frame.
     fn of(piece: MediaPiece) -> MediaRun
         ensures key { result.key ≡ piece.key }
         ensures frames { result.frames ≡ 1 }
@@ -72,14 +72,14 @@ impl MediaRun {
         }
     }
 
-    // Whether the piece is one more of it, and is counted.
+    // Returns whether the run can count the piece as one more frame.
     fn takes(&self, piece: MediaPiece) -> bool
         ensures { IsTrue result → Takes self.now piece }
     {
         self.key == piece.key && self.frames < u64::MAX && self.octets <= u64::MAX - piece.octets
     }
 
-    // The run with one frame more.
+    // Returns the run with one more frame.
     fn with(self, piece: MediaPiece) -> MediaRun
         requires { Takes self piece }
         ensures key { result.key ≡ self.key }
@@ -111,7 +111,7 @@ impl Model for MediaRuns {
     ghost view = { λ folded. folded.runs.items };
 }
 
-// The place of the first run that takes the piece, and the run with it.
+// Returns the place of the first run that takes the piece, and that run with it.
 fn extended(runs: &[MediaRun], piece: MediaPiece) -> Option<(usize, MediaRun)>
     ensures within { IfSome result (λ found. found.0 < length runs.now) }
     ensures more { IfSome result (λ found. Extends runs.now piece found.0 found.1) }
@@ -125,7 +125,7 @@ fn extended(runs: &[MediaRun], piece: MediaPiece) -> Option<(usize, MediaRun)>
 }
 
 impl MediaRuns {
-    /// No run. It takes no memory.
+    /// Returns an empty list of runs. It takes no memory.
     pub fn new(alloc: Global) -> MediaRuns
         ensures { result ≡ [] }
     {
@@ -139,7 +139,7 @@ impl MediaRuns {
     /// `AllocError`: a request for memory was refused. Then all runs stay as they were.
     #[tactic(auto, using(crate::proofs::FoldLemmas::frames_in_place, crate::proofs::FoldLemmas::octets_in_place))]
     pub fn fold(&mut self, piece: MediaPiece) -> Result<(), AllocError>
-        // Whichever keys are chosen, their frames and octets are those from before, and this one's where its key is chosen.
+        // For any choice of keys, the frames and octets are the earlier ones, and this one's if its key is chosen.
         ensures frames { OnOk result ((chosen : RunKey → Bool) →
             frames_of chosen self.new ≡ frames_of chosen self.old + one_more chosen piece.key) }
         ensures octets { OnOk result ((chosen : RunKey → Bool) →
@@ -155,7 +155,7 @@ impl MediaRuns {
         }
     }
 
-    /// The runs, in the order in which they began.
+    /// Returns the runs, in the order in which they began.
     pub fn as_slice(&self) -> &[MediaRun]
         ensures { result.now ≡ self.now }
     {

@@ -1,4 +1,4 @@
-//! Which call numbers of the two sides name one leg.
+//! Pairs of call numbers, one of each side, that name one leg.
 use std::alloc::{AllocError, Global};
 
 // A leg's number at the peer, and at the exchange.
@@ -9,21 +9,21 @@ struct Pair {
     local: u16,
 }
 
-/// The numbers of legs, as frames tell them.
+/// The numbers of legs, as learnt from frames.
 #[derive(Drop)]
 pub(crate) struct NumberPairs {
     pairs: Vec<Pair>,
 }
 
 impl NumberPairs {
-    /// None is known.
+    /// Returns a list without pairs.
     pub(crate) fn new(alloc: Global) -> NumberPairs {
         NumberPairs {
             pairs: Vec::new(alloc),
         }
     }
 
-    /// The number at the exchange of a leg that a peer knows by this one.
+    /// Returns the number at the exchange of the leg that has this number at a peer.
     pub(crate) fn local(&self, peer: u16, remote: u16) -> Option<u16> {
         for pair in &self.pairs {
             if pair.peer == peer && pair.remote == remote {
@@ -33,7 +33,7 @@ impl NumberPairs {
         None
     }
 
-    /// The two numbers name one leg from now on.
+    /// Learns that the two numbers name one leg.
     pub(crate) fn learn(&mut self, peer: u16, remote: u16, local: u16) -> Result<(), AllocError> {
         for pair in self.pairs.iter_mut() {
             if pair.peer == peer && pair.remote == remote {
@@ -49,7 +49,7 @@ impl NumberPairs {
         Ok(self.pairs.push(pair)?)
     }
 
-    /// The number at the exchange is free.
+    /// Forgets the leg of a number at the exchange that is free.
     pub(crate) fn forget(&mut self, local: u16) {
         self.pairs.retain(|pair| pair.local != local);
     }

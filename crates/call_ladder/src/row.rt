@@ -5,20 +5,20 @@ use crate::words::write_count;
 use std::alloc::Global;
 use text_buffer::TextBuffer;
 
-/// What a row shows.
+/// The content of a row.
 #[derive(Clone, Copy, PartialEq, Eq)]
 pub(crate) enum RowKind {
     /// An arrow between a peer and the exchange: a datagram.
     Frame,
     /// An arrow: frames with media, folded.
     Media,
-    /// A leg has come to a stage.
+    /// The new stage of a leg.
     Stage,
-    /// What the script asked for, or a refusal of it.
+    /// An event of the script, or its refusal.
     Order,
 }
 
-/// How an arrow is drawn: in SVG by the classes of its line, of its head, and of its label; in plain text as it points to the
+/// The look of an arrow: in SVG the classes of its line, of its head, and of its label; in plain text the arrow to the
 /// right, and to the left.
 #[derive(Clone, Copy)]
 pub(crate) struct Look {
@@ -65,22 +65,22 @@ const SENT: Look = Look {
 #[derive(Drop)]
 pub(crate) struct Row {
     pub kind: RowKind,
-    /// The place of the peer; none of what is done at the exchange alone.
+    /// The place of the peer; none for an event at the exchange alone.
     pub peer: Option<u16>,
     pub direction: Direction,
     /// In milliseconds.
     pub moment: u64,
-    /// The number of its leg at the exchange, and at the peer, where they are known.
+    /// The numbers of its leg at the exchange, and at the peer, if they are known.
     pub local: Option<u16>,
     pub remote: Option<u16>,
     pub is_resent: bool,
     pub is_refused: bool,
-    /// What it says, and the frame's numbers: ASCII.
+    /// Its text, and the frame's numbers, in ASCII.
     pub text: TextBuffer,
     pub numbers: TextBuffer,
 }
 
-/// What is drawn: the peers, where they stand, and the rows; of all, or of the leg of one local number.
+/// The parts of a drawing: the peers, their places, and the rows; of all legs, or of the leg of one local number.
 #[derive(Clone, Copy)]
 pub(crate) struct Scene<'a> {
     pub peers: &'a [Peer],
@@ -90,7 +90,7 @@ pub(crate) struct Scene<'a> {
 }
 
 impl Row {
-    /// A row that says nothing yet.
+    /// Returns a row without text.
     pub(crate) fn new(alloc: Global, kind: RowKind, moment: u64) -> Row {
         Row {
             kind,
@@ -106,7 +106,7 @@ impl Row {
         }
     }
 
-    /// Whether it is shown where only one leg is, or all.
+    /// Returns whether it is shown in a ladder of one leg, or of all.
     pub(crate) fn is_shown(&self, leg: Option<u16>) -> bool {
         match leg {
             Some(_) => self.local == leg,
@@ -114,12 +114,13 @@ impl Row {
         }
     }
 
-    /// Whether it is an arrow.
+    /// Returns whether it is an arrow.
     pub(crate) fn is_arrow(&self) -> bool {
         matches!(self.kind, RowKind::Frame | RowKind::Media)
     }
 
-    /// Whether a frame of the leg is sought which has this number at the peer, and whose own isn't known.
+    /// Returns whether it is a frame of the leg with this number at the peer, and its number at the exchange isn't known
+    /// yet.
     pub(crate) fn awaits(&self, peer: u16, remote: u16) -> bool {
         self.local.is_none()
             && !self.is_refused
@@ -127,14 +128,14 @@ impl Row {
             && self.remote == Some(remote)
     }
 
-    /// Its text is told to be a refusal of this name.
+    /// Adds a refusal to its text.
     pub(crate) fn refuse(&mut self, name: &str) {
         self.is_refused = true;
         self.text.text(": refused ");
         self.text.text(name);
     }
 
-    /// How it is drawn, if it is an arrow.
+    /// Returns the look of an arrow. (A row that isn't an arrow isn't drawn with it.)
     pub(crate) fn look(&self) -> &'static Look {
         if self.is_refused {
             &REFUSED
@@ -147,7 +148,7 @@ impl Row {
         }
     }
 
-    /// The class of its text in SVG, if it is a note beside the exchange's lifeline.
+    /// Returns the class of its text in SVG, if it is a note next to the exchange's lifeline.
     pub(crate) fn note_class(&self) -> &'static str {
         if self.is_refused {
             "lx"
@@ -159,7 +160,7 @@ impl Row {
     }
 }
 
-// What the frames of a run are.
+// Returns the names of one and of several frames of a run.
 fn names_of(kind: MediaKind) -> (&'static str, &'static str) {
     match kind {
         MediaKind::Mini => ("mini frame", "mini frames"),
@@ -168,7 +169,7 @@ fn names_of(kind: MediaKind) -> (&'static str, &'static str) {
     }
 }
 
-/// The row of a run, whose leg has this number at the exchange: how many frames, how many octets, and until when.
+/// Returns the row of a run whose leg has this number at the exchange, with its frames, its octets and its last moment.
 pub(crate) fn row_of(alloc: Global, run: &MediaRun, local: Option<u16>) -> Row {
     let mut row = Row::new(alloc, RowKind::Media, run.first);
     row.peer = Some(run.key.peer);

@@ -1,4 +1,4 @@
-//! Where the lifelines stand: the exchange between its peers.
+//! The places of the lifelines: the exchange is between its peers.
 use crate::row::Row;
 use std::alloc::Global;
 
@@ -11,13 +11,13 @@ pub(crate) struct Peer {
 }
 
 impl Peer {
-    /// Whether a number is one of its own.
+    /// Returns whether a number is one of its call numbers.
     pub(crate) fn has(&self, number: u16) -> bool {
         number >= self.first && u32::from(number) < u32::from(self.first) + u32::from(self.count)
     }
 }
 
-/// On which side of the exchange a peer stands.
+/// The side of the exchange on which a peer is drawn.
 #[derive(Clone, Copy)]
 pub(crate) enum Side {
     Left,
@@ -28,11 +28,11 @@ pub(crate) enum Side {
 #[derive(Drop)]
 pub(crate) struct Sides {
     shown: Vec<u16>,
-    /// Whether a request for memory was refused: not all are there.
+    /// Whether a request for memory was refused, so that some are missing.
     pub are_cut: bool,
 }
 
-// Whether a shown row is of this peer.
+// Returns whether a shown row belongs to this peer.
 fn is_seen(rows: &[Row], peer: u16, leg: Option<u16>) -> bool {
     for row in rows {
         if row.peer == Some(peer) && row.is_shown(leg) {
@@ -43,7 +43,7 @@ fn is_seen(rows: &[Row], peer: u16, leg: Option<u16>) -> bool {
 }
 
 impl Sides {
-    /// The sides of the peers that shown rows speak of.
+    /// Returns the sides of the peers to which shown rows belong.
     pub(crate) fn of(alloc: Global, rows: &[Row], peer_count: usize, leg: Option<u16>) -> Sides {
         let mut shown = Vec::new(alloc);
         let mut are_cut = false;
@@ -57,17 +57,17 @@ impl Sides {
         Sides { shown, are_cut }
     }
 
-    /// The peers that are shown, from left to right.
+    /// Returns the shown peers, from left to right.
     pub(crate) fn peers(&self) -> &[u16] {
         &self.shown
     }
 
-    /// How many of them stand left of the exchange: one more than right of it, where their number is odd.
+    /// Returns the number of peers left of the exchange: one more than right of it if their count is odd.
     pub(crate) fn left_count(&self) -> usize {
         self.shown.len() - self.shown.len() / 2
     }
 
-    /// The place of a peer among them.
+    /// Returns the place of a peer among them.
     pub(crate) fn place(&self, peer: Option<u16>) -> Option<usize> {
         let peer = peer?;
         for (place, other) in self.shown.iter().enumerate() {
@@ -78,7 +78,7 @@ impl Sides {
         None
     }
 
-    /// On which side a peer stands.
+    /// Returns the side on which a peer is drawn.
     pub(crate) fn side(&self, peer: Option<u16>) -> Option<Side> {
         let place = self.place(peer)?;
         if place < self.left_count() {

@@ -7,13 +7,13 @@ use crate::wrapping::split_line;
 use std::alloc::Global;
 use text_buffer::TextBuffer;
 
-// Where the first lifeline stands, how far it is to the next, and how many letters a line of a label has.
+// The place of the first lifeline, the distance between lifelines, and the letters of a label's line.
 const MARGIN: u64 = 170;
 
 const GAP: u64 = 420;
 
 const LETTERS: usize = 50;
-// Where the rows begin.
+// The place at which the rows begin.
 const TOP: u64 = 60;
 
 const STYLE: &str =
@@ -23,7 +23,7 @@ const STYLE: &str =
 .m{stroke:#888;stroke-width:3}\
 .p{fill:#222}.px,.lx{fill:#c00}.pm{fill:#888}.d{fill:#06c}";
 
-// What stands behind the picture's size.
+// The text behind the picture's size.
 const HEAD: &str =
     " font-family=\"DejaVu Sans Mono, Menlo, Consolas, monospace\" font-size=\"13\">\n\
 <title>Calls through the exchange</title>\n<style>";
@@ -31,17 +31,17 @@ const HEAD: &str =
 const LEGEND: &[u8] =
     b"call: source/destination; seq: OSeqno/ISeqno; dashed: sent again; red: refused; grey: media, folded";
 
-// Where a lifeline stands, the leftmost at 0.
+// Returns the place of a lifeline, from 0 for the leftmost.
 fn lifeline_x(place: usize) -> u64 {
     (place as u64).saturating_mul(GAP).saturating_add(MARGIN)
 }
 
-// Where the exchange's stands.
+// Returns the place of the exchange's lifeline.
 fn exchange_x(sides: &Sides) -> u64 {
     lifeline_x(sides.left_count())
 }
 
-// Where that of a shown peer stands.
+// Returns the place of a shown peer's lifeline.
 fn peer_x(sides: &Sides, place: usize) -> u64 {
     if place < sides.left_count() {
         lifeline_x(place)
@@ -50,7 +50,7 @@ fn peer_x(sides: &Sides, place: usize) -> u64 {
     }
 }
 
-// An attribute of the element that has begun.
+// Writes an attribute of the current element.
 fn write_attribute(name: &str, value: &str, out: &mut TextBuffer) {
     out.text(" ");
     out.text(name);
@@ -59,7 +59,7 @@ fn write_attribute(name: &str, value: &str, out: &mut TextBuffer) {
     out.text("\"");
 }
 
-// An attribute that is a length.
+// Writes an attribute that is a length.
 fn write_length(name: &str, value: u64, out: &mut TextBuffer) {
     out.text(" ");
     out.text(name);
@@ -68,7 +68,7 @@ fn write_length(name: &str, value: u64, out: &mut TextBuffer) {
     out.text("\"");
 }
 
-// A text of a class begins, with its anchor.
+// Begins a text of a class, with its anchor.
 fn begin_words(x: u64, y: u64, class: &str, anchor: &str, out: &mut TextBuffer) {
     out.text("<text");
     write_length("x", x, out);
@@ -78,21 +78,21 @@ fn begin_words(x: u64, y: u64, class: &str, anchor: &str, out: &mut TextBuffer) 
     out.text(">");
 }
 
-// A text of a class, with its anchor.
+// Writes a text of a class, with its anchor.
 fn write_words(x: u64, y: u64, class: &str, anchor: &str, text: &[u8], out: &mut TextBuffer) {
     begin_words(x, y, class, anchor, out);
     write_escaped(text, out);
     out.text("</text>\n");
 }
 
-// The moment of a row.
+// Writes the moment of a row.
 fn write_moment(moment: u64, y: u64, out: &mut TextBuffer) {
     begin_words(12, y, "t", "start", out);
     out.number(moment);
     out.text(" ms</text>\n");
 }
 
-// A line of a class, between two points.
+// Writes a line of a class, between two points.
 fn write_line(from: (u64, u64), to: (u64, u64), class: &str, out: &mut TextBuffer) {
     out.text("<line");
     write_length("x1", from.0, out);
@@ -103,7 +103,7 @@ fn write_line(from: (u64, u64), to: (u64, u64), class: &str, out: &mut TextBuffe
     out.text("/>\n");
 }
 
-// An arrow, with its head.
+// Writes an arrow, with its head.
 fn write_arrow(row: &Row, from: u64, to: u64, y: u64, out: &mut TextBuffer) {
     let look = row.look();
     write_line((from, y), (to, y), look.line, out);
@@ -118,7 +118,7 @@ fn write_arrow(row: &Row, from: u64, to: u64, y: u64, out: &mut TextBuffer) {
     out.text("/>\n");
 }
 
-// A label above its arrow, line by line; gives where the next line would stand.
+// Writes a label above its arrow, line by line. Returns the place of the next line.
 fn write_label(label: &[u8], x: u64, top: u64, class: &str, out: &mut TextBuffer) -> u64 {
     let mut y = top;
     let mut rest = label;
@@ -131,7 +131,7 @@ fn write_label(label: &[u8], x: u64, top: u64, class: &str, out: &mut TextBuffer
     y
 }
 
-// A datagram between a shown peer and the exchange; gives where the next row begins.
+// Writes a datagram between a shown peer and the exchange. Returns the place of the next row.
 fn write_datagram(sides: &Sides, row: &Row, place: usize, top: u64, out: &mut TextBuffer) -> u64 {
     let exchange = exchange_x(sides);
     let peer = peer_x(sides, place);
@@ -152,7 +152,7 @@ fn write_datagram(sides: &Sides, row: &Row, place: usize, top: u64, out: &mut Te
     below.saturating_add(6)
 }
 
-// A stage, or what the script asked for, beside the exchange's lifeline, on the side of its peer.
+// Writes a stage, or an event of the script, next to the exchange's lifeline, on the side of its peer.
 fn write_note(sides: &Sides, row: &Row, top: u64, out: &mut TextBuffer) -> u64 {
     let x = exchange_x(sides);
     let y = top.saturating_add(17);
@@ -169,7 +169,7 @@ fn write_note(sides: &Sides, row: &Row, top: u64, out: &mut TextBuffer) -> u64 {
     y.saturating_add(4)
 }
 
-// The shown rows; gives where they end.
+// Writes the shown rows. Returns the place at which they end.
 fn write_rows(scene: &Scene<'_>, out: &mut TextBuffer) -> u64 {
     let mut y = TOP;
     for row in scene.rows {
@@ -183,13 +183,13 @@ fn write_rows(scene: &Scene<'_>, out: &mut TextBuffer) -> u64 {
     y
 }
 
-// A lifeline under its name.
+// Writes a lifeline under its name.
 fn write_lifeline(x: u64, name: &[u8], bottom: u64, out: &mut TextBuffer) {
     write_words(x, 32, "h", "middle", name, out);
     write_line((x, 42), (x, bottom), "v", out);
 }
 
-// The lifelines of the shown peers and of the exchange.
+// Writes the lifelines of the shown peers and of the exchange.
 fn write_lifelines(scene: &Scene<'_>, bottom: u64, out: &mut TextBuffer) {
     for (place, peer) in scene.sides.peers().iter().enumerate() {
         if let Some(peer) = scene.peers.get(usize::from(*peer)) {
@@ -204,7 +204,7 @@ fn write_lifelines(scene: &Scene<'_>, bottom: u64, out: &mut TextBuffer) {
     write_lifeline(exchange_x(scene.sides), b"exchange", bottom, out);
 }
 
-// The head of the picture, and what its lines mean.
+// Writes the head of the picture, its styles and its legend.
 fn write_head(width: u64, height: u64, out: &mut TextBuffer) {
     out.text("<svg xmlns=\"http://www.w3.org/2000/svg\"");
     write_length("width", width, out);
@@ -218,7 +218,7 @@ fn write_head(width: u64, height: u64, out: &mut TextBuffer) {
     write_words(12, height.saturating_sub(12), "k", "start", LEGEND, out);
 }
 
-/// The picture of the shown rows.
+/// Returns the picture of the shown rows.
 pub(crate) fn write_svg(alloc: Global, scene: &Scene<'_>) -> TextBuffer {
     let mut rows = TextBuffer::new(alloc);
     let bottom = write_rows(scene, &mut rows).saturating_add(10);

@@ -1,5 +1,5 @@
-//! A ladder as plain text: the moment in milliseconds, a peer's name at the end of its arrow, the exchange's lifeline in the
-//! middle, and what the frame says.
+//! A ladder as plain text. A row has the moment in milliseconds, a peer's name at the end of its arrow, the exchange's
+//! lifeline in the middle, and the frame's text.
 ghost use Rattle.std.specs.Prelude.{◌<◌};
 
 use crate::media_runs::Direction;
@@ -10,14 +10,14 @@ use crate::wrapping::split_line;
 use std::alloc::Global;
 use text_buffer::TextBuffer;
 
-// How many columns a line has at most, a name has at most, and an arrow has.
+// The greatest width of a line, the greatest width of a name, and the width of an arrow, in columns.
 const COLUMNS: usize = 100;
 
 const NAME: usize = 14;
 
 const ARROW: usize = 8;
 
-// How many columns the moments and the names have.
+// The widths of the moments and of the names, in columns.
 #[derive(Clone, Copy)]
 struct Columns {
     moment: usize,
@@ -25,19 +25,19 @@ struct Columns {
 }
 
 impl Columns {
-    // Those in front of the exchange's lifeline: a moment, a blank, a name, a blank, an arrow.
+    // Returns the columns in front of the exchange's lifeline: a moment, a blank, a name, a blank, an arrow.
     fn margin(self) -> usize {
         self.moment
             .saturating_add(self.name)
             .saturating_add(2 + ARROW)
     }
 
-    // Those behind it, up to what a row says: an arrow, a blank, a name, two blanks.
+    // Returns the columns behind it, up to a row's text: an arrow, a blank, a name, two blanks.
     fn gap(self) -> usize {
         self.name.saturating_add(3 + ARROW)
     }
 
-    // Those that are left for what a row says.
+    // Returns the columns that are left for a row's text.
     fn width(self) -> usize
         ensures { 0 < result }
     {
@@ -49,13 +49,13 @@ impl Columns {
     }
 }
 
-// A moment at the right end of so many columns.
+// Writes a moment at the right end of `columns` columns.
 fn write_moment(moment: u64, columns: usize, out: &mut TextBuffer) {
     write_blanks(columns.saturating_sub(digits(moment)), out);
     out.number(moment);
 }
 
-// How many decimal digits a number has.
+// Returns the count of a number's decimal digits.
 fn digits(number: u64) -> usize {
     match number.checked_ilog10() {
         Some(power) => power as usize + 1,
@@ -63,7 +63,7 @@ fn digits(number: u64) -> usize {
     }
 }
 
-// The name of a row's peer, cut to its columns.
+// Returns the name of a row's peer, cut to its columns.
 fn name_of<'a>(peers: &'a [Peer], peer: Option<u16>) -> &'a [u8] {
     let Some(place) = peer else {
         return b"";
@@ -74,7 +74,7 @@ fn name_of<'a>(peers: &'a [Peer], peer: Option<u16>) -> &'a [u8] {
     }
 }
 
-// An arrow, pointing to the right or to the left.
+// Writes an arrow that points to the right or to the left.
 fn write_arrow(row: &Row, is_to_the_right: bool, out: &mut TextBuffer) {
     if !row.is_arrow() {
         write_blanks(ARROW, out);
@@ -85,7 +85,7 @@ fn write_arrow(row: &Row, is_to_the_right: bool, out: &mut TextBuffer) {
     }
 }
 
-// The exchange's lifeline, and on the side of a row's peer its name, at the end of its arrow.
+// Writes the exchange's lifeline, and on the side of a row's peer its arrow and its name.
 fn write_sides(scene: &Scene<'_>, row: &Row, columns: Columns, out: &mut TextBuffer) {
     let side = scene.sides.side(row.peer);
     let name = name_of(scene.peers, row.peer);
@@ -113,7 +113,7 @@ fn write_sides(scene: &Scene<'_>, row: &Row, columns: Columns, out: &mut TextBuf
     out.text("  ");
 }
 
-// All that a row says.
+// Returns the whole text of a row.
 fn label_of(alloc: Global, row: &Row) -> TextBuffer {
     let mut label = TextBuffer::new(alloc);
     label.put(&row.text.octets);
@@ -125,7 +125,7 @@ fn label_of(alloc: Global, row: &Row) -> TextBuffer {
     label
 }
 
-// What is left of a label, on lines of their own behind the exchange's lifeline.
+// Writes the rest of a label on further lines behind the exchange's lifeline.
 fn write_more(label: &[u8], columns: Columns, out: &mut TextBuffer) {
     let mut rest = label;
     while !rest.is_empty() {
@@ -139,7 +139,7 @@ fn write_more(label: &[u8], columns: Columns, out: &mut TextBuffer) {
     }
 }
 
-// A row.
+// Writes a row.
 fn write_row(alloc: Global, scene: &Scene<'_>, row: &Row, columns: Columns, out: &mut TextBuffer) {
     write_moment(row.moment, columns.moment, out);
     write_sides(scene, row, columns, out);
@@ -151,8 +151,8 @@ fn write_row(alloc: Global, scene: &Scene<'_>, row: &Row, columns: Columns, out:
     out.is_cut |= label.is_cut;
 }
 
-// How many columns the moments have: those of the last one, and at least two. The names have those of the longest of a shown
-// peer.
+// Returns the widths. That of the moments is the last one's, and at least two. That of the names is the longest name's of a
+// shown peer.
 fn columns_of(scene: &Scene<'_>) -> Columns {
     let mut columns = Columns { moment: 2, name: 0 };
     if let Some(row) = scene.rows.last() {
@@ -164,7 +164,7 @@ fn columns_of(scene: &Scene<'_>) -> Columns {
     columns
 }
 
-/// The shown rows, each on a line or some.
+/// Returns the shown rows, each on one line or more.
 pub(crate) fn write_text(alloc: Global, scene: &Scene<'_>) -> TextBuffer {
     let mut out = TextBuffer::new(alloc);
     let columns = columns_of(scene);

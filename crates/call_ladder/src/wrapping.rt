@@ -1,8 +1,8 @@
-//! Text on lines of so many octets at most.
+//! Splits text into lines of a limited length.
 ghost use Rattle.std.specs.Prelude.{◌≡◌, ◌<◌, ◌≤◌, length, slice_index};
 ghost use Rattle.call_ladder.specs.Wrapping.{Splits};
 
-// Where the last blank stands before this place, but not at the beginning; or that place.
+// Returns the place of the last blank before this place, but not at the beginning, or else this place.
 fn cut_before(text: &[u8], place: usize) -> usize
     requires within { place < length text.now }
     requires some { 0 < place }
@@ -18,7 +18,7 @@ fn cut_before(text: &[u8], place: usize) -> usize
     cut
 }
 
-// The rest of a text behind a line, without the blank at its beginning.
+// Returns a text's line up to a place, and the rest without its leading blank.
 fn split_at_blank(text: &[u8], place: usize) -> (&[u8], &[u8])
     requires some { 0 < place }
     requires within { place ≤ length text.now }
@@ -33,8 +33,8 @@ fn split_at_blank(text: &[u8], place: usize) -> (&[u8], &[u8])
     }
 }
 
-/// The first line of a text, of at most so many octets, 1 or more, and what follows it. A text that fits is whole. Else the line
-/// ends at the last blank that lets it fit, which is left out, and is cut where there is none.
+/// Returns the first line of a text, of at most `width` octets, and the rest. A text that fits isn't split. Otherwise the
+/// line ends at the last blank that lets it fit, which is left out, or is cut if there is none.
 pub fn split_line(text: &[u8], width: usize) -> (&[u8], &[u8])
     requires { 0 < width }
     ensures whole { Splits text.now result.0.now result.1.now }

@@ -8,7 +8,7 @@ use Rattle.seq_window.specs.Record.{entry_of}
 use Rattle.seq_window.specs.declared.history.EntryView.{EntryView}
 use Rattle.call_records.specs.SideFrames.{frames_of}
 
--- an element stands in front of those after it
+-- the element at a place is in front of those after it
 pub drop_at : {A : Type 0} (xs : List A) (i : ℕ) (x : A) → slice_get xs i ≡ Some x → drop i xs ≡ x ∷ drop (suc i) xs
 drop_at [] i x e = absurd cc
 drop_at (y ∷ ys) zero x e = let same : y ≡ x = cc in ap (λ z. z ∷ ys) same
@@ -27,7 +27,7 @@ length-frames_of (Sent frame ∷ entries) = let rest = length-frames_of entries 
 length-frames_of (Acked count ∷ entries) = let rest = length-frames_of entries in omega (arith, rest)
 length-frames_of (Taken frame ∷ entries) = let rest = length-frames_of entries in omega (arith, rest)
 
--- what the look at an entry says
+-- the list from a place on, by the entry at that place
 pub entry_some : (found : Option EntryView) (entries : List Entry) (i : ℕ) → option_map entry_of found ≡ slice_get entries i
     → IfSome found (λ entry. drop i entries ≡ entry_of entry ∷ drop (i + 1) entries)
 entry_some None entries i e = tt

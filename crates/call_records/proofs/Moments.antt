@@ -1,4 +1,4 @@
--- What the moments of a call say of its frames.
+-- The frames of a call that its moments imply.
 use Rattle.std.proofs.Common.{◌≡◌, Bool, true, false, cond, ◌||◌, List, [], ◌∷◌, ◌++◌, Option, Some, None, is_some, refl, sym, ap, ◌∙◌, subst, append_assoc, ◌⊎◌, inl, inr}
 use Rattle.std.specs.Prelude.{IsSome}
 use Rattle.std.specs.List.{AllByRecursion}
@@ -20,7 +20,7 @@ at_front f frames = record { before = []; frame = f; later = frames; all = refl 
 abbrev behind : (f : SideFrame) {frames : List SideFrame} → Placed frames → Placed (f ∷ frames)
 behind f p = record { before = f ∷ p.before; frame = p.frame; later = p.later; all = ap (λ fs. f ∷ fs) p.all }
 
--- ---- the first frame of a kind, where none ends the call before
+-- ---- the first frame of a kind, if none ends the call before
 
 not_some : (moment : Option LegMoment) → moment ≡ None → IsSome moment → ⊥
 not_some None none h = cc
@@ -94,7 +94,7 @@ both-found opener [] h = absurd cc
 both-found opener (f ∷ frames) h =
     both-step opener f frames (ending_of opener false f) (accepts opener f) refl refl (both-found opener frames) h
 
--- what doesn't end a call before it is accepted doesn't either after it
+-- a frame that doesn't end a call before it is accepted doesn't end it afterwards either
 rejection_goes_on : (opener : Option Side) → peer_rejection opener true ≡ None
 rejection_goes_on None = refl
 rejection_goes_on (Some Peer) = refl
@@ -111,7 +111,7 @@ goes_on_by opener side message h = h
 goes_on : (opener : Option Side) (f : SideFrame) → GoesOn opener false f → GoesOn opener true f
 goes_on opener f h = goes_on_by opener f.by (meaning_of f) h
 
--- frames that go on stand in front of those that answer
+-- frames that don't end the call, in front of those that answer
 passed : (opener : Option Side) (frames later : List SideFrame) → AllByRecursion (GoesOn opener false) frames
     → IsSome (answered_from opener true later) → IsSome (answered_from opener true (frames ++ later))
 passed opener [] later go_on h = h
@@ -174,7 +174,7 @@ ending_is opener accepted Exchange messages.Reject how e = inr refl
 ending_is opener accepted Peer messages.Reject how e = inr refl
 ending_is opener accepted side message how e = absurd cc
 
--- where a frame ends nothing it is no HANGUP
+-- a frame that ends nothing is no HANGUP
 no_hangup : (opener : Option Side) (accepted : Bool) (f : SideFrame) → ending_of opener accepted f ≡ None → IsHangup f → ⊥
 no_hangup opener accepted f e hangup =
     hangup_ends opener accepted f.by (subst (λ (m : Message). ending_by opener accepted f.by m ≡ None) hangup e)

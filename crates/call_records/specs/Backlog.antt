@@ -5,9 +5,9 @@ use Rattle.std.specs.Coded.{Coded, code_by, coded×, coded_list, coded_ℕ}
 pub record BacklogState (T : Type 0) : Type 0 where
   -- the oldest first
   pub waiting : List T
-  -- how many there may be
+  -- the greatest number of rows
   pub capacity : ℕ
-  -- how many were lost, modulo 2 ^ 64
+  -- the number of lost rows, modulo 2 ^ 64
   pub lost : ℕ
 
 module _ {T : Type 0} where
@@ -16,7 +16,7 @@ module _ {T : Type 0} where
       code_by (List T × (ℕ × ℕ)) (coded× (coded_list c) (coded× coded_ℕ coded_ℕ)) (λ b. (b.waiting, (b.capacity, b.lost)))
       (λ p. record { waiting = p.0; capacity = p.1.0; lost = p.1.1 }) (λ _. refl)
 
-  -- a row more is the last; where there is no room for it, it is lost
+  -- with one more row at the end; without room the row is lost
   abbrev pub with_row : BacklogState T → T → BacklogState T
   with_row b row =
       if nat_lt (length b.waiting) b.capacity

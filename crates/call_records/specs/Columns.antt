@@ -13,13 +13,13 @@ name_columns row peer =
     number_text (Some row.call) ∷ peer ∷ number_text (Some row.name.number) ∷ number_text (Some row.name.serial)
     ∷ number_text (option_map (λ p. p.number) row.partner) ∷ number_text (option_map (λ p. p.serial) row.partner) ∷ []
 
--- who called whom
+-- the caller and the called number
 abbrev pub party_columns : CallRow → List (List ℕ)
 party_columns row =
     or_nothing (option_map side_text row.leg.opened_by) ∷ telephone_text row.leg.calling ∷ telephone_text row.leg.called
     ∷ format_text row.format ∷ []
 
--- when the leg was there
+-- the moments at which the leg was opened and taken out
 abbrev pub time_columns : CallRow → List ℕ → List ℕ → List (List ℕ)
 time_columns row opened ended = opened ∷ number_text (Some row.opened) ∷ ended ∷ number_text (Some row.ended) ∷ []
 
@@ -29,19 +29,19 @@ moments_columns row =
     moment_columns row.leg.accepted ++ (moment_columns row.leg.answered ++ (moment_columns (end_moment row.leg.end)
     ++ (number_text (talk_ms row.leg.answered row.leg.end) ∷ [])))
 
--- why it ended
+-- the end of the call
 abbrev pub ending_columns : CallRow → List (List ℕ)
 ending_columns row =
     ending_text row.leg.end row.failure ∷ number_text (end_cause row.leg.end)
     ∷ failure_text row.failure ∷ []
 
--- what went over it
+-- the counts of its frames
 abbrev pub count_columns : CallRow → List (List ℕ)
 count_columns row =
     number_text (Some row.leg.sent) ∷ number_text (Some row.leg.acknowledged) ∷ number_text (Some row.leg.taken)
     ∷ number_text (Some row.resent) ∷ number_text (Some row.leg.digits_taken) ∷ number_text (Some row.leg.digits_sent) ∷ []
 
--- when its call was accepted, answered and over by the exchange's clock, and why it wasn't answered
+-- the call's moments by the exchange's clock, and the reason why it wasn't answered
 abbrev pub outcome_columns : CallRow → List (List ℕ)
 outcome_columns row =
     number_text row.moments.accepted ∷ number_text row.moments.answered ∷ number_text row.moments.over

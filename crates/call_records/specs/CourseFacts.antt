@@ -1,4 +1,4 @@
--- What the moments of a call say of its frames, in one sentence each.
+-- Facts about frames that follow from the moments of a call, in one sentence each.
 use Rattle.std.specs.Prelude.{◌≡◌, Bool, true, false, Option, None, List, [], ◌∷◌, ◌++◌, ◌⊎◌}
 use Rattle.std.specs.List.{AllByRecursion}
 use Rattle.call_signals.specs.declared.message.Message.TheVariants as messages
@@ -7,7 +7,7 @@ use Rattle.call_records.specs.Courses.{accepts, answers, ending_of, end_by}
 use Rattle.call_records.specs.declared.call_end.CallEnd.{CallEnd}
 use Rattle.call_records.specs.declared.side.Side.{Side}
 
--- this frame doesn't end a call that is accepted already, or not
+-- this frame doesn't end a call; accepted says whether the call was accepted before
 abbrev pub GoesOn : Option Side → Bool → SideFrame → Type 0
 GoesOn opener accepted f = ending_of opener accepted f ≡ None
 
@@ -18,7 +18,8 @@ pub record Placed (frames : List SideFrame) : Type 0 where
   pub later : List SideFrame
   pub all : frames ≡ before ++ frame ∷ later
 
--- Among these frames is one of a kind, and neither it nor a frame before it ends the call, be that accepted already or not.
+-- One of these frames is of a kind, and neither it nor a frame before it ends the call, whether that was accepted before or
+-- not.
 pub record HasFrame (opener : Option Side) (accepted : Bool) (is_one : SideFrame → Bool) (frames : List SideFrame) : Type 0 where
   pub placed : Placed frames
   pub is : is_one placed.frame ≡ true
@@ -32,12 +33,12 @@ HasAccept opener frames = HasFrame opener false (accepts opener) frames
 abbrev pub HasAnswer : Option Side → List SideFrame → Type 0
 HasAnswer opener frames = HasFrame opener true (answers opener) frames
 
--- Behind an ACCEPT of the called side is an ANSWER of it, and no frame up to there ends the call.
+-- After an ACCEPT of the called side comes an ANSWER of that side, and no frame up to there ends the call.
 pub record HasAcceptAndAnswer (opener : Option Side) (frames : List SideFrame) : Type 0 where
   pub accepted : HasAccept opener frames
   pub answered : HasAnswer opener accepted.placed.later
 
--- a HANGUP, whichever side sent it
+-- a HANGUP of either side
 abbrev pub IsHangup : SideFrame → Type 0
 IsHangup f = meaning_of f ≡ messages.Hangup
 
@@ -45,7 +46,7 @@ IsHangup f = meaning_of f ≡ messages.Hangup
 abbrev pub HasNoHangup : List SideFrame → Type 0
 HasNoHangup frames = AllByRecursion (λ f. ¬ IsHangup f) frames
 
--- The end of the call is that of a HANGUP or a REJECT among these frames, and no HANGUP stands before it.
+-- The end of the call is that of a HANGUP or a REJECT among these frames, and no HANGUP comes before it.
 pub record HasEnding (frames : List SideFrame) (end : CallEnd) : Type 0 where
   pub placed : Placed frames
   pub is_ending : (meaning_of placed.frame ≡ messages.Hangup) ⊎ (meaning_of placed.frame ≡ messages.Reject)

@@ -1,4 +1,4 @@
--- What the frames of a leg say of its call ("Call Setup", "Call Tear Down").
+-- The course of a call, by the frames of a leg ("Call Setup", "Call Tear Down").
 use Rattle.std.specs.Prelude.{ℕ, ◌&&◌, ◌||◌, ◌-◌, nat_le, Bool, true, false, not, is_some, Option, None, Some, List, [], ◌∷◌}
 use Rattle.std.specs.Prelude.{if◌then◌else◌}
 use Rattle.info_elements.specs.Element.{elements_of, last_of}
@@ -15,7 +15,7 @@ use Rattle.call_records.specs.declared.call_end.Ending.{Ending}
 use Rattle.call_records.specs.declared.call_end.Ending.TheVariants.{HungUpHere, HungUpByPeer, RejectedHere, RejectedByPeer}
 use Rattle.call_records.specs.declared.call_end.CallEnd.{CallEnd}
 
--- ---- what frames are
+-- ---- kinds of frames
 
 abbrev pub is_new : Message → Bool
 is_new messages.New = true
@@ -61,7 +61,7 @@ is_called (Some Peer) Exchange = true
 is_called (Some Exchange) Peer = true
 is_called (Some Exchange) Exchange = false
 
--- ---- what a frame does to its call
+-- ---- the effect of a frame on its call
 
 -- an ACCEPT and an ANSWER are those of the side that is called
 abbrev pub accepts : Option Side → SideFrame → Bool
@@ -70,8 +70,8 @@ accepts opener f = is_called opener f.by && is_accept (meaning_of f)
 abbrev pub answers : Option Side → SideFrame → Bool
 answers opener f = is_called opener f.by && is_answer (meaning_of f)
 
--- A HANGUP of either side ends the call, and a REJECT of the exchange. A REJECT of the peer does where the peer is called, and
--- hasn't accepted the call before.
+-- A HANGUP of either side ends the call, and so does a REJECT of the exchange. A REJECT of the peer does if the peer is
+-- called and hasn't accepted the call before.
 abbrev pub peer_rejection : Option Side → Bool → Option Ending
 peer_rejection opener accepted = if is_called opener Peer && not accepted then Some RejectedByPeer else None
 
@@ -85,7 +85,7 @@ ending_by opener accepted side message = None
 abbrev pub ending_of : Option Side → Bool → SideFrame → Option Ending
 ending_of opener accepted f = ending_by opener accepted f.by (meaning_of f)
 
--- the moment of a frame, which its sender's clock tells
+-- the moment of a frame, by its sender's clock
 abbrev pub moment_of : SideFrame → LegMoment
 moment_of f = record { ms = f.frame.ts; clock = f.by }
 
@@ -103,7 +103,7 @@ end_by f ending = record { how = ending; at = moment_of f; cause = cause_in f }
 
 -- ---- the moments of a call
 
--- it is accepted by the first ACCEPT of the called side, unless the call has ended before
+-- it is accepted by the first ACCEPT of the called side, unless the call ended before
 abbrev pub accepted_of : Option Side → List SideFrame → Option LegMoment
 accepted_of opener [] = None
 accepted_of opener (f ∷ frames) =
@@ -111,7 +111,7 @@ accepted_of opener (f ∷ frames) =
     else if accepts opener f then Some (moment_of f)
     else accepted_of opener frames
 
--- It is answered by the first ANSWER of the called side after that ACCEPT, unless the call has ended before. The test says
+-- It is answered by the first ANSWER of the called side after that ACCEPT, unless the call ended before. The Bool says
 -- whether the call is accepted already.
 abbrev pub answered_from : Option Side → Bool → List SideFrame → Option LegMoment
 answered_from opener accepted [] = None
@@ -136,7 +136,7 @@ end_from opener accepted (f ∷ frames) =
 abbrev pub end_of : Option Side → List SideFrame → Option CallEnd
 end_of opener frames = end_from opener false frames
 
--- ---- frames that are counted
+-- ---- counted frames
 
 abbrev pub is_side : Side → Side → Bool
 is_side Peer Peer = true
@@ -148,9 +148,9 @@ is_side Exchange Exchange = true
 abbrev pub is_by : Counted → Side → SideFrame → Bool
 is_by kind side f = is_side side f.by && is_of_kind kind (meaning_of f)
 
--- ---- how long a call lasted
+-- ---- the length of a call
 
--- from one moment to another of the same clock, where that isn't earlier
+-- from one moment to another of the same clock, if that isn't earlier
 abbrev pub ms_between : LegMoment → LegMoment → Option ℕ
 ms_between from to = if is_side from.clock to.clock && nat_le from.ms to.ms then Some (to.ms - from.ms) else None
 

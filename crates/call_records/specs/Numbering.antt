@@ -10,7 +10,7 @@ pub record Numbering : Type 0 where
   -- the serial of the next call
   pub next : ℕ
 
--- the call of the leg, where exactly this leg is noted
+-- the call of the leg, if exactly this leg is noted
 abbrev pub call_for : LegName → Option (Option NotedLeg) → Option ℕ
 call_for name (Some (Some leg)) = if is_same leg.name name then Some leg.call else None
 call_for name (Some None) = None
@@ -24,7 +24,7 @@ abbrev pub partner_call : List (Option NotedLeg) → Option LegName → Option �
 partner_call noted None = None
 partner_call noted (Some partner) = noted_call noted partner
 
--- the call of a leg that is taken out, where it or its partner is noted
+-- the call of a leg that is taken out, if it or its partner is noted
 abbrev pub known_by : Option ℕ → Option ℕ → Option ℕ
 known_by None partners = partners
 known_by (Some call) partners = Some call
@@ -32,7 +32,7 @@ known_by (Some call) partners = Some call
 abbrev pub known_call : Numbering → LegName → Option LegName → Option ℕ
 known_call n name partner = known_by (noted_call n.noted name) (partner_call n.noted partner)
 
--- else it is a new one
+-- otherwise it is a new one
 abbrev pub call_of : Numbering → LegName → Option LegName → ℕ
 call_of n name partner = unwrap_or (known_call n name partner) n.next
 

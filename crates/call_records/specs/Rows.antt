@@ -1,4 +1,4 @@
--- The text of a row: its columns, which stand as a record of CSV (RFC 4180).
+-- The text of a row: its columns, as a record of CSV (RFC 4180).
 use Rattle.std.specs.Prelude.{ℕ, List, [], ◌∷◌, Option, None, Some, codes, decimal, option_map, unwrap_or}
 use Rattle.std.specs.List.{flat_map}
 use Rattle.std.specs.Str.Lossy.{utf8_lossy}
@@ -14,7 +14,7 @@ use Rattle.call_records.specs.declared.call_end.Ending.{Ending}
 use Rattle.call_records.specs.declared.call_end.Ending.TheVariants.{HungUpHere, HungUpByPeer, RejectedHere, RejectedByPeer}
 use Rattle.call_records.specs.declared.call_end.CallEnd.{CallEnd}
 
--- ---- what stands in a column
+-- ---- the text of a column
 
 abbrev pub side_text : Side → List ℕ
 side_text Peer = codes "peer"
@@ -31,7 +31,7 @@ how_text HungUpByPeer = codes "hung_up_by_peer"
 how_text RejectedHere = codes "rejected_here"
 how_text RejectedByPeer = codes "rejected_by_peer"
 
--- nothing where none ended the leg
+-- the failure that ended the leg; empty if none did
 abbrev pub failure_text : Option Failure → List ℕ
 failure_text None = []
 failure_text (Some RetriesSpent) = codes "retries_spent"
@@ -39,11 +39,11 @@ failure_text (Some RecordFull) = codes "record_full"
 failure_text (Some ChallengeTimeout) = codes "challenge_timeout"
 failure_text (Some Inval) = codes "inval"
 
--- a text, and nothing where there is none
+-- a text, empty if there is none
 abbrev pub or_nothing : Option (List ℕ) → List ℕ
 or_nothing text = unwrap_or text []
 
--- a number in decimal digits, and nothing where there is none
+-- a number in decimal digits, empty if there is none
 abbrev pub number_text : Option ℕ → List ℕ
 number_text n = or_nothing (option_map decimal n)
 
@@ -51,16 +51,16 @@ number_text n = or_nothing (option_map decimal n)
 abbrev pub printable_text : List ℕ → List ℕ
 printable_text octets = utf8_lossy (flat_map printable_octet octets)
 
--- a telephone number, of any octets, and nothing where there is none
+-- a telephone number, of any octets, empty if there is none
 abbrev pub telephone_text : Option (List ℕ) → List ℕ
 telephone_text number = or_nothing (option_map printable_text number)
 
--- two columns: milliseconds, and whose clock tells them
+-- two columns: milliseconds, and the side whose clock measured them
 abbrev pub moment_columns : Option LegMoment → List (List ℕ)
 moment_columns None = [] ∷ [] ∷ []
 moment_columns (Some moment) = decimal moment.ms ∷ side_text moment.clock ∷ []
 
--- why the leg ended: by the frame that ended the call, else by what ended the leg
+-- the end of the leg: by the frame that ended the call, otherwise by the failure that ended the leg
 abbrev pub ending_text : Option CallEnd → Option Failure → List ℕ
 ending_text (Some end) failure = how_text end.how
 ending_text None None = codes "unknown"

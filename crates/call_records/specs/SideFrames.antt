@@ -15,15 +15,14 @@ pub record SideFrame : Type 0 where
   pub by : Side
   pub frame : Frame
 
--- The frames of both sides in the order of the record: the exchange sent what the record has as sent, the peer what it has as
--- taken.
+-- The frames of both sides in the order of the record: its sent frames are the exchange's, its taken frames the peer's.
 abbrev pub frames_of : List Entry → List SideFrame
 frames_of [] = []
 frames_of (Sent frame ∷ entries) = record { by = Exchange; frame = frame } ∷ frames_of entries
 frames_of (Acked count ∷ entries) = frames_of entries
 frames_of (Taken frame ∷ entries) = record { by = Peer; frame = frame } ∷ frames_of entries
 
--- what a frame means
+-- the message of a frame
 abbrev pub meaning_of : SideFrame → Message
 meaning_of f = message_by f.frame.kind (subclass_meaning f.frame.subclass)
 

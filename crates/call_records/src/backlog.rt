@@ -6,9 +6,9 @@ use circular_buffer::HeapCircularBuffer;
 use std::alloc::{AllocError, Global};
 use std::marker::Model;
 
-/// Rows that wait to be written, in order, in bounded memory. Where there is no room a row is lost, and counted.
+/// Rows that wait to be written, in order, in bounded memory. Without room a row is lost, and counted.
 ///
-/// Only `new` takes memory. Contracts see the rows, the oldest first, how many there may be, and how many were lost.
+/// Only `new` takes memory. Contracts see the rows, the oldest first, the capacity, and the number of lost rows.
 #[derive(Drop)]
 pub struct Backlog<T: Drop> {
     ring: HeapCircularBuffer<T>,
@@ -26,9 +26,9 @@ impl<T: Drop> Model for Backlog<T> {
 }
 
 impl<T: Drop> Backlog<T> {
-    /// No rows, with room for so many, and none lost.
+    /// Returns an empty backlog with room for `capacity` rows.
     ///
-    /// `AllocError`: a request for memory was refused.
+    /// Returns `AllocError` if a request for memory was refused.
     pub fn new(alloc: Global, capacity: usize) -> Result<Backlog<T>, AllocError>
         ensures { IfOk result (λ backlog. backlog ≡ record { waiting = []; capacity = capacity; lost = 0 }) }
     {
@@ -38,28 +38,28 @@ impl<T: Drop> Backlog<T> {
         })
     }
 
-    /// How many rows wait, at most as many as there is room for.
+    /// Returns the number of waiting rows, at most the capacity.
     pub fn len(&self) -> usize
         ensures { result ≡ length self.now.waiting }
     {
         self.ring.len()
     }
 
-    /// Whether no row waits.
+    /// Returns whether no row waits.
     pub fn is_empty(&self) -> bool
         ensures { result ≡ (length self.now.waiting == 0) }
     {
         self.ring.is_empty()
     }
 
-    /// How many rows were lost, modulo 2^64.
+    /// Returns the number of lost rows, modulo 2^64.
     pub fn lost(&self) -> u64
         ensures { result ≡ self.now.lost }
     {
         self.lost
     }
 
-    /// Adds a row as the last, or loses and counts it where there is no room. True: it was added.
+    /// Adds a row at the end, or counts it as lost if there is no room. Returns whether it was added.
     pub fn push(&mut self, row: T) -> bool
         ensures kept { IsTrue result ↔ (length self.old.waiting < self.old.capacity) }
         ensures after { self.new ≡ with_row self.old row }
@@ -73,14 +73,14 @@ impl<T: Drop> Backlog<T> {
         }
     }
 
-    /// The oldest row, which stays; none where no row waits.
+    /// Returns the oldest row, which stays, or `None` if no row waits.
     pub fn front(&self) -> Option<&T>
         ensures { option_copied result ≡ slice_get self.now.waiting 0 }
     {
         self.ring.front()
     }
 
-    /// Takes the oldest row off, and gives it; none where no row waits.
+    /// Removes and returns the oldest row, or `None` if no row waits.
     pub fn take(&mut self) -> Option<T>
         ensures row { result ≡ slice_get self.old.waiting 0 }
         ensures after { self.new ≡ without_front self.old }

@@ -1,8 +1,8 @@
-//! How a call ends.
+//! The end of a call.
 
 use crate::leg_moment::LegMoment;
 
-/// Which frame ended a call ("Call Tear Down", "Call Setup").
+/// The frame that ended a call ("Call Tear Down", "Call Setup").
 #[derive(Clone, Copy)]
 pub enum Ending {
     /// The exchange sent a HANGUP.
@@ -20,6 +20,6 @@ pub enum Ending {
 pub struct CallEnd {
     pub how: Ending,
     pub at: LegMoment,
-    /// The CAUSECODE of the frame, 0 ..= 255, where it has one of one octet ("Information Elements").
+    /// The CAUSECODE of the frame, 0 ..= 255, if it has one of one octet ("Information Elements").
     pub cause: Option<u8>,
 }

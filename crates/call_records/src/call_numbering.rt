@@ -15,9 +15,9 @@ pub struct NotedLeg {
 
 /// Gives both legs of a call one serial.
 ///
-/// Of two legs that are partners only the one that is taken out first has a partner then. So the call of a leg is noted for its
-/// partner too, each under exactly its name, and it doesn't matter in which order the two are told. For each local number one leg
-/// is noted, the last. Only `new` takes memory. Contracts see who is noted, by local number, and the next serial.
+/// When a leg is taken out, its partner loses its own. So the call of a leg is noted for its partner too, each under its
+/// own name, and the order of the two doesn't matter. For each local number one leg is noted, the last. Only `new` takes
+/// memory. Contracts see the noted legs, by local number, and the next serial.
 #[derive(Drop)]
 pub struct CallNumbering {
     noted: Vec<Option<NotedLeg>>,
@@ -33,9 +33,10 @@ impl Model for CallNumbering {
 }
 
 impl CallNumbering {
-    /// No leg is noted. The local numbers of the exchange are 1 ..= `numbers`, and the first call has the serial `first`.
+    /// Returns a numbering without noted legs. The local numbers of the exchange are 1 ..= `numbers`, and the first call
+    /// has the serial `first`.
     ///
-    /// `AllocError`: a request for memory was refused.
+    /// Returns `AllocError` if a request for memory was refused.
     pub fn new(alloc: Global, numbers: u16, first: u64) -> Result<CallNumbering, AllocError>
         ensures { IfOk result (λ n. n ≡ record { noted = replicate (numbers + 1) None; next = first }) }
     {
@@ -45,8 +46,8 @@ impl CallNumbering {
         })
     }
 
-    /// The serial of the call of a leg that was taken out and had this partner until then: the one that is noted for it, else the
-    /// one that is noted for its partner, else the next. Serials go on with 0 after 2^64 - 1.
+    /// Returns the serial of the call of a leg that was taken out and had this partner until then. It is the serial noted
+    /// for the leg, otherwise the one noted for its partner, otherwise the next. Serials wrap to 0 after 2^64 - 1.
     pub fn number_of(&mut self, name: LegName, partner: Option<LegName>) -> u64
         ensures call { result ≡ numbering.call_of self.old name partner }
         ensures after { self.new ≡ numbering.after_leg self.old name partner }
@@ -60,7 +61,7 @@ impl CallNumbering {
         call
     }
 
-    // A call that is known, or a new one.
+    // Returns the serial of a known call, or the next one.
     fn call_or_next(&mut self, known: Option<u64>) -> u64
         ensures call { result ≡ unwrap_or known self.old.next }
         ensures next { self.new.next ≡ numbering.next_after known self.old.next }
@@ -77,7 +78,7 @@ impl CallNumbering {
     }
 }
 
-// The call that is noted for exactly this leg.
+// Returns the call that is noted for exactly this leg.
 fn call_in(noted: &[Option<NotedLeg>], name: LegName) -> Option<u64>
     ensures { result ≡ numbering.noted_call noted.now name }
 {
@@ -87,7 +88,7 @@ fn call_in(noted: &[Option<NotedLeg>], name: LegName) -> Option<u64>
     }
 }
 
-// The call that is noted for a leg, else the one that is noted for its partner.
+// Returns the call that is noted for a leg, or otherwise the one noted for its partner.
 fn known_call(noted: &[Option<NotedLeg>], name: LegName, partner: Option<LegName>) -> Option<u64>
     ensures { result ≡ numbering.known_by (numbering.noted_call noted.now name) (numbering.partner_call noted.now partner) }
 {

@@ -1,4 +1,4 @@
-//! What the record of a leg says of its call.
+//! The call of a leg, as the leg's record shows it.
 ghost use Rattle.std.specs.Prelude.{◌≡◌, count_by};
 ghost use Rattle.seq_window.specs.History.{sent_count, acked_count, taken_count};
 ghost use Rattle.call_signals.specs.NewElements.{new_elements};
@@ -16,36 +16,36 @@ use crate::side::Side;
 use call_signals::ElementText;
 use seq_window::Record;
 
-/// What the record of a leg says of its call.
+/// The call of a leg, as the leg's record shows it.
 #[derive(Drop)]
 pub struct CallRecord {
-    /// The side that opened the call; none where the record doesn't begin with a NEW.
+    /// The side that opened the call; none if the record doesn't begin with a NEW.
     pub opened_by: Option<Side>,
-    /// The number that is called, as the NEW has it, at most 255 octets.
+    /// The called number of the NEW, at most 255 octets.
     pub called: Option<ElementText>,
-    /// The number that calls, as the NEW has it, at most 255 octets.
+    /// The calling number of the NEW, at most 255 octets.
     pub calling: Option<ElementText>,
-    /// The moment of the called side's ACCEPT, where it came before the end.
+    /// The moment of the called side's ACCEPT, if it came before the end.
     pub accepted: Option<LegMoment>,
-    /// The moment of the called side's ANSWER, where it came after its ACCEPT and before the end.
+    /// The moment of the called side's ANSWER, if it came after its ACCEPT and before the end.
     pub answered: Option<LegMoment>,
-    /// How the call ended, and when; none where no frame ended it.
+    /// The end of the call; none if no frame ended it.
     pub end: Option<CallEnd>,
-    /// Frames that were sent, each counted once, and those of them that were acknowledged.
+    /// Frames that were sent, each counted once, and the number of these that were acknowledged.
     pub sent: usize,
     pub acknowledged: usize,
-    /// Frames of the peer that were taken.
+    /// Frames accepted from the peer.
     pub taken: usize,
-    /// DTMF frames of the peer that were taken.
+    /// DTMF frames accepted from the peer.
     pub digits_taken: usize,
     /// DTMF frames that were sent.
     pub digits_sent: usize,
-    /// AUTHREQ frames of the peer that were taken.
+    /// AUTHREQ frames accepted from the peer.
     pub challenges_taken: usize,
 }
 
 impl CallRecord {
-    /// What the record says, by the frames that both sides sent each other and by nothing else ("Call Setup", "Call Tear
+    /// Reads the call from the frames that both sides sent each other, and from nothing else ("Call Setup", "Call Tear
     /// Down"). Moments are in milliseconds since the leg was opened.
     pub fn of(history: &Record) -> CallRecord
         ensures opened_by { result.opened_by ≡ course.opener_of (frames_of history.now.entries) }
@@ -88,8 +88,9 @@ impl CallRecord {
         }
     }
 
-    /// The milliseconds from the answer to the end, where one clock tells both: so the called side hung up. None where the call
-    /// wasn't answered or hasn't ended, where two clocks tell, or where the end is told as earlier.
+    /// Returns the milliseconds from the answer to the end, if one clock measured both: then the called side hung up.
+    /// Returns `None` if the call wasn't answered or hasn't ended, if two clocks measured them, or if the end is the
+    /// earlier one.
     pub fn talk_ms(&self) -> Option<u32>
         ensures { result ≡ course.talk_ms self.now.answered self.now.end }
     {

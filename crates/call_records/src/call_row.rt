@@ -16,28 +16,29 @@ use call_signals::{Failure, Format, Moments};
 use csv::StringRecord;
 use std::alloc::{AllocError, Global};
 
-/// What is kept of a leg that has ended. It has no memory of its own, and is at most 1,024 octets large.
+/// The row of a leg that has ended. It has no memory of its own, and is at most 1,024 octets large.
 #[derive(Drop)]
 pub struct CallRow {
-    /// The serial of the call, which its other leg has too.
+    /// The serial of the call, which its two legs share.
     pub call: u64,
     pub name: LegName,
-    /// The leg that it was bridged with until it was taken out.
+    /// The leg with which it was bridged until it was taken out.
     pub partner: Option<LegName>,
-    /// What its record says.
+    /// Its call, as its record shows it.
     pub leg: CallRecord,
     pub format: Format,
-    /// Why it ended, where no HANGUP or REJECT ended it.
+    /// The failure that ended it, if no HANGUP or REJECT did.
     pub failure: Option<Failure>,
-    /// How many full frames went out again, modulo 2^64.
+    /// The number of retransmitted full frames, modulo 2^64.
     pub resent: u64,
-    /// When its call was first offered, accepted, answered and over, in milliseconds since the exchange was opened.
+    /// The moments at which its call was first offered, accepted, answered and over, in milliseconds since the exchange was
+    /// opened.
     pub moments: Moments,
     /// Whether its peer was challenged.
     pub challenged: bool,
     /// Whether it answered a challenge of its peer.
     pub authenticated: bool,
-    /// The moment at which it was opened, in milliseconds since the exchange was.
+    /// The moment at which it was opened, in milliseconds since the exchange was opened.
     pub opened: u64,
     /// The moment at which it was taken out, in milliseconds since the exchange was opened.
     pub ended: u64,
@@ -96,7 +97,7 @@ const NAMES: [&str; 35] = [
 ];
 
 impl CallRow {
-    // Adds which call and which leg.
+    // Adds the serial of the call and the name of the leg.
     fn push_names(
         &self,
         alloc: Global,
@@ -117,7 +118,7 @@ impl CallRow {
         push_number(alloc, fields, self.partner.map(|name| name.serial))
     }
 
-    // Adds who called whom.
+    // Adds the caller and the called number.
     fn push_parties(&self, alloc: Global, fields: &mut StringRecord) -> Result<(), AllocError>
         ensures { OnOk result (fields_of fields.new ≡ fields_of fields.old ++ columns.party_columns self.now) }
     {
@@ -130,7 +131,7 @@ impl CallRow {
         fields.push_field(format_name(self.format))
     }
 
-    // Adds when the leg was there.
+    // Adds the moments at which the leg was opened and taken out.
     fn push_times(
         &self,
         alloc: Global,
@@ -146,7 +147,7 @@ impl CallRow {
         push_number(alloc, fields, Some(self.ended))
     }
 
-    // Adds when its call was accepted, was answered and ended.
+    // Adds the moments at which its call was accepted, was answered and ended.
     fn push_moments(&self, alloc: Global, fields: &mut StringRecord) -> Result<(), AllocError>
         ensures { OnOk result (fields_of fields.new ≡ fields_of fields.old ++ columns.moments_columns self.now) }
     {
@@ -156,7 +157,7 @@ impl CallRow {
         push_number(alloc, fields, self.leg.talk_ms().map(u64::from))
     }
 
-    // Adds why it ended.
+    // Adds the end of the call.
     fn push_ending(&self, alloc: Global, fields: &mut StringRecord) -> Result<(), AllocError>
         ensures { OnOk result (fields_of fields.new ≡ fields_of fields.old ++ columns.ending_columns self.now) }
     {
@@ -169,7 +170,7 @@ impl CallRow {
         fields.push_field(failure_name(self.failure))
     }
 
-    // Adds what went over it.
+    // Adds the counts of its frames.
     fn push_counts(&self, alloc: Global, fields: &mut StringRecord) -> Result<(), AllocError>
         ensures { OnOk result (fields_of fields.new ≡ fields_of fields.old ++ columns.count_columns self.now) }
     {
@@ -181,7 +182,7 @@ impl CallRow {
         push_number(alloc, fields, Some(self.leg.digits_sent as u64))
     }
 
-    // The milliseconds from the answer to the end, by the exchange's clock.
+    // Returns the milliseconds from the answer to the end, by the exchange's clock.
     fn bill_ms(&self) -> Option<u64>
         ensures { result ≡ reasons.bill_ms self.now.moments }
     {
@@ -191,7 +192,7 @@ impl CallRow {
         }
     }
 
-    // Adds when its call was accepted, answered and over by the exchange's clock, and why it wasn't answered.
+    // Adds the call's moments by the exchange's clock, and the reason why it wasn't answered.
     fn push_outcome(&self, alloc: Global, fields: &mut StringRecord) -> Result<(), AllocError>
         ensures { OnOk result (fields_of fields.new ≡ fields_of fields.old ++ columns.outcome_columns self.now) }
     {
@@ -220,7 +221,7 @@ impl CallRow {
         self.push_outcome(alloc, fields)
     }
 
-    // All columns.
+    // Returns all columns.
     fn columns(&self, alloc: Global, texts: &RowTexts<'_>) -> Result<StringRecord, AllocError>
         ensures { IfOk result (λ fields. fields_of fields ≡ columns.row_columns self.now texts.now) }
     {

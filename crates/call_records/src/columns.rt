@@ -66,7 +66,7 @@ pub(crate) fn push_moment(
     }
 }
 
-// The name of a side.
+// Returns the name of a side.
 pub(crate) fn side_name(side: Side) -> &'static str
     ensures { result.now ≡ rows.side_text side }
 {
@@ -76,7 +76,7 @@ pub(crate) fn side_name(side: Side) -> &'static str
     }
 }
 
-// The name of a format.
+// Returns the name of a format.
 pub(crate) fn format_name(format: Format) -> &'static str
     ensures { result.now ≡ rows.format_text format }
 {
@@ -87,7 +87,7 @@ pub(crate) fn format_name(format: Format) -> &'static str
     }
 }
 
-// The name of a failure, or nothing.
+// Returns the name of a failure, or nothing.
 pub(crate) fn failure_name(failure: Option<Failure>) -> &'static str
     ensures { result.now ≡ rows.failure_text failure }
 {
@@ -100,7 +100,8 @@ pub(crate) fn failure_name(failure: Option<Failure>) -> &'static str
     }
 }
 
-/// Why a leg ended: the name of the frame that ended the call, and of the side that sent it, or of the leg's failure.
+/// Returns the cause of a leg's end: the name of the frame that ended the call, with the side that sent it, or of the
+/// leg's failure.
 pub fn ending_name(end: Option<CallEnd>, failure: Option<Failure>) -> &'static str
     ensures { result.now ≡ rows.ending_text end failure }
 {
@@ -116,7 +117,7 @@ pub fn ending_name(end: Option<CallEnd>, failure: Option<Failure>) -> &'static s
     }
 }
 
-// The text of one record.
+// Returns the text of one record.
 fn record_text(alloc: Global, fields: &StringRecord) -> Result<Vec<u8>, AllocError>
     ensures { IfOk result (λ text. text.items ≡ row_text default_writer (fields_of fields.now)) }
 {

@@ -1,4 +1,4 @@
-//! The kinds of frames that a record is counted for.
+//! The kinds of frames that are counted in a record.
 ghost use Rattle.std.specs.Prelude.{◌≡◌};
 ghost use Rattle.call_records.specs.Courses.{is_of_kind};
 
@@ -14,7 +14,7 @@ pub enum Counted {
 }
 
 impl Counted {
-    // Whether a frame with this meaning is of the kind.
+    // Returns whether a frame with this meaning is of the kind.
     pub(crate) fn has(self, message: &Message) -> bool
         ensures { result ≡ is_of_kind self message.now }
     {

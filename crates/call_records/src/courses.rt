@@ -1,4 +1,4 @@
-//! What the frames of a leg say of its call, one question after another.
+//! The course of a call, by the frames of a leg.
 ghost use Rattle.std.specs.Prelude.{◌≡◌, ◌≤◌, count_by, length, IfSome};
 ghost use Rattle.std.specs.Option.{ForSome, option_copied};
 ghost use Rattle.call_signals.specs.NewElements.{named, new_elements};
@@ -13,7 +13,7 @@ use crate::side_frames::{SideFrameView, SideFrames};
 use call_signals::{Message, NewElements};
 use seq_window::Record;
 
-// The side that opened the call.
+// Returns the side that opened the call.
 pub(crate) fn opener(history: &Record) -> Option<Side>
     ensures { result ≡ course.opener_of (frames_of history.now.entries) }
 {
@@ -25,7 +25,7 @@ pub(crate) fn opener(history: &Record) -> Option<Side>
     }
 }
 
-// The data of its NEW.
+// Returns the data of its NEW.
 fn new_data(history: &Record) -> &[u8]
     ensures { result.now ≡ course.new_data (frames_of history.now.entries) }
 {
@@ -35,7 +35,7 @@ fn new_data(history: &Record) -> &[u8]
     }
 }
 
-// The elements of its NEW.
+// Returns the elements of its NEW.
 pub(crate) fn elements_of_new(history: &Record) -> NewElements<'_>
     ensures elements { named result ≡ new_elements (course.new_data (frames_of history.now.entries)) }
     ensures called { IfSome result.called (λ text. length text.now ≤ 255) }
@@ -44,7 +44,7 @@ pub(crate) fn elements_of_new(history: &Record) -> NewElements<'_>
     NewElements::read(new_data(history))
 }
 
-// How a call went on: the moments at which it was accepted and answered, and how it ended.
+// The course of a call: the moments at which it was accepted and answered, and its end.
 #[derive(Clone, Copy)]
 pub(crate) struct Course {
     pub(crate) accepted: Option<LegMoment>,
@@ -52,7 +52,7 @@ pub(crate) struct Course {
     pub(crate) end: Option<CallEnd>,
 }
 
-// How the call went on that this side opened.
+// Returns the course of the call that this side opened.
 pub(crate) fn course_of(history: &Record, opener: Option<Side>) -> Course
     ensures accepted { result.accepted ≡ course.accepted_of opener (frames_of history.now.entries) }
     ensures answered { result.answered ≡ course.answered_of opener (frames_of history.now.entries) }
@@ -84,7 +84,7 @@ pub(crate) fn course_of(history: &Record, opener: Option<Side>) -> Course
     }
 }
 
-// How many frames of this kind a side sent.
+// Returns the number of frames of this kind that a side sent.
 pub(crate) fn count(history: &Record, kind: Counted, side: Side) -> usize
     ensures { result ≡ count_by (course.is_by kind side) (frames_of history.now.entries) }
 {

@@ -1,4 +1,4 @@
-//! The laws of calls: what their moments say of their frames, and that two partners have one serial.
+//! The laws of calls: the frames that their moments imply, and the common serial of two partners.
 ghost use Rattle.std.specs.Prelude.{◌≡◌, ◌<◌, ◌↔◌, List, length, Option, IsSome, None, Some};
 ghost use Rattle.call_book.specs.declared.leg_name.LegName.{LegName};
 ghost use Rattle.call_records.specs.SideFrames.{SideFrame};
@@ -9,10 +9,10 @@ ghost use Rattle.call_records.specs.Numbering.{Numbering, noted_call, call_of, a
 ghost use Rattle.call_records.specs.declared.call_end.CallEnd.{CallEnd};
 ghost use Rattle.call_records.specs.declared.side.Side.{Side};
 
-/// A call counts as accepted exactly where an ACCEPT of the called side stands among its frames, and as answered exactly where
-/// an ANSWER of that side stands behind such an ACCEPT, with nothing up to there that ends the call. What is answered is
-/// accepted. A call ends by a HANGUP of either side, before which there is no other, or by a REJECT; where nothing ended it
-/// there is no HANGUP ("Call Setup", "Call Tear Down"). A law about definitions, for provers; the call does nothing.
+/// A call counts as accepted if and only if an ACCEPT of the called side is among its frames. It counts as answered if and
+/// only if an ANSWER of that side follows such an ACCEPT. No frame up to there may end the call. An answered call is
+/// accepted. A call ends by the first HANGUP of either side, or by a REJECT; without an end there is no HANGUP ("Call
+/// Setup", "Call Tear Down"). A law about definitions, for provers; the call does nothing.
 pub fn moments_are_those_of_frames()
     ensures accepted { (opener : Option Side) (frames : List SideFrame) →
         IsSome (accepted_of opener frames) ↔ HasAccept opener frames }
@@ -25,9 +25,9 @@ pub fn moments_are_those_of_frames()
     ensures not_hung_up { (opener : Option Side) (frames : List SideFrame) → end_of opener frames ≡ None → HasNoHangup frames }
 {}
 
-/// Two partners have one serial, whichever of them is told first, and whatever other legs are told between them, where none of
-/// these has the local number of the one that is taken out later, or a partner of that number. That one has no partner any
-/// more. A law about definitions, for provers; the call does nothing.
+/// Two partners have one serial, whichever of them is numbered first. Other legs may be numbered between them, unless one
+/// of these has the local number of the later leg, or a partner with that number. The later leg has no partner any more. A
+/// law about definitions, for provers; the call does nothing.
 pub fn partners_share_a_call()
     ensures first_told_first { (n : Numbering) (first later : LegName) (between : List TakenOut) →
         later.number < length n.noted → AllHaveOtherNumbers later.number between →

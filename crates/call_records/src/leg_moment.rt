@@ -4,17 +4,17 @@ ghost use Rattle.call_records.specs.Courses.{ms_between};
 
 use crate::side::Side;
 
-/// A moment of a leg, as the timestamp of a full frame tells it ("Full Frames").
+/// A moment of a leg, by the timestamp of a full frame ("Full Frames").
 #[derive(Clone, Copy)]
 pub struct LegMoment {
     /// Milliseconds since the leg was opened, modulo 2^32.
     pub ms: u32,
-    /// Whose clock tells it: the side that sent the frame.
+    /// The side whose clock measured it: the sender of the frame.
     pub clock: Side,
 }
 
 impl LegMoment {
-    // The milliseconds from this moment to another of the same clock, where that isn't earlier.
+    // Returns the milliseconds from this moment to another of the same clock, if that isn't earlier.
     pub(crate) fn ms_to(self, later: LegMoment) -> Option<u32>
         ensures { result ≡ ms_between self later }
     {

@@ -1,6 +1,6 @@
-//! The record of a call leg that has ended: who called whom, when it was accepted and answered, how it ended and what went over
-//! it, all read from the leg's list of frames (RFC 5456, "Call Setup", "Call Tear Down"); the serials that join the two legs of
-//! a call; the rows that wait to be written, and their text.
+//! The record of a call leg that has ended, read from the leg's list of frames (RFC 5456, "Call Setup", "Call Tear Down"):
+//! the caller, the called number, the moments of the call, its end, and the counts of its frames. The serials that join the
+//! two legs of a call. The rows that wait to be written, and their text.
 #![tactic(auto)]
 
 mod backlog;

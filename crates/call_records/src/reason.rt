@@ -1,4 +1,4 @@
-//! Why a call wasn't answered.
+//! The reason why a call wasn't answered.
 ghost use Rattle.std.specs.Prelude.{◌≡◌};
 ghost use Rattle.call_records.specs.Reasons as reasons;
 
@@ -6,7 +6,7 @@ use crate::call_end::Ending;
 use crate::call_row::CallRow;
 use crate::columns::failure_name;
 
-// Why the exchange rejected a call that it took, by the cause that it sent.
+// Returns the reason why the exchange rejected a call whose NEW it had accepted, by the cause that it sent.
 fn routing_reason(cause: Option<u8>) -> &'static str
     ensures { result.now ≡ reasons.routing_reason cause }
 {
@@ -18,15 +18,15 @@ fn routing_reason(cause: Option<u8>) -> &'static str
     }
 }
 
-// Whether the peer challenged the exchange, and had no answer.
+// Returns whether the peer challenged the exchange, and got no answer.
 fn is_unanswered(row: &CallRow) -> bool
     ensures { result ≡ reasons.is_unanswered row.now }
 {
     0 < row.leg.challenges_taken && !row.authenticated && row.moments.accepted.is_none()
 }
 
-/// Why the call of a leg wasn't answered: `wrong_secret`, `no_secret`, `no_common_format`, `no_route`, `no_number`,
-/// `rejected_by_peer`, or the name of the leg's failure. Empty if it was answered, or given up by whom it was begun.
+/// Returns the reason why the call of a leg wasn't answered: `wrong_secret`, `no_secret`, `no_common_format`, `no_route`,
+/// `no_number`, `rejected_by_peer`, or the name of the leg's failure. Empty if it was answered, or given up by its caller.
 pub fn reason_name(row: &CallRow) -> &'static str
     ensures { result.now ≡ reasons.reason_text row.now }
 {

@@ -7,12 +7,12 @@ ghost use Rattle.call_records.specs.Courses as course;
 pub enum Side {
     /// The other side: the peer.
     Peer,
-    /// Our side: the exchange.
+    /// This side: the exchange.
     Exchange,
 }
 
 impl Side {
-    // Whether both are one.
+    // Returns whether both are the same side.
     pub(crate) fn is(self, other: Side) -> bool
         ensures { result ≡ course.is_side self other }
     {
@@ -22,7 +22,7 @@ impl Side {
         )
     }
 
-    // Whether this side is called where that one opened the call.
+    // Returns whether this side is the called one, if `opener` opened the call.
     pub(crate) fn is_called(self, opener: Option<Side>) -> bool
         ensures { result ≡ course.is_called opener self }
     {

@@ -15,14 +15,14 @@ use info_elements::{CAUSECODE, last_in};
 use seq_window::{EntryView, FrameView, Record};
 use std::marker::Model;
 
-/// A frame of a record, looked at where it lies, and the side that sent it.
+/// A frame of a record, borrowed from it, and the side that sent it.
 #[derive(Clone, Copy)]
 pub struct SideFrameView<'a> {
     pub by: Side,
     pub frame: FrameView<'a>,
 }
 
-/// Reads the frames of a record one after another. Contracts see those that are left.
+/// Reads the frames of a record one after another. Contracts see the remaining ones.
 #[derive(Drop)]
 pub struct SideFrames<'a> {
     history: &'a Record,
@@ -43,7 +43,7 @@ impl<'a> Model for SideFrames<'a> {
     ghost invariant = { IsReader };
 }
 
-// The entry at a place of a record.
+// Returns the entry at a place of a record.
 fn entry_at(history: &Record, place: usize) -> Option<EntryView<'_>>
     ensures some { IfSome result (λ entry.
         drop place history.now.entries ≡ entry_of entry ∷ drop (place + 1) history.now.entries) }
@@ -53,7 +53,7 @@ fn entry_at(history: &Record, place: usize) -> Option<EntryView<'_>>
     history.entry(place)
 }
 
-// The frame of an entry, where it has one.
+// Returns the frame of an entry, if it has one.
 fn frame_in(entry: EntryView<'_>) -> Option<SideFrameView<'_>>
     ensures { (entries : List Entry)
         → frames_of (entry_of entry.entry ∷ entries) ≡ option_to_list (option_map side_frame_of result) ++ frames_of entries }
@@ -72,7 +72,7 @@ fn frame_in(entry: EntryView<'_>) -> Option<SideFrameView<'_>>
 }
 
 impl<'a> SideFrames<'a> {
-    /// The frames of a record, at most 65,536, from the first on.
+    /// Returns the frames of a record, at most 65,536, from the first on.
     pub fn of(history: &'a Record) -> SideFrames<'a>
         ensures frames { result ≡ frames_of history.now.entries }
         ensures few { length result ≤ 65536 }
@@ -81,7 +81,7 @@ impl<'a> SideFrames<'a> {
         SideFrames { history, place: 0 }
     }
 
-    /// The next frame; none where none is left.
+    /// Returns the next frame, or `None` if none is left.
     pub fn next(&mut self) -> Option<SideFrameView<'a>>
         ensures { MatchOption result ((self.old ≡ []) × (self.new ≡ [])) (λ frame. self.old ≡ side_frame_of frame ∷ self.new) }
     {
@@ -96,28 +96,28 @@ impl<'a> SideFrames<'a> {
 }
 
 impl<'a> SideFrameView<'a> {
-    // What it means.
+    // Returns its message.
     pub(crate) fn meaning(&self) -> Message
         ensures { result ≡ meaning_of (side_frame_of self.now) }
     {
         Message::of_octets(self.frame.kind, self.frame.subclass)
     }
 
-    // Whether it accepts a call that this side opened.
+    // Returns whether it accepts a call that this side opened.
     pub(crate) fn accepts(&self, opener: Option<Side>) -> bool
         ensures { result ≡ course.accepts opener (side_frame_of self.now) }
     {
         self.by.is_called(opener) && matches!(self.meaning(), Message::Accept)
     }
 
-    // Whether it answers a call that this side opened.
+    // Returns whether it answers a call that this side opened.
     pub(crate) fn answers(&self, opener: Option<Side>) -> bool
         ensures { result ≡ course.answers opener (side_frame_of self.now) }
     {
         self.by.is_called(opener) && matches!(self.meaning(), Message::Answer)
     }
 
-    // How it ends a call that this side opened, and that is accepted already or not.
+    // Returns how it ends a call that this side opened, if it does. `accepted` says whether the call was accepted before.
     pub(crate) fn ending(&self, opener: Option<Side>, accepted: bool) -> Option<Ending>
         ensures { result ≡ course.ending_of opener accepted (side_frame_of self.now) }
     {
@@ -132,14 +132,14 @@ impl<'a> SideFrameView<'a> {
         }
     }
 
-    // Whether it is of this kind and of this side.
+    // Returns whether it is of this kind and of this side.
     pub(crate) fn is_by(&self, kind: Counted, side: Side) -> bool
         ensures { result ≡ course.is_by kind side (side_frame_of self.now) }
     {
         side.is(self.by) && kind.has(&self.meaning())
     }
 
-    // Its moment.
+    // Returns its moment.
     pub(crate) fn moment(&self) -> LegMoment
         ensures { result ≡ course.moment_of (side_frame_of self.now) }
     {
@@ -149,7 +149,7 @@ impl<'a> SideFrameView<'a> {
         }
     }
 
-    // Its CAUSECODE.
+    // Returns its CAUSECODE.
     pub(crate) fn cause(&self) -> Option<u8>
         ensures { result ≡ course.cause_in (side_frame_of self.now) }
     {
@@ -159,7 +159,7 @@ impl<'a> SideFrameView<'a> {
         }
     }
 
-    // The end of the call that it ends so.
+    // Returns the end of the call that it ends in this way.
     pub(crate) fn end(&self, how: Ending) -> CallEnd
         ensures { result ≡ course.end_by (side_frame_of self.now) how }
     {

@@ -20,7 +20,7 @@ use Rattle.call_runs.specs.Stored.{Stored, ArePeers, AreSeenIn}
 use Rattle.call_runs.specs.StoredSteps.{AtBook, Reserves, Bridges, Releases, Answers, IsRefused, IsNobodys, after_bridge, after_release, release_answer, look_at, leases_after}
 use Rattle.call_runs.proofs.WorldSteps.{PeersSteps, ComesOut, IsSceneOf}
 
--- what is left once the book was asked for a name
+-- the state after a call of the book for a name
 abbrev reserved_as : Scene → ℕ → Result LegName ReserveError → Answer
 reserved_as scene peer r =
     let leases = leases_after (needs.Reserve peer) (replies.Reserve r) scene.leases in
@@ -32,7 +32,7 @@ refused_as scene peer r error =
 
 module _ (laws : PeersSteps) (old new : Stored) (scene : Scene) (called : Bool) (are : ArePeers old.peers)
     (of : IsSceneOf scene old) where
-  -- the world's step leaves this book and these leases, and answers so
+  -- the world's step leaves this book and these leases, with this answer
   at_book : (need : Need) (reply : Reply) (book : Book) (a : Reply) (leases : List LegName) (choice : Choice)
       → AtBook book a old new reply
       → answered scene need called choice ≡ answer (record scene { book = book; leases = leases }) (seen_reply a)
@@ -67,7 +67,7 @@ module _ (laws : PeersSteps) (old new : Stored) (scene : Scene) (called : Bool) 
       → ComesOut scene (needs.Retire name) called new reply
   keeps name reply made = unchanged (needs.Retire name) reply (replies.Retire false) KeepsLeg made refl refl
 
-  -- no leg of the world is of a peer that there is not
+  -- no leg of the world is of a peer that doesn't exist
   pub is_gone : (name : LegName) (act : Act) (reply : Reply) → IsNobodys name.peer old new reply
       → ComesOut scene (needs.Order name act) called new reply
   is_gone name act reply made =

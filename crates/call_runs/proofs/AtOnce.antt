@@ -1,4 +1,4 @@
--- What callers at once do next, at the peers and the book that are stored.
+-- The next steps of callers at once, at the stored peers and the stored book.
 use Rattle.std.specs.Prelude.{nat_le, nat_lt, not, is_some, IsSome}
 use Rattle.std.specs.List.{AllByRecursion}
 use Rattle.std.proofs.Common.{◌≡◌, ℕ, ◌+◌, ◌<◌, ◌≤◌, ◌==◌, Bool, true, false, length, List, Option, Some, None, slice_get, refl, sym, ap, subst, ◌∙◌, arith, inl, inr}
@@ -35,7 +35,7 @@ at_name (Some found) name named is = elim (cases_Bool (is_same found.name name))
   | inr e ↦ absurd (let f = rw e at is in cc)
 ]
 
--- who opens a leg next takes its lease
+-- a caller that opens a leg next uses its lease
 opens_leased : (need : Option Need) (name : LegName) → opened_next need ≡ Some name → lease_needed need ≡ Some name
 opens_leased (Some (needs.OpenIn n)) name e = e
 opens_leased (Some (needs.OpenOut n)) name e = e
@@ -102,7 +102,7 @@ module _ {within : Type 0} {called : List LegName} {stored : Stored} (in_world :
       in_world.offered who caller name act worlds.leg (stands who caller at) needed talk leg
       (ap (λ (n : SeenNamed). n.seen.stage) worlds.looks ∙ stage)
 
-  -- a stored leg that has to be looked after is one of the world's
+  -- a stored leg that needs somebody responsible is one of the world's
   kept_leg : (place number : ℕ) (named : NamedLeg) → IsWorlds world place number named → IsKept called named → (leg : Leg)
       × (world_leg_at world.legs place number ≡ Some leg)
       × (leg.name ≡ named.name) × (is_kept leg ≡ true)

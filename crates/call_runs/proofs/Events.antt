@@ -1,4 +1,4 @@
--- Each change of what is stored is an event of the world.
+-- Each change of the stored exchange is an event of the world.
 use Rattle.std.specs.Prelude.{Err}
 use Rattle.std.proofs.Common.{◌≡◌, ℕ, Bool, true, false, List, ◌++◌, Option, Some, None, slice_get, slice_set, refl, sym, ap, subst, ◌∙◌, inl, inr}
 use Rattle.call_book.specs.declared.leg_name.LegName.{LegName}
@@ -70,7 +70,7 @@ module _ (laws : PeersSteps) (old new : Stored) (scene : Scene) (called : Bool) 
       refuses laws old new scene called are of (needs.Route name) reply replies.Route LeadsTo (λ route. refl) (λ route. refl)
       (record { error = made.0; unchanged = made.1 })
 
--- who takes a lease next has it in hand
+-- a caller whose next step uses a lease has it
 pub lease_held : (world : World) (who : ℕ) (caller : Caller) (need : Need) → NoneIsBusy world → NoneIsStale world
     → slice_get world.callers who ≡ Some caller
     → next_of caller.work ≡ Some need → (name : LegName) → lease_needed (Some need) ≡ Some name
@@ -136,7 +136,7 @@ begin_seen called old new world seen b =
       outside = seen.outside;
     })
 
--- what goes out isn't seen
+-- sending a datagram isn't seen
 pub out_seen : (called : List LegName) (old new : Stored) (world : World) → IsSeenIn called old world → TakesOut old new
     → IsSeenIn called new world
 out_seen called old new world seen t =

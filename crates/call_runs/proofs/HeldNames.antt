@@ -1,4 +1,4 @@
--- What a world says of the names in its book, said of the stored legs and leases.
+-- The law of a world about the names in its book, for the stored legs and leases.
 use Rattle.std.specs.Prelude.{option_map, is_some, ◌&&◌}
 use Rattle.std.proofs.Common.{◌≡◌, ℕ, zero, suc, ◌+◌, ◌≤◌, ◌==◌, Bool, true, false, List, [], ◌∷◌, Option, Some, None, slice_get, refl, sym, ap, subst, ◌∙◌, arith, inl, inr}
 use Rattle.std.proofs.lemmas.Bool.{cases_Bool}
@@ -21,7 +21,7 @@ use Rattle.call_runs.proofs.InWorld.{IsInWorld}
 
 -- ---- lists of names
 
--- a lease in hand is one of the leases of all
+-- a caller's lease is one of the leases of all
 leased_times : (name : LegName) (leases : List LegName) → is_leased leases name ≡ true → 1 ≤ times name leases
 leased_times name [] is = absurd (cc)
 leased_times name (lease ∷ leases) is = elim (cases_Bool (is_same lease name)) [
@@ -57,7 +57,7 @@ none_times (leg ∷ legs) name is =
           omega (arith, none_times legs name (rw e at is), no)
     ]
 
--- ---- how often a name stands in a book
+-- ---- the number of times that a name is in a book
 
 some_bit : (b : Bool) (n : ℕ) → n ≡ bit b → 1 ≤ n → b ≡ true
 some_bit true n e le = refl
@@ -73,9 +73,9 @@ same_bits true false e = absurd (omega (arith, e))
 same_bits false true e = absurd (omega (arith, e))
 same_bits false false e = refl
 
--- ---- what is stored, in a world that has it as it is seen
+-- ---- the stored exchange, in a world that has it as it is seen
 
--- a stored leg is the world's, and stands where its name says
+-- a stored leg is the world's, and is at the place of its name
 pub record IsWorlds (world : World) (place number : ℕ) (named : NamedLeg) : Type 0 where
   pub leg : Leg
   pub at : world_leg_at world.legs place number ≡ Some leg
@@ -171,7 +171,7 @@ module _ {within : Type 0} {called : List LegName} {stored : Stored} (in_world :
   pub held_once : NamesAreHeldOnce stored
   held_once name = omega (arith, leg_times name, both name)
 
-  -- a name in hand is that of no leg
+  -- the name of a lease is that of no leg
   pub leases_free : LeasesAreFree stored
   leases_free who caller name at leased =
       let some = held_times name stored.callers who caller at leased in

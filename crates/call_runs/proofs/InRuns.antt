@@ -27,13 +27,13 @@ pub record ChangesAreEvents : Type 0 where
   pub peers : (old new : Stored) → ArePeers old.peers → Changes old new → ArePeers new.peers
   pub ranges : (old new : Stored) → ArePeers old.peers → HaveRanges old → Changes old new → HaveRanges new
 
--- what the steps ask for, in every run
+-- the requirements of steps, in every run
 pub record InRuns : Type 0 where
   pub busy : InEveryRun NoneIsBusy
   pub stale : InEveryRun NoneIsStale
   pub numbers : InEveryRun NumbersServeOne
 
--- events of the opened world lead to what is stored, within the steps of peers where they are to
+-- events of the opened world lead to the stored exchange; they stay within the steps of peers if required
 pub record IsReached (first : Stored) (within : Type 0) (called : List LegName) (last : Stored) : Type 0 where
   pub events : List Event
   pub spares : within → AllByRecursion IsWithinSteps events

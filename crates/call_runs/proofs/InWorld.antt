@@ -1,4 +1,4 @@
--- What is stored, seen in a world of which the law over many calls speaks.
+-- The stored exchange, seen in a world of the law over many calls.
 use Rattle.std.proofs.Common.{List}
 use Rattle.call_book.specs.declared.leg_name.LegName.{LegName}
 use Rattle.call_steps.specs.Law.{NamesAreHeldOnce, NoneIsBusy, NoneIsOutside, NoneIsStale, AllAreLookedAfter, NoneMeetsOffered, NamesAreTheLegs, AllHavePartners}

@@ -1,4 +1,4 @@
--- What is so of each stored peer stays so, where its place in the plan and its local numbers tell it.
+-- A property of each stored peer stays, if its place in the plan and its local numbers imply it.
 use Rattle.std.proofs.Common.{◌≡◌, ℕ, List, Some, None, Bool, true, false, slice_get, slice_set, refl, sym, ap, subst, ◌∙◌, inl, inr}
 use Rattle.std.specs.Prelude.{Result, Ok, Err}
 use Rattle.call_book.specs.Book.{Book, reserve_answer, taken, tail, free_of, bridge_answer, has_name}
@@ -19,7 +19,7 @@ use Rattle.call_runs.specs.StoredSteps.{after_bridge, after_release, TakesDatagr
 use Rattle.call_runs.proofs.Places.{at_set}
 use Rattle.call_runs.proofs.Shapes.{IsShapedAs, itself, placed, of_datagram, of_order, of_tick}
 
--- each peer is so
+-- each peer satisfies P
 abbrev pub EachPeer : (ℕ → PeerView → Type 0) → List PeerView → Type 0
 EachPeer P peers = (place : ℕ) (peer : PeerView) → slice_get peers place ≡ Some peer → P place peer
 

@@ -1,4 +1,4 @@
--- What a call does under a lock is the step of the exchange that was needed.
+-- A call under a lock is the step of the exchange that was needed.
 use Rattle.std.specs.Prelude.{option_map, Err}
 use Rattle.std.proofs.Common.{◌≡◌, ℕ, zero, suc, false, List, [], ◌∷◌, Option, Some, slice_get, slice_set, refl, sym, ap, ◌∙◌, inl, inr}
 use Rattle.call_book.specs.declared.leg_name.LegName.{LegName}

@@ -27,7 +27,7 @@ same_or_not a b = elim (cases_Bool (a == b)) [
   | inr e ↦ inr (λ same. let test : (a == b) ≡ true = eq-eqb a b same in cc)
 ]
 
--- who stands at a place once one peer is another
+-- the element at a place once one peer is replaced
 pub at_set : {X : Type 0} (xs : List X) (place : ℕ) (x new : X) → slice_get xs place ≡ Some x → (other : ℕ) (y : X)
     → slice_get (slice_set xs place new) other ≡ Some y
     → ((other ≡ place) × (new ≡ y)) ⊎ ((other ≢ place) × (slice_get xs other ≡ Some y))
@@ -39,7 +39,7 @@ at_set xs place x new at other y is = elim (same_or_not other place) [
   | inr ne ↦ inr (ne, sym (set_apart xs place other new ne) ∙ is)
 ]
 
--- nobody stands where nobody stood before
+-- a place that was empty stays empty
 pub none_at_set : {X : Type 0} (xs : List X) (place : ℕ) (x new : X) → slice_get xs place ≡ Some x → (other : ℕ)
     → slice_get (slice_set xs place new) other ≡ None
     → (other ≢ place) × (slice_get xs other ≡ None)

@@ -9,7 +9,7 @@ use Rattle.leg_machine.specs.Media.{media_sent}
 use Rattle.leg_machine.specs.declared.media.MediaSent.{MediaSent}
 use Rattle.leg_machine.specs.declared.media.MediaSent.TheVariants as sent
 use Rattle.peer_lock.specs.Arrivals.{delivered_step, datagram_step}
-use Rattle.peer_lock.specs.Delivery.{Delivery, Reaches, NeedsNumber, NoToken, Gets, NoCall, delivery}
+use Rattle.peer_lock.specs.Delivery.{Delivery, Reaches, NeedsNumber, NoToken, Gets, Pongs, NoCall, delivery}
 use Rattle.peer_lock.specs.Legs.{PeerLegs, NamedLeg, with_place}
 use Rattle.peer_lock.specs.Orders.{ordered_if, counted_media, with_media}
 use Rattle.peer_lock.specs.Peer.{PeerView}
@@ -41,6 +41,7 @@ delivered first peer (Reaches named) frame now = placed peer.legs named.name.num
 delivered first peer NeedsNumber frame now = itself peer.legs
 delivered first peer NoToken frame now = itself peer.legs
 delivered first peer (Gets answer) frame now = itself peer.legs
+delivered first peer Pongs frame now = itself peer.legs
 delivered first peer NoCall frame now = itself peer.legs
 
 pub of_datagram : (first : ℕ) (peer : PeerView) (datagram : Datagram) (now : ℕ)
@@ -56,7 +57,7 @@ either : (b : Bool) (x y z : PeerView) → x.legs ≡ z.legs → y.legs ≡ z.le
 either true x y z is or = is
 either false x y z is or = or
 
--- what is counted of media changes no leg
+-- counting media changes no leg
 counted_legs : (s : MediaSent) (peer : PeerView) (number : ℕ) (media : List ℕ) (now : ℕ)
     → (counted_media s peer number media now).legs ≡ peer.legs
 counted_legs sent.Quelched peer number media now = refl

@@ -1,4 +1,4 @@
--- A step that isn't refused because the steps of a peer are spent, is a choice that isn't such a refusal.
+-- A step that isn't refused because a peer's steps are spent has a choice that isn't such a refusal.
 use Rattle.std.specs.Prelude.{Ok, Err}
 use Rattle.std.proofs.Common.{◌≡◌, Bool, true, false, Option, Some, None, refl, sym, ◌⊎◌, inl, inr}
 use Rattle.call_signals.specs.declared.order.OrderKind.{OrderKind}
@@ -16,7 +16,7 @@ use Rattle.peer_lock.specs.declared.errors.PeerError.TheVariants as peer_errors
 use Rattle.peer_lock.specs.declared.errors.RejectError.TheVariants as reject_errors
 use Rattle.call_runs.specs.Spent.{is_spent}
 
--- a refusal that is for another step plays no part
+-- a refusal that belongs to another step has no effect
 abbrev PlaysNoPart : Scene → Need → Bool → Choice → Type 0
 PlaysNoPart scene need called choice =
     (is_spent (answered scene need called choice).reply ≡ true)
@@ -77,7 +77,7 @@ plays scene need called (RefusesOrder order_errors.StepsSpent) e = of_order scen
 plays scene need called RefusesTick e = of_tick scene need called
 plays scene need called choice e = absurd (cc)
 
--- what isn't seen of an answer says nothing of that
+-- the unseen part of an answer doesn't change that
 pub spent_seen : (reply : Reply) → is_spent (seen_reply reply) ≡ is_spent reply
 spent_seen (replies.Datagram (Ok step)) = refl
 spent_seen (replies.Datagram (Err error)) = refl
@@ -87,7 +87,7 @@ spent_seen (replies.Look None) = refl
 spent_seen (replies.Look (Some status)) = refl
 spent_seen reply = refl
 
--- the same step, by a choice that is such a refusal only where the answer is
+-- the same step, by a choice that is such a refusal only if the answer is
 pub record IsPlain (scene : Scene) (need : Need) (called : Bool) (left : Answer) : Type 0 where
   pub choice : Choice
   pub same : answered scene need called choice ≡ left

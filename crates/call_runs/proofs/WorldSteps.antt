@@ -1,4 +1,4 @@
--- What the laws below say of the steps of peers, and what is to be shown of a step.
+-- The laws of the lower crates about the steps of peers, and the goal for a step.
 use Rattle.std.specs.Prelude.{option_map, Ok, Err}
 use Rattle.std.proofs.Common.{◌≡◌, ℕ, ◌≤◌, Bool, true, List, ◌∷◌, None, Some}
 use Rattle.call_book.specs.declared.leg_name.LegName.{LegName}
@@ -77,7 +77,7 @@ pub record PeersSteps : Type 0 where
       → IsWorldStep scene (needs.Retire name) called legs (with_place legs name.number None) (replies.Retire true)
       (name ∷ scene.leases)
 
--- the world's step can come out so that it has what is stored then, as it is seen
+-- the world's step can have a result that agrees with the stored exchange afterwards, as it is seen
 pub record ComesOut (scene : Scene) (need : Need) (called : Bool) (new : Stored) (reply : Reply) : Type 0 where
   pub choice : Choice
   pub answers : (answered scene need called choice).reply ≡ seen_reply reply
@@ -85,7 +85,7 @@ pub record ComesOut (scene : Scene) (need : Need) (called : Bool) (new : Stored)
   pub leases : (answered scene need called choice).scene.leases ≡ leases_after need reply scene.leases
   pub legs : AreSeenIn (answered scene need called choice).scene.legs new.peers
 
--- the world in which a step is made has what is stored before it
+-- the world in which a step is made agrees with the stored exchange before it
 pub record IsSceneOf (scene : Scene) (old : Stored) : Type 0 where
   pub book : scene.book ≡ old.book
   pub legs : AreSeenIn scene.legs old.peers

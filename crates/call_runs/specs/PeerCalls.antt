@@ -1,4 +1,4 @@
--- What the calls of one stored peer do: a step of a call is made, or it is refused and the peer stays as it is. And what it is
+-- The calls of one stored peer: a step of a call is made, or it is refused and the peer stays as it is. And the property
 -- that this is the step of the exchange that was needed.
 use Rattle.std.specs.Prelude.{◌≡◌, ◌⊎◌, ℕ, false, List, [], ◌∷◌, Option, None, Some, Err, slice_get, slice_set}
 use Rattle.call_book.specs.Book.{Book}
@@ -15,7 +15,7 @@ use Rattle.peer_lock.specs.declared.errors.StepsSpent.{StepsSpent}
 use Rattle.call_runs.specs.Stored.{Stored}
 use Rattle.call_runs.specs.StoredSteps.{TakesDatagram, RejectsNew, TakesNew, SendsNew, TakesTick, GivesUp, Makes}
 
--- that is answered, and the peer stays as it is
+-- this is the answer, and the peer stays as it is
 pub record Stays (answer : Reply) (old new : PeerView) (reply : Reply) : Type 0 where
   pub becomes : new ≡ old
   pub answers : reply ≡ answer
@@ -35,11 +35,11 @@ abbrev pub HearsNew : LegName → PeerView → PeerView → Reply → Type 0
 HearsNew name old new reply =
     TakesNew name old new reply ⊎ ((error : OpenError) × Stays (replies.OpenIn (Err error)) old new reply)
 
--- a call is to go out under a name
+-- a call is to be placed under a name
 abbrev pub Calls : LegName → PeerView → PeerView → Reply → Type 0
 Calls name old new reply = SendsNew name old new reply ⊎ ((error : OpenError) × Stays (replies.OpenOut (Err error)) old new reply)
 
--- time goes on
+-- a tick
 abbrev pub GoesOn : PeerView → PeerView → Reply → Type 0
 GoesOn old new reply = TakesTick old new reply ⊎ ((spent : StepsSpent) × Stays (replies.Tick (Err spent)) old new reply)
 
@@ -54,13 +54,13 @@ with_peer stored place peer = record stored { peers = slice_set stored.peers pla
 abbrev pub with_book : Stored → Book → Stored
 with_book stored book = record stored { book = book }
 
--- under a peer's lock this becomes of the peer of a place, and the peer is sound: then the step that is needed is made so
+-- under a peer's lock the peer of a place changes so, and is sound: then the needed step is made
 abbrev pub IsStepAt : ℕ → Need → (PeerView → PeerView → Reply → Type 0) → Type 0
 IsStepAt place need Does =
     (old : Stored) (before after : PeerView) (reply : Reply) → slice_get old.peers place ≡ Some before → IsSoundPeer after
     → Does before after reply → Makes need old (with_peer old place after) reply
 
--- the leases in a hand that has at most one
+-- the leases of a caller that has at most one
 abbrev pub leases_in : Option LegName → List LegName
 leases_in None = []
 leases_in (Some name) = name ∷ []

@@ -1,4 +1,4 @@
--- Many calls at once on an exchange that is stored: one change after another, whichever comes first.
+-- Many calls at once on a stored exchange: one change after another, in any order.
 use Rattle.std.specs.Prelude.{◌≡◌, ℕ, List, [], ◌∷◌, None, Some, fold, slice_get, slice_set}
 use Rattle.call_steps.specs.Work.{next_of, after_told}
 use Rattle.call_steps.specs.World.{Caller, Start, work_of}
@@ -20,11 +20,11 @@ pub record Begins (old new : Stored) : Type 0 where
   pub book : new.book ≡ old.book
   pub peers : new.peers ≡ old.peers
 
--- a caller whose step was answered so
+-- a caller whose step had this answer
 abbrev pub told : Caller → Need → Reply → Caller
 told caller need reply = record { work = after_told caller.work reply; leases = leases_after need reply caller.leases }
 
--- the step that the work of a caller needs next is made, and the work is told the answer
+-- the next step of a caller's work is made, and the work takes the answer
 pub record Steps (old new : Stored) : Type 0 where
   pub who : ℕ
   pub caller : Caller
@@ -35,7 +35,7 @@ pub record Steps (old new : Stored) : Type 0 where
   pub made : Makes need old new reply
   pub callers : new.callers ≡ slice_set old.callers who (told caller need reply)
 
--- the oldest datagram of a peer's outbox goes out
+-- the oldest datagram of a peer's outbox is sent
 pub record TakesOut (old new : Stored) : Type 0 where
   pub place : ℕ
   pub before : PeerView
@@ -52,7 +52,7 @@ pub data Changes (old new : Stored) : Type 0 where
   ByStep : (step : Steps old new) → Changes old new
   ByTakingOut : (out : TakesOut old new) → Changes old new
 
--- each state comes of the one before it
+-- each state comes from the one before it
 abbrev pub IsRun : Stored → List Stored → Type 0
 IsRun first [] = Unit {0}
 IsRun first (next ∷ later) = Changes first next × IsRun next later

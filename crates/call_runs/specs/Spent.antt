@@ -1,4 +1,4 @@
--- Whether the steps of peers are spent, and which legs calls from outside opened, as the answers tell it.
+-- Whether the steps of peers are spent, and which legs calls from outside opened, by the answers.
 use Rattle.std.specs.Prelude.{◌≡◌, ◌++◌, Bool, true, false, List, [], ◌∷◌, Ok, Err}
 use Rattle.call_book.specs.declared.leg_name.LegName.{LegName}
 use Rattle.call_steps.specs.declared.place.Place.{Place}
@@ -26,7 +26,7 @@ abbrev pub IsWithinSteps : (old new : Stored) → Changes old new → Type 0
 IsWithinSteps old new (ByStep step) = is_spent step.reply ≡ false
 IsWithinSteps old new change = Unit {0}
 
--- no step of the run is refused so
+-- no step of the run is refused for that reason
 abbrev pub AreWithinSteps : (first : Stored) (later : List Stored) → IsRun first later → Type 0
 AreWithinSteps first [] is = Unit {0}
 AreWithinSteps first (next ∷ later) is = IsWithinSteps first next is.0 × AreWithinSteps next later is.1
@@ -40,7 +40,7 @@ abbrev pub called_by : (old new : Stored) → Changes old new → List LegName
 called_by old new (ByStep step) = called_at step.caller.work.place step.reply
 called_by old new change = []
 
--- the names of all legs that calls from outside opened in the run, beside these
+-- the names of all legs that calls from outside opened in the run, and these
 abbrev pub called_since : List LegName → (first : Stored) (later : List Stored) → IsRun first later → List LegName
 called_since called first [] is = called
 called_since called first (next ∷ later) is = called_since (called_by first next is.0 ++ called) next later is.1

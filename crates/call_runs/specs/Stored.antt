@@ -1,4 +1,4 @@
--- An exchange with its callers, as it is stored; and when it is one that the law over many calls speaks of.
+-- A stored exchange with its callers, and the condition for the law over many calls.
 use Rattle.std.specs.Prelude.{◌≡◌, ◌≤◌, ℕ, true, List, [], None, Some, length, replicate, slice_get, slice_index}
 use Rattle.std.specs.FinMap.{get}
 use Rattle.std.specs.List.{AllByRecursion}
@@ -17,10 +17,10 @@ pub record Stored : Type 0 where
   pub book : Book
   -- each under its own lock, in its place of the plan
   pub peers : List PeerView
-  -- what each has still to do, and the leases in its hands
+  -- the remaining work of each, and its leases
   pub callers : List Caller
 
--- the peer of a place of the plan, as it is whenever its lock is free
+-- the peer of a place of the plan, with the invariant of its lock
 pub record IsPeerAt (place : ℕ) (peer : PeerView) : Type 0 where
   pub place_is : peer.legs.peer ≡ place
   pub sound : IsSoundPeer peer
@@ -79,8 +79,8 @@ pub record AreSeenIn (legs : List Leg) (peers : List PeerView) : Type 0 where
 abbrev pub AreCalled : List LegName → List Leg → Type 0
 AreCalled called legs = AllByRecursion (λ leg. leg.called ≡ true → 1 ≤ times leg.name called) legs
 
--- the world has the stored book and callers, and the legs of the stored peers; what it has as opened by calls from outside has
--- one of these names
+-- the world has the stored book and callers, and the legs of the stored peers; each leg that it has as opened by a call
+-- from outside has one of these names
 pub record IsSeenIn (called : List LegName) (stored : Stored) (world : World) : Type 0 where
   pub book : world.book ≡ stored.book
   pub callers : world.callers ≡ stored.callers

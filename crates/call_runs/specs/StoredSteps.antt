@@ -1,6 +1,6 @@
--- What one step of a call does to the exchange that is stored, and what it answers. It is one locked section, in which one peer
--- makes a step, or the book does, or nothing is changed. What a peer becomes is said in the words of the clauses of `PeerState`,
--- what the book becomes in those of `CallBook`.
+-- The effect of one step of a call on the stored exchange, and its answer. It is one locked section, in which one peer
+-- makes a step, the book does, or nothing changes. The effect on a peer is stated as in the clauses of `PeerState`, that on
+-- the book as in those of `CallBook`.
 use Rattle.std.specs.Prelude.{◌≡◌, ◌⊎◌, ◌↔◌, ℕ, Bool, true, false, List, ◌∷◌, Option, None, Some, Result, Ok, Err, option_map}
 use Rattle.std.specs.Prelude.{slice_get, slice_set, All, IsTrue, if◌then◌else◌}
 use Rattle.call_book.specs.Book.{Book, has_name, reserve_answer, after_reserve, bridge_answer, bridged, partner_of, released}
@@ -36,9 +36,9 @@ use Rattle.peer_lock.specs.declared.steps.Status.{Status}
 use Rattle.peer_lock.specs.declared.steps.TickReport.{TickReport}
 use Rattle.call_runs.specs.Stored.{Stored}
 
--- ---- what one peer becomes, and what it answers
+-- ---- the effect on one peer, and its answer
 
--- what a step touched, rejected and handed up, in a list with so much room
+-- the leg, the rejection and the signals of a step, in a list with this room
 abbrev pub heard_of : PeerStep → ℕ → Heard
 heard_of step room = record {
   touched = step.step.touched;
@@ -46,7 +46,7 @@ heard_of step room = record {
   onwards = record { signals = step.signals; offer = step.offer; room = room };
 }
 
--- a datagram comes that is worked; first: the octet credit with which every peer begins
+-- a datagram comes and is handled; first: the octet credit with which every peer begins
 pub record TakesDatagram (old new : PeerView) (reply : Reply) : Type 0 where
   pub first : ℕ
   pub datagram : Datagram
@@ -55,7 +55,7 @@ pub record TakesDatagram (old new : PeerView) (reply : Reply) : Type 0 where
   pub becomes : new ≡ (datagram_step first old datagram now).peer
   pub answers : reply ≡ replies.Datagram (Ok (heard_of (datagram_step first old datagram now) room))
 
--- a NEW opens a leg under this name; credit: that for steps with which every peer begins
+-- a NEW opens a leg under this name; credit: the step credit with which every peer begins
 pub record TakesNew (name : LegName) (old new : PeerView) (reply : Reply) : Type 0 where
   pub credit : ℕ
   pub frame : FullFrame
@@ -74,7 +74,7 @@ pub record RejectsNew (old new : PeerView) (reply : Reply) : Type 0 where
   pub becomes : new ≡ (rejects_new old frame).peer
   pub answers : reply ≡ replies.RejectNew (Ok tt)
 
--- a call goes out under this name
+-- a call is placed under this name
 pub record SendsNew (name : LegName) (old new : PeerView) (reply : Reply) : Type 0 where
   pub credit : ℕ
   pub called : List ℕ
@@ -95,7 +95,7 @@ pub record Obeys (name : LegName) (act : Act) (old new : PeerView) (reply : Repl
   pub becomes : new ≡ ordered_step old name order now
   pub answers : reply ≡ replies.Order (Ok tt)
 
--- .. or it is refused: for the cause that is due, and for want of memory only where the leg wants it
+-- .. or it is refused: for the cause that is due, and for want of memory only if the leg needs some
 pub record Disobeys (name : LegName) (act : Act) (old new : PeerView) (reply : Reply) : Type 0 where
   pub credit : ℕ
   pub order : Order
@@ -111,7 +111,7 @@ pub record Disobeys (name : LegName) (act : Act) (old new : PeerView) (reply : R
 abbrev pub TakesOrder : LegName → Act → PeerView → PeerView → Reply → Type 0
 TakesOrder name act old new reply = Obeys name act old new reply ⊎ Disobeys name act old new reply
 
--- time goes on; it is told whether no leg has ended and none owes then
+-- a tick; the answer says whether no leg has ended and none owes then
 pub record TakesTick (old new : PeerView) (reply : Reply) : Type 0 where
   pub now : ℕ
   pub report : TickReport
@@ -125,9 +125,9 @@ pub record GivesUp (name : LegName) (old new : PeerView) (reply : Reply) : Type 
   pub becomes : new ≡ without_leg old name
   pub answers : reply ≡ replies.Retire true
 
--- ---- what the exchange becomes
+-- ---- the effect on the exchange
 
--- the peer of a place does this and is sound again; all others stay as they are, and so does the book
+-- the peer of a place makes this step and is sound again; all others stay as they are, and so does the book
 pub record AtPeer (place : ℕ) (Does : PeerView → PeerView → Reply → Type 0) (old new : Stored) (reply : Reply) : Type 0 where
   pub before : PeerView
   pub at : slice_get old.peers place ≡ Some before
@@ -137,22 +137,22 @@ pub record AtPeer (place : ℕ) (Does : PeerView → PeerView → Reply → Type
   pub peers : new.peers ≡ slice_set old.peers place after
   pub book : new.book ≡ old.book
 
--- the book becomes this, and that is answered; all peers stay as they are
+-- the book changes so, with this answer; all peers stay as they are
 pub record AtBook (book : Book) (answer : Reply) (old new : Stored) (reply : Reply) : Type 0 where
   pub becomes : new.book ≡ book
   pub peers : new.peers ≡ old.peers
   pub answers : reply ≡ answer
 
--- that is answered, and nothing is changed
+-- this is the answer, and nothing is changed
 abbrev pub Answers : Reply → Stored → Stored → Reply → Type 0
 Answers answer old new reply = AtBook old.book answer old new reply
 
--- it is refused, for whatever cause, and nothing is changed
+-- it is refused for some cause, and nothing is changed
 pub record IsRefused {E : Type 0} (answer : E → Reply) (old new : Stored) (reply : Reply) : Type 0 where
   pub error : E
   pub unchanged : Answers (answer error) old new reply
 
--- the book after a bridge that it answers so
+-- the book after a bridge with this answer
 abbrev pub after_bridge : Book → LegName → LegName → Result (Unit {0}) BridgeError → Book
 after_bridge book a b (Ok done) = bridged book a b
 after_bridge book a b (Err error) = book
@@ -175,7 +175,7 @@ abbrev pub Releases : Book → LegName → Stored → Stored → Reply → Type 
 Releases book name =
     AtBook (after_release book name (has_name book name)) (replies.Release (release_answer book name (has_name book name)))
 
--- how the leg of a peer's number stands; none where no peer of the plan is meant
+-- the status of the leg of a peer's number; none if there is no such peer in the plan
 abbrev pub look_at : Option PeerView → ℕ → Option Status
 look_at None number = None
 look_at (Some peer) number = option_map status_of (leg_at peer.legs number)
@@ -185,8 +185,8 @@ pub record IsNobodys (place : ℕ) (old new : Stored) (reply : Reply) : Type 0 w
   pub nobody : slice_get old.peers place ≡ None
   pub unchanged : Answers (replies.Order (Err order_errors.Gone)) old new reply
 
--- The step that is needed is made so, and answers so. A leg that could be taken out is kept where its place in the call's answer
--- finds no memory, and a route is looked for in the plan alone.
+-- The needed step is made, with this answer. A leg that could be taken out is kept if there is no memory for its place in
+-- the call's answer. Routes are looked up in the plan alone.
 abbrev pub Makes : Need → Stored → Stored → Reply → Type 0
 Makes (needs.Datagram place) old new reply =
     AtPeer place TakesDatagram old new reply ⊎ IsRefused (λ error. replies.Datagram (Err error)) old new reply
@@ -209,9 +209,9 @@ Makes (needs.Partner name) old new reply = Answers (replies.Partner (partner_of 
 Makes (needs.Release name) old new reply = Releases old.book name old new reply
 Makes (needs.Route name) old new reply = (route : Route) × Answers (replies.Route route) old new reply
 
--- ---- the leases in a caller's hands
+-- ---- the leases of a caller
 
--- one comes from the book, or with a leg that is taken out; it goes into a leg that is opened, or back
+-- one comes from the book, or with a leg that is taken out; it is used up by a leg that is opened, or returned
 abbrev pub leases_after : Need → Reply → List LegName → List LegName
 leases_after (needs.Reserve peer) (replies.Reserve (Ok name)) leases = name ∷ leases
 leases_after (needs.Retire name) (replies.Retire true) leases = name ∷ leases

@@ -1,5 +1,5 @@
-//! What the calls of the book do, as steps on the exchange that is stored: each function makes one call and nothing else, and is
-//! here for what its clauses say of that call.
+//! The calls of the book, as steps of the stored exchange. Each function makes one call and nothing else, so that its
+//! clauses describe that call.
 ghost use Rattle.std.specs.Prelude.{◌≡◌, [], ◌∷◌};
 ghost use Rattle.call_book.specs.Book.{after_reserve, bridge_answer, has_name, partner_of, reserve_answer};
 ghost use Rattle.call_steps.specs.declared.need.Need.TheVariants as needs;
@@ -10,7 +10,8 @@ ghost use Rattle.call_runs.specs.StoredSteps.{after_bridge, after_release, relea
 use call_book::{CallBook, Lease, LegName};
 use call_steps::Reply;
 
-/// The book gives a new name of a peer, with its lease where it does. The answer has the refusals of `CallBook::reserve`.
+/// Reserves a new name of a peer in the book. Returns its lease if it succeeds. The answer has the refusals of
+/// `CallBook::reserve`.
 pub fn reserve(book: &mut CallBook, peer: u16) -> (Reply, Option<Lease>)
     ensures book { book.new ≡ after_reserve book.old peer }
     ensures answer { result.0 ≡ replies.Reserve (reserve_answer book.old peer) }
@@ -22,7 +23,7 @@ pub fn reserve(book: &mut CallBook, peer: u16) -> (Reply, Option<Lease>)
     }
 }
 
-/// The book makes two names partners. The answer has the refusals of `CallBook::bridge`.
+/// Makes two names partners. The answer has the refusals of `CallBook::bridge`.
 pub fn bridge(book: &mut CallBook, a: LegName, b: LegName) -> Reply
     ensures book { book.new ≡ after_bridge book.old a b (bridge_answer book.old a b) }
     ensures answer { result ≡ replies.Bridge (bridge_answer book.old a b) }
@@ -30,14 +31,14 @@ pub fn bridge(book: &mut CallBook, a: LegName, b: LegName) -> Reply
     Reply::Bridge(book.bridge(a, b))
 }
 
-/// The book tells the partner of a name, where it has one.
+/// Returns the partner of a name, if it has one.
 pub fn partner(book: &CallBook, name: LegName) -> Reply
     ensures { result ≡ replies.Partner (partner_of book.now name) }
 {
     Reply::Partner(book.partner(name))
 }
 
-/// A lease goes back to the book. One that the book refuses, as `Stale`, is dropped.
+/// Returns a lease to the book. A lease that the book refuses, as `Stale`, is dropped.
 pub fn release(book: &mut CallBook, lease: Lease) -> Reply
     ensures book { book.new ≡ after_release book.old lease (has_name book.old lease) }
     ensures answer { result ≡ replies.Release (release_answer book.old lease (has_name book.old lease)) }

@@ -1,4 +1,4 @@
-//! What holds of the peers and the book that are stored, in whatever order the steps of many calls come.
+//! Laws of the stored peers and the stored book, for many calls in any order of their steps.
 ghost use Rattle.std.specs.Prelude.{◌≡◌, ◌++◌, ℕ, false, List, Some, option_map, slice_get};
 ghost use Rattle.std.specs.List.{AllByRecursion};
 ghost use Rattle.call_book.specs.Book.{after_reserve, bridge_answer, has_name, partner_of, reserve_answer};
@@ -23,13 +23,13 @@ ghost use Rattle.call_runs.specs.Stored.{Stored, ArePeers, HaveRanges, IsMade, I
 ghost use Rattle.call_runs.specs.StoredNames.{InEveryRun, NamesAreHeldOnce, LegsAreBooked, NumbersServeOne, LeasesAreFree};
 ghost use Rattle.call_runs.specs.StoredNames.{LeasesAreInHand, OpeningsAreFree, NoneMeetsOffered, NamesAreTheLegs};
 
-/// Each change of an exchange that is stored is an event of the world of which `call_steps::laws::calls_at_once` speaks: where
-/// that world has the stored book, callers and legs as they are seen, it has them so again after the event.
+/// Each change of a stored exchange is an event of the world of `call_steps::laws::calls_at_once`. If that world has the
+/// stored book, callers and legs as they are seen, it still has them after the event.
 pub fn stored_changes_are_the_worlds()
     ensures begins { (called : List LegName) (old new : Stored) (world : World) → IsSeenIn called old world →
         (begins : Begins old new) → IsSeenIn called new (happens (EventStarts begins.who begins.start) world) }
-    // What the steps ask for holds in every world of calls at once (`busy`, `stale` and `numbers` of `calls_at_once`). The event
-    // is within the steps of peers where the answer is.
+    // The requirements of the steps hold in every world of calls at once (`busy`, `stale` and `numbers` of
+    // `calls_at_once`). The event is within the steps of peers if the answer is.
     ensures steps { (called : List LegName) (old new : Stored) (world : World) → ArePeers old.peers →
         NoneIsBusy world → NoneIsStale world → ServesOne world → IsSeenIn called old world → (step : Steps old new) →
         (choice : Choice) × (is_spent step.reply ≡ false → is_spent_choice choice ≡ false) ×
@@ -46,9 +46,9 @@ pub fn stored_changes_are_the_worlds()
     call_steps::laws::peers_steps_are_the_worlds();
 }
 
-/// What the calls of a peer and of the book do (`peer_calls`, `book_calls`) is the step of the exchange that was needed.
+/// A call of a peer or of the book (`peer_calls`, `book_calls`) is the step of the exchange that was needed.
 pub fn locked_calls_are_steps()
-    // That the peer is sound after the call, the type says (`PeerState::look`).
+    // The peer is sound after the call, by the invariant of its type (`PeerState::look`).
     ensures datagrams { (place : ℕ) → IsStepAt place (needs.Datagram place) HearsDatagram }
     ensures rejected_calls { (place : ℕ) → IsStepAt place (needs.RejectNew place) HearsNewWithoutNumber }
     ensures calls_in { (name : LegName) → IsStepAt name.peer (needs.OpenIn name) (HearsNew name) }
@@ -71,10 +71,10 @@ pub fn locked_calls_are_steps()
         (replies.Release (release_answer old.book name (has_name old.book name))) }
 {}
 
-/// Whatever callers do with an exchange from its opening on, the stored book, callers and legs are those of a run of the world of
-/// which `call_steps::laws::calls_at_once` speaks. So each of its clauses speaks of what is stored.
+/// Callers may act in any way on an exchange from its opening on. Then the stored book, callers and legs are those of a run
+/// of the world of `call_steps::laws::calls_at_once`. So each of its clauses holds for the stored exchange.
 pub fn stored_runs_are_the_worlds()
-    // What `CallBook::new` makes, and `PeerState::new` for each place, is an exchange at its opening.
+    // The results of `CallBook::new`, and of `PeerState::new` for each place, are an exchange at its opening.
     ensures made { (counts : List ℕ) (serial : ℕ) (first : Stored) → IsMade counts serial first →
         IsOpened first × HaveRanges first }
     ensures opened { (first : Stored) → IsOpened first → IsOpenedWorld (opened_world first) }
@@ -90,29 +90,30 @@ pub fn stored_runs_are_the_worlds()
     stored_changes_are_the_worlds();
 }
 
-/// What is stored, whatever many calls do at once, whichever step comes first and whatever is refused.
+/// The stored exchange under many calls at once, in any order of their steps, and whichever are refused.
 pub fn stored_calls_at_once()
-    // The names in the book are those of the stored legs and of the leases in the callers' hands, each once.
+    // The names in the book are those of the stored legs and of the callers' leases, each once.
     ensures names { InEveryRun NamesAreHeldOnce }
-    // Each stored leg stands under its own number at its own peer, and the book has its name.
+    // Each stored leg is under its own number at its own peer, and the book has its name.
     ensures legs { InEveryRun LegsAreBooked }
     // No number serves legs of two peers.
     ensures numbers { InEveryRun NumbersServeOne }
-    // Of each lease in a caller's hands the book has the name, and no stored leg has the number.
+    // For each lease of a caller the book has the name, and no stored leg has the number.
     ensures leases { InEveryRun LeasesAreFree }
-    // Who opens a leg, or gives a lease back, has the lease in hand.
+    // A caller that opens a leg, or returns a lease, has the lease.
     ensures in_hand { InEveryRun LeasesAreInHand }
-    // No opening finds its number busy, where the peers have the numbers that the book has for them.
+    // No opening finds its number busy, if the peers have the numbers that the book has for them.
     ensures free { (first : Stored) (later : List Stored) → IsOpened first → HaveRanges first → IsRun first later →
         OpeningsAreFree (last_of first later) }
-    // No order of a call that goes on (Indicate, Answer, Dtmf, Media) meets a stored leg that is only offered.
+    // No order of a continuing call (Indicate, Answer, Dtmf, Media) meets a stored leg that is only offered.
     ensures offered { InEveryRun NoneMeetsOffered }
-    // Once nobody has anything to do, the names in the book are exactly those of the stored legs.
+    // Once all callers are idle, the names in the book are exactly those of the stored legs.
     ensures idle_names { InEveryRun NamesAreTheLegs }
-    // As long as no peer's steps are spent, each stored leg that is neither challenged, closing, ended nor doomed, and wasn't
-    // opened by a call from outside, has a partner or is named in what some caller still has to do ..
+    // Take the stored legs that are neither challenged, closing, ended nor doomed, and weren't opened by a call from
+    // outside. As long as no peer's steps are spent, each of them has a partner or is named in the remaining work of a
+    // caller ..
     ensures looked_after { InEveryRunWithinSteps AllAreLookedAfter }
-    // .. and once nobody has anything to do, it has a partner.
+    // .. and once all callers are idle, each of them has a partner.
     ensures idle_partners { InEveryRunWithinSteps AllHavePartners }
 {
     call_steps::laws::calls_at_once();

@@ -1,4 +1,4 @@
-//! Runs of the peers and the book that are stored, while many calls are made at once, and what holds of them ("Call Setup").
+//! Runs of the peers and the book that are stored, while many calls are made at once, and laws about them ("Call Setup").
 #![tactic(auto)]
 
 pub mod book_calls;

@@ -1,5 +1,5 @@
-//! What the calls of a peer do, as steps on the exchange that is stored: each function makes one call and nothing else, and is
-//! here for what its clauses say of that call. Moments are in milliseconds.
+//! The calls of a peer, as steps of the stored exchange. Each function makes one call and nothing else, so that its clauses
+//! describe that call. Moments are in milliseconds.
 ghost use Rattle.std.specs.Prelude.{◌≡◌, ◌≤◌, [], ◌∷◌, length};
 ghost use Rattle.call_steps.specs.Act.{act_kind};
 ghost use Rattle.call_steps.specs.declared.need.Need.TheVariants as needs;
@@ -18,8 +18,8 @@ use iax_frames::Full;
 use leg_machine::{Caller, Format, Order};
 use peer_lock::{Naming, Onwards, Pass, PeerState};
 
-/// A datagram comes to a peer, at most 2,048 octets. What is handed up is written to the list, which is empty. The answer has the
-/// refusals of `PeerState::datagram`.
+/// Gives a datagram of at most 2,048 octets to a peer. The signals handed up are written to the empty list. The answer has
+/// the refusals of `PeerState::datagram`.
 pub fn hear<J: Naming>(
     peer: &mut PeerState<J>,
     pass: &mut Pass<J>,
@@ -40,7 +40,7 @@ pub fn hear<J: Naming>(
     }
 }
 
-/// A NEW that came is rejected by a peer, since no number is free for its leg. It is one that a datagram's call answers by
+/// Rejects a received NEW at a peer because no number is free for its leg. It is a NEW that a datagram's call answers by
 /// `NeedsNumber`. The answer has the refusals of `PeerState::reject_new`.
 pub fn hear_new_without_number<J: Naming>(
     peer: &mut PeerState<J>,
@@ -56,8 +56,8 @@ pub fn hear_new_without_number<J: Naming>(
     }
 }
 
-/// A NEW that came opens a leg of a peer, under the lease, which comes back where it opens none. It is one that a datagram's call
-/// answers by `NeedsNumber`. The answer has the refusals of `PeerState::open_in`.
+/// Opens a leg of a peer by a received NEW, under the lease, which comes back if no leg is opened. It is a NEW that a
+/// datagram's call answers by `NeedsNumber`. The answer has the refusals of `PeerState::open_in`.
 pub fn hear_new<J: Naming>(
     peer: &mut PeerState<J>,
     pass: &mut Pass<J>,
@@ -85,8 +85,8 @@ pub fn hear_new<J: Naming>(
     }
 }
 
-/// A call goes out at a peer under the lease, which comes back where it doesn't, for a number of at most 255 octets. The answer
-/// has the refusals of `PeerState::open_out`.
+/// Places a call at a peer under the lease, for a number of at most 255 octets. The lease comes back if no call is placed.
+/// The answer has the refusals of `PeerState::open_out`.
 pub fn call<J: Naming>(
     peer: &mut PeerState<J>,
     pass: &mut Pass<J>,
@@ -106,8 +106,8 @@ pub fn call<J: Naming>(
     }
 }
 
-/// The leg of a name gets the order of an act. Media is 1 to 1,380 octets, for which the pass has the credit. The answer has the
-/// refusals of `PeerState::order`. The act is there for the contract alone.
+/// Gives the order of an act to the leg of a name. Media is 1 to 1,380 octets, for which the pass has the credit. The
+/// answer has the refusals of `PeerState::order`. Only the contract uses the act.
 pub fn order<J: Naming>(
     peer: &mut PeerState<J>,
     pass: &mut Pass<J>,
@@ -127,7 +127,7 @@ pub fn order<J: Naming>(
     }
 }
 
-/// Time goes on at a peer. The answer tells whether no leg has ended and none owes, or that the peer's steps are spent.
+/// Ticks a peer. The answer says whether no leg has ended and none owes, or that the peer's steps are spent.
 pub fn tick<J: Naming>(peer: &mut PeerState<J>, pass: &mut Pass<J>, now: u64) -> Reply
     ensures { GoesOn peer.old peer.new result }
 {
@@ -137,7 +137,8 @@ pub fn tick<J: Naming>(peer: &mut PeerState<J>, pass: &mut Pass<J>, now: u64) ->
     }
 }
 
-/// The leg of a name is taken out, where it has ended and owes nothing; its lease comes with it. The answer tells whether it was.
+/// Takes out the leg of a name, if it has ended and owes nothing, and returns its lease. The answer says whether it was
+/// taken out.
 pub fn retire<J: Naming>(peer: &mut PeerState<J>, name: LegName) -> (Reply, Option<Lease>)
     ensures made { Retires name peer.old peer.new result.0 }
     ensures leases { leases_in result.1 ≡ leases_after (needs.Retire name) result.0 [] }

@@ -1,4 +1,4 @@
--- Which format a NEW is given.
+-- The choice of a NEW's format.
 use Rattle.std.specs.Prelude.{◌&&◌, ◌||◌, ◌==◌, ◌≢◌}
 use Rattle.std.proofs.Common.{◌≡◌, ℕ, ◌≤◌, Bool, true, false, ◌⊎◌, inl, inr, None, Some, refl, ◌∙◌, arith}
 use Rattle.std.proofs.lemmas.Bool.{false_from_ne_true, false≢true}
@@ -11,7 +11,7 @@ use Rattle.call_signals.specs.declared.format.Format.{Format}
 use Rattle.call_signals.specs.declared.format.Format.TheVariants.{Gsm, Ulaw, Alaw}
 use Rattle.call_signals.specs.declared.format.Formats.{Formats}
 
--- ---- what is common
+-- ---- common formats
 
 both-of : (a b c : Bool) → a ≡ true → (b ≡ true) ⊎ (c ≡ true) → (a && (b || c)) ≡ true
 both-of true true c p q = refl
@@ -40,7 +40,7 @@ there-common formats frame Gsm there = of-both formats.gsm (has_bit (bits_in fra
 there-common formats frame Ulaw there = of-both formats.ulaw (has_bit (bits_in frame FORMAT) Ulaw) (has_bit (bits_in frame CAPABILITY) Ulaw) there
 there-common formats frame Alaw there = of-both formats.alaw (has_bit (bits_in frame FORMAT) Alaw) (has_bit (bits_in frame CAPABILITY) Alaw) there
 
--- ---- what is chosen of them
+-- ---- the format chosen among them
 
 no-test : (b : Bool) (w k : ℕ) → (b ≡ true → w ≢ k) → (b && (w == k)) ≡ false
 no-test false w k differs = refl
@@ -57,7 +57,7 @@ wanted-chosen common w Ulaw is same =
 wanted-chosen common w Alaw is same =
     rw (no-test common.gsm w 2 (λ _. omega (arith, same)), no-test common.ulaw w 4 (λ _. omega (arith, same)), yes-test common.alaw w 8 is same)
 
--- where no common bit is wanted
+-- if no common bit is wanted
 chosen-lowest : (common : Formats) (w : ℕ) → ((format : Format) → has_format common format ≡ true → w ≢ format_bit format)
     → chosen_format common w ≡ lowest_format common
 chosen-lowest common w differs =

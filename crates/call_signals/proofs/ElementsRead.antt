@@ -4,7 +4,7 @@ use Rattle.info_elements.specs.Element.{Element, or, last_of, u8_in, u16_in, u32
 use Rattle.info_elements.specs.Numbers.{CALLED_NUMBER, CALLING_NUMBER, CALLING_NAME, CALLINGPRES, CALLINGTON, CALLINGTNS, CAPABILITY, FORMAT, VERSION}
 use Rattle.call_signals.specs.NewElements.{NewElements, by_name, with_element}
 
--- what is read in a later element, where there is one, stands for what was read before
+-- the value of a later element, if there is one, replaces the earlier value
 abbrev pub later : {A : Type 0} → (Option (List ℕ) → Option A) → Option (List ℕ) → Option A → Option A
 later read None before = before
 later read (Some value) before = read (Some value)
@@ -35,7 +35,7 @@ number-more read (Some other) b value before = refl
 number-more read None true value before = refl
 number-more read None false value before = refl
 
--- one element more was read
+-- one more element was read
 pub with_elements-more : (before : NewElements) (e : Element) (es : List Element)
     → with_elements (with_element before e) es ≡ with_elements before (e ∷ es)
 with_elements-more before e es = λ i. record {

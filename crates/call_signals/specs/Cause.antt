@@ -1,4 +1,4 @@
--- Why a call ends: the codes of Q.850, and this project's texts ("Information Elements").
+-- The causes of a call's end: the codes of Q.850, and this project's texts ("Information Elements").
 use Rattle.std.specs.Prelude.{ℕ, ◌+◌, ◌/◌, ◌%◌, ◌==◌, nat_le, List, [], ◌∷◌, ◌++◌, codes, Option, None, Some, unwrap_or}
 use Rattle.std.specs.Prelude.{if◌then◌else◌}
 use Rattle.call_signals.specs.declared.cause.Cause.{Cause}
@@ -26,7 +26,7 @@ cause_of_code code =
     else if code == 42 then Congestion
     else Other code
 
--- the table of Q.850: a row a code
+-- the table of Q.850: a row for each code
 abbrev pub name_of_code : ℕ → Option (List ℕ)
 name_of_code code =
     if code == 1 then Some (codes "unallocated number")

@@ -1,4 +1,4 @@
--- What a row of the tables says.
+-- The rows of the tables.
 use Rattle.std.specs.Prelude.{Bool, true, false, Option, None, Some, if◌then◌else◌}
 use Rattle.call_signals.specs.Stage.{is_over}
 use Rattle.call_signals.specs.declared.cause.Cause.{Cause}
@@ -14,19 +14,19 @@ use Rattle.call_signals.specs.declared.signal.Signal.TheVariants as signals
 use Rattle.call_signals.specs.declared.stage.Stage.{Stage}
 use Rattle.call_signals.specs.declared.stage.Stage.TheVariants.{Closing}
 
--- the answer, the stage after, and what is handed up
+-- the answer, the stage afterwards, and the signal handed up
 abbrev pub row : Answering → Stage → Option Signal → Effect
 row answer stage signal = record { answer = answer; stage = stage; signal = signal; mark = Nothing }
 
--- and what is noted
+-- and the mark
 abbrev pub marking : Answering → Stage → Mark → Effect
 marking answer stage mark = record { answer = answer; stage = stage; signal = None; mark = mark }
 
--- a frame that has no row of its own
+-- a frame without a row
 abbrev pub no_effect : Stage → Effect
 no_effect stage = row Acknowledged stage None
 
--- a numbered frame that is the answer; nothing else happens
+-- a numbered frame is the answer; nothing else happens
 abbrev pub reply_alone : Stage → Reply → Effect
 reply_alone stage reply = if is_over stage then no_effect stage else row (Answered reply) stage None
 
@@ -34,7 +34,7 @@ reply_alone stage reply = if is_over stage then no_effect stage else row (Answer
 abbrev pub hung_up : Cause → Effect
 hung_up cause = row (Answered (Hangup cause)) Closing (Some signals.Hangup)
 
--- the call isn't let in
+-- the call is rejected
 abbrev pub rejected : Cause → Effect
 rejected cause = row (Answered (Reject cause)) Closing None
 
@@ -42,7 +42,7 @@ rejected cause = row (Answered (Reject cause)) Closing None
 abbrev pub goes_on : Stage → Signal → Effect
 goes_on stage signal = row Acknowledged stage (Some signal)
 
--- handed up where the call wasn't over
+-- a signal that is handed up unless the call is over
 abbrev pub unless_over : Stage → Signal → Option Signal
 unless_over stage signal = if is_over stage then None else Some signal
 

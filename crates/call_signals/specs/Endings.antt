@@ -1,4 +1,4 @@
--- Why a leg ends, by the frame that ends it ("Information Elements", "Control Frames").
+-- The cause of a leg's end, by the frame that ends it ("Information Elements", "Control Frames").
 use Rattle.std.specs.Prelude.{ℕ, List, [], ◌∷◌, ◌==◌, Option, None, Some, if◌then◌else◌}
 use Rattle.iax_frames.specs.FullFrame.{FullFrame, subclass_meaning}
 use Rattle.info_elements.specs.Numbers.{CAUSECODE}
@@ -29,7 +29,7 @@ ending_cause frame Reject = told_cause (element_in frame CAUSECODE)
 ending_cause frame ClearsCall = clearing_cause (subclass_meaning frame.head.subclass)
 ending_cause frame message = NormalClearing
 
--- why a leg ends that no frame ends: the other side was silent, or knows no such call; or the record is full
+-- the cause of a failed leg's end
 abbrev pub failure_cause : Failure → Cause
 failure_cause RetriesSpent = NoUserResponding
 failure_cause RecordFull = NormalClearing

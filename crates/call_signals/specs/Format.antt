@@ -23,12 +23,12 @@ has_format formats Gsm = formats.gsm
 has_format formats Ulaw = formats.ulaw
 has_format formats Alaw = formats.alaw
 
--- the one of the lowest bit
+-- the format of the lowest bit
 abbrev pub lowest_format : Formats → Option Format
 lowest_format formats =
     if formats.gsm then Some Gsm else if formats.ulaw then Some Ulaw else if formats.alaw then Some Alaw else None
 
--- one format twice
+-- the two formats are the same
 abbrev pub same_format : Format → Format → Bool
 same_format Gsm Gsm = true
 same_format Ulaw Ulaw = true
@@ -39,7 +39,7 @@ same_format _ _ = false
 abbrev pub format_alone : Format → Formats
 format_alone format = record { gsm = same_format format Gsm; ulaw = same_format format Ulaw; alaw = same_format format Alaw }
 
--- those that both have
+-- the formats that both have
 abbrev pub formats_of_both : Formats → Formats → Formats
 formats_of_both formats other = record {
   gsm = formats.gsm && other.gsm;
@@ -47,6 +47,6 @@ formats_of_both formats other = record {
   alaw = formats.alaw && other.alaw;
 }
 
--- a format where it is one of them, else the one of the lowest bit
+-- a format if it is one of them, otherwise the one of the lowest bit
 abbrev pub format_among : Formats → Format → Option Format
 format_among formats format = if has_format formats format then Some format else lowest_format formats

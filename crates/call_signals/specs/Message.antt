@@ -1,4 +1,4 @@
--- What a full frame means, by its type and the meaning of C and subclass.
+-- The meaning of a full frame, by its type and the meaning of C and subclass.
 use Rattle.std.specs.Prelude.{ℕ, List, codes, Bool, true, false, ◌==◌, nat_lt, Option, Some, None, if◌then◌else◌}
 use Rattle.iax_frames.specs.declared.full_frame.FullHead.{FullHead}
 use Rattle.iax_frames.specs.FullFrame.{subclass_meaning}
@@ -105,7 +105,7 @@ abbrev pub is_voice_in : Format → Message → Bool
 is_voice_in format (Voice voice) = same_format voice format
 is_voice_in format _ = false
 
--- its name ("Frame Types", "Control Frames", "IAX Frames"); of what has no one name, what it is
+-- its name ("Frame Types", "Control Frames", "IAX Frames"); a description if it has no one name
 abbrev pub name_of : Message → List ℕ
 name_of New = codes "NEW"
 name_of Ping = codes "PING"

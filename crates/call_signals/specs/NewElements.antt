@@ -9,7 +9,7 @@ pub record NewElements : Type 0 where
   pub called : Option (List ℕ)
   pub calling : Option (List ℕ)
   pub name : Option (List ℕ)
-  -- a number is absent where its element doesn't have the right size
+  -- a number is absent if its element doesn't have the right size
   pub presentation : Option ℕ
   pub number_type : Option ℕ
   pub network : Option ℕ
@@ -17,7 +17,7 @@ pub record NewElements : Type 0 where
   pub capability : Option ℕ
   pub version : Option ℕ
 
--- of the elements of a number the last counts
+-- of several elements with one number the last counts
 abbrev pub by_name : List Element → NewElements
 by_name es = record {
   called = last_of CALLED_NUMBER es;
@@ -35,7 +35,7 @@ by_name es = record {
 abbrev pub new_elements : List ℕ → NewElements
 new_elements octets = by_name (elements_of octets)
 
--- the elements that were read, without where their texts lie
+-- the elements that were read, without the places of their texts
 abbrev pub named : ReadElements → NewElements
 named read = record {
   called = option_copied read.called;
@@ -49,7 +49,7 @@ named read = record {
   version = read.version;
 }
 
--- one element more: it stands for those of its number that came before
+-- one more element: it replaces those of its number before it
 abbrev pub with_element : NewElements → Element → NewElements
 with_element before e = record {
   called = if e.number == CALLED_NUMBER then Some e.value else before.called;

@@ -1,4 +1,4 @@
--- What becomes of a NEW that comes, by the rules of its peer ("Call Setup").
+-- The handling of a received NEW, by the rules of its peer ("Call Setup").
 use Rattle.std.specs.Prelude.{◌≡◌, ◌≤◌, ◌⊎◌, ℕ, Bool, true, false, ◌&&◌, ◌||◌, ◌==◌, is_some, List, Option, None, Some, unwrap_or}
 use Rattle.std.specs.Prelude.{bit_and, if◌then◌else◌}
 use Rattle.iax_frames.specs.FullFrame.{FullFrame}
@@ -23,14 +23,14 @@ use Rattle.call_signals.specs.declared.stage.Stage.TheVariants as stages
 
 -- ---- the format of a call
 
--- the bits of an element; none where it is absent
+-- the bits of an element; none if it is absent
 abbrev pub bits_in : FullFrame → ℕ → ℕ
 bits_in frame number = unwrap_or (u32_in (element_in frame number)) 0
 
 abbrev pub has_bit : ℕ → Format → Bool
 has_bit bits format = bit_and bits (format_bit format) == format_bit format
 
--- a format of the peer that stands in FORMAT or CAPABILITY
+-- a format of the peer that is in FORMAT or CAPABILITY
 abbrev pub is_common : ℕ → ℕ → Bool → Format → Bool
 is_common wanted capable of_peer format = of_peer && (has_bit wanted format || has_bit capable format)
 
@@ -41,7 +41,7 @@ common_formats formats wanted capable = record {
   alaw = is_common wanted capable formats.alaw Alaw;
 }
 
--- FORMAT where it is exactly one common bit, else the lowest common bit
+-- FORMAT if it is exactly one common bit, otherwise the lowest common bit
 abbrev pub chosen_format : Formats → ℕ → Option Format
 chosen_format common wanted =
     if common.gsm && (wanted == format_bit Gsm) then Some Gsm
@@ -55,7 +55,7 @@ format_by formats elements =
     let wanted = unwrap_or elements.format 0 in
     chosen_format (common_formats formats wanted (unwrap_or elements.capability 0)) wanted
 
--- the formats that the call may have: all that are common where it is routed by them, else the one that is chosen
+-- the formats that the call may have: all common ones if it is routed by them, otherwise the chosen one
 abbrev pub offered_formats : PeerRules → NewElements → Format → Formats
 offered_formats rules elements format =
     if rules.routes_format
@@ -71,7 +71,7 @@ IsCommon formats frame format =
     (has_format formats format ≡ true)
     × ((has_bit (bits_in frame FORMAT) format ≡ true) ⊎ (has_bit (bits_in frame CAPABILITY) format ≡ true))
 
--- of the common formats that of the lowest bit
+-- the common format of the lowest bit
 abbrev pub IsLowestCommon : Formats → FullFrame → Format → Type 0
 IsLowestCommon formats frame format =
     IsCommon formats frame format × ((other : Format) → IsCommon formats frame other → format_bit format ≤ format_bit other)
@@ -101,7 +101,7 @@ opening_effect Refused = rejected CallRejected
 opening_effect Challenges = row (Answered AuthReq) stages.Challenged None
 opening_effect Offers = row Silent stages.Offered (Some signals.Offered)
 
--- the challenge that goes out, if one does
+-- the challenge that is sent, if any
 abbrev pub challenge_sent : Opening → List ℕ → Option (List ℕ)
 challenge_sent Refused challenge = None
 challenge_sent Challenges challenge = Some challenge

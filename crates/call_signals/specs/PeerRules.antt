@@ -1,4 +1,4 @@
--- What a plan lets the rules of a peer be.
+-- The values that a plan allows in the rules of a peer.
 use Rattle.std.specs.Prelude.{ℕ, ◌≤◌, Bool, false, List, Option, None, Some, IsSome, IfSome, nat_eq}
 use Rattle.std.specs.List.{starts_with}
 use Rattle.call_signals.specs.declared.rules.PeerRules.{PeerRules}
@@ -25,3 +25,4 @@ pub record IsPeerRules (rules : PeerRules) : Type 0 where
   pub record_octets : IfSome rules.record_octets (IsWithin 65536 268435456)
   pub window : IsWithin 1 127 rules.window
   pub vnak_ms : rules.vnak_ms ≤ 60000
+  pub qualify_ms : rules.qualify_ms ≤ 600000

@@ -61,7 +61,7 @@ subclass_of (Indicate indication) = indication_subclass indication
 subclass_of Answer = CONTROL_ANSWER
 subclass_of (Dtmf digit) = digit
 
--- PONG and LAGRP bear the timestamp of the frame that they answer
+-- PONG and LAGRP have the timestamp of the frame that they answer
 abbrev pub timestamp_of : Reply → ℕ → ℕ
 timestamp_of (Pong timestamp) present = timestamp
 timestamp_of (LagRp timestamp) present = timestamp

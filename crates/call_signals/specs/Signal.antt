@@ -1,4 +1,4 @@
--- What a leg hands up.
+-- The signals that a leg hands up.
 use Rattle.std.specs.Prelude.{ℕ, ◌-◌, List, codes}
 use Rattle.call_signals.specs.declared.signal.Indication.{Indication}
 use Rattle.call_signals.specs.declared.signal.Indication.TheVariants.{Ringing, Progress, Proceeding}
@@ -10,6 +10,6 @@ indication_name Ringing = codes "RINGING"
 indication_name Progress = codes "PROGRESS"
 indication_name Proceeding = codes "PROCEEDING"
 
--- how many octets of a datagram are media
+-- the number of a datagram's octets that are media
 abbrev pub span_len : MediaSpan → ℕ
 span_len span = span.end - span.start

@@ -3,7 +3,7 @@ use Rattle.std.specs.Prelude.{◌||◌, Bool, true, false}
 use Rattle.call_signals.specs.declared.stage.Stage.{Stage}
 use Rattle.call_signals.specs.declared.stage.Stage.TheVariants.{Waiting, Challenged, Offered, Linked, Up, Closing, Ended}
 
--- one stage twice
+-- the two stages are the same
 abbrev pub is_stage : Stage → Stage → Bool
 is_stage Waiting Waiting = true
 is_stage Challenged Challenged = true

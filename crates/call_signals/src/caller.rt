@@ -1,4 +1,4 @@
-//! Who calls, by the information elements of a NEW ("Information Elements").
+//! The caller, by the information elements of a NEW ("Information Elements").
 ghost use Rattle.std.specs.Prelude.{◌≡◌, ◌+◌, ◌≤◌, ◌++◌, length};
 ghost use Rattle.std.specs.Option.{ForSome, option_copied};
 ghost use Rattle.call_signals.specs.Caller as caller;
@@ -10,8 +10,8 @@ use iax_frames::Payload;
 use info_elements::{CALLING_NAME, CALLING_NUMBER, CALLINGPRES, CALLINGTNS, CALLINGTON, append_to};
 use std::marker::Model;
 
-/// What a NEW says of who calls, as information elements in their order: CALLING NUMBER, CALLING NAME, CALLINGPRES, CALLINGTON,
-/// CALLINGTNS, each where there is one; at most 524 octets. Contracts see these octets.
+/// The information elements of a NEW about the caller, in their order: CALLING NUMBER, CALLING NAME, CALLINGPRES,
+/// CALLINGTON, CALLINGTNS. Each is optional; together they have at most 524 octets. Contracts see these octets.
 #[derive(Debug, Drop)]
 pub struct Caller {
     octets: ArrayVec<u8, 524>,
@@ -27,7 +27,7 @@ impl Model for Caller {
     ghost invariant = { λ caller. length caller.octets.items ≤ 524 };
 }
 
-// An element that is left out where there is no text.
+// Appends an element, which is left out if there is no text.
 fn append_text(payload: &mut Payload, number: u8, text: Option<&[u8]>)
     requires room { length payload.old ≤ 1000 }
     requires short { ForSome text (λ octets. length octets.now ≤ 255) }
@@ -40,7 +40,7 @@ fn append_text(payload: &mut Payload, number: u8, text: Option<&[u8]>)
     }
 }
 
-// An element of one octet that is left out where there is no value.
+// Appends an element of one octet, which is left out if there is no value.
 fn append_octet(payload: &mut Payload, number: u8, value: Option<u8>)
     requires { length payload.old ≤ 1000 }
     ensures appended { payload.new ≡ payload.old ++ caller.octet_if number value }
@@ -52,7 +52,7 @@ fn append_octet(payload: &mut Payload, number: u8, value: Option<u8>)
     }
 }
 
-// What is carried on beside the number.
+// Appends the elements that are carried on with the number.
 fn append_rest(payload: &mut Payload, elements: &NewElements)
     requires room { length payload.old ≤ 257 }
     requires name { ForSome elements.now.name (λ text. length text.now ≤ 255) }
@@ -69,7 +69,7 @@ fn append_rest(payload: &mut Payload, elements: &NewElements)
 }
 
 impl Caller {
-    // These octets.
+    // Returns a caller with these octets.
     fn holding(octets: &[u8]) -> Caller
         requires { length octets.now ≤ 524 }
         ensures { result ≡ octets.now }
@@ -79,7 +79,7 @@ impl Caller {
         Caller { octets: copy }
     }
 
-    /// The number that calls, at most 255 octets, and nothing else of who calls; no element where there is no number.
+    /// Returns a caller with a calling number of at most 255 octets, and nothing else; no element if there is no number.
     pub fn numbered(number: Option<&[u8]>) -> Caller
         requires { ForSome number (λ text. length text.now ≤ 255) }
         ensures { result ≡ caller.numbered (option_copied number.entry) }
@@ -89,8 +89,8 @@ impl Caller {
         Caller::holding(payload.as_slice())
     }
 
-    /// Who calls by the elements of a NEW, whose number and name have at most 255 octets each: all of it where it is carried on,
-    /// else its number alone ("Information Elements").
+    /// Returns the caller by the elements of a NEW, whose number and name have at most 255 octets each. It has all elements
+    /// if `carried` is true, otherwise only the number ("Information Elements").
     pub fn of(elements: &NewElements, carried: bool) -> Caller
         requires number { ForSome elements.now.calling (λ text. length text.now ≤ 255) }
         requires name { ForSome elements.now.name (λ text. length text.now ≤ 255) }
@@ -105,7 +105,7 @@ impl Caller {
         Caller::holding(payload.as_slice())
     }
 
-    /// The octets of the elements, at most 524.
+    /// Returns the octets of the elements, at most 524.
     pub fn as_slice(&self) -> &[u8]
         ensures value { result.now ≡ self.now }
         ensures short { length self.now ≤ 524 }

@@ -1,32 +1,32 @@
-//! Why a call ends ("Information Elements": CAUSE and CAUSECODE).
+//! The causes for which a call ends ("Information Elements": CAUSE and CAUSECODE).
 ghost use Rattle.std.specs.Prelude.{◌≡◌, ◌≤◌, length, IfSome, option_copied};
 ghost use Rattle.call_signals.specs.Cause.{cause_code, cause_of_code, cause_text, name_of_code, unnamed_text};
 
 use crate::signal::ElementText;
 use arrayvec::ArrayVec;
 
-/// Why a leg rejects or hangs up, by the codes of Q.850.
+/// The cause for which a leg rejects or hangs up, by the codes of Q.850.
 #[derive(Clone, Copy, Debug, PartialEq, Eq)]
 pub enum Cause {
     /// No route leads to the number.
     UnallocatedNumber,
-    /// The call came to its end.
+    /// The call ended normally.
     NormalClearing,
     /// The other side is busy.
     UserBusy,
     /// The other side is silent.
     NoUserResponding,
-    /// The call isn't let in.
+    /// The call is rejected.
     CallRejected,
     /// There is no number for one more leg.
     NoChannelAvailable,
     /// The other side has no room for the call.
     Congestion,
-    /// Another one, by its code, 0 ..= 255.
+    /// Another cause, by its code, 0 ..= 255.
     Other(u8),
 }
 
-// The table of Q.850: a row a code, with this project's text of at most 41 octets.
+// Returns the text of a code by the table of Q.850, one row for each code. The texts are this project's, of at most 41 octets.
 fn name_of_code(code: u8) -> Option<&'static [u8]>
     ensures value { option_copied result ≡ name_of_code code }
     ensures short { IfSome result (λ text. length text.now ≤ 41) }
@@ -58,7 +58,7 @@ fn name_of_code(code: u8) -> Option<&'static [u8]>
     }
 }
 
-// The text of a code that has no row: `cause N`.
+// Returns the text of a code that has no row: `cause N`.
 fn unnamed_text(code: u8) -> ElementText
     ensures { result ≡ unnamed_text code }
 {
@@ -75,8 +75,7 @@ fn unnamed_text(code: u8) -> ElementText
 }
 
 impl Cause {
-    /// The cause of this code of a CAUSECODE ("Information Elements"): `Other` where the code is none of those that have a name
-    /// here.
+    /// Returns the cause of this code of a CAUSECODE ("Information Elements"): `Other` if the code has no variant here.
     pub fn of_code(code: u8) -> Cause
         ensures { result ≡ cause_of_code code }
     {
@@ -92,7 +91,7 @@ impl Cause {
         }
     }
 
-    /// The code of a CAUSECODE, 0 ..= 255 ("Information Elements").
+    /// Returns the code of a CAUSECODE, 0 ..= 255 ("Information Elements").
     pub fn code(self) -> u8
         ensures { result ≡ cause_code self }
     {
@@ -108,7 +107,7 @@ impl Cause {
         }
     }
 
-    /// The text of a CAUSE: that of the code's row in Q.850, or `cause N`.
+    /// Returns the text of a CAUSE: that of the code's row in Q.850, or `cause N`.
     pub fn text(self) -> ElementText
         ensures { result ≡ cause_text self }
     {

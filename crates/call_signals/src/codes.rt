@@ -1,5 +1,6 @@
-//! The codes of frames, by their names ("Frame Types", "Control Frames", "IAX Frames"): the octets of a full frame's type, and of
-//! its subclass where C is clear. Elements have theirs in `info_elements`, formats and causes in `formats` and `causes`.
+//! The codes of frames, by their names ("Frame Types", "Control Frames", "IAX Frames"). They are the octets of a full
+//! frame's type, and of its subclass if C is clear. Those of elements are in `info_elements`, those of formats and causes
+//! in `formats` and `causes`.
 
 /// A digit: the subclass is its character.
 pub const FRAME_DTMF: u8 = 1;
@@ -10,7 +11,7 @@ pub const FRAME_CONTROL: u8 = 4;
 /// An IAX frame: the call's own signalling.
 pub const FRAME_IAX: u8 = 6;
 
-/// The call is over.
+/// The call has ended.
 pub const CONTROL_HANGUP: u8 = 1;
 /// The called side rings.
 pub const CONTROL_RINGING: u8 = 3;
@@ -18,20 +19,20 @@ pub const CONTROL_RINGING: u8 = 3;
 pub const CONTROL_ANSWER: u8 = 4;
 /// The called side is busy.
 pub const CONTROL_BUSY: u8 = 5;
-/// The called side can't be reached for want of lines.
+/// No line to the called side is free.
 pub const CONTROL_CONGESTION: u8 = 8;
-/// The call goes on, with tones or announcements.
+/// The call continues, with tones or announcements.
 pub const CONTROL_PROGRESS: u8 = 0x0e;
 /// The call is being set up.
 pub const CONTROL_PROCEEDING: u8 = 0x0f;
 
-/// A call is asked for.
+/// The sender asks for a call.
 pub const IAX_NEW: u8 = 1;
-/// Is the other side there? A PONG answers it.
+/// The sender checks that the other side is there. A PONG answers it.
 pub const IAX_PING: u8 = 2;
-/// It is: the answer to a PING and to a POKE.
+/// The answer to a PING and to a POKE.
 pub const IAX_PONG: u8 = 3;
-/// All before ISeqno have come.
+/// All frames before ISeqno have been received.
 pub const IAX_ACK: u8 = 4;
 /// The call ends.
 pub const IAX_HANGUP: u8 = 5;
@@ -39,13 +40,13 @@ pub const IAX_HANGUP: u8 = 5;
 pub const IAX_REJECT: u8 = 6;
 /// A call is accepted.
 pub const IAX_ACCEPT: u8 = 7;
-/// The caller is to say who it is.
+/// The caller has to authenticate itself.
 pub const IAX_AUTHREQ: u8 = 8;
 /// The answer to an AUTHREQ.
 pub const IAX_AUTHREP: u8 = 9;
 /// There is no such call.
 pub const IAX_INVAL: u8 = 0x0a;
-/// How long is the way there and back? A LAGRP answers it.
+/// The sender measures the time to the other side and back. A LAGRP answers it.
 pub const IAX_LAGRQ: u8 = 0x0b;
 /// The answer to a LAGRQ.
 pub const IAX_LAGRP: u8 = 0x0c;
@@ -55,9 +56,9 @@ pub const IAX_REGREQ: u8 = 0x0d;
 pub const IAX_REGREJ: u8 = 0x10;
 /// The sender asks for its registration to end.
 pub const IAX_REGREL: u8 = 0x11;
-/// What is from ISeqno on is to be sent again.
+/// Retransmit the frames from ISeqno on.
 pub const IAX_VNAK: u8 = 0x12;
-/// The other side of a transfer can be reached.
+/// The sender checks that the other side of a transfer can be reached.
 pub const IAX_TXCNT: u8 = 0x17;
 /// The answer to a TXCNT.
 pub const IAX_TXACC: u8 = 0x18;
@@ -65,9 +66,9 @@ pub const IAX_TXACC: u8 = 0x18;
 pub const IAX_QUELCH: u8 = 0x1c;
 /// The sender wants media again.
 pub const IAX_UNQUELCH: u8 = 0x1d;
-/// Is anyone there? It belongs to no call; a PONG answers it.
+/// The sender checks that the other side is there, outside any call. A PONG answers it.
 pub const IAX_POKE: u8 = 0x1e;
-/// A frame came that isn't known here.
+/// The sender received a frame that it doesn't know.
 pub const IAX_UNSUPPORT: u8 = 0x21;
-/// A caller is to send its NEW again, with the call token in this frame (chan_iax2's; RFC 5456 has none).
+/// The caller has to send its NEW again, with the call token in this frame (chan_iax2's; RFC 5456 has none).
 pub const IAX_CALLTOKEN: u8 = 0x28;

@@ -1,4 +1,4 @@
-//! What a row of the tables says.
+//! The rows of the tables.
 ghost use Rattle.std.specs.Prelude.{◌≡◌};
 ghost use Rattle.call_signals.specs.Effects as effects;
 
@@ -7,7 +7,7 @@ use crate::reply::Reply;
 use crate::signal::Signal;
 use crate::stage::Stage;
 
-/// How a taken frame is answered.
+/// The answer to a taken frame.
 #[derive(Clone, Copy)]
 pub enum Answering {
     /// By an ACK.
@@ -19,7 +19,7 @@ pub enum Answering {
 }
 
 impl Answering {
-    /// Whether a numbered frame is the answer.
+    /// Returns whether a numbered frame is the answer.
     pub fn is_reply(&self) -> bool
         ensures { result ≡ effects.is_reply self.now }
     {
@@ -27,12 +27,12 @@ impl Answering {
     }
 }
 
-/// What a leg notes of a taken frame.
+/// The mark that a taken frame sets on a leg.
 #[derive(Clone, Copy)]
 pub enum Mark {
     /// Nothing is noted.
     Nothing,
-    /// The other side wants no media.
+    /// The other side quelched media.
     Quelches,
     /// The other side wants media again.
     Unquelches,
@@ -40,7 +40,7 @@ pub enum Mark {
     Authenticates,
 }
 
-/// What a row says: the answer, the stage after, what is handed up, and what is noted.
+/// A row: the answer, the stage afterwards, the signal handed up, and the mark.
 #[derive(Clone, Copy)]
 pub struct Effect {
     pub answer: Answering,
@@ -49,7 +49,7 @@ pub struct Effect {
     pub mark: Mark,
 }
 
-/// A row that notes nothing: the answer, the stage after, and what is handed up.
+/// Returns a row without a mark: the answer, the stage afterwards, and the signal handed up.
 pub fn row(answer: Answering, stage: Stage, signal: Option<Signal>) -> Effect
     ensures { result ≡ effects.row answer stage signal }
 {
@@ -61,7 +61,7 @@ pub fn row(answer: Answering, stage: Stage, signal: Option<Signal>) -> Effect
     }
 }
 
-/// A row that hands nothing up: the answer, the stage after, and what is noted.
+/// Returns a row without a signal: the answer, the stage afterwards, and the mark.
 pub fn marking(answer: Answering, stage: Stage, mark: Mark) -> Effect
     ensures { result ≡ effects.marking answer stage mark }
 {
@@ -73,14 +73,15 @@ pub fn marking(answer: Answering, stage: Stage, mark: Mark) -> Effect
     }
 }
 
-/// The row of a frame that has none of its own: it is acknowledged, and the leg stays in its stage.
+/// Returns the row of a frame that has none in the table: it is acknowledged, and the leg stays in its stage.
 pub fn no_effect(stage: Stage) -> Effect
     ensures { result ≡ effects.no_effect stage }
 {
     row(Answering::Acknowledged, stage, None)
 }
 
-/// A numbered frame is the answer, and nothing else happens; where the call is over, the frame is only acknowledged.
+/// Returns a row in which a numbered frame is the answer, and nothing else happens. If the call is over, the frame is only
+/// acknowledged.
 pub fn reply_alone(stage: Stage, reply: Reply) -> Effect
     ensures { result ≡ effects.reply_alone stage reply }
 {
@@ -91,7 +92,8 @@ pub fn reply_alone(stage: Stage, reply: Reply) -> Effect
     }
 }
 
-/// The call is given up: a HANGUP for this cause is the answer, the leg is closing after it, and `Hangup` is handed up.
+/// Returns a row that gives the call up: a HANGUP for this cause is the answer, the leg is closing after it, and `Hangup`
+/// is handed up.
 pub fn hung_up(cause: Cause) -> Effect
     ensures { result ≡ effects.hung_up cause }
 {
@@ -102,7 +104,8 @@ pub fn hung_up(cause: Cause) -> Effect
     )
 }
 
-/// The call isn't let in: a REJECT for this cause is the answer, the leg is closing after it, and nothing is handed up.
+/// Returns a row that rejects the call: a REJECT for this cause is the answer, the leg is closing after it, and nothing is
+/// handed up.
 pub fn rejected(cause: Cause) -> Effect
     ensures { result ≡ effects.rejected cause }
 {
@@ -113,14 +116,14 @@ pub fn rejected(cause: Cause) -> Effect
     )
 }
 
-/// The frame is acknowledged, the leg is in this stage after it, and this is handed up.
+/// Returns a row in which the frame is acknowledged, the leg is in this stage after it, and this signal is handed up.
 pub fn goes_on(stage: Stage, signal: Signal) -> Effect
     ensures { result ≡ effects.goes_on stage signal }
 {
     row(Answering::Acknowledged, stage, Some(signal))
 }
 
-/// What is handed up: this, where the call isn't over in that stage, else nothing.
+/// Returns this signal, unless the call is over in that stage.
 pub fn unless_over(stage: Stage, signal: Signal) -> Option<Signal>
     ensures { result ≡ effects.unless_over stage signal }
 {

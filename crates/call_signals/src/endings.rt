@@ -1,4 +1,5 @@
-//! Why a leg ends, by the frame that ends it ("Information Elements": CAUSECODE; "Control Frames": BUSY, CONGESTION).
+//! The cause of a leg's end, by the frame that ends it ("Information Elements": CAUSECODE; "Control Frames": BUSY,
+//! CONGESTION).
 ghost use Rattle.std.specs.Prelude.{◌≡◌, option_copied};
 ghost use Rattle.call_signals.specs.Endings as endings;
 
@@ -8,7 +9,7 @@ use crate::message::Message;
 use iax_frames::{Full, subclass_meaning};
 use info_elements::{CAUSECODE, last_in};
 
-// By the value of a CAUSECODE, if it has one octet.
+// Returns the cause by the value of a CAUSECODE, if it has one octet.
 fn told_cause(value: Option<&[u8]>) -> Cause
     ensures { result ≡ endings.told_cause (option_copied value.entry) }
 {
@@ -18,7 +19,7 @@ fn told_cause(value: Option<&[u8]>) -> Cause
     }
 }
 
-// By the subclass of a control frame that ends the call.
+// Returns the cause by the subclass of a control frame that ends the call.
 fn clearing_cause(subclass: Option<u64>) -> Cause
     ensures { result ≡ endings.clearing_cause subclass }
 {
@@ -32,8 +33,8 @@ fn clearing_cause(subclass: Option<u64>) -> Cause
     }
 }
 
-/// Why a leg ends that this frame ends: the CAUSECODE of a HANGUP or a REJECT, where it has one octet; BUSY, CONGESTION; else
-/// normal clearing.
+/// Returns the cause of a leg's end by this frame: the CAUSECODE of a HANGUP or a REJECT, if it has one octet; BUSY,
+/// CONGESTION; otherwise normal clearing.
 pub fn ending_cause(frame: &Full, message: &Message) -> Cause
     ensures { result ≡ endings.ending_cause frame.now message.now }
 {

@@ -1,15 +1,15 @@
-//! Why a leg ends that no HANGUP or REJECT ended.
+//! The failures that end a leg without a HANGUP or a REJECT.
 ghost use Rattle.std.specs.Prelude.{◌≡◌};
 ghost use Rattle.call_signals.specs.Endings.{failure_cause};
 
 use crate::cause::Cause;
 
-/// Why a leg ended without a HANGUP or REJECT of its own making it so.
+/// The failure that ended a leg without a HANGUP or a REJECT.
 #[derive(Clone, Copy, Debug, PartialEq, Eq)]
 pub enum Failure {
-    /// A frame was sent again as often as the peer's rules let it be, and wasn't acknowledged ("Message Transport").
+    /// A frame was retransmitted as often as the peer's rules allow, and wasn't acknowledged ("Message Transport").
     RetriesSpent,
-    /// The leg's record had no room for another frame and what answers it.
+    /// The leg's record had no room for another frame and its answer.
     RecordFull,
     /// The leg's challenge wasn't answered in time.
     ChallengeTimeout,
@@ -18,7 +18,7 @@ pub enum Failure {
 }
 
 impl Failure {
-    /// Its cause, for the leg's partner: `NoUserResponding` where retries are spent, else `NormalClearing`.
+    /// Returns its cause for the leg's partner: `NoUserResponding` if retries are spent, otherwise `NormalClearing`.
     pub fn cause(self) -> Cause
         ensures { result ≡ failure_cause self }
     {

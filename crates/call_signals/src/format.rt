@@ -15,7 +15,7 @@ pub enum Format {
 }
 
 impl Format {
-    /// The one bit of a FORMAT, a CAPABILITY and a voice frame's subclass: 0x02, 0x04 or 0x08.
+    /// Returns the one bit of a FORMAT, a CAPABILITY and a voice frame's subclass: 0x02, 0x04 or 0x08.
     pub fn bit(self) -> u32
         ensures { result ≡ format_bit self }
     {
@@ -26,7 +26,7 @@ impl Format {
         }
     }
 
-    /// The format of this bit, 0x02, 0x04 or 0x08; `None` of any other number.
+    /// Returns the format of this bit, 0x02, 0x04 or 0x08, or `None` for any other number.
     pub fn of_bit(bit: u64) -> Option<Format>
         ensures { result ≡ format_of_bit bit }
     {
@@ -41,7 +41,7 @@ impl Format {
         }
     }
 
-    /// Whether both are the same format.
+    /// Returns whether both are the same format.
     pub fn is(self, other: Format) -> bool
         ensures { result ≡ same_format self other }
     {
@@ -52,7 +52,7 @@ impl Format {
     }
 }
 
-/// Which formats there are ("Media Formats"), maybe none.
+/// A set of formats ("Media Formats"), which may be empty.
 #[derive(Clone, Copy, Debug, PartialEq, Eq)]
 pub struct Formats {
     pub gsm: bool,
@@ -61,7 +61,7 @@ pub struct Formats {
 }
 
 impl Formats {
-    /// Whether the format is one of them.
+    /// Returns whether the format is one of them.
     pub fn contains(self, format: Format) -> bool
         ensures { result ≡ has_format self format }
     {
@@ -72,7 +72,7 @@ impl Formats {
         }
     }
 
-    /// The one of the lowest bit; `None` where there is no format.
+    /// Returns the format of the lowest bit, or `None` if there is no format.
     pub fn lowest(self) -> Option<Format>
         ensures { result ≡ lowest_format self }
     {
@@ -87,7 +87,7 @@ impl Formats {
         }
     }
 
-    /// This format and no other.
+    /// Returns the set of this format alone.
     pub fn alone(format: Format) -> Formats
         ensures { result ≡ format_alone format }
     {
@@ -98,7 +98,7 @@ impl Formats {
         }
     }
 
-    /// The formats that both have.
+    /// Returns the formats that both have.
     pub fn of_both(self, other: Formats) -> Formats
         ensures { result ≡ formats_of_both self other }
     {
@@ -109,7 +109,7 @@ impl Formats {
         }
     }
 
-    /// This format where it is one of them, else the one of the lowest bit; `None` where there is no format.
+    /// Returns this format if it is one of them, otherwise the one of the lowest bit, or `None` if there is no format.
     pub fn among(self, format: Format) -> Option<Format>
         ensures { result ≡ format_among self format }
     {

@@ -6,8 +6,8 @@ ghost use Rattle.call_signals.specs.Openings.{call_format, IsCommon, IsLowestCom
 ghost use Rattle.call_signals.specs.declared.format.Format.{Format};
 ghost use Rattle.call_signals.specs.declared.format.Formats.{Formats};
 
-/// The format of a call is FORMAT where that is exactly one bit that offer and peer have in common, else the lowest bit that they
-/// have in common. Where no bit is common, there is none ("Call Setup", "Media Formats").
+/// The format of a call is FORMAT if that is exactly one bit that offer and peer have in common, otherwise the lowest
+/// common bit. If no bit is common, there is none ("Call Setup", "Media Formats").
 pub fn format_is_wanted_or_lowest()
     ensures wanted { (formats : Formats) (frame : FullFrame) (format : Format) → IsWanted formats frame format →
         call_format formats frame ≡ Some format }

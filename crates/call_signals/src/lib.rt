@@ -1,5 +1,5 @@
-//! The words of a call: what a full frame means, where a leg stands, what it answers and hands up, what it is ordered to do,
-//! and the rules that its peer goes by ("Frame Types", "Call Setup", "Information Elements").
+//! The vocabulary of a call: the messages of full frames, the stages of a leg, its answers and signals, its orders, and the
+//! rules of its peer ("Frame Types", "Call Setup", "Information Elements").
 #![tactic(auto)]
 
 mod caller;

@@ -21,7 +21,7 @@ impl Model for LocalNumber {
 }
 
 impl LocalNumber {
-    /// The local number of a call number that isn't 0: 1 ..= 32,767.
+    /// Returns the local number of a call number that isn't 0: 1 ..= 32,767.
     pub fn new(number: CallNumber) -> LocalNumber
         requires { 1 ≤ number }
         ensures { result ≡ number }
@@ -29,7 +29,7 @@ impl LocalNumber {
         LocalNumber { number }
     }
 
-    /// The call number, 1 ..= 32,767.
+    /// Returns the call number, 1 ..= 32,767.
     pub fn get(&self) -> CallNumber
         ensures value { result ≡ self.now }
         ensures some { 1 ≤ result }

@@ -1,4 +1,4 @@
-//! What a full frame means, by its type and the meaning of C and subclass.
+//! The meaning of a full frame, by its type and the meaning of C and subclass.
 ghost use Rattle.std.specs.Prelude.{◌≡◌, ◌<◌, ◌^◌};
 ghost use Rattle.iax_frames.specs.FullFrame.{subclass_meaning};
 ghost use Rattle.call_signals.specs.Message as meaning;
@@ -14,7 +14,7 @@ use crate::format::Format;
 use crate::signal::{Digit, Indication};
 use iax_frames::{Full, subclass_meaning};
 
-/// What a full frame means ("Frame Types", "Control Frames", "IAX Frames").
+/// The meaning of a full frame ("Frame Types", "Control Frames", "IAX Frames").
 #[derive(Clone, Copy, Debug, PartialEq, Eq)]
 pub enum Message {
     New,
@@ -36,7 +36,7 @@ pub enum Message {
     Unquelch,
     Poke,
     Unsupport,
-    /// An IAX frame that is none of these.
+    /// Any other IAX frame.
     UnknownIax,
     /// Control frames that end the call: HANGUP, BUSY, CONGESTION.
     ClearsCall,
@@ -44,20 +44,20 @@ pub enum Message {
     Answer,
     Dtmf(Digit),
     Voice(Format),
-    /// Everything else.
+    /// Any other frame.
     Other,
 }
 
 impl Message {
-    /// What the frame means ("Frame Types", "Control Frames", "IAX Frames").
+    /// Returns the meaning of the frame ("Frame Types", "Control Frames", "IAX Frames").
     pub fn of(frame: &Full) -> Message
         ensures { result ≡ meaning.message_of frame.now.head }
     {
         Message::of_octets(frame.frame_type(), frame.subclass())
     }
 
-    /// What a full frame of this type means whose octet of C and subclass is this ("Frame Types", "Control Frames", "IAX
-    /// Frames").
+    /// Returns the meaning of a full frame of this type with this octet of C and subclass ("Frame Types", "Control Frames",
+    /// "IAX Frames").
     pub fn of_octets(frame_type: u8, octet: u8) -> Message
         ensures { result ≡ meaning.message_by frame_type (subclass_meaning octet) }
     {
@@ -146,7 +146,8 @@ impl Message {
         }
     }
 
-    /// Whether it advances the sequence numbers ("Message Transport"): all but ACK, INVAL, VNAK, TXCNT and TXACC do.
+    /// Returns whether it advances the sequence numbers ("Message Transport"): all but ACK, INVAL, VNAK, TXCNT and TXACC
+    /// do.
     pub fn is_numbered(&self) -> bool
         ensures { result ≡ meaning.is_numbered self.now }
     {
@@ -156,21 +157,21 @@ impl Message {
         )
     }
 
-    /// Whether it is an INVAL ("IAX Frames").
+    /// Returns whether it is an INVAL ("IAX Frames").
     pub fn is_inval(&self) -> bool
         ensures { result ≡ meaning.is_inval self.now }
     {
         matches!(self, Message::Inval)
     }
 
-    /// Whether it is a VNAK ("IAX Frames").
+    /// Returns whether it is a VNAK ("IAX Frames").
     pub fn is_vnak(&self) -> bool
         ensures { result ≡ meaning.is_vnak self.now }
     {
         matches!(self, Message::Vnak)
     }
 
-    /// Whether it is voice in this format.
+    /// Returns whether it is voice in this format.
     pub fn is_voice_in(&self, format: Format) -> bool
         ensures { result ≡ meaning.is_voice_in format self.now }
     {
@@ -180,8 +181,8 @@ impl Message {
         }
     }
 
-    /// Its name as RFC 5456 writes it ("Frame Types", "Control Frames", "IAX Frames"); of what has no one name, what it is:
-    /// ASCII.
+    /// Returns its name as RFC 5456 writes it ("Frame Types", "Control Frames", "IAX Frames"), or a description if it has
+    /// no one name, in ASCII.
     pub fn name(&self) -> &'static str
         ensures { result.now ≡ meaning.name_of self.now }
     {

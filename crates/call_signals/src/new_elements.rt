@@ -1,4 +1,4 @@
-//! The information elements that a NEW is read for ("Call Setup", "Information Elements").
+//! The information elements that are read from a NEW ("Call Setup", "Information Elements").
 ghost use Rattle.std.specs.Prelude.{◌≡◌, ◌≤◌, length, Some, IfSome};
 ghost use Rattle.std.specs.Option.{ForSome};
 ghost use Rattle.info_elements.specs.Element.{u8_in, u16_in, u32_in};
@@ -18,21 +18,21 @@ pub struct NewElements<'a> {
     pub calling: Option<&'a [u8]>,
     /// CALLING NAME, at most 255 octets.
     pub name: Option<&'a [u8]>,
-    /// CALLINGPRES, where it has one octet.
+    /// CALLINGPRES, if it has one octet.
     pub presentation: Option<u8>,
-    /// CALLINGTON, where it has one octet.
+    /// CALLINGTON, if it has one octet.
     pub number_type: Option<u8>,
-    /// CALLINGTNS, where it has two octets.
+    /// CALLINGTNS, if it has two octets.
     pub network: Option<u16>,
-    /// FORMAT, where it has four octets.
+    /// FORMAT, if it has four octets.
     pub format: Option<u32>,
-    /// CAPABILITY, where it has four octets.
+    /// CAPABILITY, if it has four octets.
     pub capability: Option<u32>,
-    /// VERSION, where it has two octets.
+    /// VERSION, if it has two octets.
     pub version: Option<u16>,
 }
 
-// The number in a value of one octet.
+// Returns the number in a value of one octet.
 fn number_of_one(value: &[u8]) -> Option<u8>
     ensures { result ≡ u8_in (Some value.now) }
 {
@@ -42,7 +42,7 @@ fn number_of_one(value: &[u8]) -> Option<u8>
     }
 }
 
-// The number in a value of two octets.
+// Returns the number in a value of two octets.
 fn number_of_two(value: &[u8]) -> Option<u16>
     ensures { result ≡ u16_in (Some value.now) }
 {
@@ -52,7 +52,7 @@ fn number_of_two(value: &[u8]) -> Option<u16>
     }
 }
 
-// The number in a value of four octets.
+// Returns the number in a value of four octets.
 fn number_of_four(value: &[u8]) -> Option<u32>
     ensures { result ≡ u32_in (Some value.now) }
 {
@@ -63,7 +63,7 @@ fn number_of_four(value: &[u8]) -> Option<u32>
 }
 
 impl<'a> NewElements<'a> {
-    /// The elements of a NEW's data, read once. Octets that are no whole element end them.
+    /// Reads the elements of a NEW's data, in one pass. Octets that aren't a complete element end them.
     pub fn read(octets: &'a [u8]) -> NewElements<'a>
         ensures elements { named result ≡ new_elements octets.now }
         ensures called { IfSome result.called (λ text. length text.now ≤ 255) }
@@ -89,7 +89,7 @@ impl<'a> NewElements<'a> {
         elements
     }
 
-    // With one element more.
+    // Returns the elements with one more.
     fn with(self, number: u8, value: &'a [u8]) -> NewElements<'a>
         requires called { ForSome self.called (λ text. length text.now ≤ 255) }
         requires calling { ForSome self.calling (λ text. length text.now ≤ 255) }

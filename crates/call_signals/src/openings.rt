@@ -1,4 +1,4 @@
-//! How a leg begins: the rows of a NEW that comes ("Call Setup").
+//! The opening of a leg: the rows of a received NEW ("Call Setup").
 ghost use Rattle.std.specs.Prelude.{◌≡◌, option_copied};
 ghost use Rattle.call_signals.specs.NewElements.{named};
 ghost use Rattle.call_signals.specs.Openings as opening;
@@ -13,7 +13,7 @@ use crate::signal::Signal;
 use crate::stage::Stage;
 use call_auth::Challenge;
 
-/// What becomes of a NEW that came ("Call Setup").
+/// The handling of a received NEW ("Call Setup").
 #[derive(Clone, Copy)]
 pub enum Opening {
     /// VERSION is absent or not 2, or there is no common format.
@@ -30,7 +30,7 @@ fn has_bit(bits: u32, format: Format) -> bool
     bits & format.bit() == format.bit()
 }
 
-// A format of the peer that stands in FORMAT or CAPABILITY.
+// Returns whether a format of the peer is in FORMAT or CAPABILITY.
 fn is_common(wanted: u32, capable: u32, of_peer: bool, format: Format) -> bool
     ensures { result ≡ opening.is_common wanted capable of_peer format }
 {
@@ -48,7 +48,7 @@ fn common_formats(formats: Formats, wanted: u32, capable: u32) -> Formats
     }
 }
 
-// FORMAT where it is exactly one common bit, else the lowest common bit.
+// Returns FORMAT if it is exactly one common bit, otherwise the lowest common bit.
 fn chosen_format(common: Formats, wanted: u32) -> Option<Format>
     ensures { result ≡ opening.chosen_format common wanted }
 {
@@ -63,9 +63,9 @@ fn chosen_format(common: Formats, wanted: u32) -> Option<Format>
     }
 }
 
-/// The format of the call that a NEW asks for, by its elements ("Call Setup"): FORMAT where that is the bit of exactly one common
-/// format, else the common format of the lowest bit; `None` where no format is common. Common are those formats of the peer that
-/// FORMAT or CAPABILITY has.
+/// Returns the format of the call of a NEW, by its elements ("Call Setup"): FORMAT if that is the bit of exactly one common
+/// format, otherwise the common format of the lowest bit, or `None` if no format is common. The common formats are those of
+/// the peer that FORMAT or CAPABILITY has.
 pub fn call_format(formats: Formats, elements: &NewElements) -> Option<Format>
     ensures { result ≡ opening.format_by formats (named elements.now) }
 {
@@ -74,8 +74,8 @@ pub fn call_format(formats: Formats, elements: &NewElements) -> Option<Format>
     chosen_format(common_formats(formats, wanted, capable), wanted)
 }
 
-/// The formats that the call of a NEW may have: all that are common where the peer's rules have the call routed by them, else the
-/// one that is chosen.
+/// Returns the formats that the call of a NEW may have: all common ones if the peer's rules route the call by them,
+/// otherwise the chosen one.
 pub fn offered_formats(rules: &PeerRules, elements: &NewElements, format: Format) -> Formats
     ensures { result ≡ opening.offered_formats rules.now (named elements.now) format }
 {
@@ -96,7 +96,8 @@ fn is_version_2(version: Option<u16>) -> bool
     }
 }
 
-/// What becomes of a NEW, by its elements ("Call Setup"). `Refused` is looked for first, then whether the peer has a secret.
+/// Returns the handling of a NEW, by its elements ("Call Setup"). `Refused` is checked first, then whether the peer has a
+/// secret.
 pub fn opening_of(rules: &PeerRules, elements: &NewElements) -> Opening
     ensures { result ≡ opening.opening_by rules.now (named elements.now) }
 {
@@ -114,7 +115,7 @@ pub fn opening_of(rules: &PeerRules, elements: &NewElements) -> Opening
 }
 
 impl Opening {
-    /// The row of the table: the answer, the stage after, and what is handed up.
+    /// Returns the row of the table: the answer, the stage afterwards, and the signal handed up.
     pub fn effect(self) -> Effect
         ensures { result ≡ opening.opening_effect self }
     {
@@ -129,7 +130,7 @@ impl Opening {
         }
     }
 
-    /// The challenge that goes out: this one where the peer is challenged, else `None`.
+    /// Returns the challenge to be sent: this one if the peer is challenged, otherwise `None`.
     pub fn challenge(self, challenge: &Challenge) -> Option<Challenge>
         ensures { result ≡ opening.challenge_sent self challenge.now }
     {

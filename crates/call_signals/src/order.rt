@@ -1,4 +1,4 @@
-//! The orders of the layer above, and why one is refused.
+//! The orders of the layer above, and the refusals of these.
 ghost use Rattle.std.specs.Prelude.{◌≡◌};
 
 use crate::cause::Cause;
@@ -6,14 +6,14 @@ use crate::format::Format;
 use crate::signal::{Digit, Indication};
 use std::alloc::AllocError;
 
-/// What the layer above lets a leg do.
+/// An order of the layer above to a leg.
 #[derive(Clone, Copy, Debug)]
 pub enum Order<'a> {
     /// Accepts the offered call, in this format.
     Accept(Format),
     /// Rejects the offered call.
     Reject(Cause),
-    /// Tells how the call goes on.
+    /// Reports the progress of the call.
     Indicate(Indication),
     /// Answers the call.
     Answer,
@@ -25,7 +25,7 @@ pub enum Order<'a> {
     Hangup(Cause),
     /// Hangs up as soon as a tick can, for this cause.
     Doom(Cause),
-    /// The layer above is done with the end of the call.
+    /// Reports that the layer above is done with the end of the call.
     Paid,
 }
 
@@ -46,7 +46,7 @@ pub enum OrderKind {
 impl Order<'_> {
     ghost use Rattle.call_signals.specs.Order.{kind_of};
 
-    /// The order without the octets of its media.
+    /// Returns the order without the octets of its media.
     pub fn kind(&self) -> OrderKind
         ensures { result ≡ kind_of self.now }
     {
@@ -64,7 +64,7 @@ impl Order<'_> {
     }
 }
 
-/// Why an order is refused, in the order in which causes are looked for.
+/// The refusal of an order, in the order in which causes are checked.
 #[derive(Clone, Copy, Debug, PartialEq, Eq)]
 pub enum OrderError {
     /// The leg's stage has no such order.

@@ -1,4 +1,4 @@
-//! What the calls of a leg answer.
+//! The answers of a leg's calls.
 ghost use Rattle.std.specs.Prelude.{◌≡◌};
 ghost use Rattle.call_signals.specs.declared.outcomes.StepError.TheVariants.{Memory};
 
@@ -6,7 +6,7 @@ use crate::reply::Replies;
 use crate::signal::{Onward, Signal};
 use std::alloc::AllocError;
 
-/// How a full frame was judged ("Message Transport").
+/// The judgement of a full frame ("Message Transport").
 #[derive(Clone, Copy, Debug, PartialEq, Eq)]
 pub enum Judged {
     /// It was the next, and was recorded.
@@ -17,18 +17,18 @@ pub enum Judged {
     Gap,
     /// It was the next, but its answer found no room; it isn't taken.
     NoRoom,
-    /// It has no sequence number of its own, or there is no frame.
+    /// It isn't numbered, or there is no frame.
     Unnumbered,
 }
 
-/// What a call says, beside the datagrams that it writes to the lent list.
+/// The answer of a call, apart from the datagrams that it writes to the lent list.
 #[derive(Clone, Copy, Debug, PartialEq, Eq)]
 pub struct Heard {
     pub judged: Judged,
     pub signal: Option<Signal>,
 }
 
-/// What a call gives: how the frame was judged, the datagrams to be sent, and what is handed up.
+/// The result of a call: the judgement of the frame, the datagrams to be sent, and the signal handed up.
 #[derive(Debug, Drop)]
 pub struct Outcome {
     pub judged: Judged,
@@ -36,7 +36,7 @@ pub struct Outcome {
     pub onward: Option<Onward>,
 }
 
-/// What a tick gives: the datagrams to be sent, and how many frames were due and had no memory.
+/// The result of a tick: the datagrams to be sent, and the number of frames that were due and had no memory.
 #[derive(Debug, Drop)]
 pub struct TickOutcome {
     pub replies: Replies,
@@ -52,7 +52,7 @@ pub enum MediaIn {
     NotYet,
 }
 
-/// Why a full frame is refused, in the order in which causes are looked for.
+/// The refusal of a full frame, in the order in which causes are checked.
 #[derive(Clone, Copy, Debug, PartialEq, Eq)]
 pub enum StepError {
     /// The record has no room for one more full frame and its answer.

@@ -39,7 +39,7 @@ pub enum Reply {
 }
 
 impl Reply {
-    /// The type of the frame ("Frame Types").
+    /// Returns the type of the frame ("Frame Types").
     pub fn frame_type(&self) -> u8
         ensures { result ≡ type_of self.now }
     {
@@ -51,7 +51,7 @@ impl Reply {
         }
     }
 
-    /// The subclass of the frame, below 128.
+    /// Returns the subclass of the frame, below 128.
     pub fn subclass(&self) -> u8
         ensures { result ≡ subclass_of self.now }
     {
@@ -71,7 +71,7 @@ impl Reply {
         }
     }
 
-    /// The timestamp that it has of its own, as a PONG and a LAGRP have, or else the present one; milliseconds, modulo 2^32.
+    /// Returns the timestamp that a PONG or a LAGRP carries, otherwise the present one; milliseconds, modulo 2^32.
     pub fn timestamp(&self, present: u32) -> u32
         ensures { result ≡ timestamp_of self.now present }
     {
@@ -84,7 +84,7 @@ impl Reply {
 }
 
 impl Indication {
-    /// The subclass of the control frame, below 128 ("Control Frames").
+    /// Returns the subclass of the control frame, below 128 ("Control Frames").
     pub fn subclass(self) -> u8
         ensures { result ≡ indication_subclass self }
     {
@@ -98,11 +98,11 @@ impl Indication {
 
 /// The datagrams that one step sends, at most 128. Contracts see the octets of each.
 ///
-/// The caller of a step lends an empty list, reads it, and clears it for the next step. What was written before is written over,
+/// The caller of a step lends an empty list, reads it, and clears it for the next step. New datagrams overwrite old ones,
 /// so a datagram costs no more than its own octets.
 #[derive(Debug, Drop)]
 pub struct Replies {
-    // Those behind the first `len` are places for later ones.
+    // The places from `len` on are for later ones.
     outs: ArrayVec<Out, 128>,
     len: usize,
 }
@@ -117,7 +117,7 @@ impl Model for Replies {
     ghost invariant = { λ r. r.len ≤ length r.outs.items };
 }
 
-// A datagram at a place behind so many others, of octets that lie in two pieces.
+// Writes a datagram at a place behind `place` others, of octets that come in two pieces.
 fn put_at(outs: &mut ArrayVec<Out, 128>, place: usize, front: &[u8], back: &[u8])
     requires place { place ≤ length outs.old.items }
     requires room { place < 128 }
@@ -133,7 +133,7 @@ fn put_at(outs: &mut ArrayVec<Out, 128>, place: usize, front: &[u8], back: &[u8]
 }
 
 impl Replies {
-    /// An empty list of datagrams.
+    /// Returns an empty list of datagrams.
     pub fn new() -> Replies
         ensures { result ≡ [] }
     {
@@ -163,7 +163,7 @@ impl Replies {
         self.put(&mini_head(number, timestamp), media);
     }
 
-    // One datagram more, of octets that lie in two pieces.
+    // Adds a datagram, of octets that come in two pieces.
     fn put(&mut self, front: &[u8], back: &[u8])
         requires room { length self.old < 128 }
         requires frame { IsFrame (front.now ++ back.now) }
@@ -174,28 +174,28 @@ impl Replies {
         self.len += 1;
     }
 
-    /// Takes all datagrams out.
+    /// Removes all datagrams.
     pub fn clear(&mut self)
         ensures { self.new ≡ [] }
     {
         self.len = 0;
     }
 
-    /// How many datagrams there are, at most 128.
+    /// Returns the number of datagrams, at most 128.
     pub fn len(&self) -> usize
         ensures { result ≡ length self.now }
     {
         self.len
     }
 
-    /// Whether there are no datagrams.
+    /// Returns whether there are no datagrams.
     pub fn is_empty(&self) -> bool
         ensures { result ≡ (length self.now == 0) }
     {
         self.len == 0
     }
 
-    /// The datagram at a place, 0 for the first; `None` where there is none.
+    /// Returns the datagram at a place, 0 for the first, or `None` if there is none.
     pub fn get(&self, place: usize) -> Option<&Out>
         ensures { option_copied result ≡ slice_get self.now place }
     {

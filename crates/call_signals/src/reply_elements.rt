@@ -12,7 +12,7 @@ use info_elements::{
     append_to,
 };
 
-// An element that is left out where there is no user.
+// Appends an element, which is left out if there is no user.
 fn append_user(payload: &mut Payload, user: &Option<Credential>)
     requires { length payload.old ≤ 1000 }
     ensures appended { payload.new ≡ payload.old ++ replies.element_if USERNAME user.now }
@@ -34,7 +34,7 @@ pub fn append_cause(payload: &mut Payload, cause: Cause)
     append_to(payload, CAUSECODE, &[cause.code()]);
 }
 
-/// Appends the data of a NEW to at most 200 octets ("Call Setup"); the number that is called has at most 255 octets.
+/// Appends the data of a NEW to at most 200 octets ("Call Setup"); the called number has at most 255 octets.
 pub fn append_new(
     payload: &mut Payload,
     user: &Option<Credential>,

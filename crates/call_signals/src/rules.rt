@@ -1,4 +1,4 @@
-//! What a plan says of a peer.
+//! The rules of a peer, as a plan has them.
 ghost use Rattle.std.specs.Prelude.{◌≡◌, ◌↔◌, IsSome, IfSome, option_copied};
 ghost use Rattle.std.specs.List.{list_all};
 ghost use Rattle.call_signals.specs.Credential.{IsCredential, is_printable};
@@ -27,8 +27,8 @@ impl Model for Credential {
 }
 
 impl Credential {
-    /// The credential of these octets; `None` exactly where they aren't 1 to 64 octets, each of them 0x20 ..= 0x7e. It takes no
-    /// memory.
+    /// Returns the credential of these octets, or `None` if and only if they aren't 1 to 64 octets, each of them 0x20 ..=
+    /// 0x7e. It takes no memory.
     pub fn new(octets: &[u8]) -> Option<Credential>
         ensures found { IsSome result ↔ IsCredential octets.now }
         ensures value { IfSome result (λ credential. credential ≡ octets.now) }
@@ -41,7 +41,7 @@ impl Credential {
         Some(Credential { octets: copy })
     }
 
-    /// The octets, 1 to 64.
+    /// Returns the octets, 1 to 64.
     pub fn as_slice(&self) -> &[u8]
         ensures value { result.now ≡ self.now }
         ensures credential { IsCredential self.now }
@@ -49,7 +49,7 @@ impl Credential {
         self.octets.as_slice()
     }
 
-    /// The same credential once more. It takes no memory.
+    /// Returns a copy of the credential. It takes no memory.
     pub fn copied(&self) -> Credential
         ensures { result ≡ self.now }
     {
@@ -68,60 +68,64 @@ fn are_printable(octets: &[u8]) -> bool
 /// The rules of one peer, as its plan has them.
 #[derive(Debug, Drop)]
 pub struct PeerRules {
-    /// The name that goes out as USERNAME.
+    /// The name that is sent as USERNAME.
     pub user: Option<Credential>,
     /// The secret by which the peer answers MD5 challenges. If there is one, there is a user.
     pub secret: Option<Credential>,
     /// The secret by which the peer's MD5 challenges are answered. If there is one, there is a user.
     pub outbound_secret: Option<Credential>,
-    /// What the challenges of this exchange begin with, if it draws them so. A hardened leg answers no such challenge: it would
-    /// serve whoever was asked it.
+    /// The prefix of this exchange's challenges, if it draws them with one. A hardened leg answers no such challenge,
+    /// because the answer would serve the peer that was challenged with it.
     pub challenge_prefix: Option<Challenge>,
-    /// What call tokens are made of, where a NEW opens a leg only with one. `None` where none is asked for.
+    /// The source of call tokens, if a NEW opens a leg only with one. `None` if no token is required.
     pub call_tokens: Option<CallTokens>,
-    /// How long after its opening a leg that waits for the answer to its challenge ends: 1,000 ..= 60,000 milliseconds. Until then
-    /// its record has at most 32 entries and 4,096 octets of data. `None` sets neither limit.
+    /// The time after its opening at which a leg that waits for the answer to its challenge ends: 1,000 ..= 60,000
+    /// milliseconds. Until then its record has at most 32 entries and 4,096 octets of data. `None` sets neither limit.
     pub challenge_ms: Option<u64>,
     /// The formats that the peer may use, at least one.
     pub formats: Formats,
-    /// Whether media goes to the peer in trunk frames.
+    /// Whether media is sent to the peer in trunk frames.
     pub trunk: bool,
     /// Whether the entries of those trunk frames have timestamps.
     pub trunk_timestamps: bool,
-    /// How long media waits for a trunk frame to fill: 0 ..= 60 milliseconds; `None` packs whatever is queued at each tick.
+    /// The time for which media waits for a trunk frame to fill: 0 ..= 60 milliseconds. `None` packs all queued media at
+    /// each tick.
     pub trunk_ms: Option<u64>,
-    /// How long a frame waits for its acknowledgement before it goes out again: 1 ..= 60,000 milliseconds.
+    /// The time for which a frame waits for its acknowledgement before it is retransmitted: 1 ..= 60,000 milliseconds.
     pub retry_ms: u64,
-    /// How often it goes out again: 0 ..= 20.
+    /// The greatest number of retransmissions of a frame: 0 ..= 20.
     pub max_retries: u32,
-    /// How long after the last one a PING goes out: 0 ..= 600,000 milliseconds, where 0 is never.
+    /// The time after the last PING at which the next is sent: 0 ..= 600,000 milliseconds. 0 disables it.
     pub ping_ms: u64,
-    /// How many entries a leg's record has at most: 64 ..= 65,536.
+    /// The greatest number of entries of a leg's record: 64 ..= 65,536.
     pub record_limit: u32,
-    /// How many octets of data the frames of a leg's record have at most: 65,536 ..= 268,435,456; `None` sets no limit.
+    /// The greatest number of octets of data in a leg's record: 65,536 ..= 268,435,456. `None` sets no limit.
     pub record_octets: Option<u32>,
-    /// How many frames a leg holds at most: 1 ..= 127.
+    /// The greatest number of frames that a leg holds: 1 ..= 127.
     pub window: u8,
-    /// How long a leg that asked for a missing frame by VNAK waits before it asks for the same one again: 0 ..= 60,000
-    /// milliseconds, where 0 has each gap answered.
+    /// The time after which a leg that asked for a missing frame by VNAK asks for the same one again: 0 ..= 60,000
+    /// milliseconds. With 0 each gap is answered.
     pub vnak_ms: u64,
     /// Whether a POKE that belongs to no call is answered by PONG.
     pub poke: bool,
+    /// How often the peer is asked by POKE whether it is there: 0 ..= 600,000 milliseconds, where 0 is never.
+    pub qualify_ms: u64,
     /// Whether CALLING NAME, CALLINGPRES, CALLINGTON and CALLINGTNS of an offered call are carried on to its far leg.
     pub carries_caller: bool,
-    /// Whether a leg notes why it ends, for its partner; else each end is normal clearing.
+    /// Whether a leg notes the cause of its end for its partner. Otherwise each end is normal clearing.
     pub carries_cause: bool,
-    /// Whether the format of an offered call is chosen when it is routed, among all that are common; else it is chosen before.
+    /// Whether the format of an offered call is chosen when it is routed, among all common ones. Otherwise it is chosen
+    /// before.
     pub routes_format: bool,
-    /// Whether legs are hardened against peers that break the rules or forge frames: a doomed leg takes no digits, a VNAK that
-    /// repeats is answered by the oldest held frame alone, an INVAL ends only a leg that it names, and a challenge of this exchange
-    /// that comes back isn't answered.
+    /// Whether legs are hardened against peers that break the rules or forge frames. Then a doomed leg accepts no digits,
+    /// and a repeated VNAK is answered only by the oldest held frame. An INVAL ends only a leg that it names, and a
+    /// challenge of this exchange that comes back isn't answered.
     pub is_hardened: bool,
 }
 
 impl PeerRules {
-    /// Whether there is a challenge and it begins as those of this exchange do. Whoever is asked one may send it back, to have it
-    /// answered.
+    /// Returns whether there is a challenge and it begins as those of this exchange do. A peer that is challenged may send
+    /// the challenge back, to have it answered.
     pub fn is_own(&self, challenge: Option<&[u8]>) -> bool
         ensures { result ≡ is_own self.now.challenge_prefix (option_copied challenge.entry) }
     {
@@ -134,7 +138,7 @@ impl PeerRules {
         }
     }
 
-    /// The same rules once more. It takes no memory.
+    /// Returns a copy of the rules. It takes no memory.
     pub fn copied(&self) -> PeerRules
         ensures { result ≡ self.now }
     {
@@ -160,6 +164,7 @@ impl PeerRules {
             window: self.window,
             vnak_ms: self.vnak_ms,
             poke: self.poke,
+            qualify_ms: self.qualify_ms,
             carries_caller: self.carries_caller,
             carries_cause: self.carries_cause,
             routes_format: self.routes_format,

@@ -1,4 +1,4 @@
-//! What a leg hands up, and what it is ordered to tell the other side.
+//! The signals that a leg hands up, and the progress that it reports to the other side.
 ghost use Rattle.std.specs.Prelude.{◌≡◌, ◌<◌, ◌≤◌, ◌==◌, length};
 ghost use Rattle.std.specs.Option.{ForSome, option_copied};
 
@@ -25,7 +25,7 @@ impl Model for Digit {
 }
 
 impl Digit {
-    /// The digit of this number, 0 ..= 127.
+    /// Returns the digit of this number, 0 ..= 127.
     pub fn new(digit: u8) -> Digit
         requires { digit < 128 }
         ensures { result ≡ digit }
@@ -33,7 +33,7 @@ impl Digit {
         Digit { digit }
     }
 
-    /// The number, 0 ..= 127.
+    /// Returns the number, 0 ..= 127.
     pub fn get(self) -> u8
         ensures value { result ≡ self }
         ensures fits { result < 128 }
@@ -42,7 +42,7 @@ impl Digit {
     }
 }
 
-/// How a call that isn't answered yet goes on ("Control Frames").
+/// The progress of a call that isn't answered yet ("Control Frames").
 #[derive(Clone, Copy, Debug, PartialEq, Eq)]
 pub enum Indication {
     Ringing,
@@ -53,7 +53,7 @@ pub enum Indication {
 impl Indication {
     ghost use Rattle.call_signals.specs.Signal.{indication_name};
 
-    /// Its name, as RFC 5456 writes it ("Control Frames"): ASCII.
+    /// Returns its name, as RFC 5456 writes it ("Control Frames"), in ASCII.
     pub fn name(&self) -> &'static str
         ensures { result.now ≡ indication_name self.now }
     {
@@ -65,7 +65,7 @@ impl Indication {
     }
 }
 
-/// Where media lies in a datagram: octets from `start` up to `end`, without `end`.
+/// The place of media in a datagram: octets from `start` up to `end`, without `end`.
 #[derive(Clone, Copy, Debug, PartialEq, Eq)]
 pub struct MediaSpan {
     pub start: usize,
@@ -75,14 +75,14 @@ pub struct MediaSpan {
 impl MediaSpan {
     ghost use Rattle.call_signals.specs.Signal.{span_len};
 
-    /// How many octets the span has.
+    /// Returns the number of the span's octets.
     pub fn len(self) -> usize
         ensures { result ≡ span_len self }
     {
         self.end.saturating_sub(self.start)
     }
 
-    /// Whether the span has no octets.
+    /// Returns whether the span has no octets.
     pub fn is_empty(self) -> bool
         ensures { result ≡ (span_len self == 0) }
     {
@@ -90,10 +90,10 @@ impl MediaSpan {
     }
 }
 
-/// What a leg hands up, without the texts of an offer, which the leg keeps.
+/// A signal that a leg hands up, without the texts of an offer, which the leg keeps.
 #[derive(Clone, Copy, Debug, PartialEq, Eq)]
 pub enum Signal {
-    /// The other side's call: `Leg::called`, `Leg::calling` and `Leg::format` say what it wants.
+    /// The other side's call: `Leg::called`, `Leg::calling` and `Leg::format` have its values.
     Offered,
     Indicated(Indication),
     Answered,
@@ -119,7 +119,7 @@ impl Model for ElementText {
 }
 
 impl ElementText {
-    /// A copy of at most 255 octets.
+    /// Returns a copy of at most 255 octets.
     pub fn new(octets: &[u8]) -> ElementText
         requires { length octets.now ≤ 255 }
         ensures { result ≡ octets.now }
@@ -129,7 +129,7 @@ impl ElementText {
         ElementText { octets: copy }
     }
 
-    /// A copy of a text of at most 255 octets, where there is one.
+    /// Returns a copy of a text of at most 255 octets, if there is one.
     pub fn of(text: Option<&[u8]>) -> Option<ElementText>
         requires { ForSome text (λ octets. length octets.now ≤ 255) }
         ensures { result ≡ option_copied text.entry }
@@ -140,7 +140,7 @@ impl ElementText {
         }
     }
 
-    /// The octets, at most 255.
+    /// Returns the octets, at most 255.
     pub fn as_slice(&self) -> &[u8]
         ensures value { result.now ≡ self.now }
         ensures short { length self.now ≤ 255 }
@@ -149,10 +149,10 @@ impl ElementText {
     }
 }
 
-/// What a leg hands up, with what it speaks of.
+/// A signal that a leg hands up, with its values.
 #[derive(Debug, Drop)]
 pub enum Onward {
-    /// The other side's call: the number that is called, the number that calls, and the format.
+    /// The other side's call: the called number, the calling number, and the format.
     Offered {
         called: ElementText,
         calling: Option<ElementText>,

@@ -2,7 +2,7 @@
 ghost use Rattle.std.specs.Prelude.{◌≡◌};
 ghost use Rattle.call_signals.specs.Stage as stages;
 
-/// Where a leg stands in its call ("Call Setup").
+/// The stage of a leg in its call ("Call Setup").
 #[derive(Clone, Copy, Debug, PartialEq, Eq)]
 pub enum Stage {
     /// It sent a NEW, and the other side hasn't accepted the call yet.
@@ -22,49 +22,49 @@ pub enum Stage {
 }
 
 impl Stage {
-    /// Whether the call is over: `Closing` or `Ended`.
+    /// Returns whether the call is over: `Closing` or `Ended`.
     pub fn is_over(self) -> bool
         ensures { result ≡ stages.is_over self }
     {
         matches!(self, Stage::Closing | Stage::Ended)
     }
 
-    /// Whether the call is accepted and not over: `Linked` or `Up`.
+    /// Returns whether the call is accepted and not over: `Linked` or `Up`.
     pub fn is_talking(self) -> bool
         ensures { result ≡ stages.is_talking self }
     {
         matches!(self, Stage::Linked | Stage::Up)
     }
 
-    /// Whether the stage is `Offered`.
+    /// Returns whether the stage is `Offered`.
     pub fn is_offered(self) -> bool
         ensures { result ≡ stages.is_offered self }
     {
         matches!(self, Stage::Offered)
     }
 
-    /// Whether the stage is `Linked`.
+    /// Returns whether the stage is `Linked`.
     pub fn is_linked(self) -> bool
         ensures { result ≡ stages.is_linked self }
     {
         matches!(self, Stage::Linked)
     }
 
-    /// Whether the stage is `Up`.
+    /// Returns whether the stage is `Up`.
     pub fn is_up(self) -> bool
         ensures { result ≡ stages.is_up self }
     {
         matches!(self, Stage::Up)
     }
 
-    /// Whether the stage is `Closing`.
+    /// Returns whether the stage is `Closing`.
     pub fn is_closing(self) -> bool
         ensures { result ≡ stages.is_closing self }
     {
         matches!(self, Stage::Closing)
     }
 
-    /// Whether the stage is `Ended`.
+    /// Returns whether the stage is `Ended`.
     pub fn is_ended(self) -> bool
         ensures { result ≡ stages.is_ended self }
     {

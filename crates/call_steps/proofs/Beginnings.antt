@@ -1,4 +1,4 @@
--- How a call begins, and how it ends where its first step is refused.
+-- The first step of a call, and the call's end if that is refused.
 use Rattle.std.proofs.Common.{◌≡◌, Some, None, Bool, true, false, refl}
 use Rattle.std.specs.Prelude.{Ok, Err}
 use Rattle.std.proofs.lemmas.Bool.{cond_both}
@@ -20,7 +20,7 @@ use Rattle.call_steps.specs.Beginnings.{Beginning, beginning_at, is_over, is_ans
 use Rattle.call_steps.specs.Work.{Work, Rest, next_at, next_of, go_on, after_heard, after_status, after_look, after_no_room, told_at, after_told}
 use Rattle.call_steps.proofs.Onward.{onward_holds}
 
--- ---- what is passed on is past the beginning
+-- ---- a passed signal is past the first step
 
 goes : (rest : Rest) → beginning_at (go_on rest).place ≡ None
 goes rest = onward_holds (λ place. beginning_at place ≡ None) (λ name. refl) (λ name act. refl) (λ name. refl) (λ peer number. refl) refl rest
@@ -48,7 +48,7 @@ passed (replies.Order (Err order_errors.RecordFull)) partner act rest = no_room_
 passed (replies.Order (Err order_errors.Memory)) partner act rest = no_room_past act partner rest
 passed reply partner act rest = goes rest
 
--- ---- who is past the beginning stays so
+-- ---- a call past its first step stays past it
 
 told_past : (place : Place) (reply : Reply) (rest : Rest) → beginning_at place ≡ None → beginning_at (told_at place reply rest).place ≡ None
 told_past (places.GiveBack name) reply rest h = refl
@@ -173,5 +173,5 @@ pub first_goes_on : (work : Work) (reply : Reply) (begun : Beginning) → is_ans
     → beginning_at (after_told work reply).place ≡ Some begun
 first_goes_on work reply begun answers first unmade kept = goes_on_at work.place reply work.rest begun answers first unmade kept
 
--- what `refused_calls_end` says, clause by clause
+-- the clauses of `refused_calls_end`
 pub ruleset beginnings = (made_is_past, first_goes_on, past_stays, refused_is_over, over_stays, over_makes_none)

@@ -9,7 +9,7 @@ abbrev pub total : (Caller → ℕ) → List Caller → ℕ
 total weight [] = 0
 total weight (caller ∷ callers) = weight caller + total weight callers
 
--- the callers but one
+-- all callers but one
 abbrev pub others : List Caller → ℕ → List Caller
 others [] who = []
 others (caller ∷ callers) zero = callers
@@ -31,7 +31,7 @@ total_set weight (first ∷ callers) (suc who) caller new is =
     let more : total weight (slice_set callers who new) ≡ weight new + total weight (others callers who) = total_set weight callers who caller new is in
     let here : weight first + total weight (slice_set callers who new) ≡ weight new + (weight first + total weight (others callers who)) = omega arith in here
 
--- who stands at a place once one caller is another
+-- the caller at a place once one caller is replaced
 pub at_set : (callers : List Caller) (who i : ℕ) (new caller : Caller) → slice_get (slice_set callers who new) i ≡ Some caller
     → (new ≡ caller) ⊎ (slice_get callers i ≡ Some caller)
 at_set [] who i new caller is = inr is
@@ -52,7 +52,7 @@ pub leases_total : (name : LegName) (callers : List Caller) → times name (leas
 leases_total name [] = refl
 leases_total name (caller ∷ callers) = omega (arith, times-append name caller.leases (leases_of callers), leases_total name callers)
 
--- who stands at a place once one caller is another: the new one there, or another caller elsewhere
+-- the caller at a place once one caller is replaced: the new one there, or another caller elsewhere
 pub at_set_apart : (callers : List Caller) (who i : ℕ) (new caller : Caller) → slice_get (slice_set callers who new) i ≡ Some caller
     → (new ≡ caller) ⊎ ((slice_get callers i ≡ Some caller) × ((weight : Caller → ℕ) → weight caller ≤ total weight (others callers who)))
 at_set_apart [] who i new caller is = absurd (cc)

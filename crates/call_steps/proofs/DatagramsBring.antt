@@ -1,4 +1,4 @@
--- To how many datagrams that leads which a datagram hands up, and the leg that it touches.
+-- The number of datagrams that follow from the signals of a datagram and from the leg that it touches.
 use Rattle.std.proofs.Common.{◌≡◌, ℕ, ◌+◌, ◌≤◌, List, [], ◌∷◌, ◌++◌, Option, Some, None, Bool, true, false, cond, length, map, arith}
 use Rattle.std.proofs.lemmas.Bool.{cond_both}
 use Rattle.std.proofs.lemmas.List.{length-map}
@@ -21,7 +21,7 @@ use Rattle.leg_machine.specs.Signal.{span_len}
 use Rattle.leg_machine.specs.Steps.{Step, answer_step, full_step, inval_step, invalidated, message_step, nothing_sent, numbered_step, oldest_step, prepared, resend_step}
 use Rattle.leg_machine.specs.Working.{brings_oldest, heeds_inval, vnak_noted}
 use Rattle.peer_lock.specs.Arrivals.{MediaTaken, datagram_step, delivered_step, entries_media, entry_span, granted_at, media_at, mini_span}
-use Rattle.peer_lock.specs.Delivery.{Delivery, Reaches, NeedsNumber, NoToken, Gets, NoCall, delivery}
+use Rattle.peer_lock.specs.Delivery.{Delivery, Reaches, NeedsNumber, NoToken, Gets, Pongs, NoCall, delivery}
 use Rattle.peer_lock.specs.Grants.{Granted, granted}
 use Rattle.peer_lock.specs.Legs.{NamedLeg, PeerLegs, leg_of_remote}
 use Rattle.peer_lock.specs.Openings.{opens_in}
@@ -51,6 +51,7 @@ delivered_brings first peer (Reaches named) frame now =
 delivered_brings first peer NeedsNumber frame now = omega arith
 delivered_brings first peer NoToken frame now = omega arith
 delivered_brings first peer (Gets answer) frame now = omega arith
+delivered_brings first peer Pongs frame now = omega arith
 delivered_brings first peer NoCall frame now = omega arith
 
 pub full_brings : (first : ℕ) (peer : PeerView) (frame : FullFrame) (now : ℕ) → step_puts (datagram_step first peer (Full frame) now) ≤ 3
@@ -95,6 +96,7 @@ delivered_vnak first peer (Reaches named) frame now is =
 delivered_vnak first peer NeedsNumber frame now is = omega arith
 delivered_vnak first peer NoToken frame now is = omega arith
 delivered_vnak first peer (Gets answer) frame now is = omega arith
+delivered_vnak first peer Pongs frame now is = omega arith
 delivered_vnak first peer NoCall frame now is = omega arith
 
 pub vnak_brings : (first : ℕ) (peer : PeerView) (frame : FullFrame) (now : ℕ) → is_vnak (message_of frame.head) ≡ true

@@ -1,4 +1,4 @@
--- A call puts out no more datagrams than were left and than a datagram brings, less those that its steps put.
+-- A call sends no more datagrams than were left and than a datagram brings, less those that its steps sent.
 use Rattle.std.proofs.Common.{◌≡◌, ℕ, ◌+◌, ◌≤◌, List, [], ◌∷◌, Option, Some, None, Bool, true, false, length, refl, arith}
 use Rattle.std.specs.Prelude.{Ok, Err}
 use Rattle.std.proofs.lemmas.Bool.{cond_both}
@@ -20,9 +20,9 @@ use Rattle.call_steps.specs.declared.reply.Reply.TheVariants as replies
 use Rattle.call_steps.specs.DatagramsLeft.{OpensFew, brought_by, datagrams_left, is_first, need_puts, place_puts, rest_puts, signals_put, touched_puts}
 use Rattle.call_steps.specs.Work.{Work, Rest, at, next_at, next_of, place_for, passed_on, go_on_from, go_on, after_no_room, after_status, after_look, after_pass, told_at, after_told}
 
--- ---- going on
+-- ---- the next steps
 
--- what a work has left is no more than that, and it doesn't begin anew
+-- this bounds the datagrams that a work has left, and the work doesn't start over
 record Leaves (most : ℕ) (work : Work) : Type 0 where
   few : datagrams_left work ≤ most
   later : is_first work.place ≡ false
@@ -82,7 +82,7 @@ record Keeps (place : Place) (reply : Reply) (rest : Rest) (work : Work) : Type 
   few : OpensFew reply → datagrams_left work + need_puts (next_at place) ≤ place_puts place + rest_puts rest + brought_by reply
   later : is_first work.place ≡ false
 
--- nothing is brought here
+-- this step brings nothing
 keeps : (place : Place) (reply : Reply) (rest : Rest) (work : Work) (most : ℕ) → most + need_puts (next_at place) ≤ place_puts place + rest_puts rest
     → Leaves most work → Keeps place reply rest work
 keeps place reply rest work most le h = record { few = λ _. omega (arith, h.few, le); later = h.later }

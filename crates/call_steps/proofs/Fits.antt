@@ -43,7 +43,7 @@ use Rattle.call_book.proofs.NameLaws.{is_same_itself, same_name, bit, has_name_i
 use Rattle.call_steps.proofs.Onward.{onward_holds}
 use Rattle.call_steps.proofs.Held.{scene, IsHeld, same_names, names_replaced, names_lapsed, found_named, leased_own, dropped_own, without_times}
 
--- no lease is in hand where what was handed up is passed on
+-- there is no lease when a signal is passed on
 pub go_on_hand : (rest : Rest) → in_hand (go_on rest).place ≡ []
 go_on_hand rest = onward_holds (λ place. in_hand place ≡ []) (λ name. refl) (λ name act. refl) (λ name. refl) (λ peer number. refl) refl rest
 
@@ -63,7 +63,7 @@ no_room_hand (acts.Media span) partner rest = go_on_hand rest
 no_room_hand act partner rest = refl
 
 module _ (others : LegName → ℕ) where
-  -- the answer leaves what the place after it wants
+  -- the answer leaves the leases that the next place requires
   pub record Fits (place : Place) (rest : Rest) (a : Answer) : Type 0 where
     pub held : IsHeld others a.scene
     pub leases : a.scene.leases ≡ in_hand (told_at place a.reply rest).place
@@ -170,7 +170,7 @@ module _ (others : LegName → ℕ) where
         let did : IsBridged book a b = bridged_by book a b h.sound is in
         record { held = record { sound = did.sound; once = h.once }; leases = hand (Ok tt) }
 
-    -- the book has the name of a lease in hand
+    -- the book has the name of a lease that a caller holds
     pub in_hand_known : (name : LegName) → IsHeld others (scene book legs (name ∷ [])) → has_name book name ≡ true
     in_hand_known name h =
         elim (cases_Bool (has_name book name)) [

@@ -1,4 +1,4 @@
--- Each step keeps it so that the names in the book are those of the legs and of the leases in hand.
+-- After each step the names in the book are those of the legs and of the callers' leases.
 use Rattle.std.proofs.Common.{◌≡◌, ℕ, ◌+◌, ◌≤◌, ◌==◌, ◌&&◌, List, [], ◌∷◌, Option, Some, None, true, cond, refl, ap, sym, subst, ◌∙◌, arith, inl, inr}
 use Rattle.std.proofs.lemmas.Bool.{cond_both, cases_Bool}
 use Rattle.std.proofs.lemmas.Bool.Decides.{nat_tests}
@@ -12,7 +12,7 @@ use Rattle.call_book.proofs.NameLaws.{is_same_itself, same_name, bit}
 abbrev pub scene : Book → List Leg → List LegName → Scene
 scene book legs leases = record { book = book; legs = legs; leases = leases }
 
--- of a caller that acts, beside others that hold so many leases for each name
+-- of the acting caller; the others hold this number of leases for each name
 pub record IsHeld (others : LegName → ℕ) (s : Scene) : Type 0 where
   pub sound : IsBook s.book
   pub once : (x : LegName) → (times x (names_of s.legs) + times x s.leases) + others x ≡ bit (has_name s.book x)
@@ -73,7 +73,7 @@ found_named legs name leg is =
     let there = found_at legs name.peer name.number leg f.0 in
     (f.1, subst (λ n. 1 ≤ times n (names_of legs)) f.1 there.2)
 
--- a lease in hand is found, and goes
+-- a lease that a caller holds is found
 pub leased_own : (name : LegName) → is_leased (name ∷ []) name ≡ true
 leased_own name = rw (is_same_itself name) refl
 

@@ -1,4 +1,4 @@
--- What holds once nobody has anything to do.
+-- Properties of a world in which all callers are idle.
 use Rattle.std.proofs.Common.{◌≡◌, ℕ, zero, suc, ◌+◌, List, [], ◌∷◌, Some, None, true, slice_get, refl, ap, ◌∙◌, arith, is_some}
 use Rattle.std.specs.List.{AllByRecursion}
 use Rattle.call_book.specs.Book.{partner_of}

@@ -18,7 +18,7 @@ use Rattle.call_steps.specs.Work.{Work, Rest, next_at, next_of, go_on, after_sta
 use Rattle.call_steps.specs.WorkState.{first_of}
 use Rattle.call_steps.proofs.Fits.{go_on_hand, heard_hand, status_hand, no_room_hand}
 
--- ---- none is in hand where no step before it gave one
+-- ---- none is in hand unless a step before it gave one
 
 none : (place : Place) → in_hand place ≡ [] → first_of (in_hand place) ≡ None
 none place is = ap first_of is

@@ -1,4 +1,5 @@
--- What a call has left to carry lies where all that was handed up does, and its octets are no more than that, less what was ordered.
+-- The media that a call has left to carry is within the range of all signals, and has at most their octets, less those
+-- already ordered.
 use Rattle.std.proofs.Common.{◌≡◌, ℕ, ◌+◌, ◌≤◌, List, [], ◌∷◌, ◌++◌, Option, Some, None, Bool, true, false, refl, arith}
 use Rattle.std.specs.Prelude.{Ok, Err}
 use Rattle.std.specs.List.{AllByRecursion}
@@ -30,7 +31,7 @@ record IsOf (signals : List (LegName × Signal)) (work : Work) : Type 0 where
   within : (len : ℕ) → Within len signals → Within len (media_left work)
   octets : handed_octets (media_left work) ≤ handed_octets signals
 
--- ---- going on
+-- ---- the next steps
 
 passed_on_is : (name : LegName) (signal : Signal) (rest : Rest) (further : Work) → IsOf rest.onward further
     → IsOf ((name, signal) ∷ rest.onward) (passed_on (place_for name signal) rest further)
@@ -84,7 +85,7 @@ passed_is reply partner act rest = goes rest
 
 -- ---- each place
 
--- after the answer the call has left what it had and what was handed up, less what was ordered
+-- after the answer the call has left the media that it had and that was handed up, less the media that was ordered
 record Keeps (place : Place) (reply : Reply) (rest : Rest) (work : Work) : Type 0 where
   within : (len : ℕ) → Within len (media_at place ++ rest.onward) → Within len (handed_by reply) → Within len (media_left work)
   octets : handed_octets (media_left work) + handed_octets (media_needed (next_at place)) ≤ handed_octets (media_at place ++ rest.onward) + handed_octets (handed_by reply)
@@ -95,7 +96,7 @@ plain place reply rest work none needs h = record {
   octets = rw (none, needs) (omega (arith, h.octets));
 }
 
--- what was handed up takes the place of what was left
+-- the signals handed up replace those that were left
 hears : (place : Place) (reply : Reply) (rest : Rest) (work : Work) → media_needed (next_at place) ≡ [] → IsOf (handed_by reply) work → Keeps place reply rest work
 hears place reply rest work needs h = record {
   within = λ len all more. h.within len more;
@@ -116,7 +117,7 @@ not_found name (acts.Media span) reply rest =
     record { within = λ len all more. h.within len all.1; octets = omega (arith, h.octets) }
 not_found name act reply rest = let h = goes rest in record { within = λ len all more. h.within len all; octets = omega (arith, h.octets) }
 
--- wherever the call stands
+-- at each place of the call
 told_keeps : (place : Place) (reply : Reply) (rest : Rest) → Keeps place reply rest (told_at place reply rest)
 told_keeps (places.Datagram peer) (replies.Datagram (Ok heard)) rest =
     hears (places.Datagram peer) (replies.Datagram (Ok heard)) rest _ refl (goes (record { onward = heard.onwards.signals; touched = heard.touched; looks = rest.looks }))

@@ -1,4 +1,4 @@
--- In every world that the steps of calls lead to, the names are held once.
+-- In every world that the steps of calls lead to, each name is held once.
 use Rattle.std.proofs.Common.{◌≡◌, ℕ, zero, suc, ◌+◌, ◌≤◌, List, [], ◌∷◌, Option, Some, None, Bool, true, false, cond, slice_get, refl, ap, sym, subst, ◌∙◌, arith, inl, inr, ◌⊎◌}
 use Rattle.std.specs.List.{AllByRecursion}
 use Rattle.call_book.specs.Book.{Book, IsBook, IsNumberOf, has_name, is_name_in, is_same}
@@ -16,13 +16,13 @@ use Rattle.call_steps.proofs.Callers.{total, others, total_split, total_set, at_
 use Rattle.call_steps.proofs.Held.{scene, IsHeld, found_at}
 use Rattle.call_steps.proofs.Fits.{Fits, FitsIf, place_fits, in_hand_known}
 
--- what holds at every moment, of names, leases and legs
+-- the invariant of names, leases and legs
 pub record IsNamed (world : World) : Type 0 where
   pub sound : IsBook world.book
   pub leases : (who : ℕ) (caller : Caller) → slice_get world.callers who ≡ Some caller → caller.leases ≡ in_hand caller.work.place
   pub once : (x : LegName) → times x (names_of world.legs) + total (leases_weight x) world.callers ≡ bit (has_name world.book x)
 
--- the callers but one, as a caller that acts sees them
+-- the other callers, as an acting caller sees them
 abbrev pub beside : World → ℕ → LegName → ℕ
 beside world who x = total (leases_weight x) (others world.callers who)
 
@@ -36,7 +36,7 @@ acting world who caller is h =
           omega (arith, h.once x, total_split (leases_weight x) world.callers who caller is);
     }
 
--- who has nothing to do has no lease
+-- an idle caller has no lease
 pub idle_hand : (place : Place) → next_at place ≡ None → in_hand place ≡ []
 idle_hand places.End idle = refl
 idle_hand place idle = absurd (cc)
@@ -130,7 +130,7 @@ opened_named world o =
 pub named : (world : World) → IsOpened world → (events : List Event) → IsNamed (run events world)
 named world o events = run_keeps events world (opened_named world o)
 
--- ---- what follows
+-- ---- consequences
 pub held_once : (world : World) → IsNamed world → NamesAreHeldOnce world
 held_once world h x = omega (arith, h.once x, times-append x (names_of world.legs) (leases_of world.callers), leases_total x world.callers)
 
@@ -153,7 +153,7 @@ next_opens place name (inr is) = absurd (cc)
 leased_alone : (name : LegName) → is_leased (name ∷ []) name ≡ true
 leased_alone name = ap (λ (b : Bool). cond b true false) (is_same_itself name)
 
--- a caller whose place has one lease in hand has that lease
+-- a caller whose place requires one lease has that lease
 leased_in_hand : (world : World) → IsNamed world → (who : ℕ) (caller : Caller) (name : LegName) → slice_get world.callers who ≡ Some caller
     → in_hand caller.work.place ≡ name ∷ [] → is_leased caller.leases name ≡ true
 leased_in_hand world h who caller name is hand = ap (λ ls. is_leased ls name) (h.leases who caller is ∙ hand) ∙ leased_alone name

@@ -1,4 +1,4 @@
--- Going on with what was handed up: what holds wherever it can lead.
+-- Properties that hold wherever the next signal leads.
 use Rattle.std.proofs.Common.{ℕ, List, [], ◌∷◌, Option, Some, None}
 use Rattle.call_book.specs.declared.leg_name.LegName.{LegName}
 use Rattle.call_signals.specs.declared.signal.Signal.{Signal}
@@ -9,7 +9,7 @@ use Rattle.call_steps.specs.declared.place.Place.{Place}
 use Rattle.call_steps.specs.declared.place.Place.TheVariants as places
 use Rattle.call_steps.specs.Work.{Work, Rest, at, next_look, finish, place_for, passed_on, go_on_from, go_on}
 
--- a signal leads to its route or to a search for the partner, or further
+-- a signal leads to its route, to a search for the partner, or to the next one
 pub passed_holds : (P : Work → Type 0) (name : LegName) (signal : Signal) (rest : Rest) (further : Work)
     → P (at (places.Routing name) rest) → ((act : Act) → P (at (places.Finding name act) rest)) → P further → P (passed_on (place_for name signal) rest further)
 passed_holds P name signals.Offered rest further routed found h = routed
@@ -19,7 +19,7 @@ passed_holds P name (signals.Dtmf digit) rest further routed found h = found (ac
 passed_holds P name (signals.Media span) rest further routed found h = found (acts.Media span)
 passed_holds P name signals.Hangup rest further routed found h = h
 
--- what holds of each place where going on can lead holds of the one where it leads
+-- a property of each place that the next signal can lead to holds for the one that it leads to
 module _ (P : Place → Type 0) (routed : (name : LegName) → P (places.Routing name)) (found : (name : LegName) (act : Act) → P (places.Finding name act))
     (looked : (name : LegName) → P (places.Looking name)) (looked_at : (peer number : ℕ) → P (places.LookingAt peer number)) (ended : P places.End) where
   next_look_holds : (looks : List (ℕ × ℕ)) → P (next_look looks).place

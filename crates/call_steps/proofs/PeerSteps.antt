@@ -27,7 +27,7 @@ use Rattle.call_steps.specs.declared.reply.Reply.TheVariants as replies
 use Rattle.call_book.proofs.NameLaws.{same_name}
 use Rattle.call_steps.proofs.WorldLegs.{IsFound, none_seen, leg_seen, named_seen, IsSeenSo, turned_sees, added_sees, gone_sees}
 
--- a step of the world that comes out so
+-- a step of the world with this outcome
 pub world_step : (scene : Scene) (need : Need) (called : Bool) (old new : PeerLegs) (reply : Reply) (leases : List LegName) (choice : Choice) (a : Answer)
     → answered scene need called choice ≡ a → a.reply ≡ seen_reply reply → IsSeenSo scene.legs a.scene.legs old new → a.scene.book ≡ scene.book → a.scene.leases ≡ leases
     → IsWorldStep scene need called old new reply leases
@@ -40,7 +40,7 @@ world_step scene need called old new reply leases choice a is answers so book le
   leases_are = ap (λ (b : Answer). b.scene.leases) is ∙ leases_are;
 }
 
--- all stays
+-- everything stays as it is
 same_legs : (all : List Leg) (old new : PeerLegs) → Sees all old → new ≡ old → IsSeenSo all all old new
 same_legs all old new sees same = record {
   sees = subst (Sees all) (sym same) sees;

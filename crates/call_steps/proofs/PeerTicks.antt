@@ -17,18 +17,18 @@ use Rattle.call_steps.proofs.Held.{found_at}
 use Rattle.call_steps.proofs.WorldLegs.{found_seen, replaced_apart, replaced_there}
 use Rattle.call_steps.proofs.PeerSteps.{world_step}
 
--- what happened to a leg as time went on, if anything did
+-- the lapse of a leg at a tick, if there was one
 abbrev lapses_of : (number : ℕ) (o after : Option SeenNamed) → peer.IsTickedAt o after → List (ℕ × Lapse)
 lapses_of number None after ticked = []
 lapses_of number (Some named) after (seen, inl same, is) = []
 lapses_of number (Some named) after (seen, inr (lapse, e), is) = (number, lapse) ∷ []
 
--- .. to the legs of so many numbers, from the first on
+-- .. of the legs of count numbers, from the first on
 abbrev lapses_from : (old new : PeerLegs) (each : (number : ℕ) → peer.IsTickedAt (seen_at old number) (seen_at new number)) (first count : ℕ) → List (ℕ × Lapse)
 lapses_from old new each first zero = []
 lapses_from old new each first (suc count) = lapses_of first (seen_at old first) (seen_at new first) (each first) ++ lapses_from old new each (suc first) count
 
--- what lapses leave of a peer's legs: those of some numbers are seen so, all others stay
+-- a peer's legs after lapses: those of some numbers are seen so, all others stay
 record IsLapsed (peer : ℕ) (all after : List Leg) (new : PeerLegs) (first count : ℕ) : Type 0 where
   pub these : (number : ℕ) → first ≤ number → number < first + count → option_map look_of (leg_at after peer number) ≡ seen_at new number
   pub below : (number : ℕ) → number < first → leg_at after peer number ≡ leg_at all peer number

@@ -1,4 +1,4 @@
--- No step makes a leg offered but its opening: what each step keeps of a name whose leg is past that, and of partners.
+-- Only its opening makes a leg offered. Each step keeps a leg that is past that, and adds no partner except by a bridge.
 use Rattle.std.proofs.Common.{◌≡◌, ℕ, ◌&&◌, List, [], ◌∷◌, Option, Some, None, Bool, true, false, cond, refl, ap, sym, subst, ◌∙◌, arith, inl, inr, is_some}
 use Rattle.std.specs.Prelude.{Result, Ok, Err, not}
 use Rattle.std.specs.List.{AllByRecursion}
@@ -25,13 +25,13 @@ use Rattle.call_book.proofs.NameLaws.{same_name, bit, has_name_is}
 use Rattle.call_steps.proofs.Held.{found_if}
 use Rattle.call_steps.proofs.Safe.{all_replaced, all_without, all_found, and_second, lapsed_name, some_bit}
 
--- the leg may still be offered, or is
+-- the leg is challenged or offered
 abbrev pub is_pending : Stage → Bool
 is_pending stages.Challenged = true
 is_pending stages.Offered = true
 is_pending stage = false
 
--- the leg of this name is past that
+-- the leg of this name is neither
 abbrev pub NotPending : LegName → Leg → Type 0
 NotPending p leg = is_same leg.name p ≡ true → is_pending leg.seen.stage ≡ false
 
@@ -61,7 +61,7 @@ carried_not_pending (kinds.Doom cause) leg after ok not_pending = not_pending
 carried_not_pending kinds.Paid leg after ok not_pending = not_pending
 carried_not_pending kind leg after ok not_pending = pending_before kind leg.seen.stage after ok not_pending
 
--- the frame that is named has each frame looked at by itself, at each stage
+-- so that each frame is checked separately at each stage
 effect_not_pending : (frame : SeenFrame) (stage : Stage) → is_pending stage ≡ false → is_pending (frame_effect frame stage).stage ≡ false
 effect_not_pending HangsUp stages.Waiting not_pending = refl
 effect_not_pending frame stages.Challenged not_pending = absurd (cc)
@@ -94,7 +94,7 @@ module _ (p : LegName) where
 
 -- ---- steps
 
--- what a step keeps, unless it opens an incoming leg of the name; and it gives nobody a partner
+-- the properties that a step keeps, unless it opens an incoming leg of the name; and it adds no partner
 pub record Keeps (p : LegName) (opens : Bool) (s : Scene) (a : Answer) : Type 0 where
   pub not_pending : opens ≡ false → NonePending p s.legs → NonePending p a.scene.legs
   pub partners : (x q : LegName) → partner_of a.scene.book x ≡ Some q → partner_of s.book x ≡ Some q

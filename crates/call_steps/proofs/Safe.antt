@@ -1,4 +1,4 @@
--- Each step leaves every leg that is kept with a partner or with somebody who sees to it.
+-- After each step every leg that is kept has a partner, or somebody is responsible for it.
 use Rattle.std.proofs.Common.{◌≡◌, ℕ, zero, suc, ◌+◌, ◌≤◌, ◌==◌, ◌&&◌, List, [], ◌∷◌, Option, Some, None, Bool, true, false, cond, refl, ap, sym, subst, ◌∙◌, arith, inl, inr, ◌⊎◌, is_some}
 use Rattle.std.specs.Prelude.{not, ◌||◌}
 use Rattle.std.specs.List.{AllByRecursion}
@@ -50,7 +50,7 @@ all_found P (first ∷ legs) peer number leg h is =
       | inr other ↦ all_found P legs peer number leg h.1 (rw other at is)
     ]
 
--- each leg stands in the book
+-- the name of each leg is in the book
 pub all_in_book : (book : Book) (legs : List Leg) → ((x : LegName) → 1 ≤ times x (names_of legs) → has_name book x ≡ true) → AllByRecursion (λ leg. has_name book leg.name ≡ true) legs
 all_in_book book [] h = tt
 all_in_book book (leg ∷ legs) h =
@@ -159,14 +159,14 @@ doomed_less true true l c k = absurd (cc)
 doomed_less true false true c k = absurd (cc)
 doomed_less true false false c k = k
 
--- an order makes no leg kept that wasn't
+-- an order turns no leg into a kept one
 pub ordered_kept : (kind : OrderKind) (leg : Leg) (after : Stage) → stage_after kind leg.seen.stage ≡ Some after → is_kept (carried kind leg after) ≡ true → is_kept leg ≡ true
 ordered_kept (kinds.Doom cause) leg after ok kept = doomed_less (is_heard leg.seen.stage) leg.seen.doomed (not (is_over leg.seen.stage)) leg.called kept
 ordered_kept kinds.Paid leg after ok kept = kept
 ordered_kept kind leg after ok kept =
     and_both _ _ (heard_before kind leg.seen.stage after ok (and_first (is_heard after) _ kept)) (and_second (is_heard after) (not (leg.seen.doomed || leg.called)) kept)
 
--- nor a lapse
+-- nor does a lapse
 pub lapsed_kept : (lapse : Lapse) (leg : Leg) → is_kept (let_lapse lapse leg) ≡ true → is_kept leg ≡ true
 lapsed_kept Ends leg kept = absurd (cc)
 lapsed_kept ClosesDoomed leg kept = go (leg.seen.doomed && not (is_over leg.seen.stage)) kept
@@ -179,7 +179,7 @@ pub lapsed_name : (lapse : Lapse) (leg : Leg) → (let_lapse lapse leg).name ≡
 lapsed_name Ends leg = refl
 lapsed_name ClosesDoomed leg = refl
 
--- a frame does so only where the leg is then offered
+-- a frame does so only if the leg is then offered
 pub heard_effect : (frame : SeenFrame) (stage : Stage) → is_heard (frame_effect frame stage).stage ≡ true → (is_heard stage ≡ true) ⊎ ((frame_effect frame stage).signal ≡ Some signals.Offered)
 heard_effect frame stages.Waiting h = inl refl
 heard_effect frame stages.Offered h = inl refl
@@ -208,7 +208,7 @@ brought_kept frame leg kept =
       | inr offered ↦ inr (offered_once leg (frame_effect frame leg.seen.stage).signal offered)
     ]
 
--- a doomed leg isn't kept, nor one that closes
+-- a doomed leg isn't kept, nor is a closing one
 pub doomed_not_kept : (cause : Cause) (leg : Leg) (stage : Stage) → is_kept (carried (kinds.Doom cause) leg stage) ≡ true → ⊥
 doomed_not_kept cause leg stage kept = go leg.seen.stage leg.seen.doomed leg.called kept
   where
@@ -238,12 +238,12 @@ fresh_few place leases x = cond_both (is_fresh place) (times x leases) 0 (λ n. 
 abbrev pub IsLone : Book → Place → List LegName → Type 0
 IsLone book place leases = (y p : LegName) → 1 ≤ fresh_at place leases y → partner_of book y ≡ Some p → offered_of place ≡ Some p
 
--- what a step, from a place to a work, does beside what it does to the book
+-- the effect of a step, from a place to a work, on everything but the book
 pub record Moves (place : Place) (rest : Rest) (to : Work) : Type 0 where
   pub past : (x : LegName) → past to x ≤ past (at place rest) x
   pub fresh : (x : LegName) → 1 ≤ fresh_at to.place (in_hand to.place) x → (1 ≤ fresh_at place (in_hand place) x) × (offered_of place ≡ offered_of to.place)
 
--- what a step leaves
+-- the state after a step
 pub record IsSafeStep (others_care others_fresh : LegName → ℕ) (place : Place) (rest : Rest) (old : Book) (new : Scene) (to : Work) : Type 0 where
   pub past : (x : LegName) → 1 ≤ past to x → (1 ≤ past (at place rest) x) ⊎ (1 ≤ times x (names_of new.legs))
   pub fresh : (x : LegName) → 1 ≤ fresh_at to.place (in_hand to.place) x → (1 ≤ fresh_at place (in_hand place) x) ⊎ (old.next ≤ x.serial)

@@ -160,7 +160,7 @@ module _ (around : Surroundings) where
       all_lost [] apart known c = tt
       all_lost (leg ∷ ls) apart known c = ((λ kept. one_lost leg apart.0 known (partner_of book leg.name) refl (c.0 kept)), all_lost ls apart.1 known c.1)
 
-  -- the release is made, since the book has the name
+  -- the release is made because the book has the name
   at_release_safe : (place : Place) (rest : Rest) (name : LegName) → Before around place rest → in_hand place ≡ name ∷ []
       → Safe around place rest (scene (released book name) legs []) (told_at place (replies.Release (Ok (partner_of book name))) rest)
       → SafeAnswer around place rest (at_release (scene book legs (name ∷ [])) name)

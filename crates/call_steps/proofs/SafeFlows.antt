@@ -1,4 +1,4 @@
--- What a step leads to, where the book stays and nobody loses who sees to it.
+-- The result of a step that keeps the book and everybody's responsibilities.
 use Rattle.std.proofs.Common.{◌≡◌, ◌≤◌, List, [], Option, Some, None, Bool, true, false, refl, ap, arith, is_some}
 use Rattle.std.specs.Prelude.{Result, Ok, Err}
 use Rattle.call_book.specs.declared.leg_name.LegName.{LegName}
@@ -29,19 +29,19 @@ pub bit_most : (b : Bool) → bit b ≤ 1
 bit_most true = omega arith
 bit_most false = omega arith
 
--- what a step leads to, where the book stays and nobody loses care
+-- the result of a step that keeps the book and everybody's responsibilities
 pub record Flows (place : Place) (rest : Rest) (to : Work) : Type 0 where
   pub goes : Moves place rest to
   pub care : (x : LegName) → care (at place rest) x ≤ care to x
 
--- to a place without a lease in hand
+-- to a place without a lease
 pub quiet : (place : Place) (rest : Rest) (to : Work) → in_hand to.place ≡ [] → ((x : LegName) → past to x ≤ past (at place rest) x) → ((x : LegName) → care (at place rest) x ≤ care to x) → Flows place rest to
 quiet place rest to hand less more = record {
   goes = record { past = less; fresh = λ x some. no_fresh to.place x _ hand some };
   care = more;
 }
 
--- on to what was handed up besides
+-- on to the next signal
 pub flows_on : (place : Place) (rest : Rest) → ((x : LegName) → care (at place rest) x ≤ offers x rest.onward) → Flows place rest (go_on rest)
 flows_on place rest le = record { goes = go_on_moves place rest; care = λ x. omega (arith, le x, go_on_care rest x) }
 

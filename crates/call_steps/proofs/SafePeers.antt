@@ -56,7 +56,7 @@ module _ (around : Surroundings) where
     others_lone = λ y p some at. at;
   }
 
-  -- what is left to be done where a leg handed this up
+  -- the remaining work if a leg handed this up
   abbrev handed : LegName → Option Signal → Rest → Rest
   handed name signal rest = record rest { onward = handed_up name signal; touched = Some name }
 

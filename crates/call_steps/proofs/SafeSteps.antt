@@ -19,7 +19,7 @@ use Rattle.call_steps.proofs.Held.{scene, IsHeld, found_named, found_if}
 use Rattle.call_steps.proofs.Weights.{care, past}
 use Rattle.call_steps.proofs.Safe.{all_map, all_replaced, all_found, all_in_book, in_book, not_found, Covers, still_covers, ordered_kept, fresh_at, fresh_none, IsLone, Moves, IsSafeStep}
 
--- a place without a lease that no leg ever had
+-- a place without a lease for a name that no leg ever had
 pub no_fresh : (place : Place) (x : LegName) (A : Type 0) → in_hand place ≡ [] → 1 ≤ fresh_at place (in_hand place) x → A
 no_fresh place x A e some = absurd (omega (arith, fresh_none place (in_hand place) x e))
 
@@ -30,9 +30,10 @@ apart_turned a b h =
       | inr other ↦ other
     ]
 
--- where a caller's step is made
+-- the surroundings of a caller's step
 pub record Surroundings : Type 0 where
-  -- of each name: how much the other callers see to it, how many fresh leases they hold for it, and how many leases at all
+  -- of each name: how far the other callers are responsible for it, the fresh leases that they hold for it, and all their
+  -- leases
   pub others_care : LegName → ℕ
   pub others_fresh : LegName → ℕ
   pub beside : LegName → ℕ
@@ -136,7 +137,7 @@ module _ (around : Surroundings) where
       at_order_safe (RefusesOrder order_errors.StepsSpent) = refused_safe order_errors.StepsSpent
       at_order_safe choice = at_leg_safe (leg_named legs name) choice refl
 
-    -- an order that takes care from nobody
+    -- an order that takes responsibility from nobody
     pub plain_order : (choice : Choice) → ((r : Result (Unit {0}) OrderError) (x : LegName) → care (at place rest) x ≤ care (told_at place (replies.Order r) rest) x)
         → SafeAnswer place rest (at_order (scene book legs (in_hand place)) name kind choice)
     plain_order choice le =

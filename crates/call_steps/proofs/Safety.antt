@@ -1,4 +1,4 @@
--- In every world that the steps of calls lead to, each leg that is kept has a partner or somebody who sees to it.
+-- In every world that the steps of calls lead to, each leg that is kept has a partner, or somebody is responsible for it.
 use Rattle.std.proofs.Common.{◌≡◌, ℕ, zero, suc, ◌+◌, ◌<◌, ◌≤◌, List, [], ◌∷◌, Option, Some, None, true, false, slice_get, slice_set, refl, ap, sym, subst, ◌∙◌, arith, inl, inr, ◌⊎◌}
 use Rattle.std.specs.List.{AllByRecursion}
 use Rattle.call_book.specs.Book.{Book, has_name}
@@ -33,18 +33,19 @@ care_weight x caller = care caller.work x
 abbrev all_care : ℕ → World → LegName → ℕ
 all_care outside world x = outside + total (care_weight x) world.callers
 
--- what holds at every moment, of bridges, stages and Doom; outside: so many beside the callers see to every leg
+-- the invariant of bridges, stages and Doom; outside: the number of others, apart from the callers, who are responsible for
+-- every leg
 pub record IsSafe (outside : ℕ) (world : World) : Type 0 where
   pub named : IsNamed world
-  -- a name that may be bridged or whose partner may be looked for was given out, and nobody has a lease for it that no leg ever had
+  -- a name that may be bridged or whose partner may be looked for was given out, and nobody has a fresh lease for it
   pub known : (x : LegName) → 1 ≤ total (past_weight x) world.callers → x.serial < world.book.next
   pub apart : (x : LegName) → 1 ≤ total (past_weight x) world.callers → total (fresh_weight x) world.callers ≡ 0
-  -- each leg that is kept has a partner, or somebody sees to it
+  -- each leg that is kept has a partner, or somebody is responsible for it
   pub covered : AllByRecursion (Covers world.book (all_care outside world)) world.legs
   -- the name of such a lease has no partner, or the offered leg of its caller
   pub lone : (who : ℕ) (caller : Caller) → slice_get world.callers who ≡ Some caller → IsLone world.book caller.work.place caller.leases
 
--- the peer's steps aren't spent, or somebody beside the callers sees to every leg
+-- the peer's steps aren't spent, or somebody apart from the callers is responsible for every leg
 abbrev pub IsPaid : ℕ → Choice → Type 0
 IsPaid outside choice = (is_spent choice ≡ false) ⊎ (1 ≤ outside)
 
@@ -149,7 +150,7 @@ module _ (outside : ℕ) (world : World) (who : ℕ) (caller : Caller) (is : sli
       (sym (h.named.leases who caller is)) safe)
       named
 
-  -- the step is safe, unless it is a Doom that nobody else sees to
+  -- the step is safe, unless it is a Doom for which nobody else is responsible
   pub step_safe : (choice : Choice) → IsPaid outside choice → SafeIf around caller.work.place caller.work.rest choice (next_of caller.work)
   step_safe choice paid = place_safe around caller.work.place caller.work.rest choice (seen_to paid) place_before
     where
@@ -234,7 +235,7 @@ opened_safe outside world o =
 pub safe : (world : World) → IsOpened world → (events : List Event) → AllByRecursion IsWithinSteps events → IsSafe 0 (run events world)
 safe world o events within = run_safe events world within (opened_safe 0 world o)
 
--- ---- what follows
+-- ---- consequences
 named_all : (x : LegName) (callers : List Caller) → total (care_weight x) callers ≤ times x (names_in_all callers)
 named_all x [] = omega arith
 named_all x (caller ∷ callers) = omega (arith, care_named caller.work x, named_all x callers, times-append x (names_in caller.work) (names_in_all callers))

@@ -1,4 +1,4 @@
--- What isn't seen of an answer plays no part in the steps of a call.
+-- The unseen part of an answer doesn't affect the steps of a call.
 use Rattle.std.proofs.Common.{◌≡◌, Some, None, refl}
 use Rattle.std.specs.Prelude.{Ok, Err}
 use Rattle.call_steps.specs.declared.place.Place.{Place}

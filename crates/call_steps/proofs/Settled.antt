@@ -1,4 +1,5 @@
--- A name that is settled: it was given out, no incoming leg is opened under it any more, and its leg is neither challenged nor offered.
+-- A name that is settled: it was given out, and no incoming leg is opened under it any more. Its leg is neither challenged
+-- nor offered.
 use Rattle.std.proofs.Common.{◌≡◌, ℕ, ◌+◌, ◌<◌, ◌≤◌, List, Some, true, ◌⊎◌}
 use Rattle.call_book.specs.Book.{Book, partner_of}
 use Rattle.call_book.specs.declared.leg_name.LegName.{LegName}
@@ -15,7 +16,7 @@ pub record IsSettled (book : Book) (legs : List Leg) (opening : LegName → ℕ)
   pub not_pending : NonePending p legs
   pub unopened : opening p ≡ 0
 
--- who gets an order of a call that goes on is settled, and so is the offered leg whose far leg is opened
+-- the leg that gets an order of a continuing call is settled, and so is the offered leg whose far leg is opened
 abbrev pub Asks : (LegName → Type 0) → Place → Type 0
 Asks Settled (places.Passing partner act) = Settled partner
 Asks Settled (places.OpenOut offered target) = Settled offered
@@ -31,7 +32,7 @@ asks_plain P (places.Passing partner act) plain = absurd (cc)
 asks_plain P (places.OpenOut offered target) plain = absurd (cc)
 asks_plain P place plain = tt
 
--- of a caller beside others
+-- of a caller among others
 abbrev pub SettledAt : (LegName → ℕ) → Book → List Leg → Place → LegName → Type 0
 SettledAt others_opening book legs place p = IsSettled book legs (λ x. opening_at place (in_hand place) x + others_opening x) p
 
@@ -40,7 +41,7 @@ abbrev pub PartnersAt : (LegName → ℕ) → (LegName → ℕ) → Book → Lis
 PartnersAt others_opening others_fresh book legs place =
     (x p : LegName) → partner_of book x ≡ Some p → (1 ≤ fresh_at place (in_hand place) x + others_fresh x) ⊎ SettledAt others_opening book legs place p
 
--- what a step from a place leaves
+-- the state after a step from a place
 pub record IsTalkStep (others_opening others_fresh : LegName → ℕ) (book : Book) (legs : List Leg) (place : Place) (new : Scene) (to : Place) : Type 0 where
   pub settled : (p : LegName) → SettledAt others_opening book legs place p → SettledAt others_opening new.book new.legs to p
   pub asks : Asks (SettledAt others_opening new.book new.legs to) to

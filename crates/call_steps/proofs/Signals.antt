@@ -20,17 +20,17 @@ some_left [] (suc i) x is = absurd (cc)
 some_left (y ∷ xs) zero x is = omega arith
 some_left (y ∷ xs) (suc i) x is = let more : i < length xs = some_left xs i x is in omega arith
 
--- of the last so many there is one: it isn't the last none
+-- if one of the last count elements exists, count isn't 0
 pub is_one : {A : Type 0} (xs : List A) (count : ℕ) (x : A) → first_of (drop (length xs - count) xs) ≡ Some x → 1 ≤ count
 is_one xs count x is = let within : length xs - count < length xs = some_left xs (length xs - count) x is in omega arith
 
--- the last so many, less the first of them
+-- the last count elements, without the first of them
 pub tail_of-last : {A : Type 0} (xs : List A) (count : ℕ) → 1 ≤ count → count ≤ length xs → tail_of (drop (length xs - count) xs) ≡ drop (length xs - (count - 1)) xs
 tail_of-last xs count some few =
     let next : suc (length xs - count) ≡ length xs - (count - 1) = omega arith in
     tail_of-drop xs (length xs - count) ∙ ap (λ i. drop i xs) next
 
--- where there is no first one, none is left
+-- if there is no first element, none is left
 pub no_tail : {A : Type 0} (xs : List A) → None ≡ first_of xs → xs ≡ tail_of xs
 no_tail [] none = refl
 no_tail (x ∷ xs) none = absurd (cc)

@@ -1,4 +1,4 @@
--- In every world that the steps of calls lead to, no order of a call that goes on meets a leg that is only offered.
+-- In every world that the steps of calls lead to, no order of a continuing call meets a leg that is only offered.
 use Rattle.std.proofs.Common.{◌≡◌, ℕ, zero, suc, ◌≤◌, List, [], ◌∷◌, Option, Some, None, true, false, slice_get, refl, ap, sym, subst, ◌∙◌, arith, inl, inr, ◌⊎◌}
 use Rattle.std.specs.List.{AllByRecursion}
 use Rattle.std.proofs.lemmas.Bool.{true≢false}
@@ -35,10 +35,10 @@ opening_weight x caller = opening_at caller.work.place caller.leases x
 abbrev pub SettledIn : World → LegName → Type 0
 SettledIn world p = IsSettled world.book world.legs (λ x. total (opening_weight x) world.callers) p
 
--- what holds at every moment, of orders of calls that go on, also where steps are spent
+-- the invariant of orders of continuing calls, even if steps are spent
 pub record IsTalkSafe (world : World) : Type 0 where
   pub safe : IsSafe 1 world
-  -- who gets such an order is settled, and so is the offered leg whose far leg is opened
+  -- the leg that gets such an order is settled, and so is the offered leg whose far leg is opened
   pub asks : (who : ℕ) (caller : Caller) → slice_get world.callers who ≡ Some caller → Asks (SettledIn world) caller.work.place
   -- each partner is settled, unless the other name of the bridge is still that of a lease
   pub partners : (x p : LegName) → partner_of world.book x ≡ Some p → (1 ≤ total (fresh_weight x) world.callers) ⊎ SettledIn world p
@@ -189,7 +189,7 @@ opened_talks world o = record {
 pub talks_in : (world : World) → IsOpened world → (events : List Event) → IsTalkSafe (run events world)
 talks_in world o events = run_talks events world (opened_talks world o)
 
--- ---- what follows
+-- ---- consequences
 not_talk : {A : Type 0} (own act : Act) → own ≡ act → is_talk own ≡ false → is_talk act ≡ true → A
 not_talk own act same apart talk = absurd (true≢false (sym talk ∙ ap is_talk (sym same) ∙ apart))
 

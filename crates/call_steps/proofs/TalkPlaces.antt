@@ -1,4 +1,4 @@
--- Which places lead to an opening, and to an order of a call that goes on.
+-- The places that lead to an opening, and to an order of a continuing call.
 use Rattle.std.proofs.Common.{◌≡◌, ℕ, ◌≤◌, List, [], ◌∷◌, Some, Bool, true, false, cond, refl, ap, sym, ◌∙◌, arith}
 use Rattle.std.specs.Prelude.{Ok, Err}
 use Rattle.std.proofs.lemmas.Bool.{cond_both, true≢false}
@@ -44,7 +44,7 @@ pub opening_there : (place : Place) (leases : List LegName) (x : LegName) → 1 
 opening_there (places.OpenIn name) leases x some = refl
 opening_there place leases x some = absurd (omega arith)
 
--- neither is, nor a leg of ours opened, nor an order of a call that goes on given
+-- no incoming or outgoing leg is opened here, and no order of a continuing call is given
 abbrev pub is_plain : Place → Bool
 is_plain (places.OpenIn name) = false
 is_plain (places.OpenOut offered target) = false
@@ -55,7 +55,7 @@ plain_unopened : (place : Place) → is_plain place ≡ true → is_open_in plac
 plain_unopened (places.OpenIn name) plain = absurd (cc)
 plain_unopened place plain = refl
 
--- ---- where each answer leads
+-- ---- the place after each answer
 
 pub go_on_plain : (rest : Rest) → is_plain (go_on rest).place ≡ true
 go_on_plain rest = onward_holds (λ place. is_plain place ≡ true) (λ name. refl) (λ name act. refl) (λ name. refl) (λ peer number. refl) refl rest
@@ -75,7 +75,7 @@ status_plain : (name : LegName) (owes : Bool) (cause : Cause) (rest : Rest) → 
 status_plain name true cause rest = refl
 status_plain name false cause rest = refl
 
--- all places lead to plain ones but these three
+-- all places but these three lead to plain ones
 abbrev pub LeadsOn : Place → Reply → Rest → Type 0
 LeadsOn (places.ReserveIn peer) reply rest = Unit {0}
 LeadsOn (places.Accepting offered target format) reply rest = Unit {0}
@@ -130,7 +130,7 @@ opened_from (places.Finding name act) reply rest is = refl
 opened_from (places.Accepting offered target format) reply rest is = absurd (true≢false (sym is ∙ accept_unopened reply offered target format rest))
 opened_from place reply rest is = absurd (true≢false (sym is ∙ plain_unopened (told_at place reply rest).place (leads_on place reply rest)))
 
--- a lease for an outgoing leg is still in hand where its offered leg was accepted, or wasn't
+-- a lease for an outgoing leg is still held after its offered leg was accepted, or wasn't
 pub accept_fresh : (reply : Reply) (offered target : LegName) (format : Format) (rest : Rest) (x : LegName) → 1 ≤ times x (target ∷ [])
     → 1 ≤ fresh_at (after_accept reply offered target format rest).place (in_hand (after_accept reply offered target format rest).place) x
 accept_fresh (replies.Order (Ok done)) offered target format rest x some = some

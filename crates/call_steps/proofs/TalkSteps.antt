@@ -1,4 +1,4 @@
--- Each step keeps it so that none of a call that goes on meets a leg that is only offered.
+-- After each step no order of a continuing call meets a leg that is only offered.
 use Rattle.std.proofs.Common.{◌≡◌, ◌≢◌, ℕ, ◌+◌, ◌<◌, ◌≤◌, ◌&&◌, List, [], ◌∷◌, Option, Some, None, Bool, true, false, refl, ap, sym, subst, ◌∙◌, arith, inl, inr, ◌⊎◌, is_some}
 use Rattle.std.specs.Prelude.{Result, Ok, Err}
 use Rattle.std.proofs.lemmas.Bool.{cond_both, cases_Bool, true≢false}
@@ -36,7 +36,7 @@ use Rattle.call_steps.proofs.Pending.{NotPending, NonePending, is_pending, is_br
 use Rattle.call_steps.proofs.TalkPlaces.{opening_at, opening_fresh, opening_there, go_on_plain, leads_on, opened_from, accept_fresh}
 use Rattle.call_steps.proofs.Settled.{Asks, asks_plain, SettledAt, PartnersAt, IsTalkStep}
 
--- ---- what a place that opens an incoming leg has in hand
+-- ---- the lease of a place that opens an incoming leg
 
 apart_if_none : (b : Bool) → bit b + 0 ≡ 0 → b ≡ false
 apart_if_none false none = refl
@@ -81,7 +81,7 @@ module _ (around : Surroundings) (others_opening : LegName → ℕ) (few_opening
   abbrev SafeAfter : Place → Rest → Need → Choice → Type 0
   SafeAfter place rest need choice = SafeAnswer around place rest (made place need choice)
 
-  -- ---- who is settled stays so
+  -- ---- a settled leg stays settled
   module _ (place : Place) (rest : Rest) (need : Need) (choice : Choice) (is : next_at place ≡ Some need) (b : Before around place rest) (safe : SafeAfter place rest need choice) where
     late_unopened : (p : LegName) → p.serial < book.next → opening_at (to place rest need choice) (in_hand (to place rest need choice)) p ≡ 0
     late_unopened p known =
@@ -104,7 +104,7 @@ module _ (around : Surroundings) (others_opening : LegName → ℕ) (few_opening
       unopened = omega (arith, h.unopened, late_unopened p h.known);
     }
 
-  -- ---- who gets an order of a call that goes on, and whose far leg is opened
+  -- ---- the leg that gets an order of a continuing call, and the leg whose far leg is opened
 
   finding_asks : (name : LegName) (act : Act) (rest : Rest) (choice : Choice) → Talks (places.Finding name act) rest
       → Asks (SettledAfter (places.Finding name act) rest (needs.Partner name) choice) (to (places.Finding name act) rest (needs.Partner name) choice)

@@ -1,4 +1,4 @@
--- What a caller's work means to a name, as numbers.
+-- The meaning of a caller's work to a name, as numbers.
 use Rattle.std.proofs.Common.{ℕ, ◌+◌, ◌≤◌, List, [], ◌∷◌, Option, Some, None, Bool, true, false, arith}
 use Rattle.call_book.specs.Book.{is_same}
 use Rattle.call_book.specs.declared.leg_name.LegName.{LegName}
@@ -12,7 +12,7 @@ use Rattle.call_book.proofs.NameLaws.{bit}
 use Rattle.call_steps.proofs.Callers.{times-append}
 use Rattle.call_steps.proofs.Onward.{passed_holds}
 
--- a leg that is offered is still to be seen to
+-- somebody has to be responsible for an offered leg
 abbrev pub offer : Signal → LegName → LegName → ℕ
 offer signals.Offered name x = bit (is_same name x)
 offer signal name x = 0
@@ -21,7 +21,7 @@ abbrev pub offers : LegName → List (LegName × Signal) → ℕ
 offers x [] = 0
 offers x (up ∷ onward) = offer up.1 up.0 x + offers x onward
 
--- somebody sees to the leg
+-- somebody is responsible for the leg
 abbrev pub care_at : Place → Rest → LegName → ℕ
 care_at (places.Routing offered) rest x = bit (is_same offered x) + offers x rest.onward
 care_at (places.Rejecting offered cause) rest x = bit (is_same offered x) + offers x rest.onward
@@ -57,7 +57,7 @@ place_past place x = 0
 abbrev pub past : Work → LegName → ℕ
 past work x = place_past work.place x + times x (words work.rest.onward)
 
--- the lease in hand is for a name that no leg ever had
+-- the lease is for a name that no leg ever had
 abbrev pub is_fresh : Place → Bool
 is_fresh (places.OpenIn name) = true
 is_fresh (places.GiveBack name) = true
@@ -75,7 +75,7 @@ offered_of (places.OpenOut offered target) = Some offered
 offered_of (places.Undoing offered target) = Some offered
 offered_of place = None
 
--- ---- after what was handed up is gone on with
+-- ---- after the next signal
 
 passed_care : (name : LegName) (signal : Signal) (rest : Rest) (further : Work) (x : LegName) → offers x rest.onward ≤ care further x
     → offer signal name x + offers x rest.onward ≤ care (passed_on (place_for name signal) rest further) x
@@ -111,7 +111,7 @@ go_on_from_past (up ∷ onward) touched looks x =
 pub go_on_past : (rest : Rest) (x : LegName) → past (go_on rest) x ≤ times x (words rest.onward)
 go_on_past rest x = go_on_from_past rest.onward rest.touched rest.looks x
 
--- who is seen to is named
+-- a leg with somebody responsible is named
 offers_named : (x : LegName) (onward : List (LegName × Signal)) → offers x onward ≤ times x (words onward)
 offers_named x [] = omega arith
 offers_named x (up ∷ onward) = offered up.1 (offers_named x onward)

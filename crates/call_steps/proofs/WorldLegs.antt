@@ -1,4 +1,4 @@
--- The legs of the world, and those of one peer that it has among them, once one has come, changed or gone.
+-- The legs of the world, and those of one peer among them, after one was added, changed or removed.
 use Rattle.std.specs.Prelude.{option_map, ◌&&◌}
 use Rattle.std.proofs.Common.{◌≡◌, ◌≢◌, ℕ, ◌==◌, Bool, true, false, cond, inl, inr, List, [], ◌∷◌, Option, Some, None, refl, sym, ap, subst, ◌∙◌, arith}
 use Rattle.std.proofs.lemmas.Bool.{cases_Bool, eqb-true}
@@ -39,7 +39,7 @@ named_seen o name leg at is =
 
 -- ---- one leg is replaced
 
--- what stands in place of a leg
+-- the leg in place of another
 abbrev put_for : Leg → Leg → Leg
 put_for new leg = cond (is_same leg.name new.name) new leg
 
@@ -79,7 +79,7 @@ replaced_apart legs new peer number apart = replaced_at legs new peer number ∙
     go None at = refl
     go (Some leg) at = let there = found_at legs peer number leg at in kept leg (is_same leg.name new.name) refl there.0 there.1
 
--- ---- what the peer's legs are then
+-- ---- the peer's legs afterwards
 
 pub record IsSeenSo (all after : List Leg) (old new : PeerLegs) : Type 0 where
   pub sees : Sees after new
@@ -114,7 +114,7 @@ turned_sees all old new number leg after sees at is turns =
     (λ other ne. replaced_apart all after old.peer other (λ n p k e. ne (sym k ∙ ap (λ (m : LegName). m.number) (e ∙ is) ∙ there.1)))
     (λ other k ne. replaced_apart all after other k (λ n p m e. ne (sym p ∙ ap (λ (m : LegName). m.peer) (e ∙ is) ∙ there.0)))
 
--- a leg comes
+-- a leg is added
 added_at : (all : List Leg) (leg : Leg) (peer number : ℕ) → (leg.name.peer == peer && leg.name.number == number) ≡ false → leg_at (leg ∷ all) peer number ≡ leg_at all peer number
 added_at all leg peer number e = rw e refl
 
@@ -133,7 +133,7 @@ added_sees all old new leg sees is turns =
     apart_peer : (name : LegName) (peer number : ℕ) → name.peer ≢ peer → (name.peer == peer && name.number == number) ≡ false
     apart_peer name peer number ne = grind (arith, nat_tests)
 
--- a leg goes
+-- a leg is removed
 without_apart : (legs : List Leg) (name : LegName) (peer number : ℕ) → ((n : LegName) → n.peer ≡ peer → n.number ≡ number → n ≢ name)
     → leg_at (without legs name) peer number ≡ leg_at legs peer number
 without_apart [] name peer number apart = refl

@@ -19,7 +19,7 @@ act_kind (acts.Hangup cause) = kinds.Hangup cause
 act_kind (acts.Doom cause) = kinds.Doom cause
 act_kind acts.Paid = kinds.Paid
 
--- media is a part of a datagram of so many octets
+-- media is a part of a datagram of this many octets
 abbrev pub LiesWithin : Act → ℕ → Type 0
 LiesWithin (acts.Media span) octets = (span.start ≤ span.end) × (span.end ≤ octets)
 LiesWithin act octets = Unit {0}

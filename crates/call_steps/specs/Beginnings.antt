@@ -1,4 +1,4 @@
--- How a call begins: what it is until its first step of a peer is made, and what is left of it where that is refused.
+-- The beginning of a call: its state until its first step of a peer is made, and its remaining steps if that is refused.
 use Rattle.std.specs.Prelude.{Bool, true, false, Option, None, Some, Ok, Err}
 use Rattle.call_book.specs.declared.errors.ReserveError.{ReserveError}
 use Rattle.call_book.specs.declared.errors.ReserveError.TheVariants as reserve_errors
@@ -28,7 +28,7 @@ beginning_at (places.ReserveCall peer) = Some OfCall
 beginning_at (places.OpenCall name) = Some OfCall
 beginning_at place = None
 
--- no step of a peer is left: a lease goes back at most
+-- no step of a peer is left; at most a lease is returned
 abbrev pub is_over : Place → Bool
 is_over (places.GiveBack name) = true
 is_over places.End = true

@@ -1,4 +1,5 @@
--- How many datagrams a call still puts into outboxes and trunk queues ("Call Setup", "Control Frames", "Mini Frames").
+-- The number of datagrams that a call still puts into outboxes and trunk queues ("Call Setup", "Control Frames", "Mini
+-- Frames").
 use Rattle.std.specs.Prelude.{ℕ, ◌+◌, ◌≤◌, Bool, true, false, List, [], ◌∷◌, length, Option, None, Some, Ok, Err}
 use Rattle.call_book.specs.declared.leg_name.LegName.{LegName}
 use Rattle.call_signals.specs.declared.signal.Signal.{Signal}
@@ -17,11 +18,11 @@ use Rattle.call_steps.specs.declared.reply.Heard.{Heard}
 use Rattle.call_steps.specs.declared.reply.Reply.{Reply}
 use Rattle.call_steps.specs.declared.reply.Reply.TheVariants as replies
 
--- an order puts one, but for Doom and Paid
+-- an order puts one, except Doom and Paid
 abbrev pub act_puts : Act → ℕ
 act_puts act = (order_load (act_kind act) 0).datagrams
 
--- What the step that is needed next puts. How a peer answers a datagram, and what it sends at a tick, isn't counted here.
+-- The number that the next step puts. A peer's answer to a datagram, and its frames at a tick, aren't counted here.
 abbrev pub need_puts : Option Need → ℕ
 need_puts (Some (needs.OpenIn name)) = 1
 need_puts (Some (needs.RejectNew peer)) = 1
@@ -29,9 +30,9 @@ need_puts (Some (needs.OpenOut name)) = 1
 need_puts (Some (needs.Order name act)) = act_puts act
 need_puts need = 0
 
--- ---- what is left
+-- ---- the remaining number
 
--- What a signal leads to: an offered call is accepted and goes on, or it is rejected; other signals are passed on.
+-- The number that a signal leads to: an offered call is accepted and placed, or rejected; other signals are passed on.
 abbrev pub signal_puts : Signal → ℕ
 signal_puts signals.Offered = 2
 signal_puts signals.Hangup = 0
@@ -46,7 +47,7 @@ abbrev pub touched_puts : Option LegName → ℕ
 touched_puts None = 0
 touched_puts (Some name) = 1
 
--- what is put from a place on, without the rest
+-- the number from a place on, without the rest
 abbrev pub place_puts : Place → ℕ
 place_puts (places.ReserveIn peer) = 4
 place_puts (places.RejectNew peer) = 1
@@ -74,27 +75,27 @@ rest_puts rest = signals_put rest.onward + touched_puts rest.touched + length re
 abbrev pub datagrams_left : Work → ℕ
 datagrams_left work = place_puts work.place + rest_puts work.rest
 
--- ---- what an answer brings
+-- ---- the number that an answer brings
 
 abbrev pub heard_puts : Heard → ℕ
 heard_puts heard = signals_put heard.onwards.signals + touched_puts heard.touched
 
--- the same of a step of a peer
+-- the same for a step of a peer
 abbrev pub step_puts : PeerStep → ℕ
 step_puts step = signals_put step.signals + touched_puts step.step.touched
 
--- of a datagram: what it hands up, or a leg that is to be opened for it
+-- of a datagram: by its signals, or by a leg that is to be opened for it
 abbrev pub brought_by : Reply → ℕ
 brought_by (replies.Datagram (Ok heard)) = heard_puts heard
 brought_by (replies.Datagram (Err NeedsNumber)) = 4
 brought_by reply = 0
 
--- an opened leg offers a call at most, and is finished
+-- an opened leg offers at most one call, and is finished
 abbrev pub OpensFew : Reply → Type 0
 OpensFew (replies.OpenIn (Ok heard)) = heard_puts heard ≤ 3
 OpensFew reply = Unit {0}
 
--- a datagram is worked here, or time goes on
+-- a datagram or a tick is handled here
 abbrev pub is_first : Place → Bool
 is_first (places.Datagram peer) = true
 is_first (places.Tick peer) = true

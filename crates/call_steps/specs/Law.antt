@@ -1,4 +1,4 @@
--- What holds whenever many calls are made at once.
+-- Laws of many calls at once.
 use Rattle.std.specs.Prelude.{◌≡◌, ◌≢◌, ℕ, ◌+◌, ◌≤◌, ◌||◌, ◌&&◌, not, Bool, true, false, List, [], ◌∷◌, ◌++◌, None, Some}
 use Rattle.std.specs.Prelude.{slice_get, is_some, IsSome, if◌then◌else◌}
 use Rattle.std.specs.List.{AllByRecursion}
@@ -36,7 +36,7 @@ pub record IsOpened (world : World) : Type 0 where
   pub no_leg : world.legs ≡ []
   pub idle : AllByRecursion IsFresh world.callers
 
--- this is so in whatever world the steps of calls lead to
+-- this holds in each world that the steps of calls lead to
 abbrev pub InEveryRun : (World → Type 0) → Type 0
 InEveryRun Holds = (world : World) → IsOpened world → (events : List Event) → Holds (run events world)
 
@@ -53,18 +53,18 @@ abbrev pub IsWithinSteps : Event → Type 0
 IsWithinSteps (Starts who start) = Unit {0}
 IsWithinSteps (Steps who choice) = is_spent choice ≡ false
 
--- .. as long as no step is refused so
+-- .. as long as no step is refused for that reason
 abbrev pub InEveryRunWithinSteps : (World → Type 0) → Type 0
 InEveryRunWithinSteps Holds =
     (world : World) → IsOpened world → (events : List Event) → AllByRecursion IsWithinSteps events → Holds (run events world)
 
--- the texts of an offer, the room of a list and what a leg holds play no part in the steps of a call
+-- the texts of an offer, the room of a list and a leg's record don't affect the steps of a call
 abbrev pub OnlyWhatIsSeenCounts : Type 0
 OnlyWhatIsSeenCounts = (work : Work) (reply : Reply) → after_told work reply ≡ after_told work (seen_reply reply)
 
 -- ---- names, leases and legs
 
--- how often a name stands in a list
+-- the number of times that a name is in a list
 abbrev pub times : LegName → List LegName → ℕ
 times name [] = 0
 times name (other ∷ names) = (if is_same other name then 1 else 0) + times name names
@@ -77,7 +77,7 @@ abbrev pub leases_of : List Caller → List LegName
 leases_of [] = []
 leases_of (caller ∷ callers) = caller.leases ++ leases_of callers
 
--- the names of the legs, and those of the leases in the callers' hands
+-- the names of the legs, and those of the callers' leases
 abbrev pub held_names : World → List LegName
 held_names world = names_of world.legs ++ leases_of world.callers
 
@@ -85,17 +85,17 @@ held_names world = names_of world.legs ++ leases_of world.callers
 abbrev pub AreTheBooks : World → List LegName → Type 0
 AreTheBooks world names = (name : LegName) → times name names ≡ (if has_name world.book name then 1 else 0)
 
--- the names in the book are those of the legs and of the leases in hand, each once
+-- the names in the book are those of the legs and of the callers' leases, each once
 abbrev pub NamesAreHeldOnce : World → Type 0
 NamesAreHeldOnce world = AreTheBooks world (held_names world)
 
--- no number serves two legs: but for the leg that is found under it, none has it
+-- no number serves two legs: only the leg that is found under it has it
 abbrev pub NumbersServeOne : World → Type 0
 NumbersServeOne world =
     (peer number : ℕ) (leg : Leg) → leg_at world.legs peer number ≡ Some leg →
     leg_at (without world.legs leg.name) peer number ≡ None
 
--- whatever caller opens a leg next has the lease of its name in hand, and no leg has its number
+-- a caller that opens a leg next has the lease of its name, and no leg has its number
 pub record NoneIsBusy (world : World) : Type 0 where
   pub leased_in : (who : ℕ) (caller : Caller) (name : LegName) → slice_get world.callers who ≡ Some caller
       → next_of caller.work ≡ Some (needs.OpenIn name) → is_leased caller.leases name ≡ true
@@ -106,14 +106,14 @@ pub record NoneIsBusy (world : World) : Type 0 where
   pub opens_out : (who : ℕ) (caller : Caller) (name : LegName) → slice_get world.callers who ≡ Some caller
       → next_of caller.work ≡ Some (needs.OpenOut name) → leg_at world.legs name.peer name.number ≡ None
 
--- whatever caller opens a leg next, its number is one of its peer's
+-- if a caller opens a leg next, its number is one of its peer's
 pub record NoneIsOutside (world : World) : Type 0 where
   pub opens_in : (who : ℕ) (caller : Caller) (name : LegName) → slice_get world.callers who ≡ Some caller
       → next_of caller.work ≡ Some (needs.OpenIn name) → IsNumberOf world.book.counts name.peer name.number
   pub opens_out : (who : ℕ) (caller : Caller) (name : LegName) → slice_get world.callers who ≡ Some caller
       → next_of caller.work ≡ Some (needs.OpenOut name) → IsNumberOf world.book.counts name.peer name.number
 
--- whatever caller releases a lease next has it in hand, and the book has its name
+-- a caller that releases a lease next has it, and the book has its name
 pub record NoneIsStale (world : World) : Type 0 where
   pub leased : (who : ℕ) (caller : Caller) (name : LegName) → slice_get world.callers who ≡ Some caller
       → next_of caller.work ≡ Some (needs.Release name) → is_leased caller.leases name ≡ true
@@ -151,7 +151,7 @@ abbrev pub words : List (LegName × Signal) → List LegName
 words [] = []
 words (up ∷ onward) = up.0 ∷ words onward
 
--- the names in what a caller still has to do
+-- the names in the remaining work of a caller
 abbrev pub names_in : Work → List LegName
 names_in work = names_at work.place ++ words work.rest.onward
 
@@ -159,7 +159,7 @@ abbrev pub names_in_all : List Caller → List LegName
 names_in_all [] = []
 names_in_all (caller ∷ callers) = names_in caller.work ++ names_in_all callers
 
--- a stage in which somebody has to hear of a leg
+-- a stage in which somebody has to be notified of a leg
 abbrev pub is_heard : Stage → Bool
 is_heard stages.Challenged = false
 is_heard stages.Closing = false
@@ -170,7 +170,7 @@ is_heard stage = true
 abbrev pub is_kept : Leg → Bool
 is_kept leg = is_heard leg.seen.stage && not (leg.seen.doomed || leg.called)
 
--- each such leg has a partner, or stands in what some caller still has to do
+-- each such leg has a partner, or is named in the remaining work of a caller
 abbrev pub IsLookedAfter : World → Leg → Type 0
 IsLookedAfter world leg =
     is_kept leg ≡ true →
@@ -179,7 +179,7 @@ IsLookedAfter world leg =
 abbrev pub AllAreLookedAfter : World → Type 0
 AllAreLookedAfter world = AllByRecursion (IsLookedAfter world) world.legs
 
--- orders that are for a call that goes on
+-- orders of a continuing call
 abbrev pub is_talk : Act → Bool
 is_talk (acts.Indicate indication) = true
 is_talk acts.Answer = true
@@ -187,14 +187,14 @@ is_talk (acts.Dtmf digit) = true
 is_talk (acts.Media span) = true
 is_talk act = false
 
--- whatever order comes next, none of a call that goes on meets a leg that is only offered
+-- if the next order is one of a continuing call, its leg isn't only offered
 abbrev pub NoneMeetsOffered : World → Type 0
 NoneMeetsOffered world =
     (who : ℕ) (caller : Caller) (name : LegName) (act : Act) (leg : Leg) → slice_get world.callers who ≡ Some caller
     → next_of caller.work ≡ Some (needs.Order name act) → is_talk act ≡ true
     → leg_named world.legs name ≡ Some leg → leg.seen.stage ≢ stages.Offered
 
--- ---- once nobody has anything to do
+-- ---- once all callers are idle
 
 abbrev pub IsIdle : Caller → Type 0
 IsIdle caller = next_of caller.work ≡ None

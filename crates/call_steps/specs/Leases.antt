@@ -1,4 +1,4 @@
--- The lease that a call has in its hand, and what becomes of it at each step.
+-- The lease that a call holds, and its change at each step.
 use Rattle.std.specs.Prelude.{true, Option, None, Some, Ok}
 use Rattle.call_book.specs.declared.leg_name.LegName.{LegName}
 use Rattle.call_steps.specs.Work.{Work, in_hand}
@@ -19,7 +19,7 @@ lease_needed (Some (needs.OpenOut name)) = Some name
 lease_needed (Some (needs.Release name)) = Some name
 lease_needed need = None
 
--- the name for which there is a lease after a step that answered so
+-- the name of the lease after a step with this answer
 abbrev pub lease_after : Option Need → Reply → Option LegName → Option LegName
 lease_after (Some (needs.Reserve peer)) (replies.Reserve (Ok name)) lease = Some name
 lease_after (Some (needs.Retire name)) (replies.Retire true) lease = Some name

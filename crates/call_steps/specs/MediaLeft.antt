@@ -18,22 +18,22 @@ abbrev pub media_of : LegName → Act → List (LegName × Signal)
 media_of name (acts.Media span) = (name, Media span) ∷ []
 media_of name act = []
 
--- what is looked for a partner at a place, or goes to it
+-- the media at a place whose partner is looked for or gets it
 abbrev pub media_at : Place → List (LegName × Signal)
 media_at (places.Finding name act) = media_of name act
 media_at (places.Passing partner act) = media_of partner act
 media_at place = []
 
--- what a call has still to carry: that of its place, and what isn't passed on yet
+-- the media that a call has still to carry: that of its place, and that of signals that aren't passed on yet
 abbrev pub media_left : Work → List (LegName × Signal)
 media_left work = media_at work.place ++ work.rest.onward
 
--- what goes out by the step that is needed next
+-- the media that the next step sends
 abbrev pub media_needed : Option Need → List (LegName × Signal)
 media_needed (Some (needs.Order name act)) = media_of name act
 media_needed need = []
 
--- what an answer hands up
+-- the signals that an answer hands up
 abbrev pub handed_by : Reply → List (LegName × Signal)
 handed_by (replies.Datagram (Ok heard)) = heard.onwards.signals
 handed_by (replies.OpenIn (Ok heard)) = heard.onwards.signals

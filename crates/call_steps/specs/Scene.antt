@@ -1,4 +1,4 @@
--- One step of a call, on the book and the legs of all peers: what it leaves, and its answer.
+-- One step of a call, on the book and the legs of all peers: the state after it, and its answer.
 use Rattle.std.specs.Prelude.{ℕ, ◌==◌, ◌&&◌, not, Bool, true, false, List, [], ◌∷◌, ◌++◌, Option, None, Some, Result, Ok, Err}
 use Rattle.std.specs.Prelude.{is_some, if◌then◌else◌}
 use Rattle.call_book.specs.Book.{Book, has_name, is_same, reserve_answer, after_reserve, bridge_answer, bridged, partner_of}
@@ -45,33 +45,33 @@ pub record Leg : Type 0 where
   pub called : Bool
   pub seen : SeenLeg
 
--- what a step is made on, and leaves
+-- the state before or after a step
 pub record Scene : Type 0 where
   pub book : Book
   pub legs : List Leg
   pub leases : List LegName
 
--- what may turn out in one way or another at a step
+-- the possible outcomes of a step
 pub data Choice : Type 0 where
-  -- nothing stands against it
+  -- the step is made
   Goes : Choice
-  -- refusals that depend on more than is seen here, as want of memory
+  -- refusals that depend on more than is seen here, such as want of memory
   RefusesDatagram : (error : PeerError) → Choice
   RefusesRejecting : (error : RejectError) → Choice
   RefusesOpening : (error : OpenError) → Choice
   RefusesOrder : (error : OrderError) → Choice
   RefusesTick : Choice
-  -- a leg that is taken out finds no place in the list of retired legs
+  -- there is no room for a leg in the list of retired legs
   KeepsLeg : Choice
-  -- datagram: it is this to the leg with the number
+  -- datagram: it is this frame to the leg with the number
   Brings : (number : ℕ) (frame : SeenFrame) → Choice
   -- datagram: it has media for the legs with these numbers
   HasMedia : (media : List (ℕ × MediaSpan)) → Choice
-  -- tick: what happens to the legs with these numbers, and whether there is none to be finished then
+  -- tick: the lapses of the legs with these numbers, and whether there is none to be finished then
   Lapses : (lapses : List (ℕ × Lapse)) (quiet : Bool) → Choice
   Opens : (opening : Opening) → Choice
   LeadsTo : (route : Route) → Choice
-  -- a look: why the leg ends
+  -- a look: the cause of the leg's end
   TellsCause : (cause : Cause) → Choice
 
 -- ---- legs
@@ -102,7 +102,7 @@ abbrev pub without : List Leg → LegName → List Leg
 without [] name = []
 without (leg ∷ legs) name = if is_same leg.name name then without legs name else leg ∷ without legs name
 
--- ---- what a step leaves, and its answer
+-- ---- the state after a step, and its answer
 
 pub record Answer : Type 0 where
   pub scene : Scene
@@ -123,7 +123,7 @@ nothing_heard = heard None []
 abbrev pub brought : SeenFrame → Leg → Leg
 brought frame leg = turned leg (moved leg.seen (frame_effect frame leg.seen.stage).stage)
 
--- a frame comes to a leg, where there is one
+-- a frame comes to a leg, if there is one
 abbrev pub brings : Scene → Option Leg → SeenFrame → Answer
 brings scene None frame = answer scene (replies.Datagram (Ok nothing_heard))
 brings scene (Some leg) frame =
@@ -146,7 +146,7 @@ at_datagram scene peer (HasMedia media) =
     answer scene (replies.Datagram (Ok (heard None (all_media scene.legs peer media))))
 at_datagram scene peer choice = answer scene (replies.Datagram (Ok nothing_heard))
 
--- a leg to which this happens as time goes on
+-- a leg with this lapse at a tick
 abbrev pub let_lapse : Lapse → Leg → Leg
 let_lapse lapse leg = turned leg (lapsed lapse leg.seen)
 
@@ -184,7 +184,7 @@ dropped (lease ∷ leases) name = if is_same lease name then leases else lease �
 abbrev pub can_open : Scene → LegName → Bool
 can_open scene name = is_leased scene.leases name && not (is_some (leg_at scene.legs name.peer name.number))
 
--- the lease goes into the new leg
+-- the lease is used up by the new leg
 abbrev pub opened : Scene → LegName → Stage → Bool → Scene
 opened scene name stage called =
     record scene {
@@ -238,7 +238,7 @@ at_leg scene kind (Some leg) (RefusesOrder error) =
     else obeys scene kind leg (stage_after kind leg.seen.stage)
 at_leg scene kind (Some leg) choice = obeys scene kind leg (stage_after kind leg.seen.stage)
 
--- a peer without step credit refuses first of all
+-- a peer without step credit refuses before any other check
 abbrev pub at_order : Scene → LegName → OrderKind → Choice → Answer
 at_order scene name kind (RefusesOrder order_errors.StepsSpent) = refused scene order_errors.StepsSpent
 at_order scene name kind choice = at_leg scene kind (leg_named scene.legs name) choice
@@ -290,7 +290,7 @@ abbrev pub is_stale : Scene → LegName → Answer
 is_stale scene name =
     answer (record scene { leases = dropped scene.leases name }) (replies.Release (Err (record {})))
 
--- only with a lease; one that is refused is dropped
+-- only with a lease; a lease that the book refuses is dropped
 abbrev pub at_release : Scene → LegName → Answer
 at_release scene name =
     if is_leased scene.leases name && has_name scene.book name then releases scene name else is_stale scene name
@@ -301,7 +301,7 @@ at_route scene choice = answer scene (replies.Route routes.Nowhere)
 
 -- ---- steps
 
--- a step, on what it finds; called: a leg that it opens is opened by a call from outside
+-- a step, with this outcome; called: a leg that it opens is opened by a call from outside
 abbrev pub answered : Scene → Need → Bool → Choice → Answer
 answered scene (needs.Datagram peer) called choice = at_datagram scene peer choice
 answered scene (needs.RejectNew peer) called choice = at_reject_new scene choice

@@ -1,5 +1,5 @@
--- What an answer tells the steps of a call: neither the texts of an offer, nor how much room a list has, nor what was rejected,
--- nor how much a leg holds.
+-- The part of an answer that affects the steps of a call. It omits the texts of an offer, the room of a list, a rejection,
+-- and a leg's record.
 use Rattle.std.specs.Prelude.{List, Option, None, Some, Ok}
 use Rattle.call_book.specs.declared.leg_name.LegName.{LegName}
 use Rattle.call_signals.specs.declared.signal.Signal.{Signal}
@@ -8,7 +8,7 @@ use Rattle.call_steps.specs.declared.reply.Heard.{Heard}
 use Rattle.call_steps.specs.declared.reply.Reply.{Reply}
 use Rattle.call_steps.specs.declared.reply.Reply.TheVariants as replies
 
--- the leg concerned, and what was handed up
+-- the leg concerned, and the signals handed up
 abbrev pub heard : Option LegName → List (LegName × Signal) → Heard
 heard touched signals =
     record { touched = touched; rejected = None; onwards = record { signals = signals; offer = None; room = 0 } }

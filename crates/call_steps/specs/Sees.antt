@@ -1,4 +1,4 @@
--- The legs of one peer, as the world of many calls has them; and a step of the peer that is one of that world's.
+-- The legs of one peer, as the world of many calls has them, and the peer's steps as steps of that world.
 use Rattle.std.specs.Prelude.{◌≡◌, ◌≢◌, ℕ, Bool, List, option_map}
 use Rattle.call_book.specs.declared.leg_name.LegName.{LegName}
 use Rattle.peer_lock.specs.Legs.{PeerLegs}
@@ -11,7 +11,7 @@ use Rattle.call_steps.specs.declared.reply.Reply.{Reply}
 abbrev pub look_of : Leg → SeenNamed
 look_of leg = record { name = leg.name; seen = leg.seen }
 
--- under each number of the peer stands the leg that the peer has there
+-- each number of the peer has the leg that the peer has under it
 abbrev pub Sees : List Leg → PeerLegs → Type 0
 Sees all legs = (number : ℕ) → option_map look_of (leg_at all legs.peer number) ≡ seen_at legs number
 
@@ -19,8 +19,8 @@ Sees all legs = (number : ℕ) → option_map look_of (leg_at all legs.peer numb
 abbrev pub AreApart : ℕ → List Leg → List Leg → Type 0
 AreApart peer old new = (other number : ℕ) → other ≢ peer → leg_at new other number ≡ leg_at old other number
 
--- Where the peer's step answers so and leaves its legs so, the world's step can answer so too and leave them so. It leaves the
--- book and the legs of all other peers as they are, and of the leases what is said.
+-- The peer's step has this answer and leaves these legs. A step of the world can have the same answer and leave the same
+-- legs. It leaves the book and the legs of all other peers unchanged, and these leases.
 pub record IsWorldStep (scene : Scene) (need : Need) (called : Bool) (old new : PeerLegs) (reply : Reply)
     (leases : List LegName) : Type 0 where
   pub choice : Choice

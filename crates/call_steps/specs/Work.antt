@@ -1,4 +1,4 @@
--- The steps of one call of the exchange: where it stands, which step it needs next, and where each answer leads.
+-- The steps of one call of the exchange: its place, the step that it needs next, and the place after each answer.
 use Rattle.std.specs.Prelude.{ℕ, suc, zero, ◌+◌, Bool, true, false, List, [], ◌∷◌, Option, None, Some, Ok, Err, if◌then◌else◌}
 use Rattle.call_book.specs.Book.{is_same}
 use Rattle.call_book.specs.declared.errors.ReserveError.TheVariants as reserve_errors
@@ -23,9 +23,9 @@ use Rattle.call_steps.specs.declared.reply.Heard.{Heard}
 use Rattle.call_steps.specs.declared.reply.Reply.{Reply}
 use Rattle.call_steps.specs.declared.reply.Reply.TheVariants as replies
 
--- what is still to be done once the step of the present place is made
+-- the remaining work after the step of the present place
 pub record Rest : Type 0 where
-  -- what was handed up and isn't passed on yet, each with the name of its leg
+  -- the signals that aren't passed on yet, each with the name of its leg
   pub onward : List (LegName × Signal)
   -- the leg that is finished after that
   pub touched : Option LegName
@@ -45,12 +45,12 @@ nothing_left = record { onward = []; touched = None; looks = [] }
 abbrev pub ended : Work
 ended = at places.End nothing_left
 
--- ---- how a call begins
+-- ---- the beginning of a call
 
 abbrev pub of_datagram : ℕ → Work
 of_datagram peer = at (places.Datagram peer) nothing_left
 
--- so many numbers of a peer, in ascending order from the first
+-- count numbers of a peer, in ascending order from the first
 abbrev pub looks_from : ℕ → ℕ → ℕ → List (ℕ × ℕ)
 looks_from peer first zero = []
 looks_from peer first (suc count) = (peer, first) ∷ looks_from peer (first + 1) count
@@ -64,7 +64,7 @@ of_call peer = at (places.ReserveCall peer) nothing_left
 abbrev pub of_hang_up : LegName → Work
 of_hang_up name = at (places.HangUp name) (record nothing_left { touched = Some name })
 
--- ---- the step that is to be made at each place
+-- ---- the step at each place
 
 abbrev pub next_at : Place → Option Need
 next_at (places.Datagram peer) = Some (needs.Datagram peer)
@@ -99,7 +99,7 @@ next_at places.End = None
 abbrev pub next_of : Work → Option Need
 next_of work = next_at work.place
 
--- ---- going on: what was handed up, then the touched leg, then the next number of a tick
+-- ---- the next place: for a signal, then for the touched leg, then for the next number of a tick
 
 abbrev pub next_look : List (ℕ × ℕ) → Work
 next_look [] = ended
@@ -109,7 +109,7 @@ abbrev pub finish : Option LegName → List (ℕ × ℕ) → Work
 finish None looks = next_look looks
 finish (Some name) looks = at (places.Looking name) (record nothing_left { looks = looks })
 
--- the first place for what a leg handed up; none: nothing is to be done for it
+-- the first place for a leg's signal; none if it needs no step
 abbrev pub place_for : LegName → Signal → Option Place
 place_for name signals.Offered = Some (places.Routing name)
 place_for name (signals.Indicated indication) = Some (places.Finding name (acts.Indicate indication))
@@ -134,9 +134,9 @@ go_on_from (up ∷ onward) touched looks =
 abbrev pub go_on : Rest → Work
 go_on rest = go_on_from rest.onward rest.touched rest.looks
 
--- ---- where each answer leads; another answer than that to the step is taken as a refusal
+-- ---- the place after each answer; an answer of the wrong kind counts as a refusal
 
--- what a step of a peer handed up, and the leg that it touched
+-- the signals of a peer's step, and the leg that it touched
 abbrev pub after_heard : Heard → Rest → Work
 after_heard heard rest = go_on (record rest { onward = heard.onwards.signals; touched = heard.touched })
 
@@ -221,7 +221,7 @@ abbrev pub after_find_partner : Reply → LegName → Cause → Rest → Work
 after_find_partner (replies.Partner (Some partner)) name cause rest = at (places.HangingUp name partner cause) rest
 after_find_partner reply name cause rest = at (places.Paying name cause) rest
 
--- it has paid where the partner is hung up, or was before
+-- it has paid if the partner is hung up, or was before
 abbrev pub after_partner_hangup : Reply → LegName → Cause → Rest → Work
 after_partner_hangup (replies.Order (Ok done)) name cause rest = at (places.Paying name cause) rest
 after_partner_hangup (replies.Order (Err order_errors.Gone)) name cause rest = at (places.Paying name cause) rest
@@ -237,7 +237,7 @@ abbrev pub after_free : Reply → Cause → Rest → Work
 after_free (replies.Release (Ok (Some partner))) cause rest = at (places.Dooming partner cause) rest
 after_free reply cause rest = go_on rest
 
--- where no leg has ended and none owes, there is none to be finished
+-- if no leg has ended and none owes, there is none to be finished
 abbrev pub after_tick : Reply → Rest → Work
 after_tick (replies.Tick (Ok false)) rest = go_on rest
 after_tick reply rest = ended
@@ -289,7 +289,7 @@ after_told work reply = told_at work.place reply work.rest
 
 -- ---- leases
 
--- the names for which the caller has a lease in its hand
+-- the names for which the caller has a lease
 abbrev pub in_hand : Place → List LegName
 in_hand (places.OpenIn name) = name ∷ []
 in_hand (places.GiveBack name) = name ∷ []

@@ -1,4 +1,4 @@
--- The call's steps that the fields stand for.
+-- The call's steps that the fields represent.
 use Rattle.std.specs.Prelude.{◌+◌, ◌≤◌, ◌^◌, length}
 use Rattle.call_steps.specs.declared.work.Work.TheInside.{Inside}
 use Rattle.call_steps.specs.Work.{looks_from}

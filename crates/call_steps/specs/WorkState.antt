@@ -1,4 +1,4 @@
--- A call's steps, with the list in which the last step of a peer handed up.
+-- A call's steps, with the list of signals that the last step of a peer wrote.
 use Rattle.std.specs.Prelude.{ℕ, ◌-◌, Bool, true, false, List, [], ◌∷◌, drop, length, Option, None, Some, Ok}
 use Rattle.call_book.specs.declared.leg_name.LegName.{LegName}
 use Rattle.call_signals.specs.declared.signal.Signal.{Signal}
@@ -14,7 +14,7 @@ pub record WorkState : Type 0 where
   pub work : Work
   pub onwards : Option HandedUp
 
--- a call that was told of no list yet
+-- a call without a list yet
 abbrev pub begun : Work → WorkState
 begun work = record { work = work; onwards = None }
 
@@ -30,12 +30,12 @@ onwards_after (places.Datagram peer) (replies.Datagram (Ok heard)) onwards = Som
 onwards_after (places.OpenIn name) (replies.OpenIn (Ok heard)) onwards = Some heard.onwards
 onwards_after place reply onwards = onwards
 
--- what an offered call asks for
+-- the offer of an offered call
 abbrev pub offer_in : Option HandedUp → Option Offer
 offer_in None = None
 offer_in (Some onwards) = onwards.offer
 
--- the last so many signals of the list
+-- the signals of the list
 abbrev pub signals_of : Option HandedUp → List (LegName × Signal)
 signals_of None = []
 signals_of (Some onwards) = onwards.signals

@@ -6,10 +6,10 @@ use Rattle.call_steps.specs.Scene.{Leg, Scene, Choice, Answer, answered, is_call
 use Rattle.call_steps.specs.Work.{Work, of_datagram, of_tick, of_call, of_hang_up, next_of, after_told}
 use Rattle.call_steps.specs.declared.need.Need.{Need}
 
--- a caller: it is idle where its work needs nothing more
+-- a caller: it is idle if its work needs no further step
 pub record Caller : Type 0 where
   pub work : Work
-  -- the names for which it has a lease in its hands
+  -- the names for which it has a lease
   pub leases : List LegName
 
 pub record World : Type 0 where
@@ -39,7 +39,7 @@ abbrev pub steps : World → ℕ → Option Caller → Choice → World
 steps world who None choice = world
 steps world who (Some caller) choice = makes world who caller (next_of caller.work) choice
 
--- what a caller may begin
+-- the calls that a caller may begin
 pub data Start : Type 0 where
   ADatagram : (peer : ℕ) → Start
   ATick : (peer first count : ℕ) → Start

@@ -1,4 +1,4 @@
-//! What one leg is ordered when another hands something up.
+//! Orders to one leg that follow from the signal of another.
 ghost use Rattle.std.specs.Prelude.{◌≡◌, length};
 
 use leg_machine::{Cause, Digit, Format, Indication, MediaSpan, Order};
@@ -10,7 +10,7 @@ pub enum Act {
     Accept(Format),
     /// Rejects the offered call.
     Reject(Cause),
-    /// Tells how the call goes on.
+    /// Reports the progress of the call.
     Indicate(Indication),
     /// Answers the call.
     Answer,
@@ -22,7 +22,7 @@ pub enum Act {
     Hangup(Cause),
     /// Hangs up as soon as a tick can, for this cause.
     Doom(Cause),
-    /// The exchange is done with the end of the call.
+    /// Reports that the exchange is done with the end of the call.
     Paid,
 }
 
@@ -30,7 +30,7 @@ impl Act {
     ghost use Rattle.leg_machine.specs.Seen.{kind_of};
     ghost use Rattle.call_steps.specs.Act.{act_kind, act_media, order_media, LiesWithin};
 
-    /// The order with the octets of its media, which lies within these octets of the datagram.
+    /// Returns the order with the octets of its media, which is within these octets of the datagram.
     pub fn order<'a>(&self, octets: &'a [u8]) -> Order<'a>
         requires { LiesWithin self.now (length octets.now) }
         ensures kind { kind_of result ≡ act_kind self.now }

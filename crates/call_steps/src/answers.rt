@@ -1,4 +1,4 @@
-//! Where each answer leads a call, place by place. Another answer than that to the step is taken as a refusal.
+//! The place to which each answer leads a call. An answer to another step counts as a refusal.
 ghost use Rattle.std.specs.Prelude.{◌≡◌, [], Option, None, Some, Ok, false};
 ghost use Rattle.call_steps.specs.Work as work;
 ghost use Rattle.call_steps.specs.WorkState.{onwards_after, brings_list};
@@ -15,7 +15,7 @@ use peer_lock::{OrderError, PeerError, Status};
 impl Work {
     /// Takes the answer to the step that `next` names.
     ///
-    /// Another answer than that to this step is taken as a refusal.
+    /// An answer to another step counts as a refusal.
     #[inline(always)]
     pub fn told(&mut self, reply: Reply)
         ensures work { self.new.work ≡ work.after_told self.old.work reply }
@@ -35,7 +35,7 @@ impl Work {
         }
     }
 
-    // (the match that owns the answer is the short one: each of its arms has to drop it)
+    // The match that owns the answer is the short one, because each of its arms has to drop it.
     #[inline(always)]
     fn told_without_list(&mut self, place: Place, reply: &Reply)
         requires { brings_list place ≡ false }
@@ -179,7 +179,7 @@ impl Work {
         }
     }
 
-    // The partner had no room: it is doomed, unless it was for media.
+    // Dooms the partner, which had no room, unless the order was media.
     fn after_no_room(&mut self, act: &Act, partner: LegName)
         ensures { self.new ≡ record self.old { work = work.after_no_room act.now partner self.old.work.rest } }
     {

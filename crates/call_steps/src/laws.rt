@@ -1,4 +1,4 @@
-//! What holds of many calls at once, in whatever order their steps come.
+//! Laws of many calls at once, in any order of their steps.
 ghost use Rattle.std.specs.Prelude.{◌≡◌, ◌≤◌, ◌+◌, ℕ, true, false, Bool, List, ◌∷◌, length, Option, None, Some, Ok, Err, option_map};
 ghost use Rattle.std.specs.List.{AllByRecursion};
 ghost use Rattle.call_book.specs.declared.leg_name.LegName.{LegName};
@@ -44,34 +44,34 @@ ghost use Rattle.call_steps.specs.Law.{InEveryRun, InEveryRunWithinSteps, OnlyWh
 ghost use Rattle.call_steps.specs.Law.{NumbersServeOne, NoneIsBusy, NoneIsOutside, NoneIsStale, AllAreLookedAfter};
 ghost use Rattle.call_steps.specs.Law.{NoneMeetsOffered, NamesAreTheLegs, AllHavePartners};
 
-/// Whatever many calls do at once, whichever step comes first and whatever is refused.
+/// Holds for many calls at once, in any order of their steps, and whichever are refused.
 pub fn calls_at_once()
-    // The names in the book are those of the legs and of the leases in the callers' hands, each once.
+    // The names in the book are those of the legs and of the callers' leases, each once.
     ensures names { InEveryRun NamesAreHeldOnce }
     // No number serves two legs.
     ensures numbers { InEveryRun NumbersServeOne }
-    // Who opens a leg holds the lease of its name, and no leg has its number.
+    // A caller that opens a leg holds the lease of its name, and no leg has its number.
     ensures busy { InEveryRun NoneIsBusy }
-    // .. nor under one that isn't of its peer.
+    // .. nor does it open one under a number that isn't of its peer.
     ensures outside { InEveryRun NoneIsOutside }
-    // Who releases a lease holds it, and the book knows its name.
+    // A caller that releases a lease holds it, and the book knows its name.
     ensures stale { InEveryRun NoneIsStale }
-    // As long as no peer's steps are spent, each leg that is neither challenged, closed nor doomed, and wasn't opened by
-    // a call from outside, has a partner or is named in what some caller still has to do.
+    // Take the legs that are neither challenged, closed nor doomed, and weren't opened by a call from outside. As long as
+    // no peer's steps are spent, each of them has a partner or is named in the remaining work of a caller.
     ensures looked_after { InEveryRunWithinSteps AllAreLookedAfter }
-    // No order of a call that goes on (Indicate, Answer, Dtmf, Media) meets a leg that is only offered.
+    // No order of a continuing call (Indicate, Answer, Dtmf, Media) meets a leg that is only offered.
     ensures offered { InEveryRun NoneMeetsOffered }
-    // Once nobody has anything to do, the names in the book are those of the legs, each once ..
+    // Once all callers are idle, the names in the book are those of the legs, each once ..
     ensures idle_names { InEveryRun NamesAreTheLegs }
     // .. and each such leg has a partner.
     ensures idle_partners { InEveryRunWithinSteps AllHavePartners }
-    // What the model leaves out of the answers plays no part in the steps of a call.
+    // The part of the answers that the model leaves out doesn't affect the steps of a call.
     ensures seen { OnlyWhatIsSeenCounts }
 {}
 
-/// Each step of a peer, and each taking out of a leg, is a step of the world of which `calls_at_once` speaks: where the world has
-/// the peer's legs as they are seen, it can make that step too, with that answer, and has them so again. The steps are those of
-/// the contracts of `PeerState`.
+/// Each step of a peer, and each removal of a leg, is a step of the world of `calls_at_once`. If the world has the peer's
+/// legs as they are seen, it can make that step too, with the same answer, and then has the new legs. The steps are those
+/// of the contracts of `PeerState`.
 pub fn peers_steps_are_the_worlds()
     ensures datagrams { (first : ℕ) (peer : PeerView) (datagram : Datagram) (now : ℕ) (scene : Scene) (called : Bool) →
         AreLegs peer.legs → Sees scene.legs peer.legs →
@@ -128,7 +128,7 @@ pub fn peers_steps_are_the_worlds()
     ensures looks { (legs : PeerLegs) (number : ℕ) (scene : Scene) (called : Bool) → Sees scene.legs legs →
         IsWorldStep scene (needs.Look legs.peer number) called legs legs
         (replies.Look (option_map status_of (leg_at legs number))) scene.leases }
-    // A leg is taken out where no other leg has its number, as in every run (`numbers` of `calls_at_once`).
+    // A leg is taken out if no other leg has its number, as in every run (`numbers` of `calls_at_once`).
     ensures retiring { (legs : PeerLegs) (name : LegName) (scene : Scene) (called : Bool) →
         AreLegs legs → name.peer ≡ legs.peer → is_done (leg_named legs name) ≡ true → Sees scene.legs legs →
         world_leg_at (without scene.legs name) name.peer name.number ≡ None →
@@ -141,25 +141,25 @@ pub fn peers_steps_are_the_worlds()
     peer_lock::laws::steps_are_seen();
 }
 
-/// The media that a call still has to carry, through its steps: where all that is handed up lies within the datagram, so does all
-/// that is left and each piece that is ordered. An order takes its octets away from what is left, and no answer adds more to it
+/// The media that a call still has to carry, through its steps. If all media handed up is within the datagram, so is all
+/// that is left and each piece that is ordered. An order takes its octets away from those left, and no answer adds more
 /// than it hands up.
 pub fn media_is_carried_once()
-    // Where all that is handed up lies within the datagram, all that is left does.
+    // If all media handed up is within the datagram, all that is left is.
     ensures within { (len : ℕ) (work : Work) (reply : Reply) → AllByRecursion (LiesWithin len) (media_left work) →
         AllByRecursion (LiesWithin len) (handed_by reply) → AllByRecursion (LiesWithin len) (media_left (after_told work reply)) }
-    // An answer leaves no more than what was left and what it hands up, less what was ordered.
+    // An answer leaves no more than was left and it hands up, less what was ordered.
     ensures octets { (work : Work) (reply : Reply) →
         handed_octets (media_left (after_told work reply)) + handed_octets (media_needed (next_of work)) ≤
         handed_octets (media_left work) + handed_octets (handed_by reply) }
-    // What is ordered next is of what is left.
+    // The next media ordered is a part of what is left.
     ensures needed { (len : ℕ) (work : Work) → AllByRecursion (LiesWithin len) (media_left work) →
         AllByRecursion (LiesWithin len) (media_needed (next_of work)) }
     ensures covered { (work : Work) → handed_octets (media_needed (next_of work)) ≤ handed_octets (media_left work) }
 {}
 
-/// How many datagrams a call puts out, through its steps: an answer leaves no more than what was left and what a datagram brings,
-/// less what the step put. So a full frame leads to four at most, its own answer among them.
+/// The number of datagrams that a call sends. An answer leaves at most the number that was left, plus what a datagram
+/// brings, less what the step sent. So a full frame leads to four at most, including its own answer.
 pub fn calls_put_few_datagrams()
     ensures steps { (work : Work) (reply : Reply) → OpensFew reply →
         datagrams_left (after_told work reply) + need_puts (next_of work) ≤ datagrams_left work + brought_by reply }
@@ -167,8 +167,8 @@ pub fn calls_put_few_datagrams()
     ensures first { (work : Work) (reply : Reply) → is_first (after_told work reply).place ≡ false }
 {}
 
-/// What a datagram hands up, and the leg that it touches, lead to few datagrams: those of a full frame to three at most, those of a
-/// VNAK to one, and media to one for each entry.
+/// The signals of a datagram, and the leg that it touches, lead to few datagrams: at most three for a full frame, one for a
+/// VNAK, and one for each entry of media.
 pub fn datagrams_bring_few()
     ensures full { (first : ℕ) (peer : PeerView) (frame : FullFrame) (now : ℕ) →
         step_puts (datagram_step first peer (Full frame) now) ≤ 3 }
@@ -184,16 +184,16 @@ pub fn datagrams_bring_few()
         step_puts (opens_in peer name frame now challenge) ≤ 3 }
 {}
 
-/// The lease that a call has in its hand is the one that its steps name: each step that takes a lease names the one in hand, and
-/// after each answer the call has the lease that the step left.
+/// The lease that a call holds is the one that its steps name. Each step that takes a lease names the one that the call
+/// holds. After each answer the call has the lease that the step left.
 pub fn leases_are_as_named()
     ensures needed { (work : Work) (name : LegName) → lease_needed (next_of work) ≡ Some name → lease_in work ≡ Some name }
     ensures after { (work : Work) (reply : Reply) →
         lease_in (after_told work reply) ≡ lease_after (next_of work) reply (lease_in work) }
 {}
 
-/// How a call begins. Until a step of a peer is made, or any step is refused, it stands at one of the first places of its kind. A
-/// step that is refused there ends it: it makes no step of a peer any more, and at most gives a lease back.
+/// The beginning of a call. Until a step of a peer is made, or any step is refused, it is at one of the first places of its
+/// kind. A refusal there ends it: it makes no further step of a peer, and at most returns a lease.
 #[tactic(auto, using(crate::proofs::Beginnings::beginnings))]
 pub fn refused_calls_end()
     // A step of a peer that is made leads past the beginning, and nothing leads back.

@@ -1,4 +1,4 @@
-//! The steps of one call of an exchange as plain data, and what holds of many calls at once ("Call Setup").
+//! The steps of one call of an exchange as plain data, and laws of many calls at once ("Call Setup").
 #![tactic(auto)]
 
 mod act;

@@ -4,10 +4,10 @@ use crate::act::Act;
 use call_book::LegName;
 use leg_machine::Format;
 
-/// What the route of an offered call leads to.
+/// The result of routing an offered call.
 #[derive(Clone, Copy)]
 pub enum Route {
-    /// No route leads to the number that is called.
+    /// No route leads to the called number.
     Nowhere,
     /// The peer has no format of the call.
     WithoutFormat,
@@ -18,30 +18,30 @@ pub enum Route {
 /// A step that a call has to make next. A peer is its place in the plan.
 #[derive(Clone, Copy)]
 pub enum Need {
-    /// The datagram goes to this peer.
+    /// Gives the datagram to this peer.
     Datagram(u16),
-    /// A leg is opened by the NEW that came, under a lease on this name.
+    /// Opens a leg by the received NEW, under a lease on this name.
     OpenIn(LegName),
-    /// The NEW that came is rejected by this peer.
+    /// Rejects the received NEW at this peer.
     RejectNew(u16),
-    /// A leg is opened by a NEW of ours, under a lease on this name.
+    /// Opens a leg by a NEW of the exchange, under a lease on this name.
     OpenOut(LegName),
-    /// The leg of this name gets an order.
+    /// Gives an order to the leg of this name.
     Order(LegName, Act),
-    /// Time goes on at this peer.
+    /// Ticks this peer.
     Tick(u16),
-    /// How does the leg of this peer and number stand?
+    /// Reads the status of the leg of this peer and number.
     Look(u16, u16),
-    /// The leg of this name is taken out, if it has ended and owes nothing.
+    /// Takes out the leg of this name, if it has ended and owes nothing.
     Retire(LegName),
-    /// The book gives a name of this peer.
+    /// Reserves a name of this peer in the book.
     Reserve(u16),
-    /// The book makes two names partners.
+    /// Makes two names partners in the book.
     Bridge(LegName, LegName),
-    /// Which partner has this name in the book?
+    /// Reads the partner of this name in the book.
     Partner(LegName),
-    /// The lease on this name goes back to the book.
+    /// Returns the lease on this name to the book.
     Release(LegName),
-    /// Where does the call lead that the leg of this name offers?
+    /// Routes the call that the leg of this name offers.
     Route(LegName),
 }

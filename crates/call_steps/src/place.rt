@@ -1,11 +1,11 @@
-//! Where a call stands.
+//! The place of a call among its steps.
 ghost use Rattle.std.specs.Prelude.{◌≡◌};
 
 use crate::act::Act;
 use call_book::LegName;
 use leg_machine::{Cause, Format, Signal};
 
-/// Where a call stands. A peer is its place in the plan.
+/// The place of a call among its steps. A peer is its place in the plan.
 #[derive(Clone, Copy)]
 pub enum Place {
     /// A datagram of this peer came.
@@ -30,13 +30,13 @@ pub enum Place {
     Accepting(LegName, LegName, Format),
     /// The far leg of the offered one is opened.
     OpenOut(LegName, LegName),
-    /// This far leg is new: has it still a partner?
+    /// This far leg is new, and its name may have lost its partner.
     Checking(LegName),
-    /// What the offered leg asks for was refused: the name of its far leg goes back, then the offered leg is doomed.
+    /// The call of the offered leg was refused: the name of its far leg is returned, then the offered leg is doomed.
     Undoing(LegName, LegName),
     /// This leg is doomed, for this cause.
     Dooming(LegName, Cause),
-    /// What this leg handed up goes to its partner.
+    /// The signal of this leg is for its partner.
     Finding(LegName, Act),
     /// The partner gets the order.
     Passing(LegName, Act),
@@ -54,7 +54,7 @@ pub enum Place {
     Retiring(LegName, Cause),
     /// This leg was taken out.
     Freeing(LegName, Cause),
-    /// Time goes on at this peer.
+    /// This peer is ticked.
     Tick(u16),
     /// This leg is hung up from outside.
     HangUp(LegName),
@@ -69,7 +69,7 @@ pub enum Place {
 impl Place {
     ghost use Rattle.call_steps.specs.Work.{place_for};
 
-    /// Where a call first stands for what a leg handed up; `None` where nothing is to be done for it.
+    /// Returns the first place for a leg's signal, or `None` if it needs no step.
     pub fn for_signal(name: LegName, signal: Signal) -> Option<Place>
         ensures { result ≡ place_for name signal }
     {

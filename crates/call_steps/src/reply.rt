@@ -1,4 +1,4 @@
-//! What the steps of a call answer.
+//! The answers to the steps of a call.
 
 use crate::need::Route;
 use call_book::{BridgeError, LegName, ReserveError, Stale};
@@ -6,7 +6,7 @@ use peer_lock::{
     Onwards, OpenError, OrderError, PeerError, RejectError, Rejection, Status, StepsSpent,
 };
 
-/// What a step of a peer tells: the leg concerned, what was rejected, and what was handed up.
+/// The answer to a step of a peer: the leg concerned, the rejection, and the signals handed up.
 #[derive(Drop)]
 pub struct Heard {
     pub touched: Option<LegName>,
@@ -17,19 +17,19 @@ pub struct Heard {
 /// The answer to a step: one for each that a call can need.
 #[derive(Drop)]
 pub enum Reply {
-    /// What a datagram's step told.
+    /// The answer to a datagram's step.
     Datagram(Result<Heard, PeerError>),
-    /// What the opening by the NEW that came told.
+    /// The answer to the opening by the received NEW.
     OpenIn(Result<Heard, OpenError>),
-    /// Whether the NEW that came was rejected.
+    /// Whether the received NEW was rejected.
     RejectNew(Result<(), RejectError>),
-    /// Whether a leg was opened by a NEW of ours.
+    /// Whether a leg was opened by a NEW of the exchange.
     OpenOut(Result<(), OpenError>),
     /// Whether the leg obeyed.
     Order(Result<(), OrderError>),
     /// Whether no leg of the peer has ended and none owes.
     Tick(Result<bool, StepsSpent>),
-    /// How the leg of a number stands, if there is one.
+    /// The status of the leg of a number, if there is one.
     Look(Option<Status>),
     /// Whether the leg was taken out.
     Retire(bool),
@@ -41,6 +41,6 @@ pub enum Reply {
     Partner(Option<LegName>),
     /// The former partner.
     Release(Result<Option<LegName>, Stale>),
-    /// Where the offered call leads.
+    /// The route of the offered call.
     Route(Route),
 }

@@ -12,13 +12,13 @@ use leg_machine::{Cause, Signal};
 use peer_lock::{Offer, Onwards};
 use std::marker::Model;
 
-/// The steps of one call of an exchange: of a datagram that came, of a tick, of a call or a hang-up from outside.
+/// The steps of one call of an exchange: of a received datagram, of a tick, of a call or a hang-up from outside.
 ///
-/// `next` names the step that is to be made, and `told` takes its answer. Neither takes memory nor waits.
+/// `next` returns the step to be made, and `told` takes its answer. Neither takes memory or waits.
 #[derive(Drop)]
 pub struct Work {
     place: Place,
-    // What the last step of a peer handed up. So many of its signals, the last ones, aren't passed on yet.
+    // The list of the last step of a peer. Its last `signals_left` signals aren't passed on yet.
     onwards: Option<Onwards>,
     signals_left: usize,
     // The leg that is finished after them.
@@ -44,14 +44,15 @@ impl Model for Work {
 impl Work {
     ghost use Rattle.call_steps.specs.WorkState.{begun, offer_in, first_of, without_first};
 
-    /// The steps of a datagram that came from this peer, which is its place in the plan.
+    /// Returns the steps of a datagram from this peer, which is its place in the plan.
     pub fn of_datagram(peer: u16) -> Work
         ensures { result ≡ begun (work.of_datagram peer) }
     {
         Work::at(Place::Datagram(peer))
     }
 
-    /// The steps of a tick at this peer, its place in the plan, whose call numbers are the next `count` from `first` on.
+    /// Returns the steps of a tick at this peer, its place in the plan, whose call numbers are the next `count` from
+    /// `first` on.
     pub fn of_tick(peer: u16, first: u16, count: u16) -> Work
         requires { first + count ≤ 2 ^ 16 }
         ensures { result ≡ begun (work.of_tick peer first count) }
@@ -64,14 +65,14 @@ impl Work {
         }
     }
 
-    /// The steps of a call to this peer, its place in the plan, that is made from outside.
+    /// Returns the steps of a call from outside to this peer, its place in the plan.
     pub fn of_call(peer: u16) -> Work
         ensures { result ≡ begun (work.of_call peer) }
     {
         Work::at(Place::ReserveCall(peer))
     }
 
-    /// The steps by which the leg of this name is hung up from outside.
+    /// Returns the steps by which the leg of this name is hung up from outside.
     pub fn of_hang_up(name: LegName) -> Work
         ensures { result ≡ begun (work.of_hang_up name) }
     {
@@ -81,7 +82,7 @@ impl Work {
         }
     }
 
-    // A call that stands here, with nothing besides to be done.
+    // Returns a call at this place, without further work.
     fn at(place: Place) -> Work
         ensures { result ≡ begun (work.at place work.nothing_left) }
     {
@@ -96,9 +97,9 @@ impl Work {
         }
     }
 
-    /// The step that is to be made next; `None` at the end.
-    // (inlined, as what takes an answer is: a step and an answer are many variants wide, and a mini frame would move each of its four
-    // through memory, at places where the processor waits for what it has just written)
+    /// Returns the step to be made next, or `None` at the end.
+    // Inlined, as the functions that take an answer are: a step and an answer are many variants wide. Without inlining, each of
+    // a mini frame's four is copied through memory, and the processor waits for values that it has just written.
     #[inline(always)]
     pub fn next(&self) -> Option<Need>
         ensures { result ≡ work.next_of self.now.work }
@@ -136,7 +137,7 @@ impl Work {
         }
     }
 
-    /// What the offered call asks for; `None` where the last step of a peer handed no offer up.
+    /// Returns the offer of the offered call, or `None` if the last step of a peer handed none up.
     pub fn offer(&self) -> Option<&Offer>
         ensures { option_copied result ≡ offer_in self.now.onwards }
     {
@@ -146,7 +147,8 @@ impl Work {
         }
     }
 
-    /// The list that the last step of a peer wrote, for the next one, where the work is given up; `None` where there is none.
+    /// Returns the list that the last step of a peer wrote, for reuse, when the work is given up, or `None` if there is
+    /// none.
     pub fn into_onwards(self) -> Option<Onwards>
         ensures { result ≡ self.onwards }
     {
@@ -162,7 +164,7 @@ impl Work {
         onwards
     }
 
-    /// Whether no step of a peer was made yet, and none was refused.
+    /// Returns whether no step of a peer was made yet, and none was refused.
     pub fn is_beginning(&self) -> bool
         ensures { result ≡ is_some (beginning_at self.now.work.place) }
     {
@@ -175,21 +177,21 @@ impl Work {
         }
     }
 
-    // Where the call stands.
+    // Returns the place of the call.
     pub(crate) fn place(&self) -> Place
         ensures { result ≡ self.now.work.place }
     {
         self.place
     }
 
-    // The call goes to this place.
+    // Moves the call to this place.
     pub(crate) fn go_to(&mut self, place: Place)
         ensures { self.new ≡ record self.old { work = work.at place self.old.work.rest } }
     {
         self.place = place;
     }
 
-    // Nothing is left to be done.
+    // Ends the call.
     pub(crate) fn end(&mut self)
         ensures { self.new ≡ record self.old { work = work.ended } }
     {
@@ -199,7 +201,7 @@ impl Work {
         self.numbers_left = 0;
     }
 
-    // A step of a peer was made.
+    // Takes the list of a step of a peer that was made.
     #[inline(always)]
     pub(crate) fn hear(&mut self, heard: Heard)
         ensures work { self.new.work ≡ work.after_heard heard self.old.work.rest }
@@ -216,7 +218,7 @@ impl Work {
         self.go_on();
     }
 
-    // What was handed up is passed on, then the touched leg is finished, then the next number of a tick.
+    // Continues with the next signal, then with the touched leg, then with the next number of a tick.
     pub(crate) fn go_on(&mut self)
         ensures { self.new ≡ record self.old { work = work.go_on self.old.work.rest } }
     {
@@ -239,7 +241,7 @@ impl Work {
         }
     }
 
-    // The next signal that isn't passed on yet.
+    // Takes the next signal that isn't passed on yet.
     fn take_signal(&mut self) -> Option<(LegName, Signal)>
         ensures signal { result ≡ first_of self.old.work.rest.onward }
         ensures work { self.new ≡ record self.old { work = without_first self.old.work } }

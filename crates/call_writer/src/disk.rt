@@ -1,15 +1,15 @@
-//! Where files are found by their names.
+//! Files by their names.
 use std::fs::{File, Files, Metadata, OpenOptions};
 use std::os::unix::fs::OpenOptionsExt;
 use std::{fs, io};
 
-/// Where files are found by their names. A thread may be given one, where its maker's file system is a type of its own: what has
-/// `Files` has this.
+/// Opens files by their names. Each type with `Files` has it. A thread can hold one, whatever the type of its maker's file
+/// system is.
 pub trait Disk {
-    /// Opens the file of a name, to read it and to append to it. Where there is none it is made, with the mode 0640.
+    /// Opens the file of a name for reading and appending. If there is none, it is made with the mode 0640.
     fn open(&self, path: &str) -> io::Result<File>;
 
-    /// What the system says of the file of a name.
+    /// Returns the system's metadata of the file of a name.
     fn metadata(&self, path: &str) -> io::Result<Metadata>;
 }
 

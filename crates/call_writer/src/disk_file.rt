@@ -10,10 +10,10 @@ use std::os::fd::AsRawFd;
 use std::os::unix::fs::{FileExt, MetadataExt};
 use system_limits::{ABOVE_LIMIT, file_size_limit, is_writable, octets_below};
 
-// How often a write that a signal cut off is made again.
+// The number of times that a write is repeated after a signal interrupted it.
 const TRIES: u32 = 16;
 
-// How many octets a pipe takes that has room.
+// The number of octets that a pipe takes if it has room.
 const PIECE: usize = 4096;
 
 // The system's number of the error "Resource temporarily unavailable", with which a pipe without room refuses a write.
@@ -25,9 +25,10 @@ pub(crate) struct DiskFile<'a, D: Disk> {
     disk: &'a D,
     path: &'a str,
     file: Option<File>,
-    // Whether it is a regular file: of another one it is asked whether it has room, so that nobody waits for who reads it.
+    // Whether it is a regular file. Any other is asked for room before a write, so that the writer never waits for a
+    // reader.
     is_regular: bool,
-    // How many octets a file may have.
+    // The limit on the size of a file, in octets.
     limit: u64,
 }
 
@@ -37,7 +38,7 @@ fn fault_of(error: &io::Error) -> Fault {
     }
 }
 
-// What stands in a file. What is no regular file, as a pipe, has nothing in it.
+// Returns the state of a file's content. A pipe, or any file that isn't regular, counts as empty.
 fn beginning_of(file: &File, metadata: &Metadata) -> io::Result<Beginning> {
     if !metadata.is_file() || metadata.len() == 0 {
         return Ok(Beginning::Empty);
@@ -50,12 +51,12 @@ fn beginning_of(file: &File, metadata: &Metadata) -> io::Result<Beginning> {
     })
 }
 
-// Whether two names, or files, are of one file.
+// Returns whether two names, or files, lead to the same file.
 fn is_same(one: &Metadata, other: &Metadata) -> bool {
     one.dev() == other.dev() && one.ino() == other.ino()
 }
 
-// Writes what the system takes of these octets.
+// Writes as many of these octets as the system takes.
 fn write(file: &mut File, octets: &[u8]) -> io::Result<usize>
     ensures { IfOk result (λ count. count ≤ length octets.now) }
 {
@@ -69,7 +70,7 @@ fn write(file: &mut File, octets: &[u8]) -> io::Result<usize>
 }
 
 impl<'a, D: Disk> DiskFile<'a, D> {
-    /// A file that isn't open.
+    /// Returns a file that isn't open.
     pub(crate) fn new(disk: &'a D, path: &'a str) -> DiskFile<'a, D> {
         DiskFile {
             disk,
@@ -91,8 +92,8 @@ impl<'a, D: Disk> DiskFile<'a, D> {
         Ok(beginning)
     }
 
-    // How many of so many octets may be written now. A regular file takes all of them or, where that would pass the limit on its
-    // size, none.
+    // Returns the number of octets that may be written now, at most `octets`. A regular file takes all of them, or none if
+    // they would pass the limit on its size.
     fn room(&self, file: &File, octets: usize) -> io::Result<usize>
         ensures { IfOk result (λ count. count ≤ octets) }
     {
@@ -154,7 +155,7 @@ impl<'a, D: Disk> RowFile for DiskFile<'a, D> {
         }
     }
 
-    // What can't be synced, as a pipe, has nothing to be had on a disk.
+    // A pipe, or any file that can't be synced, has nothing to sync.
     fn sync(&mut self) -> Result<(), Fault> {
         match &self.file {
             Some(file) => match file.sync_data() {

@@ -1,5 +1,5 @@
-//! The file of call records: the threads of a service hand over the row of each leg that was taken out, without waiting, and a
-//! thread of its own appends them to a file on the disk.
+//! The file of call records. The threads of a service hand over the row of each leg that was taken out, without waiting. A
+//! separate thread appends the rows to a file.
 #![tactic(auto)]
 
 mod disk;

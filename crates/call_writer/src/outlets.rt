@@ -1,4 +1,4 @@
-//! Where the threads of a service hand over their rows, and what the writer tells of its file.
+//! The outlets by which the threads of a service hand over rows, and the state that the writer reports of its file.
 use call_files::{Fault, Outlet, Trouble};
 use call_records::{Backlog, CallRow};
 use rtrb::{Consumer, RingBuffer};
@@ -6,26 +6,26 @@ use std::alloc::{AllocError, Global};
 use std::sync::atomic::{AtomicBool, AtomicU64, Ordering};
 use std::sync::{Mutex, MutexGuard, Wait};
 
-// How many rows there are at most between a thread and the writer, and how many more the thread keeps. Two workers whose calls
-// end at 1,000 a second each may be alone for four seconds.
+// The number of rows in the ring between a thread and the writer, and the number that the thread keeps beyond it. Two
+// workers with 1,000 ended calls a second each can run for four seconds without the writer.
 const RING: usize = 256;
 
 const KEPT: usize = 4096;
 
-// The same of the second outlet, which a thread takes while the writer looks into the first. The writer never looks into it while
-// threads run, so a thread always finds one that is free.
+// The same of the second outlet, which a thread uses while the writer has locked the first. The writer never locks it while
+// threads run, so a thread always finds a free one.
 const SECOND_RING: usize = 64;
 
-/// How the file of the records is.
+/// The state of the file of call records.
 #[derive(Clone, Copy, Default)]
 pub struct FileState {
-    /// How many rows were written to their ends, modulo 2^64.
+    /// Rows written completely, modulo 2^64.
     pub written: u64,
-    /// How many rows were handed over, and aren't written or lost.
+    /// Rows that were handed over and are neither written nor lost.
     pub waiting: u64,
-    /// How many rows were lost, since too many waited, modulo 2^64.
+    /// Rows that were lost because too many waited, modulo 2^64.
     pub lost: u64,
-    /// What is wrong with the file.
+    /// The file's trouble, if it has any.
     pub trouble: Option<Trouble>,
 }
 
@@ -36,12 +36,13 @@ pub(crate) struct Seam {
     pub(crate) ring: Consumer<CallRow>,
 }
 
-// Whether the outlet at a place is the second one of its thread.
+// Returns whether the outlet at a place is the second one of its thread.
 fn is_second(place: usize) -> bool {
     place % 2 == 1
 }
 
-/// Two outlets for each thread that takes legs out, and what the writer tells of its file. All threads share it.
+/// Two outlets for each thread that takes legs out, and the state that the writer reports of its file. All threads share
+/// it.
 pub struct CallOutlets {
     outlets: Vec<Mutex<Outlet<CallRow>>>,
     // Rows that threads handed over, and rows that were written.
@@ -54,7 +55,7 @@ pub struct CallOutlets {
     are_over: AtomicBool,
 }
 
-// (Written out, so that whoever owns one proves a call where it is dropped, and not the drop of each field.)
+// Written out, so that an owner proves one call at its drop, not the drop of each field.
 impl Drop for CallOutlets {
     fn drop(self) {
         let CallOutlets {
@@ -69,7 +70,7 @@ impl Drop for CallOutlets {
     }
 }
 
-// An outlet with an empty ring of this size, and the ring's other end.
+// Returns an outlet with an empty ring of this size, and the ring's other end.
 fn outlet(
     alloc: Global,
     ring: usize,
@@ -79,7 +80,7 @@ fn outlet(
     Ok((Mutex::new(Outlet::new(producer, kept)), consumer))
 }
 
-// What is wrong with a file, as a number: 0 for nothing.
+// Encodes a file's trouble as a number: 0 for none.
 fn number_of(trouble: Option<Trouble>) -> u64 {
     let (kind, fault) = match trouble {
         None => return 0,
@@ -90,7 +91,7 @@ fn number_of(trouble: Option<Trouble>) -> u64 {
     kind << 32 | u64::from(fault.code.unwrap_or(0).cast_unsigned())
 }
 
-// What a number says is wrong.
+// Decodes a file's trouble.
 fn trouble_of(number: u64) -> Option<Trouble> {
     let fault = Fault {
         code: match u32::try_from(number & 0xffff_ffff) {
@@ -107,7 +108,7 @@ fn trouble_of(number: u64) -> Option<Trouble> {
 }
 
 impl CallOutlets {
-    /// Outlets for so many threads, and the other ends of their rings.
+    /// Returns the outlets for `threads` threads, and the other ends of their rings.
     pub(crate) fn new(
         alloc: Global,
         threads: usize,
@@ -137,7 +138,8 @@ impl CallOutlets {
         Ok((shared, seams))
     }
 
-    // An outlet of a thread that nobody is in. The thread itself is in none, and the writer at most in the first.
+    // Returns a free outlet of a thread. The thread itself uses neither at this time, and the writer locks at most the
+    // first.
     fn free_outlet(&self, thread: u16) -> Option<MutexGuard<'_, Outlet<CallRow>>> {
         let first = usize::from(thread) * 2;
         for place in [first, first + 1] {
@@ -150,10 +152,10 @@ impl CallOutlets {
         None
     }
 
-    /// Hands a row over, without waiting. A thread is named by its place, and is nowhere else in this call at the same time.
-    /// Where there is no room the row is lost, and counted.
+    /// Hands a row over without waiting. A thread is named by its place, and may not make two of these calls at once.
+    /// Without room the row is lost, and counted.
     pub fn hand_over(&self, thread: u16, row: CallRow) {
-        // (counted first, so that no row is written that wasn't handed over)
+        // Counted first, so that the written rows are never more than those handed over.
         self.handed.fetch_add(1, Ordering::SeqCst);
         let is_kept = match self.free_outlet(thread) {
             Some(mut outlet) => outlet.hand_over(row),
@@ -165,12 +167,12 @@ impl CallOutlets {
         }
     }
 
-    /// How the file is, by what threads handed over and the writer told last. Contracts don't speak of it.
+    /// Returns the state of the file, as the threads and the writer last reported it. Contracts don't mention it.
     pub fn state(&self) -> FileState {
         let lost = self.lost.load(Ordering::Relaxed);
         let lost_by_writer = self.lost_by_writer.load(Ordering::SeqCst);
         let written = self.written.load(Ordering::SeqCst);
-        // (read last, so that it isn't less than what has become of its rows)
+        // Read last, so that it isn't less than the sum of the other counts.
         let handed = self.handed.load(Ordering::SeqCst);
         FileState {
             written,
@@ -180,17 +182,17 @@ impl CallOutlets {
         }
     }
 
-    /// No thread hands anything over any more: the writer writes what there is, and ends.
+    /// Ends the outlets: no thread hands a row over after this. The writer writes the rest and ends.
     pub fn end(&self) {
         self.are_over.store(true, Ordering::SeqCst);
     }
 
-    /// Whether no thread hands anything over any more.
+    /// Returns whether the outlets have ended.
     pub(crate) fn are_over(&self) -> bool {
         self.are_over.load(Ordering::SeqCst)
     }
 
-    /// The writer tells how its file is: how many rows it has written and lost, and what is wrong. It counts none that waits.
+    /// Stores the writer's report: its written and lost rows, and the file's trouble. It doesn't count waiting rows.
     pub(crate) fn tell(&self, state: FileState) {
         self.written.store(state.written, Ordering::SeqCst);
         self.lost_by_writer.store(state.lost, Ordering::SeqCst);
@@ -198,8 +200,8 @@ impl CallOutlets {
             .store(number_of(state.trouble), Ordering::Relaxed);
     }
 
-    /// The rows that an outlet keeps, if it keeps any, and how many of those in its ring came before them. Into a second outlet
-    /// it is looked only once the outlets are over.
+    /// Returns the rows that an outlet keeps, if it keeps any, and the number of rows in its ring, which came before them.
+    /// A second outlet is read only after the end of the outlets.
     pub(crate) fn take_kept<R: Wait>(
         &self,
         rt: &R,
@@ -214,7 +216,7 @@ impl CallOutlets {
         if outlet.lock(rt).kept() == 0 {
             return None;
         }
-        // (memory is taken while nobody is kept waiting)
+        // Memory is reserved before the lock, so that no thread waits for it.
         let spare = Backlog::new(alloc, KEPT).ok()?;
         let mut outlet = outlet.lock(rt);
         let before = seam.ring.slots();

@@ -1,4 +1,7 @@
-//! The text of a row: the peers of a plan by their names, moments by the calendar.
+//! The text of a row: peers by their names in the plan, moments as dates.
+ghost use Rattle.std.specs.Prelude.{◌≡◌};
+ghost use Rattle.call_writer.specs.RowLines.{peer_text};
+
 use call_files::Spelling;
 use call_records::{CallRow, RowTexts, push_row};
 use jiff::Timestamp;
@@ -12,8 +15,8 @@ pub struct Calendar {
 }
 
 impl Calendar {
-    // A moment of the exchange, in milliseconds, as a date and time (RFC 3339, in UTC, with milliseconds); nothing beyond the
-    // year 9999.
+    // Formats a moment of the exchange, in milliseconds, as a date and time (RFC 3339, in UTC, with milliseconds). A moment
+    // after the year 9999 gives an empty text.
     fn text(self, alloc: Global, moment: u64) -> Result<String, AllocError> {
         let ms = i64::try_from(moment).unwrap_or(i64::MAX);
         match Timestamp::from_millisecond((self.opened_us / 1000).saturating_add(ms)) {
@@ -23,7 +26,7 @@ impl Calendar {
     }
 }
 
-/// The texts of the rows of a service.
+/// Formats the rows of a service.
 #[derive(Drop)]
 pub(crate) struct RowSpelling<'a> {
     pub(crate) alloc: Global,
@@ -32,8 +35,10 @@ pub(crate) struct RowSpelling<'a> {
 }
 
 impl<'a> RowSpelling<'a> {
-    // The name of a peer, by its place in the plan; nothing for a place where there is none.
-    fn peer(&self, place: u16) -> &str {
+    // Returns the name of a peer, by its place in the plan, or an empty text if there is no such place.
+    fn peer(&self, place: u16) -> &str
+        ensures { result.now ≡ peer_text self.now.plan.now place }
+    {
         if place < self.plan.peer_count() {
             self.plan.name(place)
         } else {
@@ -43,6 +48,10 @@ impl<'a> RowSpelling<'a> {
 }
 
 impl<'a> Spelling<CallRow> for RowSpelling<'a> {
+    ghost use Rattle.call_writer.specs.RowLines.{IsRowLine};
+
+    ghost is_line = { λ spelling row line. IsRowLine spelling.plan.now row line };
+
     fn spell(&self, row: &CallRow, octets: &mut Vec<u8>) -> Result<(), AllocError> {
         let opened = self.calendar.text(self.alloc, row.opened)?;
         let ended = self.calendar.text(self.alloc, row.ended)?;

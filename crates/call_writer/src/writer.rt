@@ -1,4 +1,10 @@
-//! The thread that writes.
+//! The thread that writes the call records.
+ghost use Rattle.std.specs.Prelude.{◌≡◌, ◌+◌, ◌%◌, ◌^◌, [], ℕ};
+ghost use Rattle.rtrb.specs.Ring.{received};
+ghost use Rattle.call_files.specs.Logs.{IsMoved};
+ghost use Rattle.call_writer.specs.Ledgers.{IsNoted, with_noted};
+ghost use Rattle.call_writer.specs.RowLines.{IsRowLine};
+
 use crate::disk::Disk;
 use crate::disk_file::DiskFile;
 use crate::outlets::{CallOutlets, FileState, Seam};
@@ -12,16 +18,16 @@ use std::thread;
 use std::thread::Threads;
 use std::time::{Clock, Duration, Instant};
 
-// How many rows wait at most for the file, beside those of the outlets.
+// The greatest number of rows that wait for the file, beyond those of the outlets.
 const WAITING: usize = 65_536;
 
-// How long a round lasts, in milliseconds.
+// The length of a round, in milliseconds.
 const ROUND_MS: u64 = 100;
 
-// How long rows that wait at the end are tried again, in milliseconds.
+// The time for which rows that wait at the end are tried again, in milliseconds.
 const END_MS: u64 = 5000;
 
-/// The other ends of the outlets, the serials of calls, and room for the rows that wait. Whoever writes has it.
+/// The writer's part: the other ends of the outlets, the serials of calls, and room for the rows that wait.
 pub struct CallRows {
     alloc: Global,
     seams: Vec<Seam>,
@@ -31,7 +37,7 @@ pub struct CallRows {
     header: Vec<u8>,
 }
 
-// (Written out, so that whoever owns one proves a call where it is dropped, and not the drop of each field.)
+// Written out, so that an owner proves one call at its drop, not the drop of each field.
 impl Drop for CallRows {
     fn drop(self) {
         let CallRows {
@@ -45,14 +51,14 @@ impl Drop for CallRows {
     }
 }
 
-// The rows that have come: each has the serial of its call, and waits for the file.
+// The rows that were received: each has the serial of its call, and waits for the file.
 #[derive(Drop)]
 struct Ledger<'a, D: Disk> {
     calls: CallNumbering,
     log: RowLog<DiskFile<'a, D>, CallRow>,
 }
 
-// What is written of rows that have come.
+// The writer's state.
 #[derive(Drop)]
 struct Writer<'a, D: Disk> {
     seams: Vec<Seam>,
@@ -61,10 +67,10 @@ struct Writer<'a, D: Disk> {
 }
 
 impl CallRows {
-    /// The outlets of a plan's workers and of one thread more, and what the writer needs. The serials of calls begin with the
-    /// date, in microseconds since the beginning of 1970, so that those of a later run are greater.
+    /// Returns the outlets of a plan's workers and of one more thread, and the writer's part. The first serial of a call is
+    /// the date, in microseconds since the beginning of 1970, so that those of a later run are greater.
     ///
-    /// `AllocError`: a request for memory was refused.
+    /// Returns `AllocError` if a request for memory was refused.
     pub fn new(
         alloc: Global,
         plan: &Plan,
@@ -89,7 +95,7 @@ impl CallRows {
         Ok((outlets, rows))
     }
 
-    // A writer of them to the file of this name, which isn't open.
+    // Returns a writer to the file of this name, which isn't open yet.
     fn writer_to<'a, D: Disk>(self, disk: &'a D, path: &'a str) -> Writer<'a, D> {
         let CallRows {
             alloc,
@@ -112,15 +118,24 @@ impl CallRows {
 }
 
 impl<'a, D: Disk> Ledger<'a, D> {
-    // A row has come.
-    fn note(&mut self, row: CallRow) {
+    // Adds a row that was received.
+    fn note(&mut self, row: CallRow)
+        ensures rows { (record { calls = self.new.calls; backlog = self.new.log.backlog }) ≡ with_noted
+            (record { calls = self.old.calls; backlog = self.old.log.backlog }) row }
+        ensures file { self.new.log.file ≡ self.old.log.file }
+    {
         let mut row = row;
         row.call = self.calls.number_of(row.name, row.partner);
         let _ = self.log.push(row);
     }
 
-    // So many rows of a ring, the oldest first.
-    fn take_sent(&mut self, seam: &mut Seam, count: usize) {
+    // Takes `count` rows from a ring, the oldest first.
+    fn take_sent(&mut self, seam: &mut Seam, count: usize)
+        ensures rows { IsNoted (received seam.old.ring) (received seam.new.ring) []
+            (record { calls = self.old.calls; backlog = self.old.log.backlog })
+            (record { calls = self.new.calls; backlog = self.new.log.backlog }) }
+        ensures file { self.new.log.file ≡ self.old.log.file }
+    {
         for _ in 0..count {
             if let Ok(row) = seam.ring.pop() {
                 self.note(row);
@@ -128,7 +143,23 @@ impl<'a, D: Disk> Ledger<'a, D> {
         }
     }
 
-    // The rows of an outlet, the oldest first: where it keeps some, those of its ring that came before these.
+    // Takes `before` rows from a ring, and then the rows that its outlet kept, which came after them.
+    fn take_rest(&mut self, seam: &mut Seam, before: usize, kept: Backlog<CallRow>)
+        ensures rows { IsNoted (received seam.old.ring) (received seam.new.ring) kept.waiting
+            (record { calls = self.old.calls; backlog = self.old.log.backlog })
+            (record { calls = self.new.calls; backlog = self.new.log.backlog }) }
+        ensures file { self.new.log.file ≡ self.old.log.file }
+    {
+        let mut kept = kept;
+        self.take_sent(seam, before);
+        for _ in 0..kept.len() {
+            if let Some(row) = kept.take() {
+                self.note(row);
+            }
+        }
+    }
+
+    // Takes the rows of an outlet, the oldest first: if it keeps some, the rows of its ring come before them.
     fn take_from<R: Wait>(
         &mut self,
         rt: &R,
@@ -137,29 +168,30 @@ impl<'a, D: Disk> Ledger<'a, D> {
         are_over: bool,
         seam: &mut Seam,
     ) {
-        let Some((before, mut kept)) = outlets.take_kept(rt, alloc, seam, are_over) else {
+        let Some((before, kept)) = outlets.take_kept(rt, alloc, seam, are_over) else {
             let count = seam.ring.slots();
             return self.take_sent(seam, count);
         };
-        self.take_sent(seam, before);
-        for _ in 0..kept.len() {
-            if let Some(row) = kept.take() {
-                self.note(row);
-            }
-        }
+        self.take_rest(seam, before, kept);
     }
 }
 
 impl<'a, D: Disk> Writer<'a, D> {
-    // All rows that have come.
+    // Takes all rows that were handed over.
     fn take_all<R: Wait>(&mut self, rt: &R, alloc: Global, outlets: &CallOutlets, are_over: bool) {
         for seam in self.seams.iter_mut() {
             self.ledger.take_from(rt, alloc, outlets, are_over, seam);
         }
     }
 
-    // Writes what waits; at the end all of it is on the disk, as far as the system lets it. Tells how the file is.
-    fn write(&mut self, outlets: &CallOutlets, spelling: &RowSpelling<'_>, now: u64, is_end: bool) {
+    // Writes the rows that wait, and reports the file's state. At the end it also syncs the file, as far as the system
+    // allows.
+    fn write(&mut self, outlets: &CallOutlets, spelling: &RowSpelling<'_>, now: u64, is_end: bool)
+        ensures lines { (count : ℕ)
+            × IsMoved (IsRowLine spelling.now.plan.now) self.old.ledger.log count self.new.ledger.log
+            × (self.new.written ≡ (self.old.written + count) % 2 ^ 64) }
+        ensures calls { self.new.ledger.calls ≡ self.old.ledger.calls }
+    {
         let log = &mut self.ledger.log;
         let count = if is_end {
             log.end(spelling, now)
@@ -175,12 +207,13 @@ impl<'a, D: Disk> Writer<'a, D> {
         });
     }
 
-    // Whether no row waits.
+    // Returns whether no row waits.
     fn is_done(&self) -> bool {
         self.ledger.log.waiting() == 0 && !self.ledger.log.has_row()
     }
 
-    // Appends to the file what is handed over, until the outlets are over and no row waits, or for five seconds after that.
+    // Appends the rows that are handed over, until the outlets have ended and no row waits, or for five seconds after that
+    // end.
     fn write_rounds<R: Clock + Wait>(
         &mut self,
         rt: &R,
@@ -192,7 +225,7 @@ impl<'a, D: Disk> Writer<'a, D> {
         let _ = self.ledger.log.open(now);
         let mut until = u64::MAX;
         for _ in rt.forever() {
-            // (asked first, so that nothing is missed that a thread handed over before its end)
+            // Read first, so that no row is missed that a thread handed over before its end.
             let are_over = outlets.are_over();
             now = moment(rt, opened, now);
             self.take_all(rt, spelling.alloc, outlets, are_over);
@@ -208,7 +241,7 @@ impl<'a, D: Disk> Writer<'a, D> {
     }
 }
 
-// Milliseconds since the exchange was opened; the last ones where the clock can't be read.
+// Returns milliseconds since the exchange was opened, or `last` if the clock can't be read.
 fn moment<R: Clock>(rt: &R, opened: Instant, last: u64) -> u64 {
     match opened.elapsed(rt) {
         Ok(elapsed) => u64::try_from(elapsed.as_millis()).unwrap_or(last),
@@ -216,15 +249,15 @@ fn moment<R: Clock>(rt: &R, opened: Instant, last: u64) -> u64 {
     }
 }
 
-/// Has a service serve, and appends meanwhile, on a thread of its own, to the file of this name what the service's threads hand
-/// over: in rounds of a tenth of a second. Rows that were written are on the disk after a second at most, and at the end.
+/// Runs a service. A separate thread appends the rows that the service's threads hand over to the file of this name, every
+/// tenth of a second. Rows are synced to the disk at most a second after they were written, and at the end.
 ///
-/// A file that can't be opened or written to is tried again, and rows wait, 65,536 of them at most. One whose name leads to
-/// another file is opened anew there. What isn't a regular file is never waited for. At the end what waits is tried again for five
-/// seconds.
+/// A file that can't be opened or written to is tried again; at most 65,536 rows wait for it. If its name leads to another
+/// file, that file is opened. The writer never waits for a file that isn't regular. At the end, rows that wait are tried
+/// again for five seconds.
 ///
-/// Answers what `serve` does; false if the thread was refused, and then nothing is served. Once the service has served the outlets
-/// are over.
+/// Returns the result of `serve`, or false if the thread was refused; then nothing is served. The outlets end once `serve`
+/// has returned.
 pub fn write_calls_beside<R: Clock + Threads + Wait + Sync, D: Disk + Sync, F: FnOnce() -> bool>(
     rt: &R,
     disk: &D,

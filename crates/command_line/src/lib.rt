@@ -7,10 +7,10 @@ use std::alloc::{AllocError, Global};
 /// The version of the program.
 pub const VERSION: &str = "1.0.0";
 
-// What may stand at an argument.
+// The values that an argument takes.
 #[derive(Clone, Copy)]
 enum Taken {
-    // A word, which has to stand there.
+    // One required word.
     Word,
     // One word or more, up to the end.
     Words,
@@ -18,17 +18,16 @@ enum Taken {
     Flag,
     // An option with a value, which has this name in the help.
     Value(&'static str),
-    // The same. The value is one of these; where the option doesn't stand there, it is the second text.
+    // An option with a value from a list. The second text is its default.
     OneOf(&'static str, &'static str, &'static [&'static str]),
-    // The same. The value is a number from the first to the last of these; where the option doesn't stand there, it is that text,
-    // if there is one.
+    // An option with a number from the first to the last of these. The text is its default, if it has one.
     Number(&'static str, Option<&'static str>, i64, i64),
 }
 
-// An argument: its name, which is an option's own word; what may stand there; what the help says.
+// An argument: its name, which is an option's own word; the values that it takes; and its help text.
 type Row = (&'static str, Taken, &'static str);
 
-// A command: its name, what the help says, its arguments.
+// A command: its name, its help text, and its arguments.
 type CommandRow = (&'static str, &'static str, &'static [Row]);
 
 const PLAN: Row = ("plan", Taken::Word, "The file of the plan, in TOML");
@@ -37,11 +36,11 @@ const SCRIPT: Row = ("script", Taken::Word, "The file of the script");
 
 const PLAN_ORDER: Row = ("order", Taken::Words, "new | upgrade <file>");
 
-// What is said of plans and scripts, what is made of a script, and what carries calls.
+// The commands: those on plans and scripts, and those that carry calls.
 const COMMANDS: [CommandRow; 10] = [
     (
         "check",
-        "Tells whether a plan is right, or its first fault",
+        "Prints whether a plan is right, or its first fault",
         &[PLAN],
     ),
     (
@@ -76,12 +75,12 @@ const COMMANDS: [CommandRow; 10] = [
     ),
     (
         "serve",
-        "Carries calls for so many turns of each worker, then prints the accounts",
+        "Carries calls for a number of turns of each worker, then prints the accounts",
         &SERVE,
     ),
     (
         "run",
-        "Carries calls until it is told to stop, then prints the accounts",
+        "Carries calls until a stop, then prints the accounts",
         &RUN,
     ),
     ("ctl", "Gives a running service an order", &CTL),
@@ -156,7 +155,7 @@ const RUN: [Row; 12] = [
     (
         "trace-limit",
         Taken::Number("MEBIBYTES", Some("64"), 1, 1048576),
-        "How much of it is kept for each worker",
+        "The size of the files that are kept for each worker",
     ),
     (
         "trace-digits",
@@ -166,7 +165,7 @@ const RUN: [Row; 12] = [
     (
         "stop-at-end-of-input",
         Taken::Flag,
-        "Stop, as by an order, where standard input is a pipe that ends",
+        "Stop, as by an order, when a pipe at standard input ends",
     ),
 ];
 
@@ -175,16 +174,16 @@ const CTL: [Row; 2] = [
     (
         "order",
         Taken::Words,
-        "peers | calls | accounts | call <peer> <number> | hangup <number> | stop",
+        "peers | calls | accounts | call <peer> <number> | hangup <number> | drain [off] | stop [--graceful]",
     ),
 ];
 
-// An option with a value.
+// Returns an option with a value.
 fn option<'a>(arg: Arg<'a>, name: &'static str, value_name: &'static str) -> Arg<'a> {
     arg.long(name).value_name(value_name).action(ArgAction::Set)
 }
 
-// A number from the first to the last of these, as an option's value.
+// Sets an option's value to a number from the first to the last of these.
 fn number<'a>(arg: Arg<'a>, default: Option<&'static str>, first: i64, last: i64) -> Arg<'a> {
     let arg = arg.value_parser(clap::value_parser!(u32).range(first..=last));
     match default {
@@ -227,9 +226,9 @@ fn commands<'a>(alloc: Global) -> Result<Vec<Command<'a>>, AllocError> {
     Ok(commands)
 }
 
-/// The whole command line. The words of a parse have to live as long as `'a`.
+/// Returns the whole command line. The words of a parse have to live as long as `'a`.
 ///
-/// `AllocError`: a request for memory was refused.
+/// Returns `AllocError` if a request for memory was refused.
 pub fn command_line<'a>(alloc: Global) -> Result<Command<'a>, AllocError> {
     let commands = commands(alloc)?;
     Command::new(alloc, "exchange_main")

@@ -9,13 +9,13 @@ use std::net::Net;
 use std::os::unix::net::UnixStream;
 use std::time::Duration;
 
-// How many octets are read at once.
+// The number of octets read at once.
 const PIECE: usize = 4096;
 
-// How many octets an answer has at most, far more than all calls of an exchange take.
+// The greatest size of an answer, in octets. It is far more than all calls of an exchange take.
 const MOST: usize = 67_108_864;
 
-// How many seconds an answer may keep silent.
+// The number of seconds for which an answer may be silent.
 const SECONDS: u64 = 10;
 
 /// A response: its status, and its body.
@@ -42,7 +42,7 @@ fn read_whole(alloc: Global, stream: &mut UnixStream) -> io::Result<Vec<u8>> {
     Ok(octets)
 }
 
-// The response that these octets are.
+// Parses a response.
 fn response_of(alloc: Global, octets: &[u8]) -> io::Result<Answered> {
     let mut headers = [EMPTY_HEADER; 16];
     let mut response = Response::new(&mut headers);

@@ -1,8 +1,8 @@
-//! The orders that words name.
+//! The orders of the command line to a running service.
 use serde_json::json;
 use std::alloc::{AllocError, Global};
 
-/// What a running service is asked.
+/// An order to a running service.
 #[derive(Clone, Copy)]
 pub enum Order<'w> {
     /// `peers`
@@ -11,9 +11,9 @@ pub enum Order<'w> {
     Calls,
     /// `accounts`
     Accounts,
-    /// `call <peer> <number>`: a call goes out.
+    /// `call <peer> <number>`: places a call.
     Call { peer: &'w str, number: &'w str },
-    /// `hangup <number>`: the leg of a local number hangs up.
+    /// `hangup <number>`: hangs up the leg of a local number.
     HangUp(&'w str),
     /// `stop`
     Stop,
@@ -25,7 +25,7 @@ pub enum Order<'w> {
     EndDrain,
 }
 
-// The order of one word.
+// Returns the order of one word.
 fn plain_order<'w>(word: &str) -> Option<Order<'w>> {
     match word {
         "peers" => Some(Order::Peers),
@@ -37,8 +37,9 @@ fn plain_order<'w>(word: &str) -> Option<Order<'w>> {
     }
 }
 
-/// The order that these words name: `peers`, `calls`, `accounts`, `call <peer> <number>`, `hangup <number>`, `drain`, `drain off`,
-/// `stop` or `stop --graceful`. `None` if they name none. Names and numbers aren't judged here.
+/// Returns the order that these words name, or `None` if they name none. Orders are `peers`, `calls`, `accounts`, `call
+/// <peer> <number>`, `hangup <number>`, `drain`, `drain off`, `stop` and `stop --graceful`. Names and numbers aren't
+/// checked here.
 pub fn order_of<'w>(words: &'w [String]) -> Option<Order<'w>> {
     match words {
         [word] => plain_order(word.as_str()),
@@ -56,7 +57,7 @@ pub fn order_of<'w>(words: &'w [String]) -> Option<Order<'w>> {
 }
 
 impl<'w> Order<'w> {
-    // Its method.
+    // Returns its method.
     fn method(self) -> &'static str {
         match self {
             Order::Peers | Order::Calls | Order::Accounts => "GET",
@@ -65,7 +66,7 @@ impl<'w> Order<'w> {
         }
     }
 
-    // Its path, and the number that ends it, if one does. A number that isn't one names no call.
+    // Returns its path, and the number that ends it, if one does. A word that isn't a number names no call.
     fn path(self) -> (&'static str, &'w str) {
         match self {
             Order::Peers => ("/peers", ""),
@@ -78,7 +79,7 @@ impl<'w> Order<'w> {
         }
     }
 
-    // Its body.
+    // Returns its body.
     fn body(self, alloc: Global) -> Result<String, AllocError> {
         match self {
             Order::Call { peer, number } => {
@@ -88,7 +89,7 @@ impl<'w> Order<'w> {
         }
     }
 
-    /// The octets of its request.
+    /// Returns the octets of its request.
     pub(crate) fn request(self, alloc: Global) -> Result<String, AllocError> {
         let (path, number) = self.path();
         let body = self.body(alloc)?;

@@ -1,4 +1,4 @@
-//! What an order's answer is for people.
+//! The answers to orders, as text for people.
 use crate::asking::{Answered, ask};
 use crate::order::Order;
 use control_requests::{accounts_table, calls_table, peers_table};
@@ -9,13 +9,13 @@ use std::io;
 use std::io::{ErrorKind, Write};
 use std::net::Net;
 
-// Writes what is refused.
+// Writes a refusal.
 fn refuse<W: Write>(writer: &mut W, name: &str) -> u8 {
     let _ = writeln!(writer, "refused {name}");
     1
 }
 
-// Writes a text, where there is one.
+// Writes a text. Without one it writes a refusal.
 fn show<W: Write>(writer: &mut W, text: Option<String>) -> u8 {
     let Some(text) = text else {
         return refuse(writer, "Control");
@@ -24,12 +24,12 @@ fn show<W: Write>(writer: &mut W, text: Option<String>) -> u8 {
     0
 }
 
-// The member of an object that is a number.
+// Returns the value of an object's member, if it is a number.
 fn number_in(value: &Value, key: &str) -> Option<u64> {
     value.get(key).and_then(Value::as_u64)
 }
 
-// A line for a call that was placed or hung up.
+// Returns the line for a call that was placed or hung up.
 fn call_line(alloc: Global, what: &str, value: &Value) -> Option<String> {
     let number = number_in(value, "number")?;
     let serial = number_in(value, "serial")?;
@@ -43,14 +43,14 @@ fn call_text(alloc: Global, what: &str, body: &str) -> Option<String> {
     }
 }
 
-// What a service does, and how many legs are left.
+// Returns the line with the service's state and the number of legs that are left.
 fn left_text(alloc: Global, what: &str, body: &str) -> Option<String> {
     let value = Value::from_str(alloc, body).ok()?;
     let legs = number_in(&value, "legs")?;
     format!(in alloc; "{what}: {legs} legs are left\n").ok()
 }
 
-// What an order's answer says.
+// Returns the text of an order's answer.
 fn text_of(alloc: Global, order: Order<'_>, body: &str) -> Option<String> {
     match order {
         Order::Peers => peers_table(alloc, body).ok(),
@@ -65,7 +65,7 @@ fn text_of(alloc: Global, order: Order<'_>, body: &str) -> Option<String> {
     }
 }
 
-// Writes the name of what a service refused, in printable characters.
+// Writes the name of a service's refusal, in printable characters.
 fn refuse_by<W: Write>(alloc: Global, writer: &mut W, value: &Value) -> u8 {
     if let Some(Value::String(name)) = value.get("error") {
         if let Ok(name) = printable(alloc, name.as_bytes()) {
@@ -92,13 +92,13 @@ fn show_answer<W: Write>(
     }
 }
 
-// Asks, where there is memory for the request.
+// Sends the order and returns the answer, if there is memory for the request.
 fn ask_order<N: Net>(rt: &N, alloc: Global, path: &str, order: Order<'_>) -> io::Result<Answered> {
     let request = order.request(alloc)?;
     ask(rt, alloc, path, &request)
 }
 
-// Why there is no answer.
+// Returns the reason why there is no answer.
 fn reason(error: &io::Error) -> &'static str {
     match error.kind() {
         ErrorKind::NotFound | ErrorKind::ConnectionRefused => "no service is running there",
@@ -109,12 +109,11 @@ fn reason(error: &io::Error) -> &'static str {
     }
 }
 
-/// Gives a running service an order at its control socket, and writes the answer: tables of peers, calls and accounts, a line
-/// for each other order. Answers the status: 0, or 1 after `refused <name>`.
+/// Sends an order to a running service at its control socket, and writes the answer: tables of peers, calls and accounts,
+/// and a line for any other order. Returns the status: 0, or 1 after `refused <name>`.
 ///
-/// `refused Memory`: a request for memory was refused before the answer was there. `refused Control`: nobody answers at that
-/// path, or not as a service does, or there is no memory to show the answer; standard error has the reason. Any other name is the
-/// service's own.
+/// `refused Memory`: a request for memory was refused before the answer arrived. `refused Control`: no service answers at
+/// that path, or there is no memory to show the answer; standard error has the reason. Any other name is the service's own.
 pub fn give_order<N: Net + Eprint, W: Write>(
     rt: &N,
     alloc: Global,

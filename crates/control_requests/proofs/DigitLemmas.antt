@@ -12,7 +12,7 @@ same_choice limit false m n h = refl
 above_limit : (limit n : ℕ) → limit < n → up_to limit n ≡ limit + 1
 above_limit limit n h = grind (arith, nat_tests)
 
--- above the limit one number is as good as another
+-- above the limit two numbers give the same result
 above : (limit m n : ℕ) (ds : List ℕ) → limit < m → limit < n → option_map (up_to limit) (number_after m ds)
     ≡ option_map (up_to limit) (number_after n ds)
 above limit m n [] hm hn = ap Some (grind (arith, above_limit limit m hm, above_limit limit n hn))
@@ -26,7 +26,7 @@ kept_by : (limit n : ℕ) (ds : List ℕ) (b : Bool) → nat_le n limit ≡ b �
 kept_by limit n ds true h = refl
 kept_by limit n ds false h = above limit (limit + 1) n ds (omega arith) (over limit n h)
 
--- a number that is kept up to the limit goes on as the number itself
+-- a number that was capped at the limit continues as the number itself does
 pub kept : (limit n : ℕ) (ds : List ℕ) → option_map (up_to limit) (number_after (up_to limit n) ds)
     ≡ option_map (up_to limit) (number_after n ds)
 kept limit n ds = kept_by limit n ds (nat_le n limit) refl

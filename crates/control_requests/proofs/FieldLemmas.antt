@@ -23,7 +23,7 @@ twice : {A B C : Type 0} (f : A → B) (g : B → C) (o : Option A) → option_m
 twice f g None = refl
 twice f g (Some x) = refl
 
--- the same of what a part of the first one is
+-- the same for a part of the first one
 pub part_seen : {A B C : Type 0} (test : B → Bool) (see : A → B) (part : B → C) (items : List A) →
     option_map (λ item. part (see item)) (find (λ item. test (see item)) items) ≡ option_map part (find test (map see items))
 part_seen test see part items = twice see part (find (λ item. test (see item)) items) ∙ ap (option_map part) (find_seen test see items)

@@ -11,13 +11,13 @@ use Rattle.control_requests.specs.declared.request.Reading.TheVariants.{BodyTooL
 over_limit : (m n : ℕ) → Some n ≡ Some (up_to 4096 m) → 4096 < n → 4096 < m
 over_limit m n is over = grind (arith, nat_tests)
 
--- a length over the limit was one
+-- a length over the limit was a length
 pub too_long : (found : Option ℕ) (n : ℕ) → Some n ≡ option_map (up_to 4096) found → 4096 < n → (m : ℕ) × (found
     ≡ Some m) × (4096 < m)
 too_long None n is over = search rules
 too_long (Some m) n is over = (m, refl, over_limit m n is over)
 
--- what was read of a head of an allowed size that states too long a body
+-- the reading of a head of an allowed size that states too long a body
 pub too_large : (octets : List ℕ) (read : Request) (len n : ℕ) → HoldsSomeRequest octets read len → len ≤ 8192 → Some n
     ≡ option_map (up_to 4096) (body_length (map header_parts read.headers.now)) → 4096 < n → Reads octets BodyTooLarge
 too_large octets read len n found small is over =

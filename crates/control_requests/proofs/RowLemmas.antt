@@ -12,11 +12,11 @@ after-more (first ∷ rows) row =
     ap (λ (text : List ℕ). 44 ∷ text) (append_assoc (compact_text (object first)) (after_first rows) (44 ∷ compact_text (object row))
     ∙ ap (λ (text : List ℕ). compact_text (object first) ++ text) (after-more rows row))
 
--- where rows are, the next stands behind a comma
+-- after other rows, the next row follows a comma
 behind : (octet : ℕ) (rows row : List ℕ) → followed (octet ∷ rows) row ≡ (octet ∷ rows) ++ 44 ∷ row
 behind octet rows row = search (rules, nat_tests)
 
--- one row more
+-- one more row
 pub one_more : (rows : List Members) (row : Members) → followed (rows_text rows) (compact_text (object row))
     ≡ rows_text (rows ++ row ∷ [])
 one_more [] row = sym (append-nil (compact_text (object row)))
@@ -38,7 +38,7 @@ all_items (row ∷ rows) =
     ap (λ (text : List ℕ). compact_text (object row) ++ text) (later_items rows)
     ∙ sym (append_assoc (compact_text (object row)) (after_first rows) (93 ∷ []))
 
--- and what stands behind them
+-- and with further octets after them
 pub items_before : (rows : List Members) (rest : List ℕ) → rows_text rows ++ 93 ∷ rest
     ≡ items_text false (row_items rows) ++ rest
 items_before rows rest =

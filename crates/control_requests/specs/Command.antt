@@ -17,7 +17,7 @@ call_number digits =
     if slice_index digits 0 == 48 then None
     else option_and_then (λ n. if nat_le 1 n && nat_le n 32767 then Some n else None) (number_of digits)
 
--- what GET, POST and DELETE ask for
+-- the commands of GET, POST and DELETE
 abbrev pub row : Option Command → Option Command → Option Command → Option Row
 row get post delete = Some (record { get = get; post = post; delete = delete })
 
@@ -28,7 +28,7 @@ call_row path =
     then option_and_then (λ n. row (Some (Call n)) None (Some (HangUp n))) (call_number (drop 7 path))
     else None
 
--- the table: what GET, POST and DELETE ask for at a path
+-- the table: the commands of GET, POST and DELETE at a path
 abbrev pub row_of : List ℕ → Option Row
 row_of path =
     if bytes_eq path (codes "/") then row (Some Table) None None else (
@@ -40,7 +40,7 @@ row_of path =
     if bytes_eq path (codes "/drain") then row None (Some Drain) (Some EndDrain) else
     call_row path))))))
 
--- what a method asks for in a row
+-- the command of a method in a row
 abbrev pub command_by : Row → List ℕ → Option Command
 command_by row method =
     if bytes_eq method (codes "GET") then row.get else (
@@ -51,7 +51,7 @@ command_by row method =
 abbrev pub methods_of : Row → Methods
 methods_of row = record { get = is_some row.get; post = is_some row.post; delete = is_some row.delete }
 
--- the command, where the row has one by that method
+-- the command, if the row has one for that method
 abbrev pub allowed : Row → Option Command → Result Command NoCommand
 allowed row None = Err (NotAllowed (methods_of row))
 allowed row (Some command) = Ok command

@@ -15,14 +15,14 @@ abbrev pub optional_text : Option (List ℕ) → Data
 optional_text None = null
 optional_text (Some text) = string text
 
--- what a member has
+-- the value of a member
 abbrev pub shown_data : Shown → Data
 shown_data (Number n) = number (unsigned n)
 shown_data (NumberOrNull n) = optional n
 shown_data (Text text) = string text.now
 shown_data (TextOrNull text) = optional_text (option_copied text)
 
--- a member, by its name and what it has
+-- a member: its name and its value
 abbrev pub Named : Type 0
 Named = Bor (List ℕ) × Shown
 

@@ -25,7 +25,7 @@ parts_by (Some peer) (Some number) = with_number peer number
 abbrev pub parts_of : Data → Result (List ℕ × List ℕ) PlaceFault
 parts_of value = parts_by (text_at (codes "peer") value) (text_at (codes "number") value)
 
--- the body is JSON of which this is the outcome
+-- the body is JSON with this outcome
 abbrev pub Says : List ℕ → Result (List ℕ × List ℕ) PlaceFault → Type 0
 Says body outcome = (value : Data) × IsUtf8 body × (read body ≡ Some value) × (parts_of value ≡ outcome)
 
@@ -33,7 +33,7 @@ Says body outcome = (value : Data) × IsUtf8 body × (read body ≡ Some value) 
 abbrev pub IsNotJson : List ℕ → Type 0
 IsNotJson body = IsUtf8 body → read body ≡ None
 
--- the fault is one of the body; nothing is said of memory
+-- the fault is one of the body; Memory is always allowed
 abbrev pub IsFaultOf : List ℕ → PlaceFault → Type 0
 IsFaultOf body NotJson = IsNotJson body
 IsFaultOf body NoPeer = Says body (Err NoPeer)
@@ -41,7 +41,7 @@ IsFaultOf body NoNumber = Says body (Err NoNumber)
 IsFaultOf body NumberTooLong = Says body (Err NumberTooLong)
 IsFaultOf body Memory = ⊤
 
--- the same of the value that was read
+-- the same for the value that was read
 abbrev pub IsFaultIn : Data → PlaceFault → Type 0
 IsFaultIn value NotJson = ⊥
 IsFaultIn value NoPeer = parts_of value ≡ Err NoPeer
@@ -49,7 +49,7 @@ IsFaultIn value NoNumber = parts_of value ≡ Err NoNumber
 IsFaultIn value NumberTooLong = parts_of value ≡ Err NumberTooLong
 IsFaultIn value Memory = ⊤
 
--- the same of reading alone
+-- the same for reading alone
 abbrev pub IsNoValue : List ℕ → PlaceFault → Type 0
 IsNoValue body NotJson = IsNotJson body
 IsNoValue body NoPeer = ⊥

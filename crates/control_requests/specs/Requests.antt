@@ -23,7 +23,7 @@ is_named name field = same_name name field.0
 abbrev pub is_other : List ℕ → List ℕ → List ℕ × List ℕ → Bool
 is_other name value field = is_named name field && not (bytes_eq field.1 value)
 
--- the length of the body by the value of the first field Content-Length; nothing where another such field has another value
+-- the length of the body by the value of the first field Content-Length; nothing if another such field has another value
 abbrev pub length_by : {F : Type 0} → (F → List ℕ × List ℕ) → List F → Option (List ℕ) → Option ℕ
 length_by see fields None = Some 0
 length_by see fields (Some value) =
@@ -34,7 +34,7 @@ abbrev pub first_length : {F : Type 0} → (F → List ℕ × List ℕ) → List
 first_length see fields =
     option_map (λ field. (see field).1) (find (λ field. is_named (codes "content-length") (see field)) fields)
 
--- the same of fields that are seen as names and values; nothing where there are transfer codings
+-- the same for fields seen as names and values; nothing if there are transfer codings
 abbrev pub length_in : {F : Type 0} → (F → List ℕ × List ℕ) → List F → Option ℕ
 length_in see fields =
     if list_any (λ field. is_named (codes "transfer-encoding") (see field)) fields then None
@@ -62,12 +62,13 @@ pub record IsOf (request : Request) (head : RequestHead) (rest : List ℕ) (n : 
   pub len : length request.body.now ≡ n
   pub small : n ≤ 4096
 
--- a front of the octets and an empty line are a head of more than 32 fields, and whatever head they begin has as many
+-- A front of the octets, with an empty line added, is a head of more than 32 fields. Each head that the octets begin has
+-- more than 32 fields, too.
 abbrev pub HasTooManyFields : List ℕ → Type 0
 HasTooManyFields octets = RequestExceeds 32 octets × RequestOverflows 32 octets
 
--- What octets are: a whole request; the front of one; what no request of the allowed size begins with; what none begins with, or
--- a head that doesn't tell the length of its body.
+-- the meaning of octets: a complete request; the front of one; a head or a body that is too large; or octets that begin no
+-- request, or a head that doesn't state the length of its body
 abbrev pub Reads : List ℕ → Reading → Type 0
 Reads octets (Whole request) =
     (head : RequestHead) × (rest : List ℕ) × (n : ℕ) × Begins octets head rest × States head n × IsOf request head rest n

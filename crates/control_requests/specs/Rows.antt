@@ -1,4 +1,4 @@
--- The JSON of peers, calls and accounts. The members stand in the order of their names.
+-- The JSON of peers, calls and accounts. The members are in the order of their names.
 use Rattle.std.specs.Prelude.{ℕ, ◌==◌, List, [], ◌∷◌, ◌++◌, length, codes, option_copied, if◌then◌else◌}
 use Rattle.serde_json.specs.Data.{Data, number, unsigned, string, array, object, Items, no_items, item, Members, no_members}
 use Rattle.serde_json.specs.Data.{member}
@@ -18,11 +18,14 @@ peer_data row = object (
     member (codes "numbers") (number (unsigned row.numbers)) (
     member (codes "outbox_lost") (number (unsigned row.outbox_lost)) (
     member (codes "queue_dropped") (number (unsigned row.queue_dropped)) (
+    member (codes "reach") (string row.reach.now) (
     member (codes "received") (number (unsigned row.received)) (
     member (codes "refused") (number (unsigned row.refused)) (
+    member (codes "round_trip_ms") (optional row.round_trip_ms) (
     member (codes "sent") (number (unsigned row.sent)) (
     member (codes "silent_ms") (optional row.silent_ms) (
-    member (codes "worker") (number (unsigned row.worker)) no_members)))))))))))))
+    member (codes "unreachable_ms") (optional row.unreachable_ms) (
+    member (codes "worker") (number (unsigned row.worker)) no_members))))))))))))))))
 
 abbrev pub call_data : CallRow → Data
 call_data row = object (
@@ -48,7 +51,7 @@ accounts_data row = object (
     member (codes "quelched") (number (unsigned row.quelched)) (
     member (codes "queued") (number (unsigned row.queued)) no_members)))))
 
--- rows, and one more behind a comma
+-- rows, and one more after a comma
 abbrev pub followed : List ℕ → List ℕ → List ℕ
 followed rows row = if length rows == 0 then row else rows ++ 44 ∷ row
 
@@ -62,7 +65,7 @@ abbrev pub rows_text : List Members → List ℕ
 rows_text [] = []
 rows_text (row ∷ rows) = compact_text (object row) ++ after_first rows
 
--- an object with one member, a list of which the text is this
+-- an object with one member, a list with this text
 abbrev pub list_text : List ℕ → List ℕ → List ℕ
 list_text name text = codes "{\"" ++ name ++ codes "\":[" ++ text ++ codes "]}"
 

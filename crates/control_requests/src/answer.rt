@@ -25,7 +25,7 @@ pub enum Status {
 }
 
 impl Status {
-    /// The number of the status, 200 ..= 503 (RFC 9110, section 15).
+    /// Returns the number of the status, 200 ..= 503 (RFC 9110, section 15).
     pub fn code(self) -> u16
         ensures { result ≡ code_of self }
     {
@@ -44,7 +44,7 @@ impl Status {
         }
     }
 
-    /// The reason phrase, as RFC 9110 has it; of 431 that of RFC 6585.
+    /// Returns the reason phrase, as RFC 9110 has it; for 431 as RFC 6585 has it.
     pub fn reason(self) -> &'static str
         ensures { result.now ≡ reason_of self }
     {
@@ -64,7 +64,7 @@ impl Status {
     }
 }
 
-// The line `Allow` of an answer that has one.
+// Returns the line `Allow` of an answer that has one.
 fn allow_line(status: Status) -> &'static str
     ensures { result.now ≡ allow_line status }
 {
@@ -91,7 +91,7 @@ pub struct Answer {
 }
 
 impl Answer {
-    /// An answer that names what is wrong: `{"error": why}`.
+    /// Returns an answer that names the fault: `{"error": why}`.
     ///
     /// `AllocError`: a request for memory was refused.
     pub fn error(alloc: Global, status: Status, why: &str) -> Result<Answer, AllocError>
@@ -102,8 +102,8 @@ impl Answer {
         Ok(Answer { status, body })
     }
 
-    /// The octets that go to the client: the status line, the fields `Content-Type`, `Content-Length` (the octets of the body),
-    /// `Connection: close`, and of 405 `Allow`; an empty line; the body.
+    /// Returns the octets that go to the client: the status line, the fields `Content-Type`, `Content-Length` (the octets
+    /// of the body), `Connection: close`, and of 405 `Allow`; an empty line; the body.
     ///
     /// `AllocError`: a request for memory was refused.
     pub fn octets(&self, alloc: Global) -> Result<Vec<u8>, AllocError>

@@ -4,10 +4,10 @@ ghost use Rattle.control_requests.specs.Command.{call_number, call_row, row_of, 
 
 use crate::digits::number_up_to;
 
-/// What a client asks for.
+/// The command of a client's request.
 #[derive(Clone, Copy)]
 pub enum Command {
-    /// `GET /`: what there is.
+    /// `GET /`: the list of commands.
     Table,
     /// `GET /peers`
     Peers,
@@ -17,17 +17,17 @@ pub enum Command {
     Call(u16),
     /// `GET /accounts`
     Accounts,
-    /// `POST /calls`: a call goes out, by the body.
+    /// `POST /calls`: places a call, by the body.
     Place,
-    /// `DELETE /calls/<number>`: the leg of a local number, 1 to 32,767, hangs up.
+    /// `DELETE /calls/<number>`: hangs up the leg of a local number, 1 to 32,767.
     HangUp(u16),
-    /// `POST /stop`: each leg is hung up, and the workers end.
+    /// `POST /stop`: hangs up each leg, and ends the workers.
     Stop,
-    /// `POST /stop/graceful`: new calls are rejected, and the workers end once the last call has ended.
+    /// `POST /stop/graceful`: rejects new calls, and ends the workers once the last call has ended.
     StopGracefully,
-    /// `POST /drain`: new calls are rejected.
+    /// `POST /drain`: rejects new calls.
     Drain,
-    /// `DELETE /drain`: new calls are taken again.
+    /// `DELETE /drain`: accepts new calls again.
     EndDrain,
 }
 
@@ -39,16 +39,16 @@ pub struct Methods {
     pub delete: bool,
 }
 
-/// Why a request names no command.
+/// The reason why a request names no command.
 #[derive(Clone, Copy, Debug, PartialEq, Eq)]
 pub enum NoCommand {
-    /// There is no such path. One with a query has none either.
+    /// The path doesn't exist. A path with a query doesn't either.
     NotFound,
     /// The path has these methods, and not this one.
     NotAllowed(Methods),
 }
 
-// What each method asks for at a path.
+// The command of each method at a path.
 #[derive(Clone, Copy)]
 pub(crate) struct Row {
     pub get: Option<Command>,
@@ -136,9 +136,10 @@ fn methods_of(row: Row) -> Methods
     }
 }
 
-/// The command that a method and a path name, by the table of rows, one for each path.
+/// Returns the command that a method and a path name, by a table with one row for each path.
 ///
-/// `NotFound`: there is no such path, or it has a query. `NotAllowed`: the path has other methods, which it names.
+/// Returns `NotFound` if the path doesn't exist or has a query, and `NotAllowed` with the path's methods if this isn't one
+/// of them.
 pub fn command_of(method: &str, path: &str) -> Result<Command, NoCommand>
     ensures table { result ≡ command_at method.now path.now }
 {

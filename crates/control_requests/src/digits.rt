@@ -12,7 +12,7 @@ fn up_to(limit: u32, number: u64) -> u64
     }
 }
 
-/// The number that digits write, or one more than the limit where it is greater; `None` where they aren't digits alone.
+/// Returns the number that digits write, capped at `limit` + 1, or `None` if they aren't digits alone.
 pub(crate) fn number_up_to(limit: u32, digits: &[u8]) -> Option<u64>
     ensures value { result ≡ option_map (up_to limit) (number_of digits.now) }
 {

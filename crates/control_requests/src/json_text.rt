@@ -7,7 +7,7 @@ ghost use Rattle.control_requests.specs.Members.{shown_data, with_shown, object_
 use serde_json::{Map, Value, put};
 use std::alloc::{AllocError, Global};
 
-/// What a member of an object has.
+/// The value of an object's member.
 #[derive(Clone, Copy)]
 pub(crate) enum Shown<'a> {
     Number(u64),
@@ -16,7 +16,7 @@ pub(crate) enum Shown<'a> {
     TextOrNull(Option<&'a str>),
 }
 
-/// A member of an object: its name, and what it has.
+/// A member of an object: its name and its value.
 pub(crate) type Member<'a> = (&'a str, Shown<'a>);
 
 fn value_of(alloc: Global, shown: Shown<'_>) -> Result<Value, AllocError>
@@ -44,7 +44,7 @@ fn put_members(
     Ok(())
 }
 
-/// The text of an object with these members, in the order of their names and without spaces.
+/// Returns the text of an object with these members, in the order of their names and without spaces.
 ///
 /// `AllocError`: a request for memory was refused.
 pub(crate) fn object_text(alloc: Global, members: &[Member<'_>]) -> Result<String, AllocError>

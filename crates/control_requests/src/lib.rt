@@ -1,5 +1,5 @@
-//! What a client of the control socket asks for, in HTTP/1.1 (RFC 9112), and the octets of each answer. Nothing here waits, reads
-//! or writes.
+//! The requests of clients of the control socket, in HTTP/1.1 (RFC 9112), and the octets of each answer. Nothing here
+//! waits, reads or writes.
 #![tactic(auto)]
 
 mod answer;

@@ -11,7 +11,7 @@ use std::alloc::{AllocError, Global};
 /// The most octets of a number.
 const NUMBER_LIMIT: usize = 255;
 
-/// A call that is to go out.
+/// A call to be placed.
 #[derive(Drop)]
 pub struct PlaceOrder {
     /// The name of the peer, as the plan has it.
@@ -20,7 +20,7 @@ pub struct PlaceOrder {
     pub number: String,
 }
 
-/// Why a body places no call.
+/// The reason why a body places no call.
 #[derive(Clone, Copy, Debug, PartialEq, Eq)]
 pub enum PlaceFault {
     /// The body is no JSON in UTF-8, or it nests deeper than 127 levels.
@@ -31,7 +31,7 @@ pub enum PlaceFault {
     NoNumber,
     /// The number is empty or has more than 255 octets.
     NumberTooLong,
-    /// There is no memory.
+    /// A request for memory was refused.
     Memory,
 }
 
@@ -46,14 +46,14 @@ fn value_of(alloc: Global, body: &[u8]) -> Result<Value, PlaceFault>
     }
 }
 
-// The text of a member that is a string.
+// Returns the text of a member that is a string.
 fn text_at<'v>(value: &'v Value, key: &str) -> Option<&'v str>
     ensures { option_map (λ text. text.now) result ≡ text_at key.now (view value.now) }
 {
     value.get(key).and_then(Value::as_str)
 }
 
-// The peer and the number that a value has.
+// Returns the peer and the number that a value has.
 fn parts_of(value: &Value) -> Result<(&str, &str), PlaceFault>
     ensures { result_map_both (λ parts. (parts.0.now, parts.1.now)) (λ fault. fault) result ≡ parts_of (view value.now) }
 {
@@ -78,7 +78,7 @@ fn with_parts(alloc: Global, peer: &str, number: &str) -> Result<PlaceOrder, All
     })
 }
 
-// The call that a value places.
+// Returns the call that a value places.
 fn order_of(alloc: Global, value: &Value) -> Result<PlaceOrder, PlaceFault>
     ensures ok { IfOk result (λ order. parts_of (view value.now) ≡ Ok (string_bytes order.peer, string_bytes order.number)) }
     ensures err { IfErr result (IsFaultIn (view value.now)) }
@@ -90,11 +90,11 @@ fn order_of(alloc: Global, value: &Value) -> Result<PlaceOrder, PlaceFault>
     }
 }
 
-/// Reads the body of `POST /calls`, `{"peer": NAME, "number": DIGITS}`. Other members aren't looked at; of two with one name
-/// the last counts.
+/// Reads the body of `POST /calls`, `{"peer": NAME, "number": DIGITS}`. Other members are ignored. Of two members with one
+/// name the last counts.
 ///
-/// `NotJson`, then `NoPeer`, then `NoNumber`, then `NumberTooLong`. `Memory`: a request for memory was refused, while the body
-/// was read or for what it says.
+/// Errors are checked in this order: `NotJson`, `NoPeer`, `NoNumber`, `NumberTooLong`. `Memory` is returned if a request
+/// for memory was refused, while the body was read or for the order.
 pub fn place_of(alloc: Global, body: &[u8]) -> Result<PlaceOrder, PlaceFault>
     ensures ok { IfOk result (λ order. Says body.now (Ok (string_bytes order.peer, string_bytes order.number))) }
     ensures err { IfErr result (IsFaultOf body.now) }

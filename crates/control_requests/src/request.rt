@@ -26,10 +26,10 @@ pub struct Request<'b> {
     pub body: &'b [u8],
 }
 
-/// What a client's octets are so far.
+/// The reading of a client's octets so far.
 #[derive(Clone, Copy, PartialEq, Eq)]
 pub enum Reading<'b> {
-    /// A head of at most 8,192 octets and the body, of at most 4,096, that it states. What follows isn't looked at.
+    /// A head of at most 8,192 octets, and the body of at most 4,096 octets that it states. Octets after these are ignored.
     Whole(Request<'b>),
     /// More has to come: fewer than 8,192 octets of a head, or a head and fewer octets than it states. So these are fewer than
     /// 12,288 octets.
@@ -38,8 +38,8 @@ pub enum Reading<'b> {
     HeadTooLarge,
     /// The head states a body of more than 4,096 octets.
     BodyTooLarge,
-    /// No request begins like this, or the head doesn't tell how long the body is: it has a field `Transfer-Encoding`, or a field
-    /// `Content-Length` that isn't digits alone, or two of which the values differ.
+    /// No request begins like this, or the head doesn't state the length of the body. Then it has a field
+    /// `Transfer-Encoding`, a field `Content-Length` that isn't digits alone, or two of these with different values.
     Malformed,
 }
 
@@ -55,7 +55,7 @@ fn has_field(headers: &[Header<'_>], name: &str) -> bool
     headers.iter().any(|header| same_name(header.name, name))
 }
 
-// The value of the first field of that name.
+// Returns the value of the first field of that name.
 fn first_value<'b>(headers: &[Header<'b>], name: &str) -> Option<&'b [u8]>
     ensures { option_copied result ≡ option_map (λ header. (header_parts header).1)
         (find (λ header. is_named name.now (header_parts header)) headers.now) }
@@ -66,14 +66,14 @@ fn first_value<'b>(headers: &[Header<'b>], name: &str) -> Option<&'b [u8]>
         .map(|header| header.value)
 }
 
-// Whether a field of that name has another value.
+// Returns whether a field of that name has another value.
 fn has_other(headers: &[Header<'_>], name: &str, value: &[u8]) -> bool
     ensures { result ≡ list_any (λ header. is_other name.now value.now (header_parts header)) headers.now }
 {
     headers.iter().any(|header| same_name(header.name, name) && header.value != value)
 }
 
-// How long the body is, or 4,097 where it is longer than 4,096; None where the head doesn't tell.
+// Returns the length of the body, capped at 4,097, or `None` if the head doesn't state it.
 fn body_length(headers: &[Header<'_>]) -> Option<u64>
     ensures { result ≡ option_map (up_to 4096) (body_length (map header_parts headers.now)) }
 {
@@ -95,7 +95,7 @@ fn length_in(headers: &[Header<'_>]) -> Option<u64>
     number_up_to(BODY_LIMIT as u32, first)
 }
 
-// What octets without a whole head are.
+// Reads octets without a complete head.
 fn without_head<'b>(octets: &[u8]) -> Reading<'b>
     ensures { result ≡ (if nat_lt (length octets.now) 8192 then Part else HeadTooLarge) }
 {
@@ -106,7 +106,7 @@ fn without_head<'b>(octets: &[u8]) -> Reading<'b>
     }
 }
 
-/// Reads the request that these octets begin with (RFC 9112). What is too large, or no request, comes as a variant of
+/// Reads the request that these octets begin with (RFC 9112). A request that is too large or malformed is a variant of
 /// `Reading`.
 pub fn read_request<'b>(octets: &'b [u8]) -> Reading<'b>
     ensures reads { Reads octets.now result }

@@ -4,14 +4,14 @@ use serde_json::Value;
 use std::alloc::{AllocError, Global};
 use std::slice;
 
-/// Why there is no table.
+/// The reason why there is no table.
 #[derive(Clone, Copy, Debug, PartialEq, Eq)]
 pub enum TableFault {
     /// The text is no JSON.
     NotJson,
     /// The JSON has no such rows.
     NoRows,
-    /// There is no memory.
+    /// A request for memory was refused.
     Memory,
 }
 
@@ -47,6 +47,9 @@ const PEERS: Kind = Kind {
         "outbox_lost",
         "queue_dropped",
         "auth_failed",
+        "reach",
+        "round_trip_ms",
+        "unreachable_ms",
     ],
 };
 
@@ -76,8 +79,8 @@ const ACCOUNTS: Kind = Kind {
     columns: &["accepted", "packed", "queued", "dropped", "quelched"],
 };
 
-// What a row has in a column: the text of a string, in printable characters, a number as it is, and `-` where there is nothing. Where
-// there is no row, it is the head line, and has the column's name.
+// Returns a row's value in a column: a string in printable characters, a number, or `-` if there is none. Without a row it
+// returns the head line's cell, the column's name.
 fn cell(alloc: Global, row: Option<&Value>, column: &str) -> Result<String, AllocError> {
     let Some(row) = row else {
         return String::from_str(alloc, column);
@@ -138,7 +141,7 @@ impl Text {
         }
     }
 
-    // A cell, as wide as its column, and two blanks.
+    // Adds a cell, as wide as its column, and two blanks.
     fn push_cell(&mut self, cell: &str, width: usize) {
         self.push(cell);
         for _ in cell.chars().count()..width {
@@ -148,7 +151,7 @@ impl Text {
     }
 }
 
-// The line of a row, or the head line.
+// Adds the line of a row, or the head line.
 fn push_line(alloc: Global, table: &mut Text, row: Option<&Value>, columns: &[Column]) {
     let mut line = Text::new(alloc);
     for column in columns {
@@ -162,7 +165,7 @@ fn push_line(alloc: Global, table: &mut Text, row: Option<&Value>, columns: &[Co
     table.is_cut = table.is_cut || line.is_cut;
 }
 
-// A head line with the names of the columns, and a line for each row.
+// Returns a table: a head line with the names of the columns, and a line for each row.
 fn table(alloc: Global, rows: &[Value], names: &[&'static str]) -> Result<String, AllocError> {
     let columns = columns_of(alloc, rows, names)?;
     let mut table = Text::new(alloc);
@@ -203,30 +206,30 @@ fn table_of(alloc: Global, body: &str, kind: &Kind) -> Result<String, TableFault
     }
 }
 
-/// The table of the answer to `GET /peers`: a head line, and a line for each peer. Columns are as wide as their longest cell,
-/// in characters; `-` stands where there is no value. Octets that aren't printable, and the backslash, are `\xNN`.
+/// Returns the table of the answer to `GET /peers`: a head line, and a line for each peer. Columns are as wide as their
+/// longest cell, in characters. A missing value is `-`. Octets that aren't printable, and the backslash, are `\xNN`.
 ///
-/// `NotJson`: the text is no JSON. `NoRows`: the JSON has no list `peers`. `Memory`: a request for memory was refused, at any
-/// time.
+/// Returns `NotJson` if the text is no JSON, and `NoRows` if the JSON has no list `peers`. Returns `Memory` if a request
+/// for memory was refused at any time.
 pub fn peers_table(alloc: Global, body: &str) -> Result<String, TableFault> {
     table_of(alloc, body, &PEERS)
 }
 
-/// The table of the answer to `GET /calls` or `GET /calls/<number>`: a head line, and a line for each call. Columns are as wide
-/// as their longest cell, in characters; `-` stands where there is no value. Octets that aren't printable, and the backslash, are
-/// `\xNN`.
+/// Returns the table of the answer to `GET /calls` or `GET /calls/<number>`: a head line, and a line for each call. Columns
+/// are as wide as their longest cell, in characters. A missing value is `-`. Octets that aren't printable, and the
+/// backslash, are `\xNN`.
 ///
-/// `NotJson`: the text is no JSON. `NoRows`: the JSON has no list `calls`, and no member `number`. `Memory`: a request for
-/// memory was refused, at any time.
+/// Returns `NotJson` if the text is no JSON, and `NoRows` if the JSON has no list `calls` and no member `number`. Returns
+/// `Memory` if a request for memory was refused at any time.
 pub fn calls_table(alloc: Global, body: &str) -> Result<String, TableFault> {
     table_of(alloc, body, &CALLS)
 }
 
-/// The table of the answer to `GET /accounts`: a head line, and one line. Columns are as wide as their longest cell, in
-/// characters; `-` stands where there is no value.
+/// Returns the table of the answer to `GET /accounts`: a head line, and one line. Columns are as wide as their longest
+/// cell, in characters. A missing value is `-`.
 ///
-/// `NotJson`: the text is no JSON. `NoRows`: the JSON has no member `accepted`. `Memory`: a request for memory was refused, at
-/// any time.
+/// Returns `NotJson` if the text is no JSON, and `NoRows` if the JSON has no member `accepted`. Returns `Memory` if a
+/// request for memory was refused at any time.
 pub fn accounts_table(alloc: Global, body: &str) -> Result<String, TableFault> {
     table_of(alloc, body, &ACCOUNTS)
 }

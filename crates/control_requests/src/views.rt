@@ -1,4 +1,4 @@
-//! What the daemon shows: peers, calls, the accounts. Each as JSON.
+//! The views of peers, calls and accounts, each as JSON.
 ghost use Rattle.std.specs.Prelude.{◌≡◌, ◌++◌, IfOk, OnErr, OnOk, codes, string_bytes};
 ghost use Rattle.serde_json.specs.Written.{compact_text};
 ghost use Rattle.control_requests.specs.Rows.{peer_data, call_data, accounts_data, followed, list_text};
@@ -7,28 +7,28 @@ use crate::json_text::{Shown, object_text};
 use std::alloc::{AllocError, Global};
 use std::marker::Model;
 
-/// A peer, as it is shown.
+/// The view of a peer.
 #[derive(Clone, Copy)]
 pub struct PeerRow<'a> {
-    /// The name that the plan gives it.
+    /// Its name in the plan.
     pub name: &'a str,
     /// Its address and port.
     pub endpoint: &'a str,
     /// The place of its worker, from 0.
     pub worker: u16,
-    /// How many legs it has.
+    /// The number of its legs.
     pub legs: u16,
-    /// How many local call numbers it has.
+    /// The number of its local call numbers.
     pub numbers: u16,
-    /// Milliseconds since its last datagram; none where it was never heard.
+    /// Milliseconds since its last datagram; none if it never sent one.
     pub silent_ms: Option<u64>,
-    /// Datagrams that came from it, whatever became of them.
+    /// Datagrams received from it, whether accepted or refused.
     pub received: u64,
-    /// Those of them that were refused, or turned away.
+    /// The number of these that were refused or turned away.
     pub refused: u64,
-    /// Datagrams that went to it.
+    /// Datagrams sent to it.
     pub sent: u64,
-    /// Datagrams that should have gone to it and that the socket didn't take.
+    /// Datagrams to it that the socket didn't take.
     pub lost: u64,
     /// Frames for which its outbox had no room.
     pub outbox_lost: u64,
@@ -36,22 +36,28 @@ pub struct PeerRow<'a> {
     pub queue_dropped: u64,
     /// Its calls whose authentication failed.
     pub auth_failed: u64,
+    /// Whether it is there: `up`, `unreachable` or `unknown`.
+    pub reach: &'a str,
+    /// Milliseconds from the last POKE that it answered to its PONG; `None` before the first.
+    pub round_trip_ms: Option<u64>,
+    /// Milliseconds since it is unreachable; `None` if it isn't.
+    pub unreachable_ms: Option<u64>,
 }
 
-/// A call, as it is shown.
+/// The view of a call.
 #[derive(Clone, Copy)]
 pub struct CallRow<'a> {
     /// The local call number.
     pub number: u16,
-    /// Counts the legs that had this number.
+    /// The count of legs that had this number.
     pub serial: u64,
     /// The name of the peer.
     pub peer: &'a str,
     /// The stage of the leg.
     pub stage: &'a str,
-    /// The number that is called, where the call's NEW has one.
+    /// The number that is called, if the call's NEW has one.
     pub called: Option<&'a str>,
-    /// The number that calls, where the call's NEW has one.
+    /// The caller ID, if the call's NEW has one.
     pub calling: Option<&'a str>,
     /// The format of the call.
     pub format: &'a str,
@@ -61,11 +67,11 @@ pub struct CallRow<'a> {
     pub remote: Option<u64>,
     /// The local call number of the leg that it is bridged with.
     pub partner: Option<u64>,
-    /// How many frames are held.
+    /// The number of frames that are held.
     pub held: u64,
-    /// How many entries the record has.
+    /// The number of entries of the record.
     pub entries: u64,
-    /// The most entries of a record.
+    /// The greatest number of entries of a record.
     pub record_limit: u64,
 }
 
@@ -80,7 +86,7 @@ pub struct AccountsRow {
     pub quelched: u64,
 }
 
-/// The JSON of one call, an object; `null` stands where there is no value.
+/// Returns the JSON of one call, an object. A missing value is `null`.
 ///
 /// `AllocError`: a request for memory was refused.
 pub fn call_body(alloc: Global, row: CallRow<'_>) -> Result<String, AllocError>
@@ -104,7 +110,7 @@ pub fn call_body(alloc: Global, row: CallRow<'_>) -> Result<String, AllocError>
     object_text(alloc, &members)
 }
 
-/// The JSON of the accounts, an object of numbers of octets.
+/// Returns the JSON of the accounts, an object of numbers of octets.
 ///
 /// `AllocError`: a request for memory was refused.
 pub fn accounts_body(alloc: Global, row: AccountsRow) -> Result<String, AllocError>
@@ -132,16 +138,19 @@ fn peer_text(alloc: Global, row: PeerRow<'_>) -> Result<String, AllocError>
         ("numbers", Shown::Number(u64::from(row.numbers))),
         ("outbox_lost", Shown::Number(row.outbox_lost)),
         ("queue_dropped", Shown::Number(row.queue_dropped)),
+        ("reach", Shown::Text(row.reach)),
         ("received", Shown::Number(row.received)),
         ("refused", Shown::Number(row.refused)),
+        ("round_trip_ms", Shown::NumberOrNull(row.round_trip_ms)),
         ("sent", Shown::Number(row.sent)),
         ("silent_ms", Shown::NumberOrNull(row.silent_ms)),
+        ("unreachable_ms", Shown::NumberOrNull(row.unreachable_ms)),
         ("worker", Shown::Number(u64::from(row.worker))),
     ];
     object_text(alloc, &members)
 }
 
-// A row behind the others.
+// Adds a row behind the others.
 fn push_row(alloc: Global, rows: &mut String, row: &str) -> Result<(), AllocError>
     ensures ok { OnOk result (string_bytes rows.new ≡ followed (string_bytes rows.old) row.now) }
     ensures err { OnErr result (string_bytes rows.new ≡ string_bytes rows.old) }
@@ -170,7 +179,7 @@ impl Model for Rows {
 impl Rows {
     ghost use Rattle.std.specs.Prelude.{[]};
 
-    /// No rows yet. It takes no memory.
+    /// Returns an empty list of rows. It takes no memory.
     pub fn new(alloc: Global) -> Rows
         ensures { result ≡ [] }
     {
@@ -179,7 +188,7 @@ impl Rows {
         }
     }
 
-    /// One more peer, behind the others.
+    /// Adds a peer behind the others.
     ///
     /// `AllocError`: a request for memory was refused. Then the rows stay as they were.
     pub fn push_peer(&mut self, alloc: Global, row: PeerRow<'_>) -> Result<(), AllocError>
@@ -190,7 +199,7 @@ impl Rows {
         push_row(alloc, &mut self.text, &text)
     }
 
-    /// One more call, behind the others.
+    /// Adds a call behind the others.
     ///
     /// `AllocError`: a request for memory was refused. Then the rows stay as they were.
     pub fn push_call(&mut self, alloc: Global, row: CallRow<'_>) -> Result<(), AllocError>
@@ -201,7 +210,7 @@ impl Rows {
         push_row(alloc, &mut self.text, &text)
     }
 
-    /// The rows as the list of peers: `{"peers":[..]}`.
+    /// Returns the rows as the list of peers: `{"peers":[..]}`.
     ///
     /// `AllocError`: a request for memory was refused. Then the rows are dropped.
     pub fn into_peers(self, alloc: Global) -> Result<String, AllocError>
@@ -210,7 +219,7 @@ impl Rows {
         format!(in alloc; "{{\"peers\":[{}]}}", self.text)
     }
 
-    /// The rows as the list of calls: `{"calls":[..]}`.
+    /// Returns the rows as the list of calls: `{"calls":[..]}`.
     ///
     /// `AllocError`: a request for memory was refused. Then the rows are dropped.
     pub fn into_calls(self, alloc: Global) -> Result<String, AllocError>

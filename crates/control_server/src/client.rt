@@ -1,36 +1,37 @@
-//! One client: its octets come in until its request is whole, and its answer goes out.
+//! One client: its octets come in until its request is complete, and then its answer is sent.
 use crate::doors::{Door, Stream};
 use control_requests::{Reading, read_request};
 use std::alloc::{AllocError, Global};
 use std::io::ErrorKind;
 
-// How many octets are read at once.
+// The number of octets read at once.
 const PIECE: usize = 4096;
 
-// How many reads, and how many writes, a client gets in one round.
+// The number of reads, and of writes, that a client gets in one round.
 const ROUNDS: u32 = 64;
 
-/// How far a client is.
+/// The progress of a client.
 #[derive(Clone, Copy, Debug, PartialEq, Eq)]
 pub enum Stage {
-    /// Its request isn't whole.
+    /// Its request isn't complete.
     Asking,
     /// Its answer isn't sent.
     Answered,
-    /// Its answer is sent, and what it still sends is dropped, so that the system doesn't reset the connection under the answer.
+    /// Its answer is sent. Further input is dropped, because a close with unread input would reset the connection and lose
+    /// the answer.
     Draining,
     /// It can be closed.
     Ended,
 }
 
-/// A client, with what it sent and what it is sent. Moments are in milliseconds.
+/// A client with its input and its output. Moments are in milliseconds.
 #[derive(Drop)]
 pub struct Client {
     stream: Stream,
     pub door: Door,
-    /// When it came.
+    /// The moment of its connection.
     pub since: u64,
-    /// When an octet of it was read or written last.
+    /// The moment at which an octet of it was last read or written.
     pub active: u64,
     pub stage: Stage,
     input: Vec<u8>,
@@ -39,7 +40,7 @@ pub struct Client {
 }
 
 impl Client {
-    /// A client that has said nothing yet.
+    /// Returns a client that hasn't sent anything.
     pub fn new(alloc: Global, stream: Stream, door: Door, since: u64) -> Client {
         Client {
             stream,
@@ -53,7 +54,7 @@ impl Client {
         }
     }
 
-    // An error of the system ends the client, but for those after which it is tried again. True: at once.
+    // Ends the client after an error of the system, unless the call can be tried again. Returns whether to try at once.
     fn fail(&mut self, kind: ErrorKind) -> bool {
         if kind != ErrorKind::WouldBlock && kind != ErrorKind::Interrupted {
             self.stage = Stage::Ended;
@@ -61,7 +62,7 @@ impl Client {
         kind == ErrorKind::Interrupted
     }
 
-    // One read. False if nothing waits or nothing more comes.
+    // Reads once. Returns false if nothing waits or the input has ended.
     fn take_some(&mut self) -> Result<bool, AllocError> {
         let mut piece = [0u8; PIECE];
         match self.stream.read_some(&mut piece) {
@@ -79,7 +80,7 @@ impl Client {
         }
     }
 
-    // One write. False if the system takes no more now.
+    // Writes once. Returns false if the system takes no more now.
     fn give_some(&mut self) -> bool {
         let Some(rest) = self.output.get(self.sent..) else {
             return false;
@@ -103,7 +104,7 @@ impl Client {
         }
     }
 
-    /// Reads what is there at this moment, in at most 64 reads, until the request is whole.
+    /// Reads the available input at `now`, in at most 64 reads, until the request is complete.
     pub fn hear(&mut self, now: u64) -> Result<(), AllocError> {
         for _ in 0..ROUNDS {
             if self.stage == Stage::Answered || self.is_whole() || !self.take_some()? {
@@ -114,17 +115,17 @@ impl Client {
         Ok(())
     }
 
-    // Whether its request needs nothing more.
+    // Returns whether its request is complete or can't become so.
     fn is_whole(&self) -> bool {
         self.stage == Stage::Asking && self.reading() != Reading::Part
     }
 
-    /// What it has sent so far.
+    /// Reads its input so far.
     pub fn reading(&self) -> Reading<'_> {
         read_request(&self.input)
     }
 
-    /// What it is to be sent; without memory for that it has ended.
+    /// Sets its answer. Without memory for the answer the client ends.
     pub fn answer(&mut self, octets: Result<Vec<u8>, AllocError>) {
         match octets {
             Ok(octets) => {
@@ -135,7 +136,7 @@ impl Client {
         }
     }
 
-    /// How many octets of its answer are kept.
+    /// Returns the number of octets of its answer that are kept.
     pub fn kept(&self) -> usize {
         if self.stage == Stage::Answered {
             self.output.len()
@@ -144,7 +145,7 @@ impl Client {
         }
     }
 
-    /// Sends what the system takes at this moment, in at most 64 writes. What was sent to its end isn't kept.
+    /// Sends what the system takes at `now`, in at most 64 writes. A sent answer isn't kept.
     pub fn speak(&mut self, now: u64) {
         for _ in 0..ROUNDS {
             if self.stage != Stage::Answered || !self.give_some() {

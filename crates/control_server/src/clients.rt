@@ -1,4 +1,4 @@
-//! The clients of a service: they come by the ways in, ask and are answered, one after another.
+//! The clients of a service: they connect to a listener, send a request, and are answered, one after another.
 use crate::client::{Client, Stage};
 use crate::doors::{Door, Doors, NotBound, Stream};
 use control_requests::{Answer, Reading, Request, Status};
@@ -11,38 +11,38 @@ use std::io::ErrorKind;
 use std::net::{Net, SocketAddr};
 use std::time::Duration;
 
-/// How many clients of each way in are served at once.
+/// The number of clients of each listener that are served at once.
 pub const CLIENTS: usize = 32;
 
-// After so many milliseconds a client is closed, whatever it does.
+// The time after which a client is closed in any case, in milliseconds.
 const CLIENT_MS: u64 = 5000;
 
-// After so many milliseconds in which it took nothing a client that is answered gives way to another.
+// The time without a write, in milliseconds, after which an answered client gives way to another.
 const STUCK_MS: u64 = 1000;
 
-// How many octets of answers are kept for all clients together.
+// The limit on the octets of answers that are kept for all clients together.
 const KEPT: usize = 16_777_216;
 
-// What the system tells of standard input.
+// The poll's token for standard input.
 const INPUT: Token = Token(2);
 
-/// The ways in, and the clients that came by them. Moments are in milliseconds.
+/// The listeners and their clients. Moments are in milliseconds.
 ///
-/// `bind` and `await_end_of_input` say what is waited for. Then come rounds: `wait`, `takes_end_of_input`, `admit`; for each place
-/// below `count` `hear`, where `request` gives a request `answer`, and `speak`; at last `close_ended`.
+/// `bind` and `await_end_of_input` choose the events to wait for. Then come rounds: `wait`, `takes_end_of_input`, `admit`;
+/// for each place below `count` `hear`, then `answer` if `request` returns a request, and `speak`; at last `close_ended`.
 pub struct Clients {
     alloc: Global,
     poll: Poll,
     events: Events,
     doors: Doors,
     clients: Vec<Client>,
-    // Whether more connections may wait than were taken in.
+    // Whether more connections may wait than were accepted.
     may_have_more: bool,
-    // Whether the end of standard input is waited for, and hasn't come yet.
+    // Whether the end of standard input is watched for, and hasn't come yet.
     awaits_end: bool,
 }
 
-// (Written out, so that whoever owns one proves a call where it is dropped, and not the drop of each field.)
+// Written out, so that an owner proves one call at its drop, not the drop of each field.
 impl Drop for Clients {
     fn drop(self) {
         let Clients {
@@ -58,9 +58,9 @@ impl Drop for Clients {
 }
 
 impl Clients {
-    /// No way in, and no client yet.
+    /// Returns a value without listeners and clients.
     ///
-    /// An error of the system: it has no poll to spare, or no memory.
+    /// Returns the system's error if it gives no poll, or no memory.
     pub fn new<R: Net>(rt: &R, alloc: Global) -> io::Result<Clients> {
         let events = Events::with_capacity(alloc, 64)?;
         let clients = Vec::with_capacity(alloc, 2 * CLIENTS)?;
@@ -76,8 +76,8 @@ impl Clients {
         })
     }
 
-    /// Binds the control socket at its path, to which its owner alone may connect, and the address of the metrics, where they are
-    /// wanted. `NotBound` has the name of what refuses them: `Control`, `Metrics` or `Memory`.
+    /// Binds the control socket at its path, to which only its owner may connect, and the address of the metrics. Each is
+    /// optional. `NotBound` has the name of the refusal: `Control`, `Metrics` or `Memory`.
     pub fn bind<R: Files + Net>(
         &mut self,
         rt: &R,
@@ -92,12 +92,12 @@ impl Clients {
         }
     }
 
-    /// Removes the file of the control socket at its path, where it is bound and still there.
+    /// Removes the file of the control socket at its path, if it is bound and still there.
     pub fn unbind<R: Files>(&mut self, rt: &R, path: &str) {
         self.doors.unbind_control(rt, path);
     }
 
-    /// Has the system tell of the end of standard input. An error where it doesn't tell of it: that is a file, or closed.
+    /// Watches standard input for its end; fails if it is closed or a file.
     pub fn await_end_of_input(&mut self) -> io::Result<()> {
         let mut input = SourceFd(&0);
         self.poll
@@ -107,7 +107,7 @@ impl Clients {
         Ok(())
     }
 
-    // Whether standard input has ended.
+    // Returns whether standard input has ended.
     fn has_input_ended(&self) -> bool {
         for event in self.events.iter() {
             if event.token() == INPUT && event.is_read_closed() {
@@ -117,7 +117,7 @@ impl Clients {
         false
     }
 
-    /// Whether the end of standard input was waited for, and was told by the last `wait`. It is told once.
+    /// Returns whether the last `wait` reported the end of standard input. It returns true only once.
     pub fn takes_end_of_input(&mut self) -> bool {
         if self.awaits_end && self.has_input_ended() {
             self.awaits_end = false;
@@ -126,7 +126,7 @@ impl Clients {
         false
     }
 
-    /// Waits for a client for so many milliseconds at most; not at all where connections wait already.
+    /// Waits for a client for at most `most_ms` milliseconds, and not at all if connections wait already.
     pub fn wait(&mut self, most_ms: u64) {
         let ms = if self.may_have_more { 0 } else { most_ms };
         let _ = self
@@ -134,14 +134,14 @@ impl Clients {
             .poll(&mut self.events, Some(Duration::from_millis(ms)));
     }
 
-    /// Takes in the connections that wait at this moment, 32 by each way at most.
+    /// Accepts the connections that wait at `now`, at most 32 of each listener.
     pub fn admit(&mut self, now: u64) {
         let control = self.admit_all(Door::Control, now);
         let metrics = self.admit_all(Door::Metrics, now);
         self.may_have_more = control || metrics;
     }
 
-    // Takes in the connections that wait. Whether more may wait.
+    // Accepts the connections that wait. Returns whether more may wait.
     fn admit_all(&mut self, door: Door, now: u64) -> bool {
         for _ in 0..CLIENTS {
             if !self.admit_one(door, now) {
@@ -151,7 +151,7 @@ impl Clients {
         true
     }
 
-    // Takes in a connection that waits. False if none does.
+    // Accepts a connection that waits. Returns false if none does.
     fn admit_one(&mut self, door: Door, now: u64) -> bool {
         match self.doors.accept(door) {
             Ok(stream) => {
@@ -162,7 +162,7 @@ impl Clients {
         }
     }
 
-    // How many clients came by this way.
+    // Returns the number of clients of this listener.
     fn count_of(&self, door: Door) -> usize {
         let mut count: usize = 0;
         for client in self.clients.iter() {
@@ -173,7 +173,8 @@ impl Clients {
         count
     }
 
-    // The place of the client of this way that has been idle for longest, among those that give way to another.
+    // Returns the place of the client of this listener that has been idle for longest, among those that give way to
+    // another.
     fn idlest(&self, door: Door, now: u64) -> Option<usize> {
         let mut found: Option<(usize, u64)> = None;
         for (place, client) in self.clients.iter().enumerate() {
@@ -191,7 +192,7 @@ impl Clients {
         }
     }
 
-    // Makes a place free for a client of this way, where all are taken and one gives way. Whether one is free.
+    // Frees a place for a client of this listener if all are taken and one gives way. Returns whether a place is free.
     fn make_place(&mut self, door: Door, now: u64) -> bool {
         if self.count_of(door) < CLIENTS {
             return true;
@@ -205,7 +206,7 @@ impl Clients {
         }
     }
 
-    // Gives a connection a place. Without a free one it is closed at once.
+    // Gives a connection a place, or closes it if none is free.
     fn seat(&mut self, door: Door, stream: Stream, now: u64) {
         let mut stream = stream;
         if self.make_place(door, now) && stream.register(self.poll.registry()).is_ok() {
@@ -214,12 +215,13 @@ impl Clients {
         }
     }
 
-    /// How many clients there are. Each has a place below that, until `admit` or `close_ended`.
+    /// Returns the number of clients. Each keeps its place below that until `admit` or `close_ended`.
     pub fn count(&self) -> usize {
         self.clients.len()
     }
 
-    /// Reads what the client at a place has sent at this moment. What is no request is answered here, by what is wrong with it.
+    /// Reads the available input of the client at a place. Input that isn't a valid request is answered here with the
+    /// fault.
     pub fn hear(&mut self, place: usize, now: u64) {
         let alloc = self.alloc;
         let Some(client) = self.clients.get_mut(place) else {
@@ -236,7 +238,7 @@ impl Clients {
         }
     }
 
-    /// The request of the client at a place, and the way by which it came, where that is whole and not answered.
+    /// Returns the request of the client at a place, and its listener, if the request is complete and not answered.
     pub fn request(&self, place: usize) -> Option<(Door, Request<'_>)> {
         let client = self.clients.get(place)?;
         if client.stage != Stage::Asking {
@@ -248,7 +250,7 @@ impl Clients {
         }
     }
 
-    // How many octets of answers are kept.
+    // Returns the octets of answers that are kept.
     fn kept(&self) -> usize {
         let mut kept: usize = 0;
         for client in self.clients.iter() {
@@ -257,8 +259,8 @@ impl Clients {
         kept
     }
 
-    /// What the client at a place is to be sent. Where 16 MiB of answers would be kept with it, it is `Busy` (503). A client for
-    /// whose answer there was no memory is closed without.
+    /// Sets the answer of the client at a place. It is `Busy` (503) if more than 16 MiB of answers would be kept. A client
+    /// is closed without an answer if there was no memory for it.
     pub fn answer(&mut self, place: usize, octets: Result<Vec<u8>, AllocError>) {
         let kept = self.kept();
         let octets = match octets {
@@ -272,7 +274,8 @@ impl Clients {
         }
     }
 
-    /// Sends the client at a place what the system takes at this moment. One that was there for five seconds has ended.
+    /// Sends what the system takes at `now` to the client at a place. A client that has been connected for five seconds
+    /// ends.
     pub fn speak(&mut self, place: usize, now: u64) {
         if let Some(client) = self.clients.get_mut(place) {
             client.speak(now);
@@ -282,12 +285,12 @@ impl Clients {
         }
     }
 
-    /// Those that have ended are closed; the others get new places.
+    /// Closes the clients that have ended. The others get new places.
     pub fn close_ended(&mut self) {
         self.clients.retain(|client| client.stage != Stage::Ended);
     }
 
-    /// Whether an answer is still to be sent.
+    /// Returns whether an answer is still to be sent.
     pub fn is_answering(&self) -> bool {
         for client in self.clients.iter() {
             if client.stage == Stage::Answered {
@@ -298,7 +301,8 @@ impl Clients {
     }
 }
 
-// Whether a client gives its place to another: it hasn't asked yet, or has its answer, or takes nothing of that.
+// Returns whether a client gives way to another: its request isn't complete, its answer is sent, or it takes none of the
+// answer.
 fn gives_way(client: &Client, now: u64) -> bool {
     match client.stage {
         Stage::Answered => now.saturating_sub(client.active) >= STUCK_MS,
@@ -306,12 +310,12 @@ fn gives_way(client: &Client, now: u64) -> bool {
     }
 }
 
-// An answer that names what is wrong.
+// Returns an answer that names the fault.
 fn refusal(alloc: Global, status: Status, why: &str) -> Result<Vec<u8>, AllocError> {
     Answer::error(alloc, status, why)?.octets(alloc)
 }
 
-// What is wrong with what a client has sent.
+// Returns the fault of a client's input.
 fn fault_of(reading: &Reading<'_>) -> Option<(Status, &'static str)> {
     match reading {
         Reading::HeadTooLarge => Some((Status::HeadTooLarge, "HeadTooLarge")),

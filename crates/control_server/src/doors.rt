@@ -1,4 +1,4 @@
-//! The ways in: the control socket, and the address of the metrics.
+//! The listeners: the control socket, and the address of the metrics.
 ghost use Rattle.std.specs.Io.{ReadsAtMost};
 
 use crate::socket_file;
@@ -11,16 +11,16 @@ use std::io;
 use std::io::{ErrorKind, Read, Write};
 use std::net::{Net, Shutdown, SocketAddr};
 
-/// By which way a client came.
+/// The listener of a client.
 #[derive(Clone, Copy)]
 pub enum Door {
-    /// The control socket, which takes orders.
+    /// The control socket, which accepts orders.
     Control,
-    /// The address of the metrics, which takes none.
+    /// The address of the metrics, which accepts none.
     Metrics,
 }
 
-/// A connection by either way.
+/// A connection to either listener.
 #[derive(Drop)]
 pub enum Stream {
     Unix(UnixStream),
@@ -28,7 +28,7 @@ pub enum Stream {
 }
 
 impl Stream {
-    /// Has the system tell when it can be read or written.
+    /// Registers it with the poll for reads and writes.
     pub fn register(&mut self, registry: &Registry) -> io::Result<()> {
         let both = Interest::READABLE | Interest::WRITABLE;
         match self {
@@ -37,7 +37,7 @@ impl Stream {
         }
     }
 
-    /// Reads what is there.
+    /// Reads the available octets, at most the length of `octets`.
     pub fn read_some(&mut self, octets: &mut [u8]) -> io::Result<usize>
         ensures { ReadsAtMost result octets.new }
     {
@@ -47,7 +47,7 @@ impl Stream {
         }
     }
 
-    /// Writes what the system takes.
+    /// Writes as many octets as the system takes.
     pub fn write_some(&mut self, octets: &[u8]) -> io::Result<usize> {
         match self {
             Stream::Unix(stream) => stream.write(octets),
@@ -55,7 +55,7 @@ impl Stream {
         }
     }
 
-    /// Tells the client that nothing more is sent.
+    /// Ends the output, which the client sees as the end of its input.
     pub fn end_output(&self) -> io::Result<()> {
         match self {
             Stream::Unix(stream) => stream.shutdown(Shutdown::Write),
@@ -67,7 +67,7 @@ impl Stream {
 // The system's number of the error "File name too long".
 const NAME_TOO_LONG: i32 = 36;
 
-/// Why a way in isn't bound: by what name it is refused, and the system's number of the error, where it gave one.
+/// The reason why a listener isn't bound: the name of the refusal, and the system's error number if there is one.
 #[derive(Clone, Copy, Debug, PartialEq, Eq)]
 pub struct NotBound {
     pub name: &'static str,
@@ -75,13 +75,13 @@ pub struct NotBound {
 }
 
 impl NotBound {
-    /// An error of the system that refuses what has this name; without memory, `Memory`.
+    /// Returns the refusal of this name for an error of the system, or `Memory` if there is no memory.
     pub fn of(error: &io::Error, name: &'static str) -> NotBound {
         let name = match error.kind() {
             ErrorKind::OutOfMemory => "Memory",
             _ => name,
         };
-        // (a path that is too long for an address of a socket is refused before the system sees it)
+        // A path that is too long for a socket's address is refused before the system sees it.
         let code = match error.kind() {
             ErrorKind::InvalidInput => Some(NAME_TOO_LONG),
             _ => error.raw_os_error(),
@@ -90,17 +90,17 @@ impl NotBound {
     }
 }
 
-/// The listeners that there are.
+/// The listeners that are bound.
 #[derive(Drop)]
 pub struct Doors {
     pub control: Option<UnixListener>,
     pub metrics: Option<TcpListener>,
-    // Where the control socket's file is.
+    // The identity of the control socket's file.
     file: Option<SocketFile>,
 }
 
 impl Doors {
-    /// No listener.
+    /// Returns a value without listeners.
     pub fn none() -> Doors {
         Doors {
             control: None,
@@ -109,7 +109,7 @@ impl Doors {
         }
     }
 
-    /// Binds the control socket at its path, where there is to be one.
+    /// Binds the control socket at its path, if one is wanted.
     pub fn bind_control<R: Files + Net>(
         &mut self,
         rt: &R,
@@ -129,14 +129,14 @@ impl Doors {
         }
     }
 
-    /// Removes the file of the control socket at its path, where it is still there.
+    /// Removes the file of the control socket at its path, if it is still there.
     pub fn unbind_control<R: Files>(&mut self, rt: &R, path: &str) {
         if let Some(file) = self.file.take() {
             socket_file::unbind(rt, path, file);
         }
     }
 
-    /// Binds the listener of the metrics, where there is to be one.
+    /// Binds the listener of the metrics, if one is wanted.
     pub fn bind_metrics<R: Net>(
         &mut self,
         rt: &R,
@@ -152,7 +152,7 @@ impl Doors {
         Ok(())
     }
 
-    /// Has the system tell when a client waits.
+    /// Registers the listeners with the poll.
     pub fn register(&mut self, registry: &Registry) -> io::Result<()> {
         if let Some(listener) = &mut self.control {
             registry.register(listener, Token(0), Interest::READABLE)?;
@@ -163,7 +163,7 @@ impl Doors {
         }
     }
 
-    /// The next connection by this way. `WouldBlock`: none waits.
+    /// Returns the next connection of this listener, or `WouldBlock` if none waits.
     pub fn accept(&self, door: Door) -> io::Result<Stream> {
         match (door, &self.control, &self.metrics) {
             (Door::Control, Some(listener), _) => match listener.accept() {

@@ -1,5 +1,5 @@
-//! The server's side of a control socket and of the address of the metrics: clients ask, and are sent what they are answered. It
-//! knows no exchange.
+//! The server of the control socket and of the metrics' address. It takes the requests of clients and sends them their
+//! answers. It knows no exchange.
 #![tactic(auto)]
 
 mod client;

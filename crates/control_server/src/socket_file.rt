@@ -11,23 +11,23 @@ use std::os::unix::net;
 use std::os::unix::net::SocketAddr;
 use std::{fs, io};
 
-// How many clients may wait to be accepted: as many as the system lets wait.
+// The number of clients that may wait to be accepted: the system's greatest.
 const BACKLOG: i32 = -1;
 
-// How many names are tried for the folder.
+// The number of names that are tried for the folder.
 const NAMES: u32 = 100;
 
-// Who may connect: the owner.
+// The mode of the file: only the owner may connect.
 const MODE: u32 = 0o600;
 
-/// The file that a listener was bound at, by its place in the file system. The place is its own as long as the listener is open.
+/// The file of a listener, by its device and inode, which no other file has as long as the listener is open.
 #[derive(Clone, Copy)]
 pub(crate) struct SocketFile {
     device: u64,
     inode: u64,
 }
 
-// The folder in which a path lies, with the slash behind it.
+// Returns the folder of a path, with the slash behind it.
 fn folder_of(path: &str) -> &str {
     match path.rfind('/') {
         Some(place) => path.get(..=place).unwrap_or(""),
@@ -35,8 +35,8 @@ fn folder_of(path: &str) -> &str {
     }
 }
 
-// Makes a folder that nobody else may look into, beside the path. Its name is short, so that a path may be as long as the system
-// takes it.
+// Makes a private folder next to the path. Its name is short, so that a path may have the greatest length that the system
+// takes.
 fn private_folder<R: Files>(rt: &R, alloc: Global, path: &str) -> io::Result<String> {
     let mut builder = DirBuilder::new();
     builder.mode(0o700);
@@ -51,7 +51,7 @@ fn private_folder<R: Files>(rt: &R, alloc: Global, path: &str) -> io::Result<Str
     Err(io::Error::from(ErrorKind::AlreadyExists))
 }
 
-// Whether a path leads to the socket of a process that has ended. `NotFound`: to nothing.
+// Returns whether a path leads to the socket of a process that has ended, or `NotFound` if it leads nowhere.
 fn is_dead<R: Files + Net>(rt: &R, path: &str) -> io::Result<bool> {
     if !fs::symlink_metadata(rt, path)?.file_type().is_socket() {
         return Ok(false);
@@ -63,8 +63,8 @@ fn is_dead<R: Files + Net>(rt: &R, path: &str) -> io::Result<bool> {
     }
 }
 
-// Removes what was moved away, where it is the socket of a process that has ended. Anything else goes back to its path, where
-// nothing else is by now.
+// Removes the file that was moved away, if it is the socket of a process that has ended. Anything else is moved back,
+// unless its path is taken by now.
 fn remove_dead<R: Files + Net>(rt: &R, moved: &str, path: &str) -> io::Result<()> {
     if let Ok(true) = is_dead(rt, moved) {
         return fs::remove_file(rt, moved);
@@ -74,8 +74,8 @@ fn remove_dead<R: Files + Net>(rt: &R, moved: &str, path: &str) -> io::Result<()
     Err(in_use())
 }
 
-// Makes room at the path, where the socket of a process that has ended is in the way. It is moved to the folder first, where nobody
-// puts something else in its place.
+// Removes the socket of an ended process from the path. It is first moved to the private folder, where nobody can replace
+// it.
 fn make_room<R: Files + Net>(rt: &R, alloc: Global, folder: &str, path: &str) -> io::Result<()> {
     match is_dead(rt, path) {
         Ok(true) => {}
@@ -88,18 +88,17 @@ fn make_room<R: Files + Net>(rt: &R, alloc: Global, folder: &str, path: &str) ->
     remove_dead(rt, moved.as_str(), path)
 }
 
-// Somebody answers at the path, or what is there is no socket: "Address already in use".
+// Returns "Address already in use": another process answers at the path, or the file there is no socket.
 fn in_use() -> io::Error {
     io::Error::from_raw_os_error(98)
 }
 
-// The error of the call of the system that failed last.
+// Returns the error of the last failed system call.
 fn system_error() -> io::Error {
     io::Error::from_raw_os_error(os::errno())
 }
 
-// Binds a listener at a path at which nothing is. The file has its mode from its first moment on: the system takes it from the
-// socket.
+// Binds a listener at a free path. Its file has the right mode from the start, because the system takes it from the socket.
 fn listener_at<R: Files + Net>(rt: &R, path: &str) -> io::Result<UnixListener> {
     let address = SocketAddr::from_pathname(path)?;
     let socket = rt.unix_socket()?;
@@ -115,7 +114,7 @@ fn listener_at<R: Files + Net>(rt: &R, path: &str) -> io::Result<UnixListener> {
     Ok(UnixListener::from_std(listener))
 }
 
-// Gives the file of a listener the path, where nothing is there. Others may not connect to it.
+// Links the file of a listener to the path, if nothing is there. Returns an error if others may connect to it.
 fn put_at<R: Files>(rt: &R, bound: &str, path: &str) -> io::Result<SocketFile> {
     let found = fs::symlink_metadata(rt, bound)?;
     if found.mode() & 0o777 != MODE {
@@ -131,7 +130,7 @@ fn put_at<R: Files>(rt: &R, bound: &str, path: &str) -> io::Result<SocketFile> {
     }
 }
 
-// Binds a listener in a folder, and gives its file the path.
+// Binds a listener in a folder, and links its file to the path.
 fn bind_in<R: Files + Net>(
     rt: &R,
     alloc: Global,
@@ -149,17 +148,18 @@ fn bind_in<R: Files + Net>(
     }
 }
 
-/// Binds a listener at the path, to which its owner alone may connect, at no moment anybody else. The socket of a process that has
-/// ended is replaced. Nothing else is removed, whatever comes to the path meanwhile.
+/// Binds a listener at the path. At no moment can anybody but its owner connect. The socket of an ended process is
+/// replaced; nothing else is removed, even if the path changes meanwhile.
 ///
-/// "Address already in use": somebody answers there, or what is there is no socket: a file, a folder, a link, a pipe. Other errors
-/// are those of the system, as for a path of 108 octets or more, or one in a folder that isn't there or has no hard links.
+/// Returns "Address already in use" if another process answers there, or if the path has a file, a folder, a link or a
+/// pipe. Other errors are the system's: a path of 108 octets or more, a folder that isn't there, or a file system without
+/// hard links.
 pub(crate) fn bind<R: Files + Net>(
     rt: &R,
     alloc: Global,
     path: &str,
 ) -> io::Result<(UnixListener, SocketFile)> {
-    // (a path that is too long for an address can have a link, but no client)
+    // A longer path could be linked, but no client could connect to it.
     let _address = SocketAddr::from_pathname(path)?;
     let folder = private_folder(rt, alloc, path)?;
     let bound = bind_in(rt, alloc, folder.as_str(), path);
@@ -167,7 +167,7 @@ pub(crate) fn bind<R: Files + Net>(
     bound
 }
 
-/// Removes the file at the path, where it is still that of a listener that is open.
+/// Removes the file at the path, if it is still that of an open listener.
 pub(crate) fn unbind<R: Files>(rt: &R, path: &str, file: SocketFile) {
     if let Ok(found) = fs::symlink_metadata(rt, path) {
         let is_same = found.dev() == file.device && found.ino() == file.inode;

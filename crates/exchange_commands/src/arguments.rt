@@ -1,9 +1,10 @@
-//! What the words after a command say.
+//! The words after a command.
 ghost use Rattle.std.specs.Prelude.{◌<◌, IfSome};
 
 use script_lines::decimal;
 
-/// The number of turns that a word asks for: decimal digits, from 1 to 4,294,967,295. `None` where it says none.
+/// Returns the number of turns that a word asks for: decimal digits, from 1 to 4,294,967,295. Returns `None` if it isn't
+/// such a number.
 pub fn turn_count(word: &str) -> Option<u32>
     ensures { IfSome result (λ turns. 0 < turns) }
 {

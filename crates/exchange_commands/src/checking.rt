@@ -1,10 +1,10 @@
-//! A plan is checked.
+//! The check of a plan.
 use peer_plan::Plan;
 use std::alloc::Global;
 use std::io;
 use std::io::Write;
 
-// How many peers, routes and numbers a plan has.
+// Writes the counts of peers, routes and numbers of a plan.
 fn write_counts<W: Write>(plan: &Plan, writer: &mut W) -> io::Result<()> {
     writeln!(
         writer,
@@ -15,8 +15,8 @@ fn write_counts<W: Write>(plan: &Plan, writer: &mut W) -> io::Result<()> {
     )
 }
 
-/// Writes how many peers, routes and numbers a plan has, `ok <peers> <routes> <numbers>`, status 0, or its first fault,
-/// `refused <fault>`, status 1. A fault of the writer is status 1.
+/// Writes the numbers of a plan's peers, routes and call numbers, `ok <peers> <routes> <numbers>`, status 0, or its first
+/// fault, `refused <fault>`, status 1. A fault of the writer is status 1.
 pub fn check<W: Write>(alloc: Global, plan: &[u8], writer: &mut W) -> u8 {
     let is_written = match Plan::read(alloc, plan) {
         Ok(plan) => write_counts(&plan, writer).is_ok(),

@@ -1,9 +1,9 @@
-//! What a script is played on, and who looks on.
+//! The exchange on which a script is played, and its viewer.
 use exchange_core::{Exchange, NoGate, Pass};
 use peer_lock::Naming;
 use std::alloc::Global;
 
-/// An exchange and a pass of it, on which a script is played, and the viewer who is told what comes of it.
+/// An exchange and a pass of it, on which a script is played, and the viewer that observes the replay.
 #[derive(Drop)]
 pub(crate) struct Desk<'a, R, J: Naming, V> {
     pub(crate) rt: &'a R,

@@ -1,4 +1,4 @@
-//! In which order the free numbers of a peer are given out.
+//! The order in which the free numbers of a peer are given out.
 ghost use Rattle.std.specs.Prelude.{◌<◌, length};
 
 use crate::desk::Desk;
@@ -13,12 +13,12 @@ use script_lines::decimal;
 use std::alloc::Global;
 use std::sync::Wait;
 
-// The number that these digits spell.
+// Returns the number that these digits spell.
 fn number_of(digits: &[u8]) -> Option<u16> {
     u16::try_from(decimal(digits)?).ok()
 }
 
-// The numbers that a part of a text names: one alone, or from one to another. None where it names none.
+// Returns the numbers that a part of a text names, as a first and a last, or `None` if it names none.
 fn ends_of(part: &[u8]) -> Option<(u16, u16)> {
     let mut ends = part.splitn(2, |octet| *octet == b'-');
     let first = number_of(ends.next().unwrap_or(b""))?;
@@ -29,7 +29,7 @@ fn ends_of(part: &[u8]) -> Option<(u16, u16)> {
     Some((first, last))
 }
 
-// The numbers from one to another, behind those that are listed. More than a peer can have are refused.
+// Adds the numbers from one to another to a list. More numbers than a peer can have are refused.
 fn list_range(numbers: &mut Vec<u16>, first: u16, last: u16) -> Result<(), Stop> {
     for number in first..=last {
         if numbers.len() == 512 {
@@ -42,7 +42,7 @@ fn list_range(numbers: &mut Vec<u16>, first: u16, last: u16) -> Result<(), Stop>
     Ok(())
 }
 
-// The numbers that a text lists, each alone or from one to another, as `5-7,1`.
+// Adds the numbers that a text lists, each alone or as a range, as `5-7,1`.
 fn list_numbers(numbers: &mut Vec<u16>, text: &[u8]) -> Result<(), Stop> {
     for part in text.split(|octet| *octet == b',') {
         match ends_of(part) {
@@ -57,7 +57,22 @@ fn list_numbers(numbers: &mut Vec<u16>, text: &[u8]) -> Result<(), Stop> {
     Ok(())
 }
 
-// The numbers that a text lists, in a list of their own.
+/// Returns how many numbers a text lists: a `free` line with it uses so many serials. The count of a text that `order_free`
+/// refuses has no meaning.
+pub(crate) fn count_numbers(text: &[u8]) -> u64 {
+    let mut count: u64 = 0;
+    for part in text.split(|octet| *octet == b',') {
+        match ends_of(part) {
+            Some((first, last)) if first <= last => {
+                count = count.saturating_add(u64::from(last - first) + 1);
+            }
+            _ => {}
+        }
+    }
+    count
+}
+
+// Returns the numbers that a text lists.
 fn listed(alloc: Global, text: &[u8]) -> Result<Vec<u16>, Stop> {
     let mut numbers = Vec::new(alloc);
     match list_numbers(&mut numbers, text) {
@@ -66,7 +81,7 @@ fn listed(alloc: Global, text: &[u8]) -> Result<Vec<u16>, Stop> {
     }
 }
 
-// Whether a list has each number of a range once, and no other.
+// Returns whether a list has each number of a range once, and no other.
 fn is_order_of(numbers: &[u16], range: NumberRange) -> bool {
     if numbers.len() != usize::from(range.count) {
         return false;
@@ -80,13 +95,13 @@ fn is_order_of(numbers: &[u16], range: NumberRange) -> bool {
     true
 }
 
-// A full frame from call number 1 that says that there is no call of this number there: "INVAL" (RFC 5456, section 6.9.3).
+// Returns a full frame from call number 1 that says that the sender has no call of this number ("INVAL").
 fn inval(number: u16) -> [u8; 12] {
     let [high, low] = number.to_be_bytes();
     [0x80, 1, high, low, 0, 0, 0, 0, 0, 0, 6, 0x0a]
 }
 
-// A call takes each free number of the peer; then each is given back, in this order.
+// Opens a call for each free number of the peer, and then ends the calls in this order.
 fn take_and_free<J: Naming, R: Wait>(
     rt: &R,
     exchange: &Exchange<NoGate, J>,
@@ -113,10 +128,11 @@ fn take_and_free<J: Naming, R: Wait>(
     Ok(())
 }
 
-/// Has the numbers of a peer be given out in the order of this text from now on, unseen by anybody: calls take all of them, and
-/// end in that order. What waits in the peer's outbox is dropped.
+/// Sets the order in which the numbers of a peer are given out to that of this text. To do so, it opens calls for all of
+/// them and ends these in that order. Nothing of this is visible. The datagrams in the peer's outbox are dropped.
 ///
-/// `Script`: no peer has that name, one of its numbers has a leg, or the text doesn't list each of its numbers once.
+/// Returns `Script` if no peer has that name, one of its numbers has a leg, or the text doesn't list each of its numbers
+/// once.
 pub(crate) fn order_free<J: Naming, R: Wait, V>(
     desk: &mut Desk<'_, R, J, V>,
     peer: &[u8],

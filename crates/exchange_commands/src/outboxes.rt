@@ -1,10 +1,10 @@
-//! Datagrams go out, and a viewer sees them.
+//! Sends datagrams, and shows them to a viewer.
 use crate::desk::Desk;
 use crate::viewer::{PeerOfPlan, Stop, Viewer};
 use peer_lock::Naming;
 use std::sync::Wait;
 
-/// All datagrams to a peer of the plan go out.
+/// Sends all datagrams to a peer of the plan.
 pub(crate) fn empty_outbox<J: Naming, R: Wait, V: Viewer>(
     desk: &mut Desk<'_, R, J, V>,
     place: u16,

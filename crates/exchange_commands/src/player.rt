@@ -1,6 +1,6 @@
-//! The lines of a script are played on an exchange, and a viewer is told what came of each.
+//! Plays the lines of a script on an exchange, and reports the result of each to a viewer.
 use crate::desk::Desk;
-use crate::free_order::order_free;
+use crate::free_order::{count_numbers, order_free};
 use crate::outboxes::empty_outbox;
 use crate::stages::Stages;
 use crate::viewer::{PeerOfPlan, Received, Stop, Viewer};
@@ -14,31 +14,47 @@ use script_lines::Line;
 use std::alloc::Global;
 use std::sync::Wait;
 
-// What lines of a script asked for, up to one of them.
+// The kinds of lines up to one of them.
 #[derive(Clone, Copy)]
 enum Begun {
     Nothing,
-    // Of the prefix of challenges alone.
+    // The prefix of challenges alone.
     Prefix,
+    // Of a key or an order of free numbers, too.
+    Opening,
     More,
 }
 
-/// What is known between two lines of a script.
+impl Begun {
+    // The same, with this line, which wasn't refused.
+    fn with(self, line: &Line<'_>) -> Begun {
+        match (self, line) {
+            (Begun::More, _) => Begun::More,
+            (_, Line::Prefix(_)) => Begun::Prefix,
+            (_, Line::Key(_) | Line::Free(_, _)) => Begun::Opening,
+            _ => Begun::More,
+        }
+    }
+}
+
+/// The state between two lines of a script.
 #[derive(Drop)]
 pub struct Player {
     now: u64,
     challenge: Challenge,
-    // What lines asked for so far.
+    // The kinds of lines so far.
     begun: Begun,
-    // Whether what goes out waits for a line that sends it.
+    // How many serials `free` lines used.
+    used: u64,
+    // Whether datagrams wait for a line that sends them.
     holds: bool,
-    // Those that the viewer was told.
+    // The stages that were reported to the viewer.
     stages: Stages,
-    // The legs that were taken out since datagrams went out.
+    // The legs that were taken out since datagrams were last sent.
     retired: Vec<Retired>,
 }
 
-// Whether a datagram is a full frame: only such a one can open a leg, or have a leg stand otherwise.
+// Returns whether a datagram is a full frame. Only a full frame can open a leg or change the stage of one.
 fn is_full(octets: &[u8]) -> bool {
     match octets.first() {
         Some(octet) => *octet >= 0x80,
@@ -46,7 +62,7 @@ fn is_full(octets: &[u8]) -> bool {
     }
 }
 
-// Whether a line has something happen at the exchange, of which a viewer is told.
+// Returns whether a line is an event of the exchange that is reported to a viewer.
 fn is_event(line: &Line<'_>) -> bool {
     match line {
         Line::Rx(_, _) | Line::Stranger(_, _) | Line::Call(_, _) => true,
@@ -55,7 +71,7 @@ fn is_event(line: &Line<'_>) -> bool {
     }
 }
 
-// All peers drain, or none does.
+// Sets whether all peers drain, or none.
 fn drain<J: Naming, R: Wait, V: Viewer>(desk: &mut Desk<'_, R, J, V>, drains: bool) {
     let exchange = desk.exchange;
     for peer in 0..exchange.plan().peer_count() {
@@ -64,24 +80,30 @@ fn drain<J: Naming, R: Wait, V: Viewer>(desk: &mut Desk<'_, R, J, V>, drains: bo
 }
 
 impl Player {
-    /// At the beginning: moment 0, in milliseconds, challenge `0`, no leg. None where memory was refused.
+    /// Returns a player at the moment 0, in milliseconds, with the challenge `0` and no leg. Returns `None` if memory was
+    /// refused.
     pub fn new(alloc: Global, plan: &Plan) -> Option<Player> {
         let challenge = Challenge::new(b"0")?;
         Some(Player {
             now: 0,
             challenge,
             begun: Begun::Nothing,
+            used: 0,
             holds: false,
             stages: Stages::new(alloc, plan).ok()?,
             retired: Vec::new(alloc),
         })
     }
 
-    /// Does what a line asks for, and tells the viewer what came of it. An empty line and `settle` do nothing here.
+    /// Plays a line, and reports its results to the viewer. An empty line and `settle` do nothing here.
     ///
-    /// `Script`: no peer has the name that the line gives, `at` goes back or `back` goes on, what should be a challenge, a key, an
-    /// endpoint, a datagram or a list of numbers is none, a stranger's endpoint is a peer's, `prefix` isn't the first line, or `key`
-    /// isn't the first but for `prefix`. `Memory`: a request for memory was refused. What the viewer answers by `Err` is handed on.
+    /// Returns `Memory` if a request for memory was refused, the viewer's `Err`, or `Script`:
+    ///
+    /// - No peer has the name in the line, or a stranger's endpoint is a peer's.
+    /// - `at` has an earlier moment, or `back` a later one.
+    /// - A challenge, a key, an endpoint, a datagram or a list of numbers is malformed.
+    /// - `prefix` isn't the first line, or `key` has a line other than `prefix` before it.
+    /// - `serial` has a line other than these and `free` before it, or is less than the serials that these used.
     pub(crate) fn line<J: Naming, R: Wait, V: Viewer>(
         &mut self,
         desk: &mut Desk<'_, R, J, V>,
@@ -94,14 +116,11 @@ impl Player {
             },
             Err(stop) => Err(stop),
         };
-        self.begun = match line {
-            Line::Prefix(_) => Begun::Prefix,
-            _ => Begun::More,
-        };
+        self.begun = self.begun.with(line);
         worked
     }
 
-    // A line is begun, which the viewer is told of what happens at the exchange. Whether what that makes goes out at once.
+    // Begins a line, and reports it to the viewer if it is an event. Returns whether its datagrams are sent at once.
     fn begin<V: Viewer>(&self, line: &Line<'_>, viewer: &mut V) -> Result<bool, Stop> {
         if !is_event(line) {
             return Ok(false);
@@ -112,7 +131,7 @@ impl Player {
         }
     }
 
-    // What a line asks for.
+    // Does what the line asks for.
     fn work<J: Naming, R: Wait, V: Viewer>(
         &mut self,
         desk: &mut Desk<'_, R, J, V>,
@@ -130,23 +149,29 @@ impl Player {
             }
             Line::Free(peer, numbers) => {
                 self.stages.doubt();
+                self.used = self.used.saturating_add(count_numbers(numbers));
                 order_free(desk, peer, numbers, self.now, &self.challenge)
             }
             _ => self.set(line),
         }
     }
 
-    // Whether this is what the challenges of the exchange begin with, and the script's first line.
+    // Returns whether this can be the prefix of the exchange's challenges, and is the script's first line.
     fn may_take_prefix(&self, text: &[u8]) -> bool {
         matches!(self.begun, Begun::Nothing) && Challenge::new(text).is_some()
     }
 
-    // Whether this is a key, and only `prefix` was before it.
+    // Returns whether this is a key, and has no line but `prefix` before it.
     fn may_take_key(&self, digits: &[u8]) -> bool {
-        !matches!(self.begun, Begun::More) && key_of(digits).is_some()
+        matches!(self.begun, Begun::Nothing | Begun::Prefix) && key_of(digits).is_some()
     }
 
-    // What a line says of those after it.
+    // Whether this may be the serial of the next leg: only `free` lines used serials before, and no more of them.
+    fn may_take_serial(&self, serial: u64) -> bool {
+        !matches!(self.begun, Begun::More) && self.used <= serial
+    }
+
+    // Applies a line that sets a value for the lines after it.
     fn set(&mut self, line: &Line<'_>) -> Result<(), Stop> {
         match line {
             Line::At(moment) if *moment >= self.now => self.now = *moment,
@@ -156,16 +181,17 @@ impl Player {
                 Some(challenge) => self.challenge = challenge,
                 None => return Err(Stop::Script),
             },
-            // (the exchange was opened with it)
+            // The exchange was opened with it.
             Line::Prefix(text) if !self.may_take_prefix(text) => return Err(Stop::Script),
             Line::Key(digits) if !self.may_take_key(digits) => return Err(Stop::Script),
+            Line::Serial(serial) if !self.may_take_serial(*serial) => return Err(Stop::Script),
             Line::Hold => self.holds = true,
             _ => {}
         }
         Ok(())
     }
 
-    // A datagram comes.
+    // Receives the datagram of a line.
     fn hear<J: Naming, R: Wait, V: Viewer>(
         &mut self,
         desk: &mut Desk<'_, R, J, V>,
@@ -181,7 +207,7 @@ impl Player {
         }
     }
 
-    // These octets come.
+    // Receives these octets.
     fn hear_octets<J: Naming, R: Wait, V: Viewer>(
         &mut self,
         desk: &mut Desk<'_, R, J, V>,
@@ -200,7 +226,7 @@ impl Player {
         self.tell_heard(peer, octets, refused, desk.viewer)
     }
 
-    // The viewer is told of a datagram from a peer, and of a stranger's where that is refused.
+    // Reports a datagram from a peer to the viewer, or the refusal of a stranger's.
     fn tell_heard<V: Viewer>(
         &self,
         peer: Option<PeerOfPlan<'_>>,
@@ -222,7 +248,7 @@ impl Player {
         }
     }
 
-    // A call goes out.
+    // Places a call.
     fn call<J: Naming, R: Wait, V: Viewer>(
         &mut self,
         desk: &mut Desk<'_, R, J, V>,
@@ -240,7 +266,7 @@ impl Player {
         }
     }
 
-    // The leg of a number hangs up.
+    // Hangs up the leg of a number.
     fn hang_up<J: Naming, R: Wait, V: Viewer>(
         &mut self,
         desk: &mut Desk<'_, R, J, V>,
@@ -259,7 +285,7 @@ impl Player {
         }
     }
 
-    // Time goes on at the peers that the line means, in the order of the plan.
+    // Ticks the peers that the line names, or all, in the order of the plan.
     fn tick<J: Naming, R: Wait, V: Viewer>(
         &mut self,
         desk: &mut Desk<'_, R, J, V>,
@@ -277,13 +303,13 @@ impl Player {
         Ok(())
     }
 
-    // The legs that were taken out are kept until datagrams go out, and a refusal is told.
+    // Keeps the legs that were taken out until datagrams are sent, and reports a refusal.
     fn answered<V: Viewer>(&mut self, answer: Answer, viewer: &mut V) -> Result<(), Stop> {
         let refused = self.keep(answer);
         self.tell_refusal(refused, viewer)
     }
 
-    // A refusal is told, where there is one.
+    // Reports a refusal, if there is one.
     fn tell_refusal<V: Viewer>(
         &self,
         refused: Result<Option<Refusal>, Stop>,
@@ -296,7 +322,8 @@ impl Player {
         }
     }
 
-    // The legs that were taken out are kept until datagrams go out. Why nothing was done, if so: then there are none.
+    // Keeps the legs that were taken out until datagrams are sent. Returns the refusal, if there is one; then there are no
+    // such legs.
     fn keep(&mut self, answer: Answer) -> Result<Option<Refusal>, Stop> {
         let Answer {
             refused,
@@ -309,8 +336,8 @@ impl Player {
         }
     }
 
-    // What a line left, or all lines since datagrams went out: the datagrams that go out now, to the peers that the line means, in
-    // the order of the plan; then the legs that were taken out, and the stages that changed.
+    // Sends the datagrams that a line left, or that all lines left since the last send. They go to the peers that the line
+    // names, or to all, in the order of the plan. Then reports the legs that were taken out, and the stages that changed.
     fn send<J: Naming, R: Wait, V: Viewer>(
         &mut self,
         desk: &mut Desk<'_, R, J, V>,
@@ -328,7 +355,7 @@ impl Player {
         }
     }
 
-    // The legs that were taken out, by ascending number.
+    // Reports the legs that were taken out, by ascending number.
     fn tell_retired<V: Viewer>(&mut self, viewer: &mut V) -> Result<(), Stop> {
         if self.retired.is_empty() {
             return Ok(());

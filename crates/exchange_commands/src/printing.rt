@@ -1,4 +1,4 @@
-//! What a replay prints.
+//! The output of a replay.
 use crate::viewer::{PeerOfPlan, Received, Stop, Viewer};
 use exchange_core::Retired;
 use exchange_report::{MediaAccounts, refusal_name, stage_name, write_accounts};
@@ -6,13 +6,13 @@ use leg_machine::Stage;
 use std::io;
 use std::io::Write;
 
-/// Prints a replay, a line for each thing.
+/// Prints a replay, one line for each event.
 #[derive(Drop)]
 pub(crate) struct Printer<'a, W> {
     pub writer: &'a mut W,
 }
 
-// What a viewer answers where this came of writing.
+// Converts the result of a write to that of a viewer.
 fn told(written: io::Result<()>) -> Result<(), Stop> {
     match written {
         Ok(()) => Ok(()),
@@ -20,7 +20,7 @@ fn told(written: io::Result<()>) -> Result<(), Stop> {
     }
 }
 
-// Two digits for each octet, and the end of the line.
+// Writes two digits for each octet, and ends the line.
 fn write_hex<W: Write>(octets: &[u8], writer: &mut W) -> io::Result<()> {
     let mut digits = [0; 2];
     for octet in octets {

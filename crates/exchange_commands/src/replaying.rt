@@ -1,7 +1,8 @@
-//! A script is replayed, line by line, through an exchange.
+//! Replays a script, line by line, through an exchange.
 ghost use Rattle.std.specs.Prelude.{◌≡◌, ◌+◌, ◌<◌, ◌^◌, length, IfSome};
 
 use crate::desk::Desk;
+use crate::free_order::count_numbers;
 use crate::player::Player;
 use crate::printing::Printer;
 use crate::viewer::{Stop, Viewer};
@@ -20,14 +21,14 @@ use std::marker::Brand;
 use std::sync::Wait;
 use std::sync::ledger::Ledger;
 
-/// What is replayed, as the octets of two files: a script, on an exchange of this plan.
+/// The content of the two files of a replay: the plan of an exchange, and a script.
 #[derive(Clone, Copy)]
 pub struct ReplayFiles<'a> {
     pub plan: &'a [u8],
     pub script: &'a [u8],
 }
 
-/// Why a replay ends before its script does.
+/// The reason why a replay ends before its script does.
 #[derive(Debug, Drop, PartialEq, Eq)]
 pub enum ReplayError {
     /// The plan is refused.
@@ -36,7 +37,7 @@ pub enum ReplayError {
     Script(usize),
     /// A request for memory was refused.
     Memory,
-    /// The writer can't write.
+    /// The output can't be written.
     Writer,
 }
 
@@ -46,7 +47,7 @@ impl From<AllocError> for ReplayError {
     }
 }
 
-// Why a replay ended at a line.
+// Returns the reason why a replay ended at a line.
 fn stopped_at(line: usize, stop: Stop) -> ReplayError {
     match stop {
         Stop::Script => ReplayError::Script(line),
@@ -55,8 +56,8 @@ fn stopped_at(line: usize, stop: Stop) -> ReplayError {
     }
 }
 
-/// Writes why a replay ended, and answers the status: 0 where its script did, else 1. It writes `refused <fault>`, `refused
-/// Script <line>` or `refused Memory`; of a writer that can't write, nothing.
+/// Writes why a replay ended, and returns the status: 0 at the end of the script, or else 1. It writes `refused <fault>`,
+/// `refused Script <line>` or `refused Memory`, and nothing if the output can't be written.
 pub fn tell_outcome<W: Write>(outcome: Result<(), ReplayError>, writer: &mut W) -> u8 {
     match outcome {
         Ok(()) => 0,
@@ -67,7 +68,7 @@ pub fn tell_outcome<W: Write>(outcome: Result<(), ReplayError>, writer: &mut W) 
     }
 }
 
-// Why a replay ended, as it is printed.
+// Writes the reason why a replay ended.
 fn write_error<W: Write>(error: ReplayError, writer: &mut W) -> io::Result<()> {
     match error {
         ReplayError::Plan(fault) => writeln!(writer, "refused {fault}"),
@@ -77,7 +78,7 @@ fn write_error<W: Write>(error: ReplayError, writer: &mut W) -> io::Result<()> {
     }
 }
 
-// The accounts are closed.
+// Closes the accounts.
 fn settle<J: Naming, V: Viewer>(
     exchange: Exchange<NoGate, J>,
     passes: Vec<Pass<J>>,
@@ -89,7 +90,7 @@ fn settle<J: Naming, V: Viewer>(
     }
 }
 
-// One line is worked. After `settle` no line may follow that isn't skipped.
+// Plays one line. After `settle` only empty lines and comments may follow.
 fn work_line<J: Naming, R: Wait, V: Viewer>(
     rt: &R,
     alloc: Global,
@@ -121,14 +122,14 @@ fn work_line<J: Naming, R: Wait, V: Viewer>(
     }
 }
 
-// What is still open is closed. (Here it isn't dropped, since that would have to be proved here anew, field by field.)
+// Closes an exchange that is still open. It isn't dropped, because a drop would have to be proved here field by field.
 fn close<J: Naming>(open: Option<(Exchange<NoGate, J>, Vec<Pass<J>>)>) {
     if let Some((exchange, passes)) = open {
         let _accounts = closed_accounts(exchange, passes);
     }
 }
 
-// Who plays a script on an exchange of the plan, of which the viewer is told.
+// Returns the player of a script on an exchange of the plan, which is reported to the viewer.
 fn player_of<V: Viewer>(alloc: Global, plan: &Plan, viewer: &mut V) -> Result<Player, Stop> {
     let Some(player) = Player::new(alloc, plan) else {
         return Err(Stop::Memory);
@@ -139,8 +140,8 @@ fn player_of<V: Viewer>(alloc: Global, plan: &Plan, viewer: &mut V) -> Result<Pl
     }
 }
 
-// The lines of the script, in order, through an exchange of the ledgers that the caller names; the number of the line at which it
-// stops.
+// Plays the lines of the script, in order, through an exchange of the ledgers that the caller names, whose first leg has this
+// serial. An error has the number of its line.
 fn play<O: Ledger + Send + Sync, S: Ledger + Send + Sync, R: Wait, V: Viewer>(
     rt: &R,
     alloc: Global,
@@ -150,12 +151,19 @@ fn play<O: Ledger + Send + Sync, S: Ledger + Send + Sync, R: Wait, V: Viewer>(
     viewer: &mut V,
     octets: Blank,
     steps: Blank,
+    first_serial: u64,
 ) -> Result<(), ReplayError>
     requires octets { (octets.name ≡ O.name) × (octets.parts ≡ O.parts) × (octets.parts ≡ length plan.peers + plan.passes) }
     requires steps { (steps.name ≡ S.name) × (steps.parts ≡ S.parts) × (steps.parts ≡ length plan.peers + plan.passes) }
 {
-    let Ok(opened) = Exchange::<NoGate, Service<O, S>>::open(alloc, plan, NoGate, octets, steps)
-    else {
+    let Ok(opened) = Exchange::<NoGate, Service<O, S>>::open_at(
+        alloc,
+        plan,
+        NoGate,
+        octets,
+        steps,
+        first_serial,
+    ) else {
         return Err(ReplayError::Memory);
     };
     let mut open = Some(opened);
@@ -173,13 +181,14 @@ fn play<O: Ledger + Send + Sync, S: Ledger + Send + Sync, R: Wait, V: Viewer>(
     played
 }
 
-/// Replays a script on an exchange of its plan, and tells the viewer what each line makes, up to the end of the script or to
-/// the first line that is refused.
+/// Replays a script on an exchange of its plan, up to its end or to the first line that is refused. Reports the results of
+/// each line to the viewer.
 ///
-/// `tell_outcome` tells what comes of it as `replay` does.
+/// `tell_outcome` writes the outcome as `replay` does.
 ///
-/// `Plan`: the plan is refused, with its first fault. `Memory`: a request for memory was refused. `Script`: the line of this
-/// number is refused, from 1 on; 0 where the viewer answers so when the exchange is opened. `Writer`: the viewer answers so.
+/// Returns `Plan` with the plan's first fault if the plan is refused, and `Memory` if a request for memory was refused.
+/// Returns `Script` with the number of a refused line, from 1 on, or 0 if the viewer returns `Script` when the exchange is
+/// opened. Returns `Writer` if the viewer does.
 pub fn replay_with<R: Wait, V: Viewer>(
     rt: &R,
     alloc: Global,
@@ -192,7 +201,8 @@ pub fn replay_with<R: Wait, V: Viewer>(
     }
 }
 
-// What the exchange of a script drew when it was opened: by its first lines that aren't empty and no comments.
+// Returns the values that the exchange of a script drew when it was opened: those of the first lines, without empty lines
+// and comments.
 fn drawn_of(script: &[u8]) -> Drawn {
     let mut drawn = Drawn::nothing();
     for line in script.split(|octet| *octet == b'\n') {
@@ -210,7 +220,22 @@ fn drawn_of(script: &[u8]) -> Drawn {
     drawn
 }
 
-// The same, of a plan that is right.
+// The serial of the first leg of a script's exchange: that of its line `serial`, less what the `free` lines before it use; 0
+// without such a line.
+fn first_serial_of(script: &[u8]) -> u64 {
+    let mut used: u64 = 0;
+    for line in script.split(|octet| *octet == b'\n') {
+        match line_of(line) {
+            Some(Line::Nothing | Line::Prefix(_) | Line::Key(_)) => {}
+            Some(Line::Free(_, numbers)) => used = used.saturating_add(count_numbers(numbers)),
+            Some(Line::Serial(serial)) => return serial.saturating_sub(used),
+            _ => return 0,
+        }
+    }
+    0
+}
+
+// Replays a script on a valid plan.
 fn play_plan<R: Wait, V: Viewer>(
     rt: &R,
     alloc: Global,
@@ -225,13 +250,24 @@ fn play_plan<R: Wait, V: Viewer>(
     };
     let parts = u64::from(plan.peer_count()) + u64::from(plan.passes());
     let (octets, steps) = (Blank::new(parts), Blank::new(parts));
-    play::<Brand, Brand, R, V>(rt, alloc, plan, &mut player, script, viewer, octets, steps)
+    let first_serial = first_serial_of(script);
+    play::<Brand, Brand, R, V>(
+        rt,
+        alloc,
+        plan,
+        &mut player,
+        script,
+        viewer,
+        octets,
+        steps,
+        first_serial,
+    )
 }
 
-/// Replays a script on an exchange of its plan, prints what each line makes, and answers the status: 0 at the end of the script,
-/// else 1.
+/// Replays a script on an exchange of its plan, and prints the results of each line. Returns the status: 0 at the end of
+/// the script, otherwise 1.
 ///
-/// A refused plan is told as `check` tells it.
+/// A refused plan is printed as `check` prints it.
 pub fn replay<R: Wait, W: Write>(
     rt: &R,
     alloc: Global,
@@ -242,7 +278,7 @@ pub fn replay<R: Wait, W: Write>(
     tell_outcome(outcome, writer)
 }
 
-// The status of a replay, once all of it is written: a writer that can't write is told of by the status alone.
+// Flushes the output and returns the status of a replay. Only the status reports that the output can't be written.
 fn flushed<W: Write>(status: u8, writer: &mut W) -> u8 {
     match writer.flush() {
         Ok(()) => status,
@@ -250,7 +286,8 @@ fn flushed<W: Write>(status: u8, writer: &mut W) -> u8 {
     }
 }
 
-/// The same, written in large pieces: a script may have millions of lines. `refused Memory` where there is none for a piece.
+/// Replays as `replay` does, but writes in large pieces, because a script may have millions of lines. Prints `refused
+/// Memory` if there is no memory for a piece.
 pub fn replay_buffered<R: Wait, W: Write>(
     rt: &R,
     alloc: Global,

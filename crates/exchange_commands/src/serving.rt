@@ -1,4 +1,4 @@
-//! The workers of a plan carry calls between real peers, for so many turns.
+//! Runs the workers of a plan between real peers, for a number of turns.
 ghost use Rattle.std.specs.Prelude.{◌≡◌, ◌+◌, ◌≤◌, length, vec_len};
 
 use exchange_core::{Exchange, NoGate, Pass};
@@ -21,7 +21,7 @@ use worker_seats::{
     with_drawn_key,
 };
 
-// All workers make their turns; their passes go back to the others.
+// Makes the turns of all workers. Their passes are added back to `passes`.
 fn turns_of<
     't,
     J: Naming,
@@ -53,8 +53,8 @@ fn turns_of<
     }
 }
 
-// The turns on an exchange that is opened for them, by the ledgers and the plan that the caller names; then the workers' reports are
-// written, and the accounts.
+// Makes the turns on an exchange of the ledgers and the plan that the caller names. Then writes the workers' reports and
+// the accounts.
 fn work<
     O: Ledger + Send + Sync,
     S: Ledger + Send + Sync,
@@ -83,7 +83,7 @@ fn work<
     let reports = turns_of::<_, P, R>(rt, alloc, &exchange, &mut passes, turns, opened);
     match tell_reports(reports, writer) {
         Ok(()) => settle(exchange, passes, writer),
-        // (Closed and not dropped, since that would have to be proved here anew, field by field.)
+        // Closed and not dropped, because a drop would have to be proved here field by field.
         Err(error) => {
             let _accounts = closed_accounts(exchange, passes);
             Err(error)
@@ -91,7 +91,7 @@ fn work<
     }
 }
 
-// The turns of a plan that is right.
+// Makes the turns of a valid plan.
 fn serve_plan<R: Clock + Net + RandomSource + Threads + Wait + Sync, W: Write>(
     rt: &R,
     alloc: Global,
@@ -111,7 +111,7 @@ fn serve_plan<R: Clock + Net + RandomSource + Threads + Wait + Sync, W: Write>(
     work::<Brand, Brand, Brand, R, W>(rt, alloc, plan, turns, opened, writer, octets, steps)
 }
 
-// The status, and what is printed of a refusal.
+// Returns the status, and prints a refusal.
 fn status_of<W: Write>(served: Result<(), ServiceError>, writer: &mut W) -> u8 {
     let Err(error) = served else {
         return 0;
@@ -122,12 +122,13 @@ fn status_of<W: Write>(served: Result<(), ServiceError>, writer: &mut W) -> u8 {
     1
 }
 
-/// Makes so many turns of each worker of a plan, each on a thread of its own over its own UDP socket. Then it writes
-/// `worker <place> <received> <sent> <lost> <faults>` for each, and the accounts. Answers the status: 0, or 1 after a refusal.
+/// Makes `turns` turns of each worker of a plan, each on a separate thread with a separate UDP socket. Then writes `worker
+/// <place> <received> <sent> <lost> <faults>` for each worker, and the accounts. Returns the status: 0, or 1 after a
+/// refusal.
 ///
-/// The plan is the octets of its file; a refused one is told as `check` tells it. `refused Bind`: a socket can't be bound;
-/// `refused NoThread`: a thread was refused; `refused Memory`; `refused Clock`, `refused Entropy`: the system tells no time, or
-/// gives no random octets.
+/// `plan` is the content of the plan's file; a refused plan is printed as `check` prints it. `refused Bind`: a socket can't
+/// be bound. `refused NoThread`: a thread was refused. `refused Memory`: a request for memory was refused. `refused Clock`:
+/// the clock can't be read. `refused Entropy`: the system gives no random octets.
 pub fn serve<R: Clock + Net + RandomSource + Threads + Wait + Sync, W: Write>(
     rt: &R,
     alloc: Global,

@@ -1,4 +1,4 @@
-//! The stages of the plan's numbers, as a viewer was told them last.
+//! The stages of the plan's numbers, as last reported to a viewer.
 use crate::desk::Desk;
 use crate::viewer::{Stop, Viewer};
 use leg_machine::Stage;
@@ -7,32 +7,32 @@ use peer_plan::Plan;
 use std::alloc::{AllocError, Global};
 use std::sync::Wait;
 
-// Which numbers may be another way than was told.
+// The numbers whose stage may have changed since it was reported.
 #[derive(Clone, Copy, PartialEq, Eq)]
 enum Changed {
     None,
-    // Those that had a leg.
+    // The numbers that had a leg.
     Live,
     Any,
 }
 
-/// What was told of each number, and which of them may be another way now.
+/// The reported stage of each number, and the numbers whose stage may have changed since.
 ///
-/// A leg is opened by a full frame or by a call that goes out, and by nothing else; so behind any other line only the numbers are
-/// looked at that had a leg before it. A datagram that is no full frame brings media at most, and leaves each leg in its stage:
-/// behind it no number is looked at.
+/// Only a full frame or an outgoing call opens a leg. So after any other line, only the numbers that had a leg before it
+/// are checked. A datagram that isn't a full frame brings media at most, and leaves each leg in its stage. After it no
+/// number is checked.
 #[derive(Drop)]
 pub(crate) struct Stages {
     // By number, from 1 on.
     told: Vec<Option<Stage>>,
     // The peer of each number.
     peers: Vec<u16>,
-    // The places of the numbers that had a leg when they were told, ascending.
+    // The places of the numbers whose reported stage is that of a leg, ascending.
     live: Vec<usize>,
     changed: Changed,
 }
 
-// The peer of each number of a plan.
+// Returns the peer of each number of a plan.
 fn peers_of(alloc: Global, plan: &Plan) -> Result<Vec<u16>, AllocError> {
     let mut peers = Vec::new(alloc);
     for peer in 0..plan.peer_count() {
@@ -46,7 +46,7 @@ fn peers_of(alloc: Global, plan: &Plan) -> Result<Vec<u16>, AllocError> {
 }
 
 impl Stages {
-    /// No number of the plan has a leg.
+    /// Returns the stages of a plan without legs.
     pub(crate) fn new(alloc: Global, plan: &Plan) -> Result<Stages, AllocError> {
         let peers = peers_of(alloc, plan)?;
         Ok(Stages {
@@ -57,24 +57,24 @@ impl Stages {
         })
     }
 
-    /// How many numbers there are.
+    /// Returns the count of numbers.
     pub(crate) fn count(&self) -> usize {
         self.told.len()
     }
 
-    /// A leg may have been opened at any number.
+    /// Notes that a leg may have been opened at any number.
     pub(crate) fn doubt(&mut self) {
         self.changed = Changed::Any;
     }
 
-    /// Each leg that there is may stand otherwise.
+    /// Notes that each existing leg may have changed its stage.
     pub(crate) fn doubt_live(&mut self) {
         if self.changed == Changed::None {
             self.changed = Changed::Live;
         }
     }
 
-    /// How the leg of a number stands.
+    /// Returns the status of the leg of a number.
     pub(crate) fn status<J: Naming, R: Wait, V>(
         &self,
         desk: &mut Desk<'_, R, J, V>,
@@ -89,7 +89,7 @@ impl Stages {
         }
     }
 
-    // Whether a number may be another way than was told: one of those in `live`, where all are put that may.
+    // Returns whether any stage may have changed. The numbers to check are then those in `live`.
     fn are_doubted(&mut self) -> Result<bool, Stop> {
         let changed = self.changed;
         self.changed = Changed::None;
@@ -105,7 +105,7 @@ impl Stages {
         Ok(true)
     }
 
-    /// The viewer is told each stage that is another than before, by ascending number.
+    /// Reports each changed stage to the viewer, by ascending number.
     pub(crate) fn tell<J: Naming, R: Wait, V: Viewer>(
         &mut self,
         desk: &mut Desk<'_, R, J, V>,
@@ -132,14 +132,14 @@ impl Stages {
         Ok(())
     }
 
-    // The number at a place is one of those that have a leg, behind so many others.
+    // Keeps a number that has a leg, behind `count` others.
     fn keep(&mut self, count: usize, place: usize) {
         if let Some(at) = self.live.get_mut(count) {
             *at = place;
         }
     }
 
-    // The stage of the number at a place is told, where it is another than before. Whether it has a leg.
+    // Reports the stage of the number at a place if it has changed. Returns whether it has a leg.
     fn tell_one<J: Naming, R: Wait, V: Viewer>(
         &mut self,
         desk: &mut Desk<'_, R, J, V>,
@@ -162,7 +162,7 @@ impl Stages {
         }
     }
 
-    // A stage is told now. Whether it is another than before.
+    // Stores a reported stage. Returns whether it has changed.
     fn changes(&mut self, place: usize, stage: Option<Stage>) -> bool {
         match self.told.get_mut(place) {
             Some(told) if *told != stage => {

@@ -1,4 +1,4 @@
-//! Who looks on while a script is replayed, and what he is told.
+//! Observer of a script replay.
 ghost use Rattle.std.specs.Prelude.{◌≡◌, ◌<◌, length, Some, option_and_then, option_map, slice_get};
 
 use exchange_core::{Refusal, Retired};
@@ -9,14 +9,14 @@ use script_lines::Line;
 use std::alloc::AllocError;
 use std::io;
 
-/// Why a replay ends before its script does.
+/// The reason why a replay ends before its script does.
 #[derive(Clone, Copy)]
 pub enum Stop {
     /// The line isn't of a known form, or names an unknown peer.
     Script,
     /// A request for memory was refused.
     Memory,
-    /// The writer can't write.
+    /// The output can't be written.
     Writer,
 }
 
@@ -32,7 +32,7 @@ impl From<AllocError> for Stop {
     }
 }
 
-/// A peer of the plan, and the endpoints between which its datagrams go.
+/// A peer of the plan, and the endpoints between which its datagrams are sent.
 #[derive(Clone, Copy)]
 pub struct PeerOfPlan<'a> {
     /// Its place in the plan, from 0 on.
@@ -40,12 +40,12 @@ pub struct PeerOfPlan<'a> {
     pub name: &'a str,
     /// Its own endpoint.
     pub endpoint: Endpoint,
-    /// That of the exchange's worker which serves it.
+    /// The endpoint of the exchange's worker that serves it.
     pub worker: Endpoint,
 }
 
 impl<'a> PeerOfPlan<'a> {
-    /// The peer at a place of the plan, with its endpoint and that of its worker.
+    /// Returns the peer at a place of the plan, with its endpoint and that of its worker.
     pub fn at(plan: &'a Plan, place: u16) -> PeerOfPlan<'a>
         requires { place < length plan.now.peers }
         ensures place { result.place ≡ place }
@@ -64,7 +64,7 @@ impl<'a> PeerOfPlan<'a> {
     }
 }
 
-/// A datagram that came from a peer at a moment, and why it was refused, if it was.
+/// A datagram that came from a peer at a moment, and its refusal, if it was refused.
 #[derive(Clone, Copy)]
 pub struct Received<'a> {
     /// In milliseconds.
@@ -74,48 +74,48 @@ pub struct Received<'a> {
     pub refusal: Option<Refusal>,
 }
 
-/// Who looks on while a script is replayed.
+/// Observer of a script replay.
 ///
-/// First `opened`. Then each line is told as it is begun (`asked`), with what it makes: datagrams that come and refusals, then
-/// all datagrams that go out, the peers in the order of the plan, then the legs that were taken out and the stages that changed,
-/// by ascending number. Moments are in milliseconds. What a viewer answers by `Err` ends the replay.
+/// It is first called with `opened`. Each line begins with `asked` and continues with its results: received datagrams and
+/// refusals; then all datagrams sent, by peer in the order of the plan; then the retired legs and the changed stages, by
+/// ascending number. Moments are in milliseconds. A viewer that returns `Err` ends the replay.
 pub trait Viewer {
-    /// The exchange of this plan was opened.
+    /// Reports that the exchange of this plan was opened.
     fn opened(&mut self, _plan: &Plan) -> Result<(), Stop> {
         Ok(())
     }
 
-    /// The script asks for something: a datagram that comes, a call, a hangup, a tick.
+    /// Reports an event of the script: a received datagram, a call, a hangup, or a tick.
     fn asked(&mut self, _moment: u64, _line: &Line<'_>) -> Result<(), Stop> {
         Ok(())
     }
 
-    /// A datagram came from a peer.
+    /// Reports a datagram from a peer.
     fn received(&mut self, _datagram: Received<'_>) -> Result<(), Stop> {
         Ok(())
     }
 
-    /// Something else that was asked for was refused, by this name.
+    /// Reports another event that was refused, by the name of the refusal.
     fn refused(&mut self, _moment: u64, _name: &'static str) -> Result<(), Stop> {
         Ok(())
     }
 
-    /// A datagram goes out to a peer.
+    /// Reports a datagram to a peer.
     fn sent(&mut self, _moment: u64, _peer: PeerOfPlan<'_>, _octets: &[u8]) -> Result<(), Stop> {
         Ok(())
     }
 
-    /// A leg was taken out.
+    /// Reports a leg that was taken out.
     fn retired(&mut self, _moment: u64, _leg: &Retired) -> Result<(), Stop> {
         Ok(())
     }
 
-    /// The leg of a local number has come to another stage. `None`: the number is free.
+    /// Reports the new stage of the leg of a local number. `None` means that the number is free.
     fn staged(&mut self, _moment: u64, _number: u16, _stage: Option<Stage>) -> Result<(), Stop> {
         Ok(())
     }
 
-    /// The accounts were closed.
+    /// Reports the closed accounts.
     fn settled(&mut self, _accounts: &MediaAccounts) -> Result<(), Stop> {
         Ok(())
     }

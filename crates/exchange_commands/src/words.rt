@@ -1,4 +1,4 @@
-//! What the words of a script's line name.
+//! The names and values in the words of a script's line.
 ghost use Rattle.std.specs.Prelude.{◌<◌, ◌≤◌, length, IfOk};
 
 use crate::viewer::{PeerOfPlan, Stop};
@@ -9,7 +9,7 @@ use std::alloc::Global;
 use std::net::SocketAddrV4;
 use std::str;
 
-/// The place in the plan, from 0 on, of the first peer of a name. A script has to name a peer of the plan.
+/// Returns the place in the plan, from 0 on, of the first peer with a name. A script has to name a peer of the plan.
 pub(crate) fn peer_of(plan: &Plan, name: &[u8]) -> Result<u16, Stop>
     ensures { IfOk result (λ peer. peer < length plan.now.peers) }
 {
@@ -19,8 +19,8 @@ pub(crate) fn peer_of(plan: &Plan, name: &[u8]) -> Result<u16, Stop>
     }
 }
 
-/// The places of the peers that a line means, from the first of these numbers on, before the second: of the peer that it names,
-/// or of all where it names none.
+/// Returns the places of the peers that a line names, as the first and the end of a range. If it names none, they are those
+/// of all peers.
 pub(crate) fn places_of(plan: &Plan, line: &Line<'_>) -> Result<(u16, u16), Stop>
     ensures { IfOk result (λ places. places.1 ≤ length plan.now.peers) }
 {
@@ -34,15 +34,15 @@ pub(crate) fn places_of(plan: &Plan, line: &Line<'_>) -> Result<(u16, u16), Stop
     }
 }
 
-/// Who sends a datagram.
+/// The sender of a datagram.
 #[derive(Clone, Copy)]
 pub(crate) struct Sender<'p> {
     pub(crate) from: Endpoint,
-    /// The peer of that endpoint; none has a stranger's.
+    /// The peer of that endpoint; none if the sender is a stranger.
     pub(crate) peer: Option<PeerOfPlan<'p>>,
 }
 
-/// Who sends the datagram of a line: the peer that it names, or the endpoint, which no peer may have.
+/// Returns the sender of a line's datagram: the peer that it names, or the endpoint, which no peer may have.
 pub(crate) fn sender_of<'p>(plan: &'p Plan, line: &Line<'_>) -> Result<Sender<'p>, Stop> {
     match line {
         Line::Rx(name, _) => {
@@ -63,7 +63,7 @@ pub(crate) fn sender_of<'p>(plan: &'p Plan, line: &Line<'_>) -> Result<Sender<'p
     }
 }
 
-/// The octets that these hexadecimal digits spell.
+/// Returns the octets that these hexadecimal digits spell.
 pub(crate) fn octets_of(alloc: Global, digits: &[u8]) -> Result<Vec<u8>, Stop> {
     match hex::decode(alloc, digits) {
         Ok(octets) => Ok(octets),
@@ -72,7 +72,7 @@ pub(crate) fn octets_of(alloc: Global, digits: &[u8]) -> Result<Vec<u8>, Stop> {
     }
 }
 
-/// The key that 64 hexadecimal digits spell.
+/// Returns the key that 64 hexadecimal digits spell.
 pub(crate) fn key_of(digits: &[u8]) -> Option<[u8; 32]> {
     let mut key = [0; 32];
     match hex::decode_to_slice(digits, &mut key) {
@@ -81,7 +81,7 @@ pub(crate) fn key_of(digits: &[u8]) -> Option<[u8; 32]> {
     }
 }
 
-// The endpoint that a text names, as `192.0.2.1:4569`.
+// Returns the endpoint that a text names, as `192.0.2.1:4569`.
 fn endpoint_of(text: &[u8]) -> Result<Endpoint, Stop> {
     let Ok(text) = str::from_utf8(text) else {
         return Err(Stop::Script);

@@ -1,4 +1,4 @@
--- Through the steps of a call its media stays covered, and it has the lease of its place in its hand.
+-- Through the steps of a call its media stays covered, and it keeps the lease of its place.
 use Rattle.std.proofs.Common.{◌≡◌, ℕ, ◌+◌, ◌≤◌, [], Option, Some, subst, sym, ap, ◌∙◌, arith}
 use Rattle.std.specs.List.{AllByRecursion}
 use Rattle.peer_lock.specs.CarriedMedia.{LiesWithin, handed_octets}
@@ -27,14 +27,14 @@ NeedsWithin = (len : ℕ) (work : Work) → AllByRecursion (LiesWithin len) (med
 abbrev pub NeedsCovered : Type 0
 NeedsCovered = (work : Work) → handed_octets (media_needed (next_of work)) ≤ handed_octets (media_left work)
 
--- the order that is needed next is covered
+-- the next order is covered
 pub covers_need : NeedsWithin → NeedsCovered → (len credit : ℕ) (work : Work) (need : Need) → next_of work ≡ Some need → IsCovered len credit (media_left work)
     → IsCovered len credit (media_needed (Some need))
 covers_need within covered len credit work need next left =
     let all = covered work in
     subst (λ o. IsCovered len credit (media_needed o)) next (record { within = within len work left.within; octets = omega (arith, left.octets) })
 
--- what is left after an answer: no more credit is gone than the order took, and what was handed up has its own
+-- the media left after an answer: the order used no more credit than it took, and media handed up brought its own
 pub covers_rest : KeepsWithin → KeepsOctets → (len old new : ℕ) (work after : Work) (need : Need) (reply : Reply) → next_of work ≡ Some need
     → AllByRecursion (LiesWithin len) (handed_by reply) → after ≡ after_told work reply
     → old + handed_octets (handed_by reply) ≤ new + handed_octets (media_needed (Some need)) → IsCovered len old (media_left work) → IsCovered len new (media_left after)

@@ -1,4 +1,5 @@
--- Through the first steps of a call: no step of a peer was made and nothing is refused; after them one was made, or the call is refused.
+-- During the first steps of a call no peer makes a step, and nothing is refused. After them a step was made, or the call is
+-- refused.
 use Rattle.std.proofs.Common.{◌≡◌, ℕ, ◌+◌, ◌<◌, ◌≤◌, Option, None, Some, Bool, true, false, refl, sym, ap, subst, ◌∙◌, inl, inr, ◌⊎◌, arith}
 use Rattle.std.specs.Prelude.{◌≢◌, Ok, Err, MatchOption, is_some}
 use Rattle.call_book.specs.declared.errors.ReserveError.TheVariants as reserve_errors
@@ -6,6 +7,7 @@ use Rattle.peer_lock.specs.Accounts.{Credit, with_step}
 use Rattle.call_book.specs.declared.leg_name.LegName.{LegName}
 use Rattle.peer_lock.specs.declared.errors.OpenError.TheVariants as open_errors
 use Rattle.peer_lock.specs.declared.errors.PeerError.TheVariants as peer_errors
+use Rattle.peer_lock.specs.declared.errors.RejectError.TheVariants as reject_errors
 use Rattle.call_steps.specs.Beginnings.{Beginning, OfDatagram, beginning_at, is_over, is_answer, is_made, is_refusal}
 use Rattle.call_steps.specs.Work.{Work, Rest, at, next_at, next_of, told_at, after_told}
 use Rattle.call_steps.specs.declared.place.Place.{Place}
@@ -16,7 +18,7 @@ use Rattle.exchange_core.specs.Denial.{Denies, denial_of, noted}
 use Rattle.exchange_core.specs.FirstSteps.{StartsInPlan, InPlan, IsOfNew, IsOpenedOut, IsOpeningDue, KeepsPeer, CallIsMade, named_after}
 use Rattle.exchange_core.specs.declared.denial.Denial.{Denial}
 
--- the laws of how a call begins
+-- the laws of a call's first steps
 abbrev pub MadeIsPast : Type 0
 MadeIsPast = (work : Work) (reply : Reply) → is_answer (next_of work) reply ≡ true → is_made reply ≡ true → beginning_at (after_told work reply).place ≡ None
 
@@ -41,7 +43,7 @@ OverMakesNone = (work : Work) (reply : Reply) → is_over work.place ≡ true �
 
 -- ---- answers and denials
 
-made_denies_nothing : (reply : Reply) → is_made reply ≡ true → denial_of reply ≡ None
+pub made_denies_nothing : (reply : Reply) → is_made reply ≡ true → denial_of reply ≡ None
 made_denies_nothing (replies.Datagram (Ok heard)) made = refl
 made_denies_nothing (replies.RejectNew (Ok done)) made = refl
 made_denies_nothing (replies.OpenIn (Ok heard)) made = refl
@@ -70,11 +72,17 @@ may_deny (places.Datagram peer) (replies.Datagram (Ok heard)) begun answers firs
 may_deny (places.Datagram peer) (replies.Datagram (Err peer_errors.NeedsNumber)) begun answers first no_remote = tt
 may_deny (places.Datagram peer) (replies.Datagram (Err error)) begun answers first no_remote = tt
 may_deny (places.ReserveIn peer) (replies.Reserve (Ok name)) begun answers first no_remote = tt
-may_deny (places.ReserveIn peer) (replies.Reserve (Err error)) begun answers first no_remote = tt
+may_deny (places.ReserveIn peer) (replies.Reserve (Err reserve_errors.SerialsSpent)) begun answers first no_remote = tt
+may_deny (places.ReserveIn peer) (replies.Reserve (Err reserve_errors.NoNumber)) begun answers first no_remote = tt
 may_deny (places.RejectNew peer) (replies.RejectNew (Ok done)) begun answers first no_remote = tt
-may_deny (places.RejectNew peer) (replies.RejectNew (Err error)) begun answers first no_remote = tt
+may_deny (places.RejectNew peer) (replies.RejectNew (Err reject_errors.Unanswered)) begun answers first no_remote = tt
+may_deny (places.RejectNew peer) (replies.RejectNew (Err reject_errors.StepsSpent)) begun answers first no_remote = tt
+may_deny (places.RejectNew peer) (replies.RejectNew (Err reject_errors.RemoteBusy)) begun answers first no_remote = tt
 may_deny (places.OpenIn name) (replies.OpenIn (Ok heard)) begun answers first no_remote = tt
-may_deny (places.OpenIn name) (replies.OpenIn (Err error)) begun answers first no_remote = tt
+may_deny (places.OpenIn name) (replies.OpenIn (Err open_errors.StepsSpent)) begun answers first no_remote = tt
+may_deny (places.OpenIn name) (replies.OpenIn (Err open_errors.NumberBusy)) begun answers first no_remote = tt
+may_deny (places.OpenIn name) (replies.OpenIn (Err open_errors.RemoteBusy)) begun answers first no_remote = tt
+may_deny (places.OpenIn name) (replies.OpenIn (Err open_errors.Memory)) begun answers first no_remote = tt
 may_deny (places.Tick peer) (replies.Tick (Ok quiet)) begun answers first no_remote = tt
 may_deny (places.Tick peer) (replies.Tick (Err spent)) begun answers first no_remote = tt
 may_deny (places.HangUp name) (replies.Order (Ok done)) begun answers first no_remote = tt
@@ -89,20 +97,20 @@ may_deny (places.OpenCall name) (replies.OpenOut (Err open_errors.Memory)) begun
 may_deny (places.OpenCall name) (replies.OpenOut (Err open_errors.RemoteBusy)) begun answers first no_remote = absurd (no_remote refl)
 may_deny place reply begun answers first no_remote = absurd (cc)
 
--- ---- how far a call is
+-- ---- the progress of a call
 
--- of a call that began here with so much credit; what denies it counts once the beginning is past
+-- of a call that began here with this credit; a denial counts once the first steps are past
 pub record IsUnderWay (start : Place) (first now : Credit) (place : Place) (denial : Option Denial) : Type 0 where
   pub before : (begun : Beginning) → beginning_at place ≡ Some begun → (beginning_at start ≡ Some begun) × (now ≡ first)
   pub past : beginning_at place ≡ None
       → MatchOption denial (first.steps + 1 ≤ now.steps) (λ why. (now ≡ first) × (is_over place ≡ true) × Denies (beginning_at start) why)
 
-over_is_past : (place : Place) → is_over place ≡ true → beginning_at place ≡ None
+pub over_is_past : (place : Place) → is_over place ≡ true → beginning_at place ≡ None
 over_is_past (places.GiveBack name) over = refl
 over_is_past places.End over = refl
 over_is_past place over = absurd (cc)
 
--- what is noted of the answer to a first step, and to a later one
+-- the note of the answer to a first step, and to a later one
 pub noted_first : (begun : Option Beginning) (reply : Reply) (denial : Option Denial) → is_some begun ≡ true → denial_of reply ≡ noted begun reply denial
 noted_first (Some begun) reply denial first = refl
 noted_first None reply denial first = absurd (cc)
@@ -184,14 +192,24 @@ PlaceInPlan peers (places.ReserveIn peer) = peer < peers
 PlaceInPlan peers (places.RejectNew peer) = peer < peers
 PlaceInPlan peers (places.OpenIn name) = name.peer < peers
 PlaceInPlan peers (places.Tick peer) = peer < peers
+PlaceInPlan peers (places.HangUp name) = name.peer < peers
+PlaceInPlan peers (places.ReserveCall peer) = peer < peers
+PlaceInPlan peers (places.OpenCall name) = name.peer < peers
 PlaceInPlan peers place = Unit {0}
 
 pub start_in_plan : (peers : ℕ) (place : Place) → StartsInPlan peers place → PlaceInPlan peers place
 start_in_plan peers (places.Datagram peer) within = within
 start_in_plan peers (places.Tick peer) within = within
-start_in_plan peers (places.HangUp name) within = tt
-start_in_plan peers (places.ReserveCall peer) within = tt
+start_in_plan peers (places.HangUp name) within = within
+start_in_plan peers (places.ReserveCall peer) within = within
 start_in_plan peers place within = absurd within
+
+pub starts_first : (peers : ℕ) (place : Place) → StartsInPlan peers place → is_some (beginning_at place) ≡ true
+starts_first peers (places.Datagram peer) within = refl
+starts_first peers (places.Tick peer) within = refl
+starts_first peers (places.HangUp name) within = refl
+starts_first peers (places.ReserveCall peer) within = refl
+starts_first peers place within = absurd within
 
 pub next_in_plan : (peers : ℕ) (place : Place) → PlaceInPlan peers place → InPlan peers (next_at place)
 next_in_plan peers (places.Datagram peer) within = within
@@ -206,6 +224,9 @@ past_in_plan peers (places.ReserveIn peer) past = absurd (cc)
 past_in_plan peers (places.RejectNew peer) past = absurd (cc)
 past_in_plan peers (places.OpenIn name) past = absurd (cc)
 past_in_plan peers (places.Tick peer) past = absurd (cc)
+past_in_plan peers (places.HangUp name) past = absurd (cc)
+past_in_plan peers (places.ReserveCall peer) past = absurd (cc)
+past_in_plan peers (places.OpenCall name) past = absurd (cc)
 past_in_plan peers place past = tt
 
 told_in_plan : MadeIsPast → PastStays → (peers : ℕ) (place : Place) (reply : Reply) (rest : Rest) → PlaceInPlan peers place → KeepsPeer (next_at place) reply
@@ -227,7 +248,7 @@ told_in_plan made past peers (places.Tick peer) reply rest within keeps = tt
 told_in_plan made past peers (places.HangUp name) (replies.Order (Ok done)) rest within keeps =
     past_in_plan peers _ (made (at (places.HangUp name) rest) (replies.Order (Ok done)) refl refl)
 told_in_plan made past peers (places.HangUp name) reply rest within keeps = tt
-told_in_plan made past peers (places.ReserveCall peer) (replies.Reserve (Ok name)) rest within keeps = tt
+told_in_plan made past peers (places.ReserveCall peer) (replies.Reserve (Ok name)) rest within keeps = subst (λ p. p < peers) (sym keeps) within
 told_in_plan made past peers (places.ReserveCall peer) reply rest within keeps = tt
 told_in_plan made past peers (places.OpenCall name) (replies.OpenOut (Ok done)) rest within keeps = tt
 told_in_plan made past peers (places.OpenCall name) reply rest within keeps = tt
@@ -237,7 +258,7 @@ pub stays_in_plan : MadeIsPast → PastStays → (peers : ℕ) (work after : Wor
     → PlaceInPlan peers work.place → PlaceInPlan peers after.place
 stays_in_plan made past peers work after reply told keeps within = rw told (told_in_plan made past peers work.place reply work.rest within keeps)
 
--- ---- the NEW that a leg is opened for, or that is rejected
+-- ---- the NEW for which a leg is opened, or which is rejected
 
 abbrev pub OpensLeg : Place → Type 0
 OpensLeg (places.ReserveIn peer) = Unit {0}
@@ -298,7 +319,7 @@ ends_past place ends = absurd (cc)
 
 -- ---- a call from outside
 
--- it stands at one of its four places
+-- it is at one of its four places
 abbrev pub CallStands : ℕ → Credit → Credit → Place → Option Denial → Option LegName → Type 0
 CallStands peer first now (places.ReserveCall other) denial named = (other ≡ peer) × (now ≡ first)
 CallStands peer first now (places.OpenCall name) denial named = (named ≡ Some name) × (name.peer ≡ peer) × (now ≡ first)
@@ -306,7 +327,7 @@ CallStands peer first now (places.GiveBack name) denial named = MatchOption deni
 CallStands peer first now places.End denial named = CallIsMade (places.ReserveCall peer) first now denial named
 CallStands peer first now place denial named = ⊥
 
--- of whatever call
+-- for any call
 abbrev pub MayStand : Place → Credit → Credit → Place → Option Denial → Option LegName → Type 0
 MayStand (places.ReserveCall peer) first now place denial named = CallStands peer first now place denial named
 MayStand start first now place denial named = Unit {0}

@@ -1,4 +1,4 @@
--- Who is taken out in a step, and in one step more.
+-- The legs taken out in a step, and in one more step.
 use Rattle.std.specs.Prelude.{◌≡◌, ℕ, List, [], ◌∷◌, ◌++◌, Bool, true, false, Option, None, Some, refl}
 use Rattle.std.proofs.Common.{append_assoc, append-nil, ap, sym, ◌∙◌}
 use Rattle.call_steps.specs.declared.need.Need.{Need}
@@ -11,7 +11,7 @@ use Rattle.peer_accounts.specs.declared.onwards.Offer.{Offer}
 use Rattle.exchange_core.specs.Leaving.{Leaves, LeftSince, Leaving, left_after, left_by, nobody}
 use Rattle.exchange_core.specs.Traces.{Call, IsMade, Makes}
 
--- a step in which a leg is taken out, or its name goes back to the book
+-- a step that takes out a leg, or returns its name to the book
 abbrev pub takes_out : Need → Bool
 takes_out (needs.Retire name) = true
 takes_out (needs.Release name) = true
@@ -25,7 +25,7 @@ none_left call offer need reply (mades.Release name answer) made none now leavin
     let differ : true ≡ false = sym (ap takes_out made.0) ∙ none in cc
 none_left call offer need reply step made none now leaving = refl
 
--- another step takes none out
+-- no other step takes a leg out
 pub none_leave : (call : Call) (offer : Option Offer) (need : Need) (reply : Reply) (old new : Noted) → Makes call offer need reply old new → takes_out need ≡ false
     → (now : ℕ) (leaving : Leaving) → Leaves now old new leaving leaving
 none_leave call offer need reply old new makes none now leaving = record {

@@ -6,4 +6,5 @@ mod Media
 mod Carrying
 mod FirstSteps
 mod Leaving
+mod Denying
 mod Tracing

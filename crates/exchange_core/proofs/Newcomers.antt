@@ -10,11 +10,13 @@ use Rattle.leg_machine.specs.Leg.{is_record_full}
 use Rattle.call_signals.specs.declared.rules.PeerRules.{PeerRules}
 use Rattle.leg_machine.specs.Message.{message_of, is_numbered}
 use Rattle.peer_lock.specs.Arrivals.{datagram_refused, mini_refused}
-use Rattle.peer_lock.specs.Delivery.{Delivery, Gets, NoCall, delivered, delivery_refused, found, inval_for, is_new, is_poke, is_registration, pong_for, regrej_for}
+use Rattle.peer_lock.specs.Delivery.{Delivery, Gets, NoCall, Pongs, delivered, delivery_refused, found, inval_for, is_new, is_poke, is_registration, pong_for, regrej_for, unknown_call}
 use Rattle.peer_lock.specs.Delivery.{newcomer as newcomer_at}
 use Rattle.peer_lock.specs.Legs.{NamedLeg, leg_of_remote}
 use Rattle.peer_lock.specs.Makes.{IsDue}
 use Rattle.peer_lock.specs.Peer.{PeerView}
+use Rattle.peer_lock.specs.Pokes.{answers_poke, is_own_pong}
+use Rattle.peer_lock.specs.declared.pokes.Pokes.{Pokes}
 use Rattle.peer_lock.specs.Unworked.{IsUnworked, IsWorked}
 use Rattle.peer_lock.specs.declared.errors.PeerError.{PeerError}
 use Rattle.peer_lock.specs.declared.errors.PeerError.TheVariants as errors
@@ -35,7 +37,7 @@ mini_needs_none : (leg : Option NamedLeg) → IsDue (mini_refused leg) errors.Ne
 mini_needs_none None why = grind (arith, why)
 mini_needs_none (Some named) why = grind (arith, why)
 
--- a frame that no leg has, to which these tests say whether a NEW needs a number, and what else is answered
+-- the delivery of a frame that no leg has, by the results of these tests
 abbrev unknown : (nowhere new first poked registers numbered : Bool) (head : FullHead) (comes : Delivery) → Delivery
 unknown nowhere new first poked registers numbered head comes =
     if nowhere
@@ -58,11 +60,19 @@ tests false new first poked registers false head comes why = grind (arith, why)
 number_of : (n : ℕ) → (n == 0) ≡ true → n ≡ 0
 number_of n is = grind (arith, nat_tests, is)
 
-newcomer : (drains : Bool) (rules : PeerRules) (frame : FullFrame) (now : ℕ) (at : Option NamedLeg) → IsDue (delivery_refused (delivered drains rules at frame now)) errors.NeedsNumber → IsNewcomer frame
-newcomer drains rules frame now (Some named) why = absurd (at_leg (is_record_full named.leg) why)
-newcomer drains rules frame now None why =
+-- a PONG to a POKE needs none
+no_pong : (own counts : Bool) (rest : Delivery) → IsDue (delivery_refused (if own then (if counts then Pongs else NoCall) else rest)) errors.NeedsNumber
+    → IsDue (delivery_refused rest) errors.NeedsNumber
+no_pong true true rest why = grind (arith, why)
+no_pong true false rest why = grind (arith, why)
+no_pong false counts rest why = why
+
+newcomer : (drains : Bool) (rules : PeerRules) (pokes : Pokes) (frame : FullFrame) (now : ℕ) (at : Option NamedLeg) → IsDue (delivery_refused (delivered drains rules pokes at frame now)) errors.NeedsNumber → IsNewcomer frame
+newcomer drains rules pokes frame now (Some named) why = absurd (at_leg (is_record_full named.leg) why)
+newcomer drains rules pokes frame now None why =
+    let other = no_pong (is_own_pong rules frame.head) (answers_poke pokes frame.head) (unknown_call drains rules frame now) why in
     let are = tests (frame.head.destination == 0) (is_new (message_of frame.head)) (frame.head.oseqno == 0) (rules.poke && is_poke (message_of frame.head))
-    (rules.is_hardened && is_registration frame.head) (is_numbered (message_of frame.head)) frame.head (newcomer_at drains rules.call_tokens frame now) why in
+    (rules.is_hardened && is_registration frame.head) (is_numbered (message_of frame.head)) frame.head (newcomer_at drains rules.call_tokens frame now) other in
     record { destination = number_of frame.head.destination are.0; first = number_of frame.head.oseqno are.2; new = are.1 }
 
 module _ (credit made : ℕ) (octets : List ℕ) (peer : PeerView) (now : ℕ) where
@@ -74,7 +84,7 @@ module _ (credit made : ℕ) (octets : List ℕ) (peer : PeerView) (now : ℕ) w
 
   opens : (d : Datagram) → IsWorked credit made octets d → IsDue (datagram_refused peer d now) errors.NeedsNumber → SpellsOpening octets
   opens (Full frame) worked why =
-      let is = newcomer peer.drains peer.rules frame now (found peer.legs frame) why in
+      let is = newcomer peer.drains peer.rules peer.pokes frame now (found peer.legs frame) why in
       record {
         frame = frame;
         spelled = worked.spelled;

@@ -26,14 +26,14 @@ no_leg plan peer number = elim (cases_Bool (nat_le (first_legs plan peer).first 
   | inr e ↦ rw e refl
 ]
 
-starts : (plan : PlanView) → IsBook (first_book plan) → IsStart plan
-starts plan sound = record {
+starts : (plan : PlanView) (serial : ℕ) → IsBook (first_book plan serial) → IsStart plan serial
+starts plan serial sound = record {
   opened = record { book = sound; no_name = λ number. get-empty nat_cmp number; no_leg = refl; idle = all_idle plan.passes };
   sees = λ peer number. sym (ap (option_map seen_named) (no_leg plan peer number));
 }
 
 -- with the book that is made of its counts
-pub starts_with : {E : Type 0} (plan : PlanView) (counts : List ℕ) (made : Result Book E) → counts ≡ counts_of plan.peers
-    → IfOk made (λ book. book ≡ fresh_book counts 0) → IfOk made IsBook → OnOk made (IsStart plan)
-starts_with plan counts (Ok book) are fresh sound = starts plan (subst IsBook (fresh ∙ ap (λ c. fresh_book c 0) are) sound)
-starts_with plan counts (Err error) are fresh sound = fresh
+pub starts_with : {E : Type 0} (plan : PlanView) (serial : ℕ) (counts : List ℕ) (made : Result Book E) → counts ≡ counts_of plan.peers
+    → IfOk made (λ book. book ≡ fresh_book counts serial) → IfOk made IsBook → OnOk made (IsStart plan serial)
+starts_with plan serial counts (Ok book) are fresh sound = starts plan serial (subst IsBook (fresh ∙ ap (λ c. fresh_book c serial) are) sound)
+starts_with plan serial counts (Err error) are fresh sound = fresh

@@ -1,12 +1,15 @@
 -- The steps of a call, and one step more.
-use Rattle.std.specs.Prelude.{◌≡◌, List, [], ◌∷◌, ◌++◌, Some, refl}
-use Rattle.std.proofs.Common.{append_assoc, append-nil, ap, sym, ◌∙◌}
+use Rattle.std.specs.Option.{option_or}
+use Rattle.std.specs.Prelude.{◌≡◌, List, [], ◌∷◌, ◌++◌, Option, Some, refl}
+use Rattle.std.proofs.Common.{append_assoc, append-nil, ap, drop, length, sym, ◌∙◌}
+use Rattle.std.proofs.Math.Seq.{drop-append_seam}
 use Rattle.call_steps.specs.Work.{next_of}
 use Rattle.call_steps.specs.WorkState.{WorkState, offer_in}
 use Rattle.call_steps.specs.declared.need.Need.{Need}
 use Rattle.call_steps.specs.declared.reply.Reply.{Reply}
 use Rattle.noted_steps.specs.Notes.{Noted}
 use Rattle.noted_steps.specs.declared.made.Made.{Made}
+use Rattle.exchange_core.specs.Since.{last_of, noted_since}
 use Rattle.exchange_core.specs.Traces.{Call, IsMade, IsTrace, Makes, Traces, told}
 
 trace_longer : (call : Call) (from : WorkState) (steps : List Made) (to : WorkState) (need : Need) (reply : Reply) (step : Made)
@@ -28,3 +31,13 @@ traces_longer call from to need reply first old new traces next makes = record {
   begun = makes.noted.begun ∙ traces.begun;
   trace = trace_longer call from traces.steps to need reply makes.step traces.trace next makes.made;
 }
+
+-- ---- the steps noted since
+
+pub noted_is : (first now : Noted) (steps : List Made) → now.made ≡ first.made ++ steps → noted_since first now ≡ steps
+noted_is first now steps noted = ap (drop (length first.made)) noted ∙ drop-append_seam first.made steps
+
+pub last_longer : {A : Type 0} (report : Made → Option A) (steps : List Made) (step : Made) (before : Option A)
+    → last_of report (steps ++ step ∷ []) before ≡ option_or (report step) (last_of report steps before)
+last_longer report [] step before = refl
+last_longer report (first ∷ rest) step before = last_longer report rest step (option_or (report first) before)

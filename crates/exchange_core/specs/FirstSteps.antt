@@ -1,4 +1,4 @@
--- What the first steps of a call ask for, and what they leave to the next.
+-- The needs of a call's first steps, and what they leave to the next.
 use Rattle.std.specs.Prelude.{◌≡◌, ℕ, ◌<◌, Option, None, Some, Ok, Err, IsSome, IfSome}
 use Rattle.call_book.specs.declared.leg_name.LegName.{LegName}
 use Rattle.peer_lock.specs.Accounts.{Credit, with_step}
@@ -11,15 +11,15 @@ use Rattle.call_steps.specs.declared.reply.Reply.{Reply}
 use Rattle.call_steps.specs.declared.reply.Reply.TheVariants as replies
 use Rattle.exchange_core.specs.declared.denial.Denial.{Denial}
 
--- a call begins here, at one of so many peers
+-- a call begins here, at one of the plan's peers
 abbrev pub StartsInPlan : ℕ → Place → Type 0
 StartsInPlan peers (places.Datagram peer) = peer < peers
 StartsInPlan peers (places.Tick peer) = peer < peers
-StartsInPlan peers (places.HangUp name) = Unit {0}
-StartsInPlan peers (places.ReserveCall peer) = Unit {0}
+StartsInPlan peers (places.HangUp name) = name.peer < peers
+StartsInPlan peers (places.ReserveCall peer) = peer < peers
 StartsInPlan peers place = ⊥
 
--- a datagram, a tick, a NEW that is rejected and the leg of one that isn't are of one of so many peers
+-- a datagram, a tick, a rejected NEW, and the leg of a NEW that isn't rejected are of one of the plan's peers
 abbrev pub InPlan : ℕ → Option Need → Type 0
 InPlan peers (Some (needs.Datagram peer)) = peer < peers
 InPlan peers (Some (needs.Tick peer)) = peer < peers
@@ -27,7 +27,7 @@ InPlan peers (Some (needs.RejectNew peer)) = peer < peers
 InPlan peers (Some (needs.OpenIn name)) = name.peer < peers
 InPlan peers need = Unit {0}
 
--- a NEW that came opens a leg, or is rejected
+-- a received NEW opens a leg, or is rejected
 abbrev pub IsOfNew : Option Need → Type 0
 IsOfNew (Some (needs.RejectNew peer)) = Unit {0}
 IsOfNew (Some (needs.OpenIn name)) = Unit {0}
@@ -48,13 +48,13 @@ abbrev pub named_after : Reply → Option LegName → Option LegName
 named_after (replies.Reserve (Ok name)) named = Some name
 named_after reply named = named
 
--- a leg was opened by a NEW of ours
+-- a leg was opened by a NEW of this exchange
 abbrev pub IsOpenedOut : Reply → Type 0
 IsOpenedOut (replies.OpenOut (Ok done)) = Unit {0}
 IsOpenedOut reply = ⊥
 
--- the call that began here made one step without media, at a leg of its peer under the last name that the book gave, unless it is
--- denied
+-- Unless it is denied, the call that began here made one step without media. It was at a leg of its peer under the last
+-- name that the book gave.
 abbrev pub CallIsMade : Place → Credit → Credit → Option Denial → Option LegName → Type 0
 CallIsMade (places.ReserveCall peer) first now None named = (now ≡ with_step first 0) × IsSome named ×
     IfSome named (λ name. name.peer ≡ peer)

@@ -12,7 +12,7 @@ use Rattle.seq_window.specs.Entry.{Entry}
 use Rattle.exchange_core.specs.declared.answers.Retired.{Retired}
 use Rattle.exchange_core.specs.declared.leavers.Leavers.{Leavers}
 
--- a leg that was taken out, as an answer has it: its name, what it tells, its record, the moment, and its former partner
+-- a leg that was taken out, as an answer has it: its name, its facts, its record, the moment, and its former partner
 pub record Departure : Type 0 where
   pub name : LegName
   pub facts : LegFacts
@@ -31,9 +31,9 @@ departure_of leg = record {
 
 -- the legs that a call has taken out so far
 pub record Leaving : Type 0 where
-  -- the one whose name hasn't gone back to the book yet
+  -- the last one, whose name wasn't returned to the book yet
   pub last : Option Departure
-  -- those whose name has, in order
+  -- the legs whose names were returned, in order
   pub gone : List Departure
 
 abbrev pub nobody : Leaving
@@ -42,16 +42,16 @@ nobody = record { last = None; gone = [] }
 abbrev pub leaving_of : Leavers → Leaving
 leaving_of leavers = record { last = option_map departure_of leavers.last; gone = map departure_of leavers.gone.items }
 
--- the former partner, where the book took the name back and told one
+-- the former partner, if the book took the name back and returned one
 abbrev pub former_of : Result (Option LegName) Stale → Option LegName
 former_of (Ok former) = former
 former_of (Err stale) = None
 
--- what a peer's state gave up under this name, at this moment
+-- the leg that a peer's state gave up under this name, at this moment
 abbrev pub given_up_at : ℕ → LegName → EndedLeg → Departure
 given_up_at now name leg = record { name = name; facts = leg.facts; entries = leg.history.entries; ended = now; partner = None }
 
--- with the partner that the book told
+-- with the partner that the book returned
 abbrev pub parted : Option LegName → Departure → Departure
 parted former leg = record leg { partner = former }
 
@@ -59,7 +59,7 @@ parted former leg = record leg { partner = former }
 abbrev pub all_left : Leaving → List Departure
 all_left leaving = leaving.gone ++ option_to_list leaving.last
 
--- A leg is taken out, or the name of the last one goes back to the book; another step takes none out.
+-- A step takes a leg out, or returns the name of the last one to the book; no other step takes one out.
 abbrev pub left_by : ℕ → Made → Leaving → Leaving
 left_by now (mades.Retire peer name (Some leg)) leaving = record {
   last = Some (given_up_at now name leg);
@@ -74,7 +74,7 @@ abbrev pub left_after : ℕ → List Made → Leaving → Leaving
 left_after now [] leaving = leaving
 left_after now (made ∷ rest) leaving = left_after now rest (left_by now made leaving)
 
--- in one step more under the pass, so many more were taken out
+-- in one more step under the pass, these were taken out
 pub record Leaves (now : ℕ) (old new : Noted) (before after : Leaving) : Type 0 where
   pub step : Made
   pub noted : new.made ≡ old.made ++ step ∷ []
@@ -86,7 +86,7 @@ pub record LeftSince (now : ℕ) (old new : Noted) (leaving : Leaving) : Type 0 
   pub noted : new.made ≡ old.made ++ steps
   pub left : leaving ≡ left_after now steps nobody
 
--- In the steps that the pass has noted since, just these legs were taken out, in their order: each with what its peer's state
--- gave up, at this moment, and with the partner that the book told when it took the name back.
+-- In the steps that the pass has noted since, exactly these legs were taken out, in their order. Each is as its peer's
+-- state gave it up, at this moment. Its partner is the one that the book returned when it took the name back.
 abbrev pub Leave : ℕ → Noted → Noted → List Departure → Type 0
 Leave now old new legs = (leaving : Leaving) × LeftSince now old new leaving × (legs ≡ all_left leaving)

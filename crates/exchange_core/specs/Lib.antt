@@ -7,6 +7,7 @@ pub mod Numbers
 pub mod Refusals
 pub mod Rejections
 pub mod Routes
+pub mod Since
 pub mod Start
 pub mod Sums
 pub mod Traces

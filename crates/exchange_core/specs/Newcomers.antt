@@ -1,4 +1,4 @@
--- How a datagram comes in ("NEW").
+-- A datagram that opens a leg ("NEW").
 use Rattle.std.specs.Prelude.{ℕ, List}
 use Rattle.iax_frames.specs.FullFrame.{FullFrame, SpellsFull}
 use Rattle.peer_lock.specs.Openings.{IsOpening}

@@ -1,4 +1,4 @@
--- How the refusals of the layers below are named here.
+-- The names that refusals of the lower layers have here.
 use Rattle.std.specs.Prelude.{Option, None, Some}
 use Rattle.call_book.specs.declared.errors.ReserveError.{ReserveError}
 use Rattle.call_book.specs.declared.errors.ReserveError.TheVariants as reserve_errors
@@ -13,7 +13,7 @@ use Rattle.exchange_core.specs.declared.answers.CallError.TheVariants as call_er
 use Rattle.exchange_core.specs.declared.answers.Refusal.{Refusal}
 use Rattle.exchange_core.specs.declared.answers.Refusal.TheVariants as refusals
 
--- why a datagram is refused; none where it needs a number for its leg
+-- why a datagram is refused; none if it needs a number for its leg
 abbrev pub from_peer : PeerError → Option Refusal
 from_peer peer_errors.StepsSpent = Some refusals.StepsSpent
 from_peer peer_errors.TooLong = Some refusals.TooLong

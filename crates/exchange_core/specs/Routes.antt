@@ -1,4 +1,4 @@
--- Where offered calls lead.
+-- The routes of offered calls.
 use Rattle.std.specs.Prelude.{◌≡◌, ℕ, ◌<◌, Bool, true, false, Option, None, Some, All, option_map, slice_get}
 use Rattle.leg_machine.specs.Format.{formats_of_both, format_among}
 use Rattle.call_signals.specs.declared.format.Format.{Format}
@@ -10,17 +10,17 @@ use Rattle.peer_plan.specs.declared.route.Route.{Route as Way}
 use Rattle.call_steps.specs.declared.need.Route.{Route}
 use Rattle.call_steps.specs.declared.need.Route.TheVariants as routes
 
--- a peer that it leads to is one of so many
+-- the peer of the route is one of the plan's
 abbrev pub LeadsInside : Route → ℕ → Type 0
 LeadsInside (routes.To peer format) peers = peer < peers
 LeadsInside route peers = Unit {0}
 
--- the format of an offered call at a target with these formats: the one chosen by its NEW, where the target has that, else the
--- lowest that the call may have and the target has; none: they have none in common
+-- the format of an offered call at a target with these formats: the one chosen by its NEW if the target has it, otherwise
+-- the lowest that both have; none if they have none in common
 abbrev pub format_for : Offer → Formats → Option Format
 format_for offer formats = format_among (formats_of_both offer.formats formats) offer.format
 
--- the nearest route of a peer's call to the number leads to this peer, where the call has this format, or none
+-- the nearest route of a peer's call to the number leads to this peer, and the call has this format there, or none
 pub record LeadsTo (plan : PlanView) (caller : ℕ) (offer : Offer) (peer : ℕ) (agreed : Option Format) : Type 0 where
   pub way : Way
   pub nearest : IsNearest plan.routes caller offer.called way
@@ -29,7 +29,7 @@ pub record LeadsTo (plan : PlanView) (caller : ℕ) (offer : Offer) (peer : ℕ)
   pub are_its : option_map (λ peer. peer.rules) (slice_get plan.peers peer) ≡ Some rules
   pub format : format_for offer rules.formats ≡ agreed
 
--- where the call leads that a peer offers, if it offers one
+-- the route of the call that a peer offers, if it offers one
 abbrev pub IsRoute : PlanView → ℕ → Option Offer → Route → Type 0
 IsRoute plan caller None route = route ≡ routes.Nowhere
 IsRoute plan caller (Some offer) routes.Nowhere = All (λ way. fits caller offer.called way ≡ false) plan.routes

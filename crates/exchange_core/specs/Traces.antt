@@ -31,10 +31,10 @@ use Rattle.peer_plan.specs.declared.endpoint.Endpoint.{Endpoint}
 use Rattle.exchange_core.specs.Routes.{IsRoute, format_for}
 use Rattle.exchange_core.specs.declared.hands.Given.{Given}
 
--- what a call is made with
+-- the inputs of a call
 pub record Call : Type 0 where
   pub plan : PlanView
-  -- the datagram; of another call nothing
+  -- the datagram; empty for any other call
   pub octets : List ℕ
   pub challenge : Option (List ℕ)
   -- the number that is called from outside
@@ -54,14 +54,14 @@ call_of plan given = record {
 abbrev pub moment : PlanView → ℕ → Call
 moment plan now = record { plan = plan; octets = []; challenge = None; called = None; now = now }
 
--- ---- what a call is told of an answer
+-- ---- the part of an answer that a call gets
 
--- of a datagram and of an opening by a NEW: the leg concerned, what was rejected, and what was handed up
+-- of a datagram and of an opening by a NEW: the leg concerned, the rejection, and the signals handed up
 abbrev pub heard_of : {E : Type 0} → Result Step E → HandedUp → Result Heard E
 heard_of (Ok step) onwards = Ok (record { touched = step.touched; rejected = step.rejected; onwards = onwards })
 heard_of (Err error) onwards = Err error
 
--- of a NEW of ours, of one that is rejected and of an order: that the step was made
+-- of a NEW of this exchange, of a rejected NEW and of an order: that the step was made
 abbrev pub done_of : {E : Type 0} → Result Step E → Result (Unit {0}) E
 done_of (Ok step) = Ok tt
 done_of (Err error) = Err error
@@ -76,13 +76,13 @@ abbrev pub octets_of : Option (List ℕ) → List ℕ
 octets_of None = []
 octets_of (Some media) = media
 
--- who calls; of a call from outside nobody is known
+-- the caller; unknown for a call from outside
 abbrev pub caller_of : Option (List ℕ) → List ℕ
 caller_of None = numbered None
 caller_of (Some caller) = caller
 
--- a leg of this peer is opened for the number that is called from outside, in the lowest format of the peer; else for what is
--- offered, in the format of that call at this peer
+-- A leg of this peer is opened for the number called from outside, in the lowest format of the peer. Without such a number
+-- it is opened for the offered call, in its format at this peer.
 abbrev pub IsCallFor : PlanView → Option (List ℕ) → Option Offer → ℕ → List ℕ → List ℕ → Format → Type 0
 IsCallFor plan (Some text) offer peer called caller format =
     (called ≡ text) × (caller ≡ numbered None) ×
@@ -100,8 +100,8 @@ LacksFormat plan None peer = Unit {0}
 LacksFormat plan (Some offer) peer = option_map (λ peer. format_for offer peer.rules.formats) (slice_get plan.peers peer) ≡
     Some None
 
--- what is answered without asking a locked state: where no peer of the plan is meant, where memory was refused for a leg that is
--- to be taken out, where nothing is offered or the peer lacks the format, and where a call leads
+-- The needs that are answered without a locked state. The peer isn't in the plan, memory was refused for a leg to be taken
+-- out, nothing is offered, the peer lacks the format, or the need is a route.
 abbrev pub IsUnasked : Call → Option Offer → Need → Reply → Type 0
 IsUnasked call offer (needs.OpenOut name) reply =
     (reply ≡ replies.OpenOut (Err open_errors.NumberBusy)) ×
@@ -113,7 +113,7 @@ IsUnasked call offer (needs.Retire name) reply = reply ≡ replies.Retire false
 IsUnasked call offer (needs.Route name) (replies.Route route) = IsRoute call.plan name.peer offer route
 IsUnasked call offer need reply = ⊥
 
--- the step that is needed was made so, and this is its answer
+-- the needed step was made as it is noted, and this is its answer
 abbrev pub IsMade : Call → Option Offer → Need → Reply → Made → Type 0
 IsMade call offer need reply (mades.Datagram peer octets now answer onwards) =
     (need ≡ needs.Datagram peer) × (reply ≡ replies.Datagram (heard_of answer onwards)) × (octets ≡ call.octets) ×
@@ -140,9 +140,10 @@ IsMade call offer need reply (mades.Reserve peer answer) = (need ≡ needs.Reser
 IsMade call offer need reply (mades.Bridge one other answer) = (need ≡ needs.Bridge one other) × (reply ≡ replies.Bridge answer)
 IsMade call offer need reply (mades.Partner name answer) = (need ≡ needs.Partner name) × (reply ≡ replies.Partner answer)
 IsMade call offer need reply (mades.Release name answer) = (need ≡ needs.Release name) × (reply ≡ replies.Release answer)
+IsMade call offer need reply (mades.TakeOut peer out) = ⊥
 IsMade call offer need reply mades.Unasked = IsUnasked call offer need reply
 
--- the pass has noted just this one step more
+-- the pass has noted exactly this one more step
 pub record Makes (call : Call) (offer : Option Offer) (need : Need) (reply : Reply) (old new : Noted) : Type 0 where
   pub step : Made
   pub noted : Notes step old new
@@ -150,31 +151,31 @@ pub record Makes (call : Call) (offer : Option Offer) (need : Need) (reply : Rep
 
 -- ---- all steps of a call
 
--- where the table stands, once it was told an answer
+-- the table's state after an answer
 abbrev pub told : WorkState → Reply → WorkState
 told state reply = record { work = after_told state.work reply; onwards = onwards_after state.work.place reply state.onwards }
 
--- from this place just these steps were made, each the one that the table named, and their answers led to that place
+-- from this state exactly these steps were made, each the one that the table named, and their answers led to that state
 abbrev pub IsTrace : Call → WorkState → List Made → WorkState → Type 0
 IsTrace call from [] to = from ≡ to
 IsTrace call from (step ∷ rest) to =
     (need : Need) × (reply : Reply) × (next_of from.work ≡ Some need) × IsMade call (offer_in from.onwards) need reply step ×
     IsTrace call (told from reply) rest to
 
--- the steps between these two places, and none else, are noted under the pass
+-- the steps between these two states, and no others, are noted under the pass
 pub record Traces (call : Call) (from to : WorkState) (old new : Noted) : Type 0 where
   pub steps : List Made
   pub noted : new.made ≡ old.made ++ steps
   pub begun : new.begun ≡ old.begun
   pub trace : IsTrace call from steps to
 
--- the pass has noted all steps of a call that begins here, and none else
+-- the pass has noted all steps of a call that begins here, and no others
 pub record MakesAll (call : Call) (from : WorkState) (old new : Noted) : Type 0 where
   pub to : WorkState
   pub ended : next_of to.work ≡ None
   pub traces : Traces call from to old new
 
--- a datagram came from an endpoint: of a stranger nothing is noted, of a peer of the plan all steps of its call
+-- a datagram came from an endpoint: nothing is noted of a stranger's, and all steps of its call of a peer's
 abbrev pub IsHeard : PlanView → Endpoint → Call → Noted → Noted → Type 0
 IsHeard plan from call old new =
     (All (λ peer. peer.endpoint ≢ from) plan.peers × (new ≡ old))

@@ -1,4 +1,4 @@
-//! What the calls of an exchange answer.
+//! The answers of an exchange's calls.
 ghost use Rattle.std.specs.Prelude.{◌≡◌};
 ghost use Rattle.peer_lock.specs.Statuses.{IsHistory};
 ghost use Rattle.exchange_core.specs.Refusals.{from_peer, from_open, from_reject, from_reserve};
@@ -7,7 +7,7 @@ use call_book::{LegName, ReserveError};
 use peer_lock::{LegFacts, OpenError, PeerError, RejectError, Rejection};
 use seq_window::Record;
 
-/// Why a call did nothing: it made no step, and changed no leg and no bridge.
+/// The reason why a call did nothing: it made no step, and changed no leg and no bridge.
 #[derive(Clone, Copy, Debug, PartialEq, Eq)]
 pub enum Refusal {
     /// No peer has that endpoint.
@@ -26,7 +26,7 @@ pub enum Refusal {
     NoSource,
     /// The last information element of an IAX frame passes the end.
     Cut,
-    /// A NEW without a call token of its endpoint, from a peer that is asked for one.
+    /// A NEW without a call token of its endpoint, from a peer that needs one.
     NoToken,
     /// No leg has this call.
     NoCall,
@@ -45,7 +45,7 @@ pub enum Refusal {
 }
 
 impl Refusal {
-    /// Why a datagram is refused; none where it needs a number for its leg.
+    /// Returns the refusal of a datagram, or `None` if it needs a number for its leg.
     pub(crate) fn of_datagram(error: PeerError) -> Option<Refusal>
         ensures { result ≡ from_peer error }
     {
@@ -102,37 +102,37 @@ impl From<ReserveError> for Refusal {
     }
 }
 
-/// A leg that was taken out, and its history, which is one that a window may have.
+/// A leg that was taken out, with its record, which is one that a window may have.
 #[derive(Drop)]
 pub struct Retired {
     /// Its name.
     pub name: LegName,
-    /// What it tells beside its history.
+    /// Its facts other than its record.
     pub facts: LegFacts,
     /// The moment at which it was taken out, in milliseconds.
     pub ended: u64,
-    /// The leg that it was bridged with until then. None where it never was, or where that one was taken out before it: its own
-    /// `partner` is this leg then.
+    /// The leg with which it was bridged until then. None if it never was, or if that one was taken out before it: that
+    /// one's `partner` is this leg then.
     pub partner: Option<LegName>,
-    /// Its record: what it sent, what was acknowledged and what it took.
+    /// Its record: the frames sent, acknowledged and accepted.
     pub history: Record,
     ghost legal: { ∥ IsHistory history.entries ∥₁ },
 }
 
-/// What a call of the exchange made.
+/// The result of a call of the exchange.
 #[derive(Drop)]
 pub struct Answer {
-    /// How many steps were made under the pass.
+    /// The number of steps made under the pass.
     pub steps: u64,
-    /// Why nothing was done, if so. An order that is refused later, within the call, is no refusal of it.
+    /// The refusal, if the call did nothing. An order that is refused later, within the call, is no refusal of the call.
     pub refused: Option<Refusal>,
-    /// What a step reports of a datagram that came to be turned away, if anything.
+    /// The rejection that a step reports, if there is one.
     pub rejected: Option<Rejection>,
     /// The legs that were taken out, in order.
     pub retired: Vec<Retired>,
 }
 
-/// Why no call went out, in the order in which causes are looked for.
+/// The reason why no call was placed, in the order in which reasons are checked.
 #[derive(Clone, Copy, Debug, PartialEq, Eq)]
 pub enum CallError {
     /// The number isn't 1 to 64 octets, each of them 0x21 ..= 0x7e.

@@ -1,4 +1,4 @@
-//! Why the first step of a call was refused.
+//! The reason why the first step of a call was refused.
 ghost use Rattle.std.specs.Prelude.{◌≡◌, ◌⊎◌, Some, option_map};
 ghost use Rattle.call_steps.specs.Beginnings.{OfDatagram, OfTick, OfCall, OfHangUp};
 ghost use Rattle.exchange_core.specs.Denial.{Denies, denial_of};
@@ -9,7 +9,7 @@ use crate::answers::{CallError, Refusal};
 use call_steps::Reply;
 use peer_lock::OrderError;
 
-/// Why the first step of a call was refused.
+/// The reason why the first step of a call was refused.
 #[derive(Clone, Copy)]
 pub(crate) enum Denial {
     /// A datagram, a tick or a call from outside.
@@ -19,7 +19,7 @@ pub(crate) enum Denial {
 }
 
 impl Denial {
-    // Why an answer refuses a first step; none where it doesn't.
+    // Returns the denial of a first step by an answer, or `None` if the answer isn't a refusal.
     pub(crate) fn of(reply: &Reply) -> Option<Denial>
         ensures { result ≡ denial_of reply.now }
     {
@@ -39,7 +39,7 @@ impl Denial {
         }
     }
 
-    // Why a datagram or a tick was refused.
+    // Returns the refusal of a datagram or a tick.
     pub(crate) fn of_peer(self) -> Refusal
         requires { Denies (Some OfDatagram) self ⊎ Denies (Some OfTick) self }
         ensures { self ≡ Denial.Call result }
@@ -50,7 +50,7 @@ impl Denial {
         }
     }
 
-    // Why no call went out.
+    // Returns the reason why no call was placed.
     pub(crate) fn of_call(self) -> CallError
         requires { Denies (Some OfCall) self }
         ensures { option_map Denial.Call (from_call result) ≡ Some self }
@@ -65,7 +65,7 @@ impl Denial {
         }
     }
 
-    // Why a hang-up was refused.
+    // Returns the refusal of a hang-up.
     pub(crate) fn of_hang_up(self) -> OrderError
         requires { Denies (Some OfHangUp) self }
         ensures { self ≡ Denial.Order result }

@@ -1,9 +1,9 @@
 //! The steps of a call, as its table names them, from the first until nothing is left to be done.
 ghost use Rattle.std.specs.Option.{ForSome};
 ghost use Rattle.std.specs.Prelude.{◌≡◌, ◌+◌, ◌<◌, ◌≤◌, [], Some, length, map, IsSome, MatchOption};
-ghost use Rattle.call_steps.specs.Beginnings.{OfDatagram, beginning_at};
+ghost use Rattle.call_steps.specs.Beginnings.{OfCall, OfDatagram, beginning_at};
 ghost use Rattle.call_steps.specs.MediaLeft.{media_left};
-ghost use Rattle.exchange_core.specs.Denial.{Denies};
+ghost use Rattle.exchange_core.specs.Denial.{Denies, denied_since};
 ghost use Rattle.exchange_core.specs.FirstSteps.{CallIsMade, StartsInPlan};
 ghost use Rattle.exchange_core.specs.Leaving.{Leave, departure_of};
 ghost use Rattle.exchange_core.specs.Numbers.{IsCalled};
@@ -23,9 +23,8 @@ use peer_lock::Naming;
 use std::sync::Wait;
 
 impl<G: Gate, J: Naming> Exchange<G, J> {
-    // Makes the steps of a call that begins so: each that its table names, and tells the table what it answered, and notes why the
-    // call is refused, where that is the answer to a first step of it. Either a step of a peer was made, or the call is refused,
-    // and none was.
+    // Makes the steps of a call that begins here: each that its table names, and gives the answers to the table. Notes the
+    // refusal if an answer to a first step is one. Either a step of a peer was made, or the call is refused and none was.
     pub(crate) fn carry_out<R: Wait>(
         &self,
         rt: &R,
@@ -36,13 +35,16 @@ impl<G: Gate, J: Naming> Exchange<G, J> {
         requires peer { StartsInPlan (length self.now.peers) work.old.work.place }
         requires nothing { media_left work.old.work ≡ [] }
         requires challenge { beginning_at work.old.work.place ≡ Some OfDatagram → IsSome given.now.challenge }
+        requires outside { beginning_at work.old.work.place ≡ Some OfCall → IsSome given.now.called }
         requires called { ForSome given.now.called (λ text. IsCalled text.now) }
-        // Just the steps that its table named are noted under the pass, each with the answer that the table was told.
+        // Exactly the steps that its table named are noted under the pass, each with the answer that the table got.
         ensures all { MakesAll (call_of self.now given.entry.now) work.old pass.old pass.new }
         ensures steps { pass.new.credit.steps ≡ pass.old.credit.steps + result.steps }
         ensures denied { MatchOption result.denial (1 ≤ result.steps) (λ why.
             (pass.new.credit ≡ pass.old.credit) × Denies (beginning_at work.old.work.place) why) }
-        // What these steps rejected.
+        // The denial is the one that these steps gave.
+        ensures reason { result.denial ≡ denied_since pass.old pass.new }
+        // The rejection in these steps.
         ensures rejected { (result.rejected ≡ rejected_since pass.old pass.new) × (IsSome result.rejected → 1 ≤ result.steps) }
         // The legs that were taken out in these steps.
         ensures retired { Leave given.entry.now.now pass.old pass.new (map departure_of result.retired.items) }

@@ -15,7 +15,7 @@ pub(crate) type PeerCell<J> = Mutex<NotedPeer<J>>;
 
 /// The peers of a plan, each under its lock, and the book of their calls under another.
 ///
-/// Any number of threads may call it at once, each with a pass of its own. No call holds two locks, or a lock while it waits.
+/// Any number of threads may call it at once, each with a separate pass. No call holds two locks, or a lock while it waits.
 /// Contracts see it as its plan.
 pub struct Exchange<G: Gate, J: Naming> {
     pub(crate) alloc: Global,
@@ -28,7 +28,7 @@ pub struct Exchange<G: Gate, J: Naming> {
     pub(crate) steps: Supply<J::Steps>,
 }
 
-// (Written out, so that whoever owns one proves a call where it is dropped, and not the drop of each field.)
+// Written out, so that an owner proves one call at its drop, not the drop of each field.
 impl<G: Gate, J: Naming> Drop for Exchange<G, J> {
     fn drop(self) {
         let Exchange {
@@ -51,21 +51,21 @@ impl<G: Gate, J: Naming> Model for Exchange<G, J> {
 
     ghost view = { λ x. x.plan };
 
-    // Each peer and each pass has one share of either supply, which is what the peers began with.
+    // Each peer and each pass has one share of either supply, with the amounts that the peers began with.
     ghost invariant = { λ x. (vec_len x.peers ≡ length x.plan.peers) × (vec_len x.peers ≤ 32) × (x.plan.passes ≤ 64) ×
         (x.octets.shares ≡ vec_len x.peers + x.plan.passes) × (x.steps.shares ≡ vec_len x.peers + x.plan.passes) ×
         (x.octets.amount ≡ vec_len x.peers * J.first_octets) × (x.steps.amount ≡ vec_len x.peers * J.first_steps) };
 }
 
 impl<G: Gate, J: Naming> Exchange<G, J> {
-    /// The plan that it was opened with.
+    /// Returns the plan with which it was opened.
     pub fn plan(&self) -> &Plan
         ensures { result.now ≡ self.now }
     {
         &self.plan
     }
 
-    // What is left of it at its end: the peers, the book, and the supplies of which the peers and the passes have shares.
+    // Takes it apart at its end: the peers, the book, and the supplies of which the peers and the passes have shares.
     pub(crate) fn into_parts(
         self,
     ) -> (

@@ -1,8 +1,8 @@
-//! What is called inside each locked section of a peer.
+//! A hook that is called inside each locked section of a peer.
 
 /// Called inside each locked section of a peer.
 pub trait Gate: Drop {
-    /// The lock of the peer at this place of the plan was taken.
+    /// Called once the lock of the peer at this place of the plan was taken.
     fn enter(&self, peer: u16);
 }
 

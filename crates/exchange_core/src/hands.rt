@@ -1,4 +1,4 @@
-//! What a call was given, and what it has in its hands.
+//! The inputs of a call, and the resources that it holds.
 ghost use Rattle.std.specs.Prelude.{◌≡◌, ◌+◌, ◌≤◌, [], None, Some, option_copied, vec_len, vec_capacity};
 ghost use Rattle.exchange_core.specs.Leaving.{all_left, given_up_at, leaving_of};
 ghost use Rattle.peer_lock.specs.Statuses.{IsHistory};
@@ -10,10 +10,10 @@ use call_auth::Challenge;
 use call_book::{Lease, LegName};
 use peer_lock::{EndedLeg, ReadDatagram, Rejection};
 
-// What a call was given from outside.
+// The inputs of a call from outside.
 #[derive(Drop)]
 pub(crate) struct Given<'o, 'c, 'n> {
-    // The datagram, read once; without octets where the call isn't one of a datagram.
+    // The datagram, read once. It is empty unless the call is one of a datagram.
     pub(crate) datagram: ReadDatagram<'o>,
     // For the leg that a datagram opens.
     pub(crate) challenge: Option<&'c Challenge>,
@@ -24,7 +24,7 @@ pub(crate) struct Given<'o, 'c, 'n> {
 }
 
 impl Given<'_, '_, '_> {
-    // A call with nothing but its moment.
+    // Returns the inputs of a call that has only a moment.
     pub(crate) fn moment<'o, 'c, 'n>(now: u64) -> Given<'o, 'c, 'n>
         ensures datagram { result.datagram ≡ [] }
         ensures challenge { result.challenge ≡ None }
@@ -39,7 +39,7 @@ impl Given<'_, '_, '_> {
         }
     }
 
-    // A call from outside for this number.
+    // Returns the inputs of a call from outside to this number.
     pub(crate) fn number<'o, 'c, 'n>(called: &'n [u8], now: u64) -> Given<'o, 'c, 'n>
         ensures datagram { result.datagram ≡ [] }
         ensures challenge { result.challenge ≡ None }
@@ -53,8 +53,8 @@ impl Given<'_, '_, '_> {
     }
 }
 
-// What a call has in its hands: a lease at most, the last name that the book gave it, the legs that it took out, and why it is
-// refused, if it is.
+// The resources of a call: its lease, if any, the last name that the book gave it, the legs that it took out, and its
+// refusal, if any.
 #[derive(Drop)]
 pub(crate) struct Hands {
     pub(crate) lease: Option<Lease>,
@@ -63,8 +63,8 @@ pub(crate) struct Hands {
     pub(crate) denial: Option<Denial>,
 }
 
-// What a call came to: how many steps were made, why it is refused, if it is, what it rejected, if it did, the last name that the
-// book gave it, and the legs that it took out, in order.
+// The outcome of a call: the number of its steps, any refusal and rejection, the last name that the book gave it, and the
+// legs that it took out, in order.
 #[derive(Drop)]
 pub(crate) struct Outcome {
     pub(crate) steps: u64,

@@ -1,4 +1,4 @@
-//! What holds of many calls at once, in whatever order their steps come, from the opening of an exchange on.
+//! Laws of many calls at once, in any order of their steps, from the opening of an exchange on.
 pub use call_steps::laws::{
     calls_at_once, leases_are_as_named, media_is_carried_once, peers_steps_are_the_worlds,
     refused_calls_end,

@@ -9,7 +9,7 @@ use std::alloc::Global;
 // The legs that a call has taken out so far.
 #[derive(Drop)]
 pub(crate) struct Leavers {
-    // The last one, whose name hasn't gone back to the book yet.
+    // The last one, whose name wasn't returned to the book yet.
     last: Option<Retired>,
     // Those before it, in order.
     gone: Vec<Retired>,
@@ -22,7 +22,7 @@ impl Leavers {
     ghost use Rattle.exchange_core.specs.Leaving.{all_left, departure_of, given_up_at, leaving_of, nobody, parted};
     ghost use Rattle.peer_lock.specs.Statuses.{IsHistory};
 
-    // Nobody.
+    // Returns an empty list.
     pub(crate) fn none(alloc: Global) -> Leavers
         ensures { leaving_of result ≡ nobody }
     {
@@ -32,7 +32,7 @@ impl Leavers {
         }
     }
 
-    // Makes room for one more. False where memory was refused.
+    // Reserves room for one more. Returns false if memory was refused.
     pub(crate) fn make_room(&mut self) -> bool
         ensures same { leaving_of self.new ≡ leaving_of self.old }
         ensures room { IsTrue result → vec_len self.new.gone + 2 ≤ vec_capacity self.new.gone }
@@ -40,7 +40,7 @@ impl Leavers {
         self.gone.try_reserve(2).is_ok()
     }
 
-    // The last one is one of those before, if there is one. There is room for it.
+    // Moves the last one, if there is one, behind those before it. There is room for it.
     fn close(&mut self)
         ensures all { leaving_of self.new ≡ record { last = None; gone = all_left (leaving_of self.old) } }
         ensures room { vec_len self.old.gone + 2 ≤ vec_capacity self.old.gone →
@@ -51,7 +51,7 @@ impl Leavers {
         }
     }
 
-    // Takes over what a peer's state gave up under this name, at this moment. There is room for it.
+    // Takes the leg that a peer's state gave up under this name, at this moment. There is room for it.
     pub(crate) fn take(&mut self, name: LegName, leg: EndedLeg, now: u64)
         requires room { vec_len self.old.gone + 2 ≤ vec_capacity self.old.gone }
         requires legal { IsHistory leg.history.entries }
@@ -68,7 +68,7 @@ impl Leavers {
         });
     }
 
-    // The leg, with its former partner.
+    // Returns the leg, with its former partner.
     fn with_partner(leg: Retired, former: Option<LegName>) -> Retired
         ensures { departure_of result ≡ parted former (departure_of leg) }
     {
@@ -88,7 +88,7 @@ impl Leavers {
         }
     }
 
-    // The name of the last one has gone back to the book, which told its former partner.
+    // Notes that the name of the last one was returned to the book, which returned its former partner.
     pub(crate) fn part(&mut self, former: Option<LegName>)
         ensures { leaving_of self.new ≡ record {
           last = None;
@@ -100,7 +100,7 @@ impl Leavers {
         }
     }
 
-    // All of them, in order.
+    // Returns all of them, in order.
     pub(crate) fn into_legs(self) -> Vec<Retired>
         ensures { map departure_of result.items ≡ all_left (leaving_of self) }
     {

@@ -1,5 +1,5 @@
-//! The openings of legs: by a NEW that came, of a far leg, and of a call from outside; and what becomes of a NEW that finds no
-//! number.
+//! The openings of legs: by a received NEW, of a far leg, and of a call from outside. Also the rejection of a NEW for which
+//! no number is free.
 ghost use Rattle.std.specs.Option.{ForSome};
 ghost use Rattle.std.specs.Prelude.{◌≡◌, ◌≢◌, ◌+◌, ◌<◌, ◌≤◌, ◌⊎◌, length, None, Option, Some, Err, option_copied, option_map};
 ghost use Rattle.std.specs.Prelude.{slice_get, IfNone, IfOk, IfErr, IfSome, IsSome, OnOk, OnErr, OnSome};
@@ -30,7 +30,7 @@ use peer_lock::{Naming, Offer, OpenError, ReadDatagram, RejectError, Step};
 use peer_plan::Plan;
 use std::sync::Wait;
 
-// The NEW that a datagram is.
+// Returns the NEW that a datagram is.
 fn opening_in<'d, 'o>(datagram: &'d ReadDatagram<'o>) -> &'d Full<'o>
     requires { SpellsOpening datagram.now }
     ensures opening { IsOpening result.now }
@@ -39,17 +39,17 @@ fn opening_in<'d, 'o>(datagram: &'d ReadDatagram<'o>) -> &'d Full<'o>
     datagram.full().unwrap()
 }
 
-// What a leg is opened with by a NEW of ours.
+// The values with which a leg is opened by a NEW of the exchange.
 #[derive(Drop)]
 struct Outgoing<'a> {
     // The number that is called.
     called: &'a [u8],
-    // Who calls; nobody is known of a call from outside.
+    // The caller; unknown for a call from outside.
     caller: Option<&'a Caller>,
     format: Format,
 }
 
-// The lowest format of a peer.
+// Returns the lowest format of a peer.
 fn lowest_format(plan: &Plan, peer: u16) -> Format
     requires { peer < length plan.now.peers }
     ensures { option_map (λ peer. lowest_format peer.rules.formats) (slice_get plan.now.peers peer) ≡ Some (Some result) }
@@ -60,7 +60,7 @@ fn lowest_format(plan: &Plan, peer: u16) -> Format
     }
 }
 
-// How the far leg of an offered call is opened at a peer; none where the peer has no format of the call.
+// Returns the values for the far leg of an offered call at a peer, or `None` if the peer has no format of the call.
 fn outgoing_for<'a>(plan: &Plan, peer: u16, offer: &'a Offer) -> Option<Outgoing<'a>>
     requires { peer < length plan.now.peers }
     ensures called { IfSome result (λ call. length call.called.now ≤ 255) }
@@ -76,7 +76,8 @@ fn outgoing_for<'a>(plan: &Plan, peer: u16, offer: &'a Offer) -> Option<Outgoing
     })
 }
 
-// How a leg of a peer is opened: for the number that is called from outside, where there is one, else for what is offered.
+// Returns the values for a leg of a peer: for the number called from outside, if there is one, otherwise for the offered
+// call.
 fn outgoing_at<'a>(
     plan: &Plan,
     peer: u16,
@@ -105,7 +106,7 @@ fn outgoing_at<'a>(
 }
 
 impl<G: Gate, J: Naming> Exchange<G, J> {
-    // A leg is opened under a lease by a NEW of ours.
+    // Opens a leg under a lease by a NEW of the exchange.
     fn open_out<R: Wait>(
         &self,
         rt: &R,
@@ -136,8 +137,8 @@ impl<G: Gate, J: Naming> Exchange<G, J> {
         }
     }
 
-    // A leg is opened under the lease that the call keeps, on this name: that of a call from outside, where there is one, else
-    // the far leg of what is offered.
+    // Opens a leg under the lease that the call keeps, on this name. It is the leg of a call from outside, if there is one,
+    // otherwise the far leg of the offered call.
     pub(crate) fn open_from<R: Wait>(
         &self,
         rt: &R,
@@ -172,7 +173,7 @@ impl<G: Gate, J: Naming> Exchange<G, J> {
         }
     }
 
-    // The NEW that the datagram spells opens its leg under the lease that the call keeps, on this name.
+    // Opens the leg of the NEW that the datagram spells, under the lease that the call keeps, on this name.
     pub(crate) fn open_given<R: Wait>(
         &self,
         rt: &R,
@@ -189,7 +190,7 @@ impl<G: Gate, J: Naming> Exchange<G, J> {
             Makes (call_of self.now given.entry.now) offer (needs.OpenIn name) (replies.OpenIn result) pass.old pass.new }
         ensures credit { OnOk result (pass.new.credit.steps ≡ pass.old.credit.steps + 1) ×
             OnErr result (pass.new.credit ≡ pass.old.credit) }
-        // What opens a leg has no media.
+        // A NEW has no media.
         ensures media { IfOk result (λ heard.
             TakesCredit (length given.entry.now.datagram) pass.old.credit pass.new.credit heard.onwards.signals) }
         ensures lease { OnOk result (hands.new.lease ≡ None) × OnErr result (hands.new.lease ≡ hands.old.lease) }
@@ -217,7 +218,7 @@ impl<G: Gate, J: Naming> Exchange<G, J> {
         }
     }
 
-    // No number is free for the leg of the NEW that the datagram spells: its peer rejects it.
+    // Rejects the NEW that the datagram spells, because no number is free for its leg.
     pub(crate) fn reject_given<R: Wait>(
         &self,
         rt: &R,

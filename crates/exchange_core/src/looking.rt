@@ -1,15 +1,15 @@
-//! What whoever looks from outside sees of the legs, the bridges and the accounts. No look is a step, and none is noted.
-ghost use Rattle.std.specs.Prelude.{◌≡◌, ◌<◌, ◌≤◌, length};
+//! Read-only queries of the legs, the bridges and the accounts. They take no step and record nothing.
+ghost use Rattle.std.specs.Prelude.{◌≡◌, ◌<◌, ◌≤◌, IfSome, length};
 
 use crate::exchange::Exchange;
 use crate::gate::Gate;
 use call_book::LegName;
 use noted_steps::Pass;
-use peer_lock::{Description, Losses, Naming, Status, Sums};
+use peer_lock::{Description, Losses, Naming, Pokes, Status, Sums};
 use std::sync::Wait;
 
 impl<G: Gate, J: Naming> Exchange<G, J> {
-    /// How the leg of a local number of a peer of the plan stands; `None` where there is none.
+    /// Returns the status of the leg of a local number of a peer of the plan, or `None` if there is none.
     pub fn status<R: Wait>(
         &self,
         rt: &R,
@@ -25,7 +25,7 @@ impl<G: Gate, J: Naming> Exchange<G, J> {
         state.status(number)
     }
 
-    /// The leg of a local number of a peer of the plan, with what its call is about; `None` where there is none.
+    /// Returns the leg of a local number of a peer of the plan, with the values of its call, or `None` if there is none.
     pub fn describe<R: Wait>(
         &self,
         rt: &R,
@@ -41,8 +41,26 @@ impl<G: Gate, J: Naming> Exchange<G, J> {
         state.describe(number)
     }
 
-    /// The sums of the accounts of a peer of the plan. While calls go on, octets that one peer's datagrams brought may not yet be
-    /// carried to another, so the sums over all peers balance only at the settlement.
+    /// The leg of a peer of the plan with the least local number that is at least this one, with what its call is about. The name
+    /// in its status has its number. `None` if no leg has such a number. Takes the peer's lock once.
+    pub fn describe_from<R: Wait>(
+        &self,
+        rt: &R,
+        _pass: &mut Pass<J>,
+        peer: u16,
+        number: u16,
+    ) -> Option<Description>
+        requires { peer < length self.now.peers }
+        ensures pass { _pass.new ≡ _pass.old }
+        ensures from { IfSome result (λ leg. number ≤ leg.status.name.number) }
+    {
+        let state = self.peers[usize::from(peer)].lock(rt);
+        self.gate.enter(peer);
+        state.describe_from(number)
+    }
+
+    /// Returns the sums of the accounts of a peer of the plan. While calls continue, octets accepted from one peer may not
+    /// yet be carried to another. So the sums over all peers balance only at the settlement.
     pub fn sums<R: Wait>(&self, rt: &R, _pass: &mut Pass<J>, peer: u16) -> Sums
         requires { peer < length self.now.peers }
         ensures pass { _pass.new ≡ _pass.old }
@@ -53,7 +71,7 @@ impl<G: Gate, J: Naming> Exchange<G, J> {
         state.sums()
     }
 
-    /// How many datagrams for a peer of the plan were lost, because its outbox was full.
+    /// Returns the number of datagrams for a peer of the plan that were lost because its outbox was full.
     pub fn lost<R: Wait>(&self, rt: &R, _pass: &mut Pass<J>, peer: u16) -> Losses
         requires { peer < length self.now.peers }
         ensures { _pass.new ≡ _pass.old }
@@ -63,7 +81,17 @@ impl<G: Gate, J: Naming> Exchange<G, J> {
         state.lost()
     }
 
-    /// How many legs a peer of the plan has, 0 ..= 512.
+    /// Returns the state of the exchange's POKEs to a peer of the plan.
+    pub fn pokes<R: Wait>(&self, rt: &R, _pass: &mut Pass<J>, peer: u16) -> Pokes
+        requires { peer < length self.now.peers }
+        ensures { _pass.new ≡ _pass.old }
+    {
+        let state = self.peers[usize::from(peer)].lock(rt);
+        self.gate.enter(peer);
+        state.pokes()
+    }
+
+    /// Returns the number of legs of a peer of the plan, 0 ..= 512.
     pub fn leg_count<R: Wait>(&self, rt: &R, _pass: &mut Pass<J>, peer: u16) -> usize
         requires { peer < length self.now.peers }
         ensures { _pass.new ≡ _pass.old }
@@ -73,10 +101,17 @@ impl<G: Gate, J: Naming> Exchange<G, J> {
         state.leg_count()
     }
 
-    /// The leg that a leg is bridged with; `None` where it isn't bridged.
+    /// Returns the leg with which a leg is bridged, or `None` if it isn't bridged.
     pub fn partner_of<R: Wait>(&self, rt: &R, _pass: &mut Pass<J>, name: LegName) -> Option<LegName>
         ensures { _pass.new ≡ _pass.old }
     {
         self.book.lock(rt).partner_of(name)
+    }
+
+    /// The serial of the next leg, as long as no other call of the exchange is made. Takes the book's lock.
+    pub fn next_serial<R: Wait>(&self, rt: &R, _pass: &mut Pass<J>) -> u64
+        ensures { _pass.new ≡ _pass.old }
+    {
+        self.book.lock(rt).next_serial()
     }
 }

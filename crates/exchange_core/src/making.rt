@@ -1,4 +1,4 @@
-//! Each step that a call can need, made as it is named.
+//! Makes each step that a call can need.
 ghost use Rattle.std.specs.Option.{ForSome};
 ghost use Rattle.std.specs.List.{AllByRecursion};
 ghost use Rattle.std.specs.Prelude.{◌≡◌, ◌≢◌, ℕ, ◌+◌, ◌<◌, ◌≤◌, length, Option, None, Some, Err, true, false, IfOk};
@@ -33,7 +33,7 @@ use peer_lock::laws::media_is_the_datagrams;
 use peer_lock::{Naming, OpenError, OrderError, Status, StepsSpent};
 use std::sync::Wait;
 
-// What the book answered, without the lease that came back.
+// Returns the book's answer without the lease that came back.
 fn without_lease(answer: Result<Option<LegName>, (Lease, Stale)>) -> Result<Option<LegName>, Stale>
     ensures { result ≡ notes.without_lease answer }
 {
@@ -43,7 +43,7 @@ fn without_lease(answer: Result<Option<LegName>, (Lease, Stale)>) -> Result<Opti
     }
 }
 
-// The former partner, where the book told one.
+// Returns the former partner, if the book returned one.
 fn former_of(answer: Result<Option<LegName>, Stale>) -> Option<LegName>
     ensures { result ≡ leaving.former_of answer }
 {
@@ -54,7 +54,7 @@ fn former_of(answer: Result<Option<LegName>, Stale>) -> Option<LegName>
 }
 
 impl<G: Gate, J: Naming> Exchange<G, J> {
-    // The datagram goes to its peer, with room for what it hands up.
+    // Gives the datagram to its peer, with room for the signals that it hands up.
     fn hear_given<R: Wait>(
         &self,
         rt: &R,
@@ -92,7 +92,7 @@ impl<G: Gate, J: Naming> Exchange<G, J> {
         }
     }
 
-    // Time goes on at a peer. Tells whether there is no leg to be finished.
+    // Ticks a peer. Returns whether there is no leg to be finished.
     fn tick_given<R: Wait>(
         &self,
         rt: &R,
@@ -113,8 +113,8 @@ impl<G: Gate, J: Naming> Exchange<G, J> {
         }
     }
 
-    // The leg of a name gets an order with the octets of its media, for which the pass has the credit. None has it where its peer
-    // isn't of the plan.
+    // Gives an order to the leg of a name, with the octets of its media, for which the pass has the credit. If the peer
+    // isn't in the plan, no leg has the name.
     fn act<R: Wait>(
         &self,
         rt: &R,
@@ -144,7 +144,7 @@ impl<G: Gate, J: Naming> Exchange<G, J> {
         }
     }
 
-    // How the leg of a number stands.
+    // Returns the status of the leg of a number.
     fn look_at<R: Wait>(&self, rt: &R, pass: &mut Pass<J>, peer: u16, number: u16) -> Option<Status>
         ensures noted { (given : GivenValue) (offer : Option OfferValue) →
             Makes (call_of self.now given) offer (needs.Look peer number) (replies.Look result) pass.old pass.new }
@@ -157,7 +157,7 @@ impl<G: Gate, J: Naming> Exchange<G, J> {
         self.locked(rt, peer).look(pass, number)
     }
 
-    // Takes a leg out, where there is memory for its place in the answer.
+    // Takes a leg out, if there is memory for its place in the answer.
     fn retire_into<R: Wait>(
         &self,
         rt: &R,
@@ -185,7 +185,7 @@ impl<G: Gate, J: Naming> Exchange<G, J> {
         true
     }
 
-    // A new name, whose lease the call keeps.
+    // Reserves a new name, whose lease the call keeps.
     fn reserve_into<R: Wait>(
         &self,
         rt: &R,
@@ -213,8 +213,8 @@ impl<G: Gate, J: Naming> Exchange<G, J> {
         }
     }
 
-    // The lease that the call keeps, on this name, goes back, and the leg that was taken out with it has left. A lease that the
-    // book refuses is dropped.
+    // Returns the lease that the call keeps, on this name, to the book. The leg that was taken out with it has then left. A
+    // lease that the book refuses is dropped.
     fn release_from<R: Wait>(
         &self,
         rt: &R,
@@ -237,9 +237,8 @@ impl<G: Gate, J: Naming> Exchange<G, J> {
         answer
     }
 
-    // Makes the step that the call needs, and nothing else. The pass has the credit for the media of an order, and the call has
-    // the lease that the step takes, and what a first step asks for.
-    // (inlined, as `Work::next` is)
+    // Makes the step that the call needs, and nothing else. The pass has the credit for the media of an order. The call has
+    // the lease that the step takes, and the inputs of a first step. Inlined, as `Work::next` is.
     #[inline(always)]
     #[tactic(auto, using(crate::proofs::Leaving::none_leave))]
     pub(crate) fn make<R: Wait>(
@@ -256,13 +255,13 @@ impl<G: Gate, J: Naming> Exchange<G, J> {
         requires called { ForSome given.now.called (λ text. IsCalled text.now) }
         requires peer { InPlan (length self.now.peers) (Some need) }
         requires opening { IsOfNew (Some need) → SpellsOpening given.now.datagram × IsSome given.now.challenge }
-        // It answers what was asked for: a name is one of the peer that was meant.
+        // The answer fits the need: a name is one of the peer that was meant.
         ensures answer { (is_answer (Some need) result ≡ true) × KeepsPeer (Some need) result ×
             (IsOpeningDue result → SpellsOpening given.entry.now.datagram) ×
             (result ≢ replies.OpenOut (Err OpenError.RemoteBusy)) }
-        // Just this step is noted under the pass, with this answer.
+        // Exactly this step is noted under the pass, with this answer.
         ensures noted { Makes (call_of self.now given.entry.now) (offer_in work.now.onwards) need result pass.old pass.new }
-        // A step of a peer is made exactly where the answer says so.
+        // A step of a peer is made if and only if the answer says so.
         ensures steps { (is_made result ≡ true → pass.new.credit.steps ≡ pass.old.credit.steps + 1) ×
             (is_made result ≡ false → pass.new.credit ≡ pass.old.credit) ×
             (IsOpenedOut result → pass.new.credit ≡ with_step pass.old.credit 0) }

@@ -1,4 +1,4 @@
-//! Opening an exchange.
+//! Opens an exchange.
 ghost use Rattle.std.specs.Prelude.{◌≡◌, ℕ, ◌+◌, ◌-◌, ◌*◌, ◌<◌, ◌≤◌, ◌^◌, ◌++◌, [], Some, IfOk, OnOk, All, length};
 ghost use Rattle.std.specs.Prelude.{option_map, replicate, slice_get, vec_len};
 ghost use Rattle.exchange_core.specs.Start.{first_book, first_legs, IsStart};
@@ -17,15 +17,13 @@ use std::alloc::{AllocError, Global};
 use std::sync::Mutex;
 use std::sync::ledger::Ledger;
 
-// The octets and the steps that each peer is opened with.
+// The octets and the steps with which each peer is opened.
 const FIRST_CREDIT: u64 = 1 << 48;
 
 impl<G: Gate, J: Naming> Exchange<G, J> {
-    /// An exchange with all its passes: as many as the plan says, each without credit, and nothing made under it. No peer has a
-    /// leg, and every number is free. Each peer may accept 2^48 octets of media and make 2^48 steps. Each blank has a part for
-    /// each peer and each pass.
+    /// Returns an exchange with all its passes, as `open_at` opens it with the first serial 0.
     ///
-    /// `Err` comes only where memory was refused; then all that was handed in is dropped.
+    /// Returns `Err` only if memory was refused; then all arguments are dropped.
     pub fn open(
         alloc: Global,
         plan: Plan,
@@ -42,8 +40,35 @@ impl<G: Gate, J: Naming> Exchange<G, J> {
         ensures passes { IfOk result (λ opened. vec_len opened.1 ≡ plan.passes) }
         ensures empty { IfOk result (λ opened. All (λ pass. (pass.credit.octets ≡ 0) × (pass.credit.steps ≡ 0)) opened.1.items) }
         ensures unused { IfOk result (λ opened. All (λ pass. (pass.begun ≡ 0) × (pass.made ≡ [])) opened.1.items) }
-        // It is a start of the world in which the law over many calls holds, with a caller for each pass.
-        ensures start { IfOk result (λ opened. IsStart plan) }
+        ensures start { OnOk result (IsStart plan 0) }
+    {
+        Exchange::open_at(alloc, plan, gate, octets, steps, 0)
+    }
+
+    /// Returns an exchange with all its passes: as many as the plan says, each without credit and without steps. No peer
+    /// has a leg, every number is free, and the first leg gets the serial `first_serial`. Each peer may accept 2^48 octets
+    /// of media and make 2^48 steps. Each blank has a part for each peer and each pass.
+    ///
+    /// Returns `Err` only if memory was refused; then everything that was passed in is dropped.
+    pub fn open_at(
+        alloc: Global,
+        plan: Plan,
+        gate: G,
+        octets: Blank,
+        steps: Blank,
+        first_serial: u64,
+    ) -> Result<(Exchange<G, J>, Vec<Pass<J>>), AllocError>
+        requires octets { (octets.name ≡ J.Octets.name) × (octets.parts ≡ J.Octets.parts) ×
+            (octets.parts ≡ length plan.peers + plan.passes) }
+        requires steps { (steps.name ≡ J.Steps.name) × (steps.parts ≡ J.Steps.parts) ×
+            (steps.parts ≡ length plan.peers + plan.passes) }
+        requires first { (J.first_octets ≡ 2 ^ 48) × (J.first_steps ≡ 2 ^ 48) }
+        ensures plan { IfOk result (λ opened. opened.0 ≡ plan) }
+        ensures passes { IfOk result (λ opened. vec_len opened.1 ≡ plan.passes) }
+        ensures empty { IfOk result (λ opened. All (λ pass. (pass.credit.octets ≡ 0) × (pass.credit.steps ≡ 0)) opened.1.items) }
+        ensures unused { IfOk result (λ opened. All (λ pass. (pass.begun ≡ 0) × (pass.made ≡ [])) opened.1.items) }
+        // It is a start of the world of the law over many calls, with a caller for each pass and this serial.
+        ensures start { OnOk result (IsStart plan first_serial) }
     {
         let Stock {
             book,
@@ -51,7 +76,7 @@ impl<G: Gate, J: Naming> Exchange<G, J> {
             passes,
             octets,
             steps,
-        } = full_stock(alloc, &plan, Blanks { octets, steps })?;
+        } = full_stock(alloc, &plan, Blanks { octets, steps }, first_serial)?;
         let exchange = Exchange {
             alloc,
             gate,
@@ -65,14 +90,14 @@ impl<G: Gate, J: Naming> Exchange<G, J> {
     }
 }
 
-// What is still to be supplied of both ledgers.
+// The parts of both ledgers that aren't supplied yet.
 #[derive(Drop)]
 struct Blanks {
     octets: Blank,
     steps: Blank,
 }
 
-// What was supplied of a ledger: a first share for each peer, and an empty one for each pass.
+// The issued shares of a ledger: a first share for each peer, and an empty one for each pass.
 #[derive(Drop)]
 struct Issued<L: Ledger> {
     supply: Supply<L>,
@@ -80,7 +105,7 @@ struct Issued<L: Ledger> {
     empty: Vec<Share<L>>,
 }
 
-// What an exchange is opened with: its book, the peers under their locks, the passes, and what was supplied for them.
+// The parts of a new exchange: its book, the peers under their locks, the passes, and the shares issued for them.
 #[derive(Drop)]
 struct Stock<J: Naming> {
     book: CallBook,
@@ -90,14 +115,20 @@ struct Stock<J: Naming> {
     steps: Issued<J::Steps>,
 }
 
-// The stock of a plan's exchange, with all peers and passes.
-fn full_stock<J: Naming>(alloc: Global, plan: &Plan, blanks: Blanks) -> Result<Stock<J>, AllocError>
+// Returns the parts of a plan's exchange, with all peers and passes.
+fn full_stock<J: Naming>(
+    alloc: Global,
+    plan: &Plan,
+    blanks: Blanks,
+    first_serial: u64,
+) -> Result<Stock<J>, AllocError>
     requires octets { (blanks.octets.name ≡ J.Octets.name) × (blanks.octets.parts ≡ J.Octets.parts) ×
         (blanks.octets.parts ≡ length plan.now.peers + plan.now.passes) }
     requires steps { (blanks.steps.name ≡ J.Steps.name) × (blanks.steps.parts ≡ J.Steps.parts) ×
         (blanks.steps.parts ≡ length plan.now.peers + plan.now.passes) }
     requires first { (J.first_octets ≡ 2 ^ 48) × (J.first_steps ≡ 2 ^ 48) }
-    ensures start { OnOk result (IsStart plan.now × (length plan.now.peers ≤ 32) × (plan.now.passes ≤ 64)) }
+    ensures start { OnOk result (IsStart plan.now first_serial × (length plan.now.peers ≤ 32) × (plan.now.passes ≤ 64)) }
+    ensures book { IfOk result (λ stock. stock.book ≡ first_book plan.now first_serial) }
     ensures all { IfOk result (λ stock. (vec_len stock.peers ≡ length plan.now.peers) ×
         (vec_len stock.passes ≡ plan.now.passes)) }
     ensures unused { IfOk result (λ stock. All (λ pass. (pass.credit.octets ≡ 0) × (pass.credit.steps ≡ 0)) stock.passes.items ×
@@ -107,7 +138,7 @@ fn full_stock<J: Naming>(alloc: Global, plan: &Plan, blanks: Blanks) -> Result<S
         (stock.steps.supply.shares ≡ length plan.now.peers + plan.now.passes) ×
         (stock.steps.supply.amount ≡ length plan.now.peers * J.first_steps)) }
 {
-    let Ok(mut stock) = first_stock(alloc, plan, blanks) else {
+    let Ok(mut stock) = first_stock(alloc, plan, blanks, first_serial) else {
         return Err(AllocError);
     };
     match share_out(alloc, plan, &mut stock) {
@@ -116,17 +147,19 @@ fn full_stock<J: Naming>(alloc: Global, plan: &Plan, blanks: Blanks) -> Result<S
     }
 }
 
-// The book and what was supplied, as yet without peers and passes.
+// Returns the book and the shares, as yet without peers and passes.
 fn first_stock<J: Naming>(
     alloc: Global,
     plan: &Plan,
     blanks: Blanks,
+    first_serial: u64,
 ) -> Result<Stock<J>, AllocError>
     requires octets { (blanks.octets.name ≡ J.Octets.name) × (blanks.octets.parts ≡ J.Octets.parts) ×
         (blanks.octets.parts ≡ length plan.now.peers + plan.now.passes) }
     requires steps { (blanks.steps.name ≡ J.Steps.name) × (blanks.steps.parts ≡ J.Steps.parts) ×
         (blanks.steps.parts ≡ length plan.now.peers + plan.now.passes) }
-    ensures start { OnOk result (IsStart plan.now) }
+    ensures start { OnOk result (IsStart plan.now first_serial) }
+    ensures book { IfOk result (λ stock. stock.book ≡ first_book plan.now first_serial) }
     ensures none { IfOk result (λ stock. (vec_len stock.peers ≡ 0) × (stock.passes.items ≡ [])) }
     ensures supplied { IfOk result (λ stock. (stock.octets.supply.shares ≡ length plan.now.peers + plan.now.passes) ×
         (stock.octets.supply.amount ≡ length plan.now.peers * 2 ^ 48) ×
@@ -139,7 +172,7 @@ fn first_stock<J: Naming>(
     let Blanks { octets, steps } = blanks;
     let peers = plan.peer_count();
     let passes = plan.passes();
-    let Ok(book) = book_of(alloc, plan) else {
+    let Ok(book) = book_of(alloc, plan, first_serial) else {
         return Err(AllocError);
     };
     let Ok(octets) = issue::<J::Octets>(alloc, octets, peers, passes) else {
@@ -157,7 +190,7 @@ fn first_stock<J: Naming>(
     })
 }
 
-// The peers and the passes are made, each with its shares.
+// Makes the peers and the passes, each with its shares.
 fn share_out<J: Naming>(alloc: Global, plan: &Plan, stock: &mut Stock<J>) -> Result<(), AllocError>
     requires none { (vec_len stock.old.peers ≡ 0) × (stock.old.passes.items ≡ []) }
     requires octets { (stock.old.octets.first.items ≡ replicate (length plan.now.peers) J.first_octets) ×
@@ -169,6 +202,7 @@ fn share_out<J: Naming>(alloc: Global, plan: &Plan, stock: &mut Stock<J>) -> Res
     ensures unused { OnOk result (All (λ pass. (pass.credit.octets ≡ 0) × (pass.credit.steps ≡ 0)) stock.new.passes.items ×
         All (λ pass. (pass.begun ≡ 0) × (pass.made ≡ [])) stock.new.passes.items) }
     ensures supplied { (stock.new.octets.supply ≡ stock.old.octets.supply) × (stock.new.steps.supply ≡ stock.old.steps.supply) }
+    ensures book { stock.new.book ≡ stock.old.book }
 {
     let peers = plan.peer_count();
     let passes = plan.passes();
@@ -188,16 +222,16 @@ fn share_out<J: Naming>(alloc: Global, plan: &Plan, stock: &mut Stock<J>) -> Res
     )
 }
 
-// The book of a plan, with every number free. Its first serial is 0.
-fn book_of(alloc: Global, plan: &Plan) -> Result<CallBook, AllocError>
-    ensures book { IfOk result (λ book. book ≡ first_book plan.now) }
-    ensures start { OnOk result (IsStart plan.now) }
+// Returns the book of a plan, with every number free, and with this first serial.
+fn book_of(alloc: Global, plan: &Plan, first_serial: u64) -> Result<CallBook, AllocError>
+    ensures book { IfOk result (λ book. book ≡ first_book plan.now first_serial) }
+    ensures start { OnOk result (IsStart plan.now first_serial) }
 {
     let _peers = plan.peer_count();
-    CallBook::new(alloc, plan.counts(), 0)
+    CallBook::new(alloc, plan.counts(), first_serial)
 }
 
-// A supply with a first share for each peer and an empty one for each pass.
+// Returns a supply with a first share for each peer and an empty one for each pass.
 fn issue<L: Ledger>(
     alloc: Global,
     blank: Blank,
@@ -225,7 +259,7 @@ fn issue<L: Ledger>(
     })
 }
 
-// The octets or the steps of each peer and each pass.
+// Returns the octets, or the steps, of each peer and each pass.
 fn amounts_of(alloc: Global, peers: u16, passes: u16) -> Result<Vec<u64>, AllocError>
     ensures { IfOk result (λ v. v.items ≡ replicate peers (2 ^ 48) ++ replicate passes 0) }
 {
@@ -235,7 +269,7 @@ fn amounts_of(alloc: Global, peers: u16, passes: u16) -> Result<Vec<u64>, AllocE
     Ok(amounts)
 }
 
-// So many times the same amount goes behind the others.
+// Adds the same amount `count` times behind the others.
 fn push_equal(amounts: &mut Vec<u64>, count: u16, amount: u64) -> Result<(), AllocError>
     ensures { OnOk result (amounts.new.items ≡ amounts.old.items ++ replicate count amount) }
 {
@@ -245,7 +279,7 @@ fn push_equal(amounts: &mut Vec<u64>, count: u16, amount: u64) -> Result<(), All
     Ok(())
 }
 
-// A peer of the plan without a leg, with first shares of both supplies.
+// Returns a peer of the plan without a leg, with first shares of both supplies.
 fn state_of<J: Naming>(
     alloc: Global,
     plan: &Plan,
@@ -278,10 +312,10 @@ fn state_of<J: Naming>(
     }
 }
 
-// Takes the last share out.
+// Removes and returns the last share.
 fn last_of<L: Ledger>(shares: &mut Vec<Share<L>>) -> Share<L>
     requires some { 1 ≤ vec_len shares.old }
-    // Where all are equal, it is one of them.
+    // If all are equal, it is one of them.
     ensures equal { (n amount : ℕ) → shares.old.items ≡ replicate n amount →
         (result ≡ amount) × (shares.new.items ≡ replicate (n - 1) amount) }
 {
@@ -291,7 +325,7 @@ fn last_of<L: Ledger>(shares: &mut Vec<Share<L>>) -> Share<L>
     }
 }
 
-// The peers of the plan go into the list, which is empty, in its order, each under its lock with first shares of both supplies.
+// Adds the peers of the plan to the empty list in its order, each under its lock with first shares of both supplies.
 fn push_cells<J: Naming>(
     alloc: Global,
     plan: &Plan,
@@ -315,7 +349,7 @@ fn push_cells<J: Naming>(
     Ok(())
 }
 
-// A pass of empty shares, under which nothing was made.
+// Returns a pass of empty shares, without steps.
 fn unused_pass<J: Naming>(octets: Share<J::Octets>, steps: Share<J::Steps>) -> Pass<J>
     requires octets { octets ≡ 0 }
     requires steps { steps ≡ 0 }
@@ -325,7 +359,7 @@ fn unused_pass<J: Naming>(octets: Share<J::Octets>, steps: Share<J::Steps>) -> P
     Pass::new(octets, steps)
 }
 
-// So many passes go into the list, which is empty: without credit, and nothing made under them.
+// Adds `count` passes to the empty list, without credit and without steps.
 fn push_passes<J: Naming>(
     count: u16,
     octets: &mut Vec<Share<J::Octets>>,

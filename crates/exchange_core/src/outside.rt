@@ -1,12 +1,13 @@
 //! The calls of workers and callers.
 ghost use Rattle.std.specs.Prelude.{◌≡◌, ◌≢◌, ◌+◌, ◌<◌, ◌≤◌, ◌↔◌, ◌⊎◌, Err, None, IfNone, IfOk, IfErr, IfSome, IsSome, Some};
-ghost use Rattle.std.specs.Prelude.{OnOk, OnErr, IsTrue, length, map};
+ghost use Rattle.std.specs.Prelude.{All, OnOk, OnErr, IsTrue, length, map, option_map};
 ghost use Rattle.call_steps.specs.Beginnings.{OfCall, OfDatagram, OfHangUp, OfTick};
 ghost use Rattle.call_steps.specs.Work as work;
 ghost use Rattle.call_steps.specs.WorkState.{begun};
-ghost use Rattle.exchange_core.specs.Denial.{Denies};
+ghost use Rattle.exchange_core.specs.Denial.{Denies, denied_since};
 ghost use Rattle.exchange_core.specs.Leaving.{Leave, departure_of};
 ghost use Rattle.exchange_core.specs.Numbers.{IsCalled};
+ghost use Rattle.exchange_core.specs.Refusals.{from_call};
 ghost use Rattle.exchange_core.specs.Rejections.{rejected_since};
 ghost use Rattle.exchange_core.specs.Traces.{IsHeard, MakesAll, moment};
 ghost use Rattle.peer_plan.specs.Plan.{counts_of, range_of};
@@ -25,7 +26,7 @@ use peer_lock::{Naming, OrderError, ReadDatagram};
 use peer_plan::Endpoint;
 use std::sync::Wait;
 
-// Whether the text is a number that may be called.
+// Returns whether the text is a number that may be called.
 fn is_called(text: &[u8]) -> bool
     ensures { IsTrue result ↔ IsCalled text.now }
 {
@@ -38,11 +39,12 @@ fn is_called(text: &[u8]) -> bool
     text.iter().all(|octet| octet.is_ascii_graphic())
 }
 
-// Why a datagram or a tick was refused, if it was.
+// Returns the refusal of a datagram or a tick, if it was refused.
 fn refused_by(denial: Option<Denial>) -> Option<Refusal>
     requires { IfSome denial (λ why. Denies (Some OfDatagram) why ⊎ Denies (Some OfTick) why) }
     ensures none { IfNone result (denial ≡ None) }
     ensures some { IsSome result → IsSome denial }
+    ensures reason { option_map Denial.Call result ≡ denial }
 {
     match denial {
         Some(denial) => Some(denial.of_peer()),
@@ -50,11 +52,12 @@ fn refused_by(denial: Option<Denial>) -> Option<Refusal>
     }
 }
 
-// Whether a call went out.
+// Returns whether a call was placed.
 fn went_out(denial: Option<Denial>) -> Result<(), CallError>
     requires { IfSome denial (Denies (Some OfCall)) }
     ensures went { OnOk result (denial ≡ None) }
     ensures denied { IfErr result (λ error. IsSome denial × (error ≢ CallError.BadNumber)) }
+    ensures reason { IfErr result (λ error. denial ≡ option_map Denial.Call (from_call error)) }
 {
     match denial {
         Some(denial) => Err(denial.of_call()),
@@ -62,11 +65,12 @@ fn went_out(denial: Option<Denial>) -> Result<(), CallError>
     }
 }
 
-// Whether a leg was hung up.
+// Returns whether a leg was hung up.
 fn hung_up(denial: Option<Denial>) -> Result<(), OrderError>
     requires { IfSome denial (Denies (Some OfHangUp)) }
     ensures hung_up { OnOk result (denial ≡ None) }
     ensures denied { OnErr result (IsSome denial) }
+    ensures reason { IfErr result (λ error. denial ≡ Some (Denial.Order error)) }
 {
     match denial {
         Some(denial) => Err(denial.of_hang_up()),
@@ -75,10 +79,10 @@ fn hung_up(denial: Option<Denial>) -> Result<(), OrderError>
 }
 
 impl<G: Gate, J: Naming> Exchange<G, J> {
-    /// A datagram comes from an endpoint at the moment `now`, in milliseconds: the step of its peer, then what follows from it.
-    /// The challenge is for a NEW whose peer has a secret.
+    /// Handles a datagram from an endpoint at the moment `now`, in milliseconds: the step of its peer, then the steps that
+    /// follow from it. The challenge is for a NEW whose peer has a secret.
     ///
-    /// Where it is refused, for one of the causes of `Refusal`, no step was made.
+    /// If it is refused, for one of the causes of `Refusal`, no step was made.
     pub fn datagram<R: Wait>(
         &self,
         rt: &R,
@@ -88,19 +92,25 @@ impl<G: Gate, J: Naming> Exchange<G, J> {
         now: u64,
         challenge: &Challenge,
     ) -> Answer
-        // The steps that were made under the pass are just those which the table of the call named, in its order, and it ended.
+        // Exactly the steps that the table of the call named were made under the pass, in its order, and it ended.
         ensures all { IsHeard self.now from (record (moment self.now now) {
           octets = octets.now;
           challenge = Some challenge.now;
         }) pass.old pass.new }
-        // What was rejected in these steps, if anything was: that is a step, and no refusal.
+        // The rejection in these steps, if there is one. It is a step, and no refusal.
         ensures rejected { result.rejected ≡ rejected_since pass.old pass.new }
         ensures counted { IsSome result.rejected → 1 ≤ result.steps }
-        // The legs that were taken out in these steps, and none else, with what they left behind.
+        // The legs that were taken out in these steps, and no others, with their records.
         ensures retired { Leave now pass.old pass.new (map departure_of result.retired.items) }
         ensures steps { pass.new.credit.steps ≡ pass.old.credit.steps + result.steps }
         ensures some { IfNone result.refused (1 ≤ result.steps) }
         ensures refused { IsSome result.refused → (result.steps ≡ 0) × (pass.new.credit ≡ pass.old.credit) }
+        // The sender is a stranger if and only if no peer has the endpoint; then nothing is noted.
+        ensures stranger { (result.refused ≡ Some Refusal.Stranger) ↔ All (λ peer. peer.endpoint ≢ from) self.now.peers }
+        ensures untouched { result.refused ≡ Some Refusal.Stranger → pass.new ≡ pass.old }
+        // Any other refusal is the one that these steps gave.
+        ensures reason { result.refused ≢ Some Refusal.Stranger →
+            option_map Denial.Call result.refused ≡ denied_since pass.old pass.new }
     {
         let Some(peer) = self.plan.peer_of(from) else {
             return Answer {
@@ -129,13 +139,13 @@ impl<G: Gate, J: Naming> Exchange<G, J> {
         }
     }
 
-    /// Time goes on at a peer of the plan, up to the moment `now`, in milliseconds: its step, then each of its legs that has
-    /// ended is finished, by ascending number.
+    /// Ticks a peer of the plan at the moment `now`, in milliseconds. It makes the peer's step, and then finishes each of
+    /// its legs that has ended, by ascending number.
     ///
-    /// Where it is refused, no step was made.
+    /// If it is refused, no step was made.
     pub fn tick<R: Wait>(&self, rt: &R, pass: &mut Pass<J>, peer: u16, now: u64) -> Answer
         requires { peer < length self.now.peers }
-        // Its looks go over all numbers of the peer.
+        // It checks all numbers of the peer.
         ensures all { MakesAll (moment self.now now)
             (begun (work.of_tick peer (range_of (counts_of self.now.peers) peer).first
             (range_of (counts_of self.now.peers) peer).count)) pass.old pass.new }
@@ -144,6 +154,8 @@ impl<G: Gate, J: Naming> Exchange<G, J> {
         ensures steps { pass.new.credit.steps ≡ pass.old.credit.steps + result.steps }
         ensures some { IfNone result.refused (1 ≤ result.steps) }
         ensures refused { IsSome result.refused → (result.steps ≡ 0) × (pass.new.credit ≡ pass.old.credit) }
+        // The refusal is the one that these steps gave.
+        ensures reason { option_map Denial.Call result.refused ≡ denied_since pass.old pass.new }
     {
         let range = self.plan.range(peer);
         let mut work = Work::of_tick(peer, range.first, range.count);
@@ -156,11 +168,11 @@ impl<G: Gate, J: Naming> Exchange<G, J> {
         }
     }
 
-    /// A call goes out to a peer of the plan, for a number of 1 to 64 octets 0x21 ..= 0x7e, at the moment `now`, in milliseconds:
-    /// one step. Its format is the lowest of the peer's.
+    /// Places a call to a peer of the plan at the moment `now`, in milliseconds: one step. The number is 1 to 64 octets
+    /// 0x21 ..= 0x7e. The format is the lowest of the peer's.
     ///
-    /// Refusals are looked for in this order: `BadNumber`, `SerialsSpent`, `NoNumber`, `StepsSpent`, `NumberBusy`, `Memory`; then
-    /// no step was made.
+    /// Refusals are checked in this order: `BadNumber`, `SerialsSpent`, `NoNumber`, `StepsSpent`, `NumberBusy`, `Memory`;
+    /// then no step was made.
     pub fn call<R: Wait>(
         &self,
         rt: &R,
@@ -179,6 +191,9 @@ impl<G: Gate, J: Naming> Exchange<G, J> {
         ensures name { IfOk result (λ name. name.peer ≡ peer) }
         ensures steps { OnOk result (pass.new.credit ≡ with_step pass.old.credit 0) }
         ensures refused { OnErr result (pass.new.credit ≡ pass.old.credit) }
+        // It is refused if these steps gave a refusal, and for that reason.
+        ensures placed { OnOk result (denied_since pass.old pass.new ≡ None) }
+        ensures reason { IfErr result (λ error. denied_since pass.old pass.new ≡ option_map Denial.Call (from_call error)) }
     {
         if !is_called(called) {
             return Err(CallError::BadNumber);
@@ -193,7 +208,7 @@ impl<G: Gate, J: Naming> Exchange<G, J> {
 
     /// Hangs up the leg of a name, whose peer is of the plan, at the moment `now`, in milliseconds, and finishes it.
     ///
-    /// Refusals are looked for in this order: `StepsSpent`, `Gone` where no leg has the name, `WrongStage`, `WindowFull`,
+    /// Refusals are checked in this order: `StepsSpent`, `Gone` if no leg has the name, `WrongStage`, `WindowFull`,
     /// `RecordFull`, `Memory`; then no step was made.
     pub fn hang_up<R: Wait>(
         &self,
@@ -209,6 +224,9 @@ impl<G: Gate, J: Naming> Exchange<G, J> {
         ensures steps { IfOk result (λ answer. pass.new.credit.steps ≡ pass.old.credit.steps + answer.steps) }
         ensures some { IfOk result (λ answer. (1 ≤ answer.steps) × (answer.refused ≡ None)) }
         ensures refused { OnErr result (pass.new.credit ≡ pass.old.credit) }
+        // It is refused if its first step is, and for that reason.
+        ensures obeyed { OnOk result (denied_since pass.old pass.new ≡ None) }
+        ensures reason { IfErr result (λ error. denied_since pass.old pass.new ≡ Some (Denial.Order error)) }
     {
         let mut work = Work::of_hang_up(name);
         let outcome = self.carry_out(rt, pass, &mut work, &Given::moment(now));

@@ -1,4 +1,4 @@
-//! Peers and passes are parted from their shares.
+//! Separates peers and passes from their shares.
 ghost use Rattle.std.specs.Prelude.{◌≡◌, ◌+◌, ◌*◌, ◌<◌, ◌≤◌, ◌++◌, ◌∷◌, [], IfOk, sum, vec_len, vec_capacity};
 ghost use Rattle.exchange_core.specs.Sums.{accounts_of, left_with, steps_under, begun_with, noted_under};
 ghost use Rattle.peer_lock.specs.Accounts.{carried};
@@ -18,7 +18,7 @@ pub(crate) struct Parts<J: Naming> {
 }
 
 impl<J: Naming> Parts<J> {
-    // None, with room for so many.
+    // Returns empty lists with room for these numbers of peers and shares.
     pub(crate) fn with_room(
         alloc: Global,
         peers: usize,
@@ -46,7 +46,7 @@ impl<J: Naming> Parts<J> {
     }
 }
 
-// Takes a peer from its lock and parts it from its shares.
+// Takes a peer from its lock and separates it from its shares.
 fn part_peer<J: Naming>(cell: PeerCell<J>) -> (ClosedPeer<J>, Share<J::Octets>, Share<J::Steps>)
     ensures octets { result.1 + result.0.accounts.accepted ≡ J.first_octets + carried result.0.accounts }
     ensures steps { result.2 + result.0.accounts.steps ≡ J.first_steps }
@@ -58,7 +58,7 @@ fn part_peer<J: Naming>(cell: PeerCell<J>) -> (ClosedPeer<J>, Share<J::Octets>, 
     (peer, octets, steps)
 }
 
-// A peer goes behind the others, for which there is room.
+// Adds a peer behind the others, for which there is room.
 fn put<J: Naming>(peer: ClosedPeer<J>, peers: &mut Vec<ClosedPeer<J>>)
     requires { vec_len peers.old < vec_capacity peers.old }
     ensures items { peers.new.items ≡ peers.old.items ++ peer ∷ [] }
@@ -68,7 +68,7 @@ fn put<J: Naming>(peer: ClosedPeer<J>, peers: &mut Vec<ClosedPeer<J>>)
     peers.push_reserved(peer);
 }
 
-// Takes each peer from its lock and parts it from its shares, in order.
+// Takes each peer from its lock and separates it from its shares, in order.
 pub(crate) fn part_peers<J: Naming>(
     cells: Vec<PeerCell<J>>,
     peers: &mut Vec<ClosedPeer<J>>,

@@ -1,7 +1,9 @@
 //! The locked sections of peers: each takes one peer's lock, and makes at most one step.
-ghost use Rattle.std.specs.Prelude.{◌≡◌, ◌<◌, length};
+ghost use Rattle.std.specs.Prelude.{◌≡◌, ◌<◌, None, Some, if◌then◌else◌, length};
 ghost use Rattle.std.specs.Bool.{OnFalse};
 ghost use Rattle.std.specs.Sync.Mutex.{mutex_guard_value};
+ghost use Rattle.noted_steps.specs.Notes.{note};
+ghost use Rattle.noted_steps.specs.declared.made.Made.TheVariants as mades;
 
 use crate::exchange::Exchange;
 use crate::gate::Gate;
@@ -10,7 +12,7 @@ use noted_steps::{NotedPeer, Pass};
 use peer_lock::Naming;
 use std::sync::{MutexGuard, Wait};
 
-// The peer that lies under a lock is that of the lock. A call that found another would never return.
+// Asserts that the peer under a lock is that of the lock. A call that found another would never return.
 fn expect_peer<R: Wait, J: Naming>(rt: &R, state: &NotedPeer<J>, peer: u16)
     ensures { state.now.number ≡ peer }
 {
@@ -21,7 +23,7 @@ fn expect_peer<R: Wait, J: Naming>(rt: &R, state: &NotedPeer<J>, peer: u16)
 }
 
 impl<G: Gate, J: Naming> Exchange<G, J> {
-    // The peer at this place of the plan, under its lock.
+    // Returns the peer at this place of the plan, under its lock.
     pub(crate) fn locked<R: Wait>(&self, rt: &R, peer: u16) -> MutexGuard<'_, NotedPeer<J>>
         requires { peer < length self.now.peers }
         ensures { (mutex_guard_value result).number ≡ peer }
@@ -32,8 +34,9 @@ impl<G: Gate, J: Naming> Exchange<G, J> {
         state
     }
 
-    /// Sets whether a peer of the plan drains. While it does, a NEW that no leg has is answered by REJECT with cause 42, in every
-    /// plan format, and opens no leg. Legs that are there go on, and calls that are being set up. It is no step.
+    /// Sets whether a peer of the plan drains. While it does, a NEW that belongs to no leg opens none and is answered by
+    /// REJECT with cause 42, in every plan version. Current legs continue, and so do calls that are being set up. It is no
+    /// step.
     pub fn set_draining<R: Wait>(&self, rt: &R, _pass: &mut Pass<J>, peer: u16, drains: bool)
         requires { peer < length self.now.peers }
         ensures { _pass.new ≡ _pass.old }
@@ -42,25 +45,23 @@ impl<G: Gate, J: Naming> Exchange<G, J> {
         state.set_draining(drains);
     }
 
-    /// Takes the oldest datagram for a peer of the plan, a frame that was written for it; `None` where none waits.
-    pub fn take_out<R: Wait>(&self, rt: &R, _pass: &mut Pass<J>, peer: u16) -> Option<Out>
+    /// Takes the oldest datagram for a peer of the plan, or returns `None` if none waits. It is noted, and is no step.
+    pub fn take_out<R: Wait>(&self, rt: &R, pass: &mut Pass<J>, peer: u16) -> Option<Out>
         requires { peer < length self.now.peers }
-        ensures { _pass.new ≡ _pass.old }
+        ensures { pass.new ≡ note (mades.TakeOut peer result) pass.old }
     {
-        let mut state = self.peers[usize::from(peer)].lock(rt);
-        self.gate.enter(peer);
-        state.take_out()
+        let mut state = self.locked(rt, peer);
+        state.take_out(pass)
     }
 
-    /// Takes the oldest datagram for a peer of the plan, a frame that was written for it, and writes it over this one; false, and
-    /// nothing is changed, where none waits.
-    pub fn take_into<R: Wait>(&self, rt: &R, _pass: &mut Pass<J>, peer: u16, out: &mut Out) -> bool
+    /// Takes the oldest datagram for a peer of the plan, and writes it over this one. If none waits, returns false and
+    /// changes nothing. It is noted, and is no step.
+    pub fn take_into<R: Wait>(&self, rt: &R, pass: &mut Pass<J>, peer: u16, out: &mut Out) -> bool
         requires { peer < length self.now.peers }
-        ensures pass { _pass.new ≡ _pass.old }
+        ensures noted { pass.new ≡ note (mades.TakeOut peer (if result then Some out.new else None)) pass.old }
         ensures same { OnFalse result (out.new ≡ out.old) }
     {
-        let mut state = self.peers[usize::from(peer)].lock(rt);
-        self.gate.enter(peer);
-        state.take_into(out)
+        let mut state = self.locked(rt, peer);
+        state.take_into(pass, out)
     }
 }

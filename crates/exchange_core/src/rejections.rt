@@ -1,13 +1,14 @@
-//! What the steps of a call report of datagrams that came to be turned away ("REJECT", "REGREJ").
+//! The rejections that a call's steps report ("REJECT", "REGREJ").
+ghost use Rattle.std.specs.Option.{option_or};
 ghost use Rattle.std.specs.Prelude.{◌≡◌};
-ghost use Rattle.exchange_core.specs.Rejections.{latest, rejection_of};
+ghost use Rattle.exchange_core.specs.Rejections.{rejection_of};
 
 use call_steps::Reply;
 use peer_lock::Rejection;
 
-// What the step with this answer rejected; if nothing, what was rejected before it.
+// Returns the rejection of the step with this answer, or otherwise the one before it.
 pub(crate) fn latest(reply: &Reply, before: Option<Rejection>) -> Option<Rejection>
-    ensures { result ≡ latest (rejection_of reply.now) before }
+    ensures { result ≡ option_or (rejection_of reply.now) before }
 {
     match reply {
         Reply::Datagram(Ok(heard)) | Reply::OpenIn(Ok(heard)) => heard.rejected.or(before),

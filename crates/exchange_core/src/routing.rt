@@ -15,14 +15,14 @@ use noted_steps::Pass;
 use peer_lock::{Naming, Offer};
 use peer_plan::Plan;
 
-// The format of an offered call at a target with these formats.
+// Returns the format of an offered call at a target with these formats.
 pub(crate) fn format_for(offer: &Offer, formats: Formats) -> Option<Format>
     ensures { result ≡ format_for offer.now formats }
 {
     offer.formats.of_both(formats).among(offer.format)
 }
 
-// Where an offered call of a peer leads.
+// Returns the route of an offered call of a peer.
 fn route_for(plan: &Plan, caller: u16, offer: &Offer) -> Route
     ensures route { IsRoute plan.now caller (Some offer.now) result }
     ensures inside { LeadsInside result (length plan.now.peers) }
@@ -36,7 +36,7 @@ fn route_for(plan: &Plan, caller: u16, offer: &Offer) -> Route
     }
 }
 
-// Where the call leads that a leg of a peer offers.
+// Returns the route of the call that a leg of a peer offers.
 fn route(plan: &Plan, caller: u16, offer: Option<&Offer>) -> Route
     ensures route { IsRoute plan.now caller (option_copied offer.entry) result }
     ensures inside { LeadsInside result (length plan.now.peers) }
@@ -48,7 +48,7 @@ fn route(plan: &Plan, caller: u16, offer: Option<&Offer>) -> Route
 }
 
 impl<G: Gate, J: Naming> Exchange<G, J> {
-    // Where the call leads that this leg offers. No locked state is asked.
+    // Returns the route of the call that this leg offers. It needs no locked state.
     pub(crate) fn route_noted(
         &self,
         pass: &mut Pass<J>,

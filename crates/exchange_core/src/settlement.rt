@@ -1,5 +1,6 @@
-//! The accounts of all peers, once every pass is back.
-ghost use Rattle.std.specs.Prelude.{◌≡◌, ◌≢◌, ◌+◌, ◌<◌, ◌≤◌, ◌^◌, [], IfOk, IfErr, OnOk, length, sum, vec_len, vec_capacity};
+//! The accounts of all peers, once every pass was returned.
+ghost use Rattle.std.specs.Prelude.{◌≡◌, ◌≢◌, ◌+◌, ◌<◌, ◌≤◌, ◌^◌, [], Err, IfErr, IfOk, Ok, OnErr, OnOk};
+ghost use Rattle.std.specs.Prelude.{length, sum, vec_len, vec_capacity};
 ghost use Rattle.peer_lock.specs.Accounts.{carried};
 ghost use Rattle.exchange_core.specs.Sums.{accounts_of, left_with, steps_under, begun_with, noted_under};
 
@@ -10,9 +11,10 @@ use call_book::CallBook;
 use media_ledger::{Share, Supply, gather};
 use noted_steps::Pass;
 use peer_lock::{ClosedPeer, Naming};
+use std::alloc::AllocError;
 use std::sync::ledger::Ledger;
 
-/// What the locks held, and the sums over all peers and passes.
+/// The contents of the locks, and the sums over all peers and passes.
 #[derive(Drop)]
 pub struct Settlement<J: Naming> {
     /// The book of calls.
@@ -27,13 +29,13 @@ pub struct Settlement<J: Naming> {
     pub queued: u64,
     /// Of these, the octets that were dropped, at the peers or in the passes.
     pub dropped: u64,
-    /// Of the dropped octets, those that the other side wanted none of.
+    /// The part of the dropped octets that the other side had quelched.
     pub quelched: u64,
     /// The steps that were made.
     pub steps: u64,
 }
 
-/// Why nothing was settled, in the order in which causes are looked for.
+/// The reason why nothing was settled, in the order in which causes are checked.
 #[derive(Clone, Copy, Debug, PartialEq, Eq)]
 pub enum SettleError {
     /// A request for memory was refused.
@@ -81,7 +83,7 @@ fn sums_of<J: Naming>(peers: &[ClosedPeer<J>]) -> Sums
     sums
 }
 
-// The sums over peers whose accounts balance but for octets that were left with passes.
+// Returns the sums over peers whose accounts balance, except for octets that were left with passes.
 fn settled<J: Naming>(book: CallBook, peers: Vec<ClosedPeer<J>>) -> Settlement<J>
     requires accepted { (accounts_of peers.items).accepted < 2 ^ 64 }
     requires within { carried (accounts_of peers.items) ≤ (accounts_of peers.items).accepted }
@@ -106,7 +108,7 @@ fn settled<J: Naming>(book: CallBook, peers: Vec<ClosedPeer<J>>) -> Settlement<J
     }
 }
 
-// The sum of all shares of a supply.
+// Returns the sum of all shares of a supply.
 fn gathered<L: Ledger>(supply: &Supply<L>, shares: Vec<Share<L>>) -> u64
     requires { vec_len shares ≡ supply.now.shares }
     ensures sum { result ≡ sum shares.items }
@@ -118,12 +120,32 @@ fn gathered<L: Ledger>(supply: &Supply<L>, shares: Vec<Share<L>>) -> u64
     }
 }
 
+// Returns the room for the shares of all passes, or the reason why nothing is settled. Memory is checked first.
+fn room_for_all<J: Naming>(
+    room: Result<Parts<J>, AllocError>,
+    passes: usize,
+    all: usize,
+) -> Result<Parts<J>, SettleError>
+    ensures memory { OnErr room (result ≡ Err SettleError.Memory) }
+    ensures missing { OnOk room (passes ≢ all → result ≡ Err SettleError.Missing) }
+    ensures all { IfOk room (λ parts. passes ≡ all → result ≡ Ok parts) }
+{
+    let Ok(parts) = room else {
+        return Err(SettleError::Memory);
+    };
+    if passes == all {
+        Ok(parts)
+    } else {
+        Err(SettleError::Missing)
+    }
+}
+
 impl<G: Gate, J: Naming> Exchange<G, J> {
-    /// Ends the exchange, once every pass is back: the book, the peers, and the sums over all peers and passes. The passes are
-    /// those of its `open`, by their type.
+    /// Ends the exchange, once every pass was returned: gives the book, the peers, and the sums over all peers and passes.
+    /// The passes are those of its `open`, by their type.
     ///
-    /// Refusals are looked for in this order: `Memory` where memory for the passes and the peers was refused, `Missing` where the
-    /// passes aren't all. The exchange and the passes come back.
+    /// Refusals are checked in this order: `Memory` if memory for the passes and the peers was refused, `Missing` if a pass
+    /// is missing. The exchange and the passes come back.
     pub fn settle(
         self,
         passes: Vec<Pass<J>>,
@@ -142,27 +164,22 @@ impl<G: Gate, J: Naming> Exchange<G, J> {
         ensures part { IfOk result (λ s. s.quelched ≤ s.dropped) }
         ensures steps { IfOk result (λ s. s.steps ≡ (accounts_of s.peers.items).steps) }
 
-        // What was accepted is what became of it, and the steps are those under the passes.
+        // Each accepted octet was packed, is queued or was dropped, and the steps are those under the passes.
         ensures balances { IfOk result (λ s. s.accepted ≡ s.packed + s.queued + s.dropped) }
         ensures made { IfOk result (λ s. s.steps ≡ steps_under passes.items) }
-        // No step of a peer is outside of what is noted under the passes.
+        // Each step of a peer is noted under a pass.
         ensures noted { IfOk result (λ s. s.steps ≡ begun_with passes.items + noted_under passes.items) }
     {
         let pass_count = usize::from(self.plan.passes());
         let shares = self.peers.len() + pass_count;
-        let refused = match Parts::<J>::with_room(self.alloc, self.peers.len(), shares) {
-            Ok(parts) => {
-                if passes.len() == pass_count {
-                    return Ok(self.settle_into(parts, passes));
-                }
-                SettleError::Missing
-            }
-            Err(_) => SettleError::Memory,
-        };
-        Err((self, passes, refused))
+        let room = Parts::<J>::with_room(self.alloc, self.peers.len(), shares);
+        match room_for_all(room, passes.len(), pass_count) {
+            Ok(parts) => Ok(self.settle_into(parts, passes)),
+            Err(refused) => Err((self, passes, refused)),
+        }
     }
 
-    // Parts all peers and all passes from their shares, for which there is room, and gathers these.
+    // Separates all peers and all passes from their shares, for which there is room, and gathers these.
     fn settle_into(self, parts: Parts<J>, passes: Vec<Pass<J>>) -> Settlement<J>
         requires all { vec_len passes ≡ self.passes }
         requires empty { (parts.peers.items ≡ []) × (parts.octets.items ≡ []) × (parts.steps.items ≡ []) }

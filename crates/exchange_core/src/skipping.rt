@@ -14,8 +14,8 @@ use peer_lock::Naming;
 use std::sync::Wait;
 
 impl<G: Gate, J: Naming> Exchange<G, J> {
-    /// Reserves a name of a peer and gives it back at once, so that its number comes behind the peer's other free numbers: two steps of
-    /// the book, and no step of the peer. Returns the name; `None` if none was to be had.
+    /// Reserves a name of a peer and returns it at once, so that its number comes behind the peer's other free numbers.
+    /// These are two steps of the book, and no step of the peer. Returns the name, or `None` if the book refused it.
     pub fn skip_number<R: Wait>(&self, rt: &R, pass: &mut Pass<J>, peer: u16) -> Option<LegName>
         ensures skipped { IfSome result (λ name. (former : Result (Option LegNameValue) StaleValue) ×
             (pass.new ≡ note (mades.Release name former) (note (mades.Reserve peer (Ok name)) pass.old))) }

@@ -46,12 +46,12 @@ trait Program: ServiceSystem + Files<File = File> + Print + Alloc {}
 
 impl<R: ServiceSystem + Files<File = File> + Print + Alloc> Program for R {}
 
-// Whether a call of the system failed for want of memory.
+// Returns whether a call of the system failed for want of memory.
 pub(crate) fn is_memory(error: &io::Error) -> bool {
     error.kind() == io::ErrorKind::OutOfMemory
 }
 
-// The octets of a file. Where it can't be read, says so.
+// Returns the octets of a file. If it can't be read, prints the refusal.
 fn octets_of<R: Files + Print + Alloc>(rt: &R, path: &str) -> Option<Vec<u8, R::A>> {
     match fs::read(rt, path) {
         Ok(octets) => Some(octets),
@@ -66,7 +66,7 @@ fn octets_of<R: Files + Print + Alloc>(rt: &R, path: &str) -> Option<Vec<u8, R::
     }
 }
 
-// Says that the program's arguments can't be read, and gives its status.
+// Prints that the program's arguments can't be read, and returns the status.
 fn refuse_arguments<R: Eprint + Print>(rt: &R, error: &io::Error) -> u8 {
     if is_memory(error) {
         let _ = println!(rt; "refused Memory");
@@ -77,7 +77,7 @@ fn refuse_arguments<R: Eprint + Print>(rt: &R, error: &io::Error) -> u8 {
     }
 }
 
-// The octets of a plan and of a script. Where one can't be read, says so.
+// Returns the octets of a plan and of a script. If one can't be read, prints the refusal.
 pub(crate) fn both_of<R: Files + Print + Alloc>(
     rt: &R,
     plan: &str,
@@ -132,7 +132,7 @@ enum Command<'a> {
     Replay(&'a str, &'a str),
     Serve(&'a str, &'a str),
     Ctl(&'a str, &'a [String]),
-    // What is read by its options.
+    // A command that is read by its options.
     ByOptions,
 }
 
@@ -152,7 +152,7 @@ fn command_of(words: &[String]) -> Command<'_> {
     }
 }
 
-// One command, by the program's arguments.
+// Runs one command, by the program's arguments.
 fn run<R: Program, D: ServiceDisk>(rt: &R, disk: &D, alloc: Global, words: &[String]) -> u8 {
     match command_of(words) {
         Command::Check(plan) => check_file(rt, alloc, plan),
@@ -166,7 +166,7 @@ fn run<R: Program, D: ServiceDisk>(rt: &R, disk: &D, alloc: Global, words: &[Str
     }
 }
 
-// Gives a running service an order.
+// Sends an order to a running service.
 fn order_service<R: Net + Print + Eprint + Alloc>(
     rt: &R,
     alloc: Global,
@@ -179,7 +179,7 @@ fn order_service<R: Net + Print + Eprint + Alloc>(
     }
 }
 
-// The address of the metrics, where one was given. `Err`: what was given is no address.
+// Returns the address of the metrics, if one was given. Returns `Err` if the text is no address.
 fn metrics_address(options: &ArgMatches<'_>) -> Result<Option<SocketAddr>, ()> {
     match options.get_str("metrics") {
         Some(text) => match text.parse::<SocketAddr>() {
@@ -190,7 +190,7 @@ fn metrics_address(options: &ArgMatches<'_>) -> Result<Option<SocketAddr>, ()> {
     }
 }
 
-// The level of the log: `warn` where none was given.
+// Returns the level of the log, `warn` if none was given.
 fn log_level(options: &ArgMatches<'_>) -> LevelFilter {
     match options.get_str("log") {
         Some(text) => text.parse::<LevelFilter>().unwrap_or(LevelFilter::Warn),
@@ -198,7 +198,7 @@ fn log_level(options: &ArgMatches<'_>) -> LevelFilter {
     }
 }
 
-// How calls are logged: without numbers where nothing else is said.
+// Returns how calls are logged: without numbers unless the options ask for them.
 fn call_lines(options: &ArgMatches<'_>) -> CallLines {
     CallLines {
         are_told: options.get_flag("log-calls"),
@@ -210,7 +210,7 @@ fn call_lines(options: &ArgMatches<'_>) -> CallLines {
     }
 }
 
-// The trace that is wanted, if one is.
+// Returns the settings of the trace, if one is wanted.
 fn trace_options<'a>(options: &'a ArgMatches<'_>) -> Option<TraceOptions<'a>> {
     let mebibytes = options.get_one::<u32>("trace-limit").unwrap_or(64);
     Some(TraceOptions {
@@ -220,7 +220,8 @@ fn trace_options<'a>(options: &'a ArgMatches<'_>) -> Option<TraceOptions<'a>> {
     })
 }
 
-// How a service is run, by the options that were given. `None`: they name no plan, or what should be an address is none.
+// Returns the settings of a service by the given options. Returns `None` if they name no plan, or if an address is
+// malformed.
 fn settings_of<'a>(options: &'a ArgMatches<'_>) -> Option<Settings<'a>> {
     let plan_path = options.get_str("plan")?;
     let metrics = metrics_address(options).ok()?;
@@ -239,7 +240,7 @@ fn settings_of<'a>(options: &'a ArgMatches<'_>) -> Option<Settings<'a>> {
     })
 }
 
-// What `clap` refuses: help and the version are printed, anything else is told by the usage.
+// Prints help or the version, or prints the usage for any other error of `clap`.
 fn refuse_words<R: Print + Eprint>(rt: &R, error: &clap::Error) -> u8 {
     match error.kind() {
         ErrorKind::DisplayHelp | ErrorKind::DisplayVersion => {
@@ -284,7 +285,7 @@ fn run_file<R: Program, D: ServiceDisk>(
     }
 }
 
-// The command that the words named.
+// Runs the command that the words named.
 fn run_matched<R: Program, D: ServiceDisk>(
     rt: &R,
     disk: &D,
@@ -303,7 +304,7 @@ fn run_matched<R: Program, D: ServiceDisk>(
     }
 }
 
-// A command that is read by its options: `run`, and what asks for help or the version.
+// Runs a command that is read by its options: `run`, or one that asks for help or the version.
 fn run_by_options<R: Program, D: ServiceDisk>(
     rt: &R,
     disk: &D,
@@ -319,7 +320,7 @@ fn run_by_options<R: Program, D: ServiceDisk>(
     }
 }
 
-// The program's arguments, if there is memory for them.
+// Returns the program's arguments, if there is memory for them.
 fn words_of(alloc: Global, arguments: env::Args) -> Option<Vec<String>> {
     let mut words = Vec::new(alloc);
     for argument in arguments {

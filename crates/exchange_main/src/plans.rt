@@ -14,7 +14,7 @@ use text_buffer::TextBuffer;
 // The most octets that are read from a pipe or a device, which may have no end.
 const MOST_PIPED: usize = 0x400_0000;
 
-// Reads a file to its end, or to an octet 0, which no plan has. `FileTooLarge`: it has more than so many octets.
+// Reads a file to its end, or to an octet 0, which no plan has. Returns `FileTooLarge` if it has more than `most` octets.
 fn read_text<F: Read>(file: &mut F, most: usize, octets: &mut Vec<u8>) -> io::Result<()> {
     let mut piece = [0u8; 16384];
     for _ in 0..u64::MAX {

@@ -1,4 +1,4 @@
-//! The views of a replay, as commands ask for them.
+//! The views of a replay, as commands request them.
 use crate::both_of;
 use clap::ArgMatches;
 use exchange_commands::ReplayFiles;
@@ -8,7 +8,7 @@ use std::io;
 use std::rt::Files;
 use std::sync::Wait;
 
-/// What is made of a replay.
+/// The views of a replay.
 #[derive(Clone, Copy)]
 pub(crate) enum View {
     Ladder,
@@ -16,7 +16,7 @@ pub(crate) enum View {
     Records,
 }
 
-// How a ladder is drawn.
+// Returns the form of a ladder.
 fn ladder_form(options: &ArgMatches<'_>) -> LadderForm {
     if options.get_flag("text") {
         LadderForm::Text
@@ -25,7 +25,7 @@ fn ladder_form(options: &ArgMatches<'_>) -> LadderForm {
     }
 }
 
-// The leg whose ladder is drawn, if it is one's alone.
+// Returns the leg whose ladder is drawn, if only one is wanted.
 fn ladder_leg(options: &ArgMatches<'_>) -> Option<u16> {
     u16::try_from(options.get_one::<u32>("leg")?).ok()
 }

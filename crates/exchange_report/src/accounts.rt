@@ -1,5 +1,7 @@
-//! The accounts of an exchange are closed and written.
-ghost use Rattle.std.specs.Prelude.{◌≡◌, ◌+◌, ◌≤◌, IfOk};
+//! Closes and writes the accounts of an exchange.
+ghost use Rattle.std.specs.Prelude.{◌≡◌, ◌+◌, ◌≤◌, IfOk, OnOk, length};
+ghost use Rattle.std.specs.Io.KnownBytes.{Appends};
+ghost use Rattle.exchange_report.specs.Accounts.{AreSums, accounts_text};
 
 use exchange_core::{Exchange, NoGate, Pass};
 use peer_lock::Naming;
@@ -7,21 +9,23 @@ use std::alloc::AllocError;
 use std::io;
 use std::io::Write;
 
-/// The octets of media over all peers, as the accounts have them when they are closed.
+/// The octets of media over all peers, from the closed accounts.
 #[derive(Clone, Copy)]
 pub struct MediaAccounts {
     pub accepted: u64,
     pub packed: u64,
     pub queued: u64,
     pub dropped: u64,
-    /// Of the dropped ones, those that the other side wanted none of.
+    /// The part of the dropped octets that the other side had quelched.
     pub quelched: u64,
 }
 
-/// Writes `octets <accepted> <packed> <queued> <dropped>`, and `quelched <n>` where it isn't 0.
+/// Writes `octets <accepted> <packed> <queued> <dropped>`, and `quelched <n>` if that isn't 0.
 ///
-/// An error is the writer's, at the first line that it doesn't take.
-pub fn write_accounts<W: Write>(accounts: &MediaAccounts, writer: &mut W) -> io::Result<()> {
+/// Returns the writer's error at the first line that can't be written.
+pub fn write_accounts<W: Write>(accounts: &MediaAccounts, writer: &mut W) -> io::Result<()>
+    ensures { OnOk result (Appends (W.contents writer.old) (W.contents writer.new) (accounts_text accounts.now)) }
+{
     writeln!(
         writer,
         "octets {} {} {} {}",
@@ -33,15 +37,16 @@ pub fn write_accounts<W: Write>(accounts: &MediaAccounts, writer: &mut W) -> io:
     Ok(())
 }
 
-/// Closes the accounts of an exchange with all its passes: what was accepted was packed, waits, or was dropped.
+/// Closes the accounts of an exchange with all its passes: accepted octets were packed, wait, or were dropped.
 ///
-/// `AllocError`: a request for memory was refused, or a pass is missing.
+/// Returns `AllocError` if a request for memory was refused, or if a pass is missing.
 pub fn closed_accounts<J: Naming>(
     exchange: Exchange<NoGate, J>,
     passes: Vec<Pass<J>>,
 ) -> Result<MediaAccounts, AllocError>
     ensures balances { IfOk result (λ accounts. accounts.accepted ≡ accounts.packed + accounts.queued + accounts.dropped) }
     ensures part { IfOk result (λ accounts. accounts.quelched ≤ accounts.dropped) }
+    ensures sums { IfOk result (AreSums (length exchange.peers) passes.items) }
 {
     match exchange.settle(passes) {
         Ok(settlement) => Ok(MediaAccounts {
@@ -55,11 +60,11 @@ pub fn closed_accounts<J: Naming>(
     }
 }
 
-/// Closes the accounts of an exchange with all its passes, and writes them: `octets <accepted> <packed> <queued> <dropped>`,
-/// and `quelched <n>` where that isn't 0. All are octets of media.
+/// Closes the accounts of an exchange with all its passes, and writes them: `octets <accepted> <packed> <queued>
+/// <dropped>`, and `quelched <n>` if that isn't 0. All are octets of media.
 ///
-/// First the `AllocError`: a request for memory was refused, or a pass is missing; nothing is written then. Then the
-/// `io::Error`: the writer can't write.
+/// Returns `AllocError` if a request for memory was refused or a pass is missing; then nothing is written. Returns
+/// `io::Error` if the output can't be written.
 pub fn settle<J: Naming, W: Write, S: From<io::Error> + From<AllocError>>(
     exchange: Exchange<NoGate, J>,
     passes: Vec<Pass<J>>,

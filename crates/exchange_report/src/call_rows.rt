@@ -10,7 +10,7 @@ ghost use Rattle.seq_window.specs.History.{sent_count, acked_count, taken_count}
 use call_records::{CallRecord, CallRow};
 use exchange_core::Retired;
 
-/// The row of a leg that was taken out, of a call with this serial: what its record says, and what it tells beside that. Its
+/// Returns the row of a leg that was taken out, of the call with this serial, from its record and its other values. Its
 /// moments are in milliseconds since the exchange was opened.
 pub fn call_row(leg: &Retired, call: u64) -> CallRow
     ensures call { result.call ≡ call }

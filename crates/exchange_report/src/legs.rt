@@ -1,11 +1,11 @@
-//! How many legs a peer has.
-ghost use Rattle.std.specs.Prelude.{◌<◌, length};
+//! The number of a peer's legs.
+ghost use Rattle.std.specs.Prelude.{◌≡◌, ◌<◌, length};
 
 use exchange_core::{Exchange, NoGate, Pass};
 use peer_lock::Naming;
 use std::sync::Wait;
 
-/// How many legs the peer at this place of the plan has, 0 ..= 512. Takes its lock once.
+/// Returns the number of legs of the peer at this place of the plan, 0 ..= 512. Takes its lock once.
 pub fn count_legs<J: Naming, R: Wait>(
     rt: &R,
     exchange: &Exchange<NoGate, J>,
@@ -13,6 +13,7 @@ pub fn count_legs<J: Naming, R: Wait>(
     peer: u16,
 ) -> u16
     requires { peer < length exchange.now.peers }
+    ensures { pass.new ≡ pass.old }
 {
     u16::try_from(exchange.leg_count(rt, pass, peer)).unwrap_or(u16::MAX)
 }

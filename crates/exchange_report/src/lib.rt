@@ -1,5 +1,5 @@
-//! What is told of an exchange: the names of its stages and refusals, how many legs a peer has, what was lost on the way to it,
-//! the row of a leg that was taken out, its accounts once they are closed.
+//! Reports of an exchange: the names of its stages and refusals, the number of a peer's legs, the losses on the way to it,
+//! the row of a departed leg, and the closed accounts.
 #![tactic(auto)]
 
 mod accounts;

@@ -1,28 +1,31 @@
-//! What is lost on the way to a peer.
+//! The losses on the way to a peer.
 ghost use Rattle.std.specs.Prelude.{◌≡◌, ◌<◌, length};
+ghost use Rattle.exchange_report.specs.Losses.{frames_of};
 
 use exchange_core::{Exchange, NoGate, Pass};
 use peer_lock::{Losses, Naming};
 use std::sync::Wait;
 
-/// What was lost on the way to a peer, because too much waited, since the exchange was opened.
+/// The losses on the way to a peer, because too much waited, since the exchange was opened.
 #[derive(Clone, Copy, Debug, Default, PartialEq, Eq)]
 pub struct PeerLosses {
     /// Frames for which its outbox had no room.
     pub outbox: Losses,
-    /// Octets of media for which its trunk queue had no room: dropped, and not because the peer wanted none.
+    /// Octets of media dropped because its trunk queue had no room. Quelched octets aren't counted.
     pub queue: u64,
 }
 
 impl PeerLosses {
-    /// The frames of each kind that its outbox lost, together, modulo 2^64.
-    pub fn frames(&self) -> u64 {
+    /// Returns the frames of all kinds that its outbox lost, modulo 2^64.
+    pub fn frames(&self) -> u64
+        ensures { result ≡ frames_of self.now.outbox }
+    {
         let Losses { full, mini, trunk } = self.outbox;
         full.wrapping_add(mini).wrapping_add(trunk)
     }
 }
 
-/// What was lost on the way to the peer at this place of the plan.
+/// Returns the losses on the way to the peer at this place of the plan.
 pub fn losses_of<J: Naming, R: Wait>(
     rt: &R,
     exchange: &Exchange<NoGate, J>,

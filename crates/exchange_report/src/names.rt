@@ -1,10 +1,15 @@
 //! The names that are printed.
+ghost use Rattle.std.specs.Prelude.{◌≡◌};
+ghost use Rattle.exchange_report.specs.Names as names;
+
 use exchange_core::{CallError, Refusal, Rejection};
 use leg_machine::Stage;
 use peer_lock::OrderError;
 
-/// The name of a number's stage, as its variant is written; `Free` where it has no leg.
-pub fn stage_name(stage: Option<Stage>) -> &'static str {
+/// Returns the name of a number's stage, which is that of the variant, or `Free` if it has no leg.
+pub fn stage_name(stage: Option<Stage>) -> &'static str
+    ensures { result.now ≡ names.stage_text stage }
+{
     match stage {
         None => "Free",
         Some(Stage::Waiting) => "Waiting",
@@ -17,8 +22,10 @@ pub fn stage_name(stage: Option<Stage>) -> &'static str {
     }
 }
 
-/// The name of why a datagram or a tick did nothing, as its variant is written.
-pub fn refusal_name(refusal: Refusal) -> &'static str {
+/// Returns the name of the refusal of a datagram or a tick, which is that of the variant.
+pub fn refusal_name(refusal: Refusal) -> &'static str
+    ensures { result.now ≡ names.refusal_text refusal }
+{
     match refusal {
         Refusal::Stranger => "Stranger",
         Refusal::StepsSpent => "StepsSpent",
@@ -39,8 +46,10 @@ pub fn refusal_name(refusal: Refusal) -> &'static str {
     }
 }
 
-/// The name of what a step reports, as its variant is written.
-pub fn rejection_name(rejection: Rejection) -> &'static str {
+/// Returns the name of a rejection, which is that of the variant.
+pub fn rejection_name(rejection: Rejection) -> &'static str
+    ensures { result.now ≡ names.rejection_text rejection }
+{
     match rejection {
         Rejection::NoNumber => "NoNumber",
         Rejection::Draining => "Draining",
@@ -50,8 +59,10 @@ pub fn rejection_name(rejection: Rejection) -> &'static str {
     }
 }
 
-/// The name of why no call went out, as its variant is written.
-pub fn call_error_name(error: CallError) -> &'static str {
+/// Returns the name of the reason why no call was placed, which is that of the variant.
+pub fn call_error_name(error: CallError) -> &'static str
+    ensures { result.now ≡ names.call_error_text error }
+{
     match error {
         CallError::BadNumber => "BadNumber",
         CallError::SerialsSpent => "SerialsSpent",
@@ -62,8 +73,10 @@ pub fn call_error_name(error: CallError) -> &'static str {
     }
 }
 
-/// The name of why a leg doesn't hang up, as its variant is written.
-pub fn order_error_name(error: OrderError) -> &'static str {
+/// Returns the name of the reason why a leg doesn't hang up, which is that of the variant.
+pub fn order_error_name(error: OrderError) -> &'static str
+    ensures { result.now ≡ names.order_error_text error }
+{
     match error {
         OrderError::StepsSpent => "StepsSpent",
         OrderError::Gone => "Gone",

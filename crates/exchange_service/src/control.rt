@@ -1,5 +1,5 @@
-//! What the service's own thread does beside the workers: clients of the control socket and of the metrics' address are answered;
-//! the log is written; a stop drains the exchange.
+//! The service's own thread, next to the workers. It answers clients of the control socket and of the metrics' address,
+//! writes the log, and drains the exchange at a stop.
 use crate::journal::Journal;
 use crate::running::Settings;
 use control_requests::Request;
@@ -17,30 +17,30 @@ use std::net::Net;
 use std::sync::Wait;
 use std::time::{Clock, Instant};
 
-// How long it waits at most, in milliseconds, so that it sees silent clients, what is to be logged, and the end of a drain.
+// The longest wait, in milliseconds: after it the thread looks for silent clients, due log lines, and the end of a drain.
 const WAIT_MS: u64 = 100;
 
-// How long clients are answered in a round, in milliseconds, but for the answer that is made then.
+// The time for which clients are answered in a round, in milliseconds. The answer under way at its end is still sent.
 const ROUND_MS: u64 = 100;
 
-// How long answers are still sent once the workers are told to end, in milliseconds.
+// The time for which answers are still sent once the workers are to end, in milliseconds.
 const END_MS: u64 = 500;
 
-/// The ways in with their clients, and the table of the system's sockets.
+/// The listeners with their clients, and the system's table of sockets.
 #[derive(Drop)]
 pub(crate) struct Control<'s> {
     pub(crate) settings: &'s Settings<'s>,
     pub(crate) alloc: Global,
     clients: Clients,
     table: SocketTable,
-    // Whether clients wait for their answers since a round was too short.
+    // Whether clients still wait for answers because a round was too short.
     is_behind: bool,
-    // The moment at which it was seen that the workers are told to end.
+    // The moment at which this thread saw that the workers are to end.
     ended: Option<u64>,
 }
 
 impl<'s> Control<'s> {
-    /// No way in, and no client yet.
+    /// Returns a control without listeners and clients.
     pub(crate) fn new<R: Files<File = File> + Net>(
         rt: &R,
         alloc: Global,
@@ -57,7 +57,7 @@ impl<'s> Control<'s> {
         })
     }
 
-    /// Binds the ways in that are wanted.
+    /// Binds the listeners that the settings ask for.
     pub(crate) fn open<R: Files + Net>(&mut self, rt: &R) -> Result<(), NotBound> {
         let Settings {
             control,
@@ -67,21 +67,21 @@ impl<'s> Control<'s> {
         self.clients.bind(rt, control, metrics)
     }
 
-    /// Removes the file of the control socket, where it is bound and still there.
+    /// Removes the file of the control socket, if it is bound and still there.
     pub(crate) fn close<R: Files>(&mut self, rt: &R) {
         if let Some(path) = self.settings.control {
             self.clients.unbind(rt, path);
         }
     }
 
-    // The end of standard input is awaited, where it stops the service.
+    // Watches for the end of standard input, if that stops the service.
     fn begin<L: Log>(&mut self, log: &L) {
         if self.settings.stops_with_input && self.clients.await_end_of_input().is_err() {
             warn!(log; "standard input is a file, or closed: its end isn't awaited");
         }
     }
 
-    /// Serves, and logs, until the workers are told to end, and each answer is sent.
+    /// Answers clients and logs until the workers are to end and each answer is sent.
     pub(crate) fn run<R: Clock + Eprint + Wait, J: Naming>(
         &mut self,
         rt: &R,
@@ -90,7 +90,7 @@ impl<'s> Control<'s> {
     ) {
         let log = Journal::new(rt, self.alloc, self.settings.level);
         self.begin(&log);
-        // Without memory for what was logged, nothing is.
+        // Nothing is logged if there is no memory for the log's state.
         let (calls, trace) = (self.settings.calls, self.settings.trace_path());
         let (plan, watch) = (desk.exchange.plan(), desk.watch);
         let now = moment(rt, opened, 0);
@@ -103,7 +103,7 @@ impl<'s> Control<'s> {
         }
     }
 
-    // The same, in rounds. The moment of the last.
+    // Runs the rounds of `run`. Returns the moment of the last one.
     fn go_on<R: Clock + Wait, J: Naming, L: Log>(
         &mut self,
         rt: &R,
@@ -116,7 +116,7 @@ impl<'s> Control<'s> {
         let mut now = 0;
         for _ in rt.forever() {
             self.clients.wait(if self.is_behind { 0 } else { WAIT_MS });
-            // as after one `POST /stop`
+            // The end of the input stops the service as one `POST /stop` does.
             if self.clients.takes_end_of_input() {
                 desk.watch.lifecycle().stop();
             }
@@ -130,7 +130,7 @@ impl<'s> Control<'s> {
         now
     }
 
-    // What a round does once clients were served, at a moment. Whether it was the last.
+    // Ends a round once clients were served. Returns whether it was the last.
     fn go_round<R: Clock + Wait, J: Naming, L: Log>(
         &mut self,
         rt: &R,
@@ -149,15 +149,14 @@ impl<'s> Control<'s> {
         desk.watch.lifecycle().has_ended() && self.are_answered(now)
     }
 
-    // Whether no answer is sent any more to clients, once the workers are told to end: all are sent, or took too long.
+    // Returns whether clients get no more answers once the workers are to end: all are sent, or the time for them is over.
     fn are_answered(&mut self, now: u64) -> bool {
         let ended = self.ended.unwrap_or(now);
         self.ended = Some(ended);
         !self.clients.is_answering() || now.saturating_sub(ended) >= END_MS
     }
 
-    // The log tells what there is to tell at a moment. Legs are counted where it tells how many there are, and losses are read where
-    // it tells them.
+    // Writes the log lines that are due. Legs are counted, and losses are read, only when the log reports them.
     fn tell<R: Wait, J: Naming, L: Log>(
         &mut self,
         rt: &R,
@@ -168,6 +167,7 @@ impl<'s> Control<'s> {
     ) {
         let exchange = desk.exchange;
         let tells_losses = told.tells_losses(now);
+        let tells_reach = told.tells_reach(now);
         for peer in 0..exchange.plan().peer_count() {
             if told.see_peer(log, peer, now) {
                 told.note_legs(peer, count_legs(rt, exchange, &mut desk.pass, peer));
@@ -175,11 +175,18 @@ impl<'s> Control<'s> {
             if tells_losses {
                 told.note_losses(peer, losses_of(rt, exchange, &mut desk.pass, peer));
             }
+            if tells_reach {
+                let pokes = exchange.pokes(rt, &mut desk.pass, peer);
+                told.note_unanswered(
+                    peer,
+                    pokes.unanswered_since(exchange.plan().rules(peer), now),
+                );
+            }
         }
         told.look(rt, log, self.alloc, &mut self.table, now);
     }
 
-    // Each client goes on as far as the system lets it, and the round. Those that have the service stop are answered first.
+    // Serves each client as far as the system allows. Clients that ask for a stop are answered first.
     fn serve_all<R: Clock + Wait, J: Naming>(
         &mut self,
         rt: &R,
@@ -202,7 +209,7 @@ impl<'s> Control<'s> {
         self.clients.close_ended();
     }
 
-    // Whether the client at a place has the service stop.
+    // Returns whether the client at a place asks for a stop.
     fn is_stop(&self, place: usize) -> bool {
         match self.clients.request(place) {
             Some((Door::Control, request)) => request.path == "/stop",
@@ -210,7 +217,7 @@ impl<'s> Control<'s> {
         }
     }
 
-    // Clients are answered one after another, until the round has lasted too long. False: some wait for the next one.
+    // Answers clients one after another until the round's time is over. Returns false if some wait for the next round.
     fn serve_in_time<R: Clock + Wait, J: Naming>(
         &mut self,
         rt: &R,
@@ -227,7 +234,7 @@ impl<'s> Control<'s> {
         true
     }
 
-    // A client is answered at the desk where its request is whole.
+    // Answers a client if its request is complete.
     fn serve<R: Wait, J: Naming>(
         &mut self,
         rt: &R,
@@ -248,7 +255,7 @@ impl<'s> Control<'s> {
     }
 }
 
-// The answer to a whole request.
+// Returns the answer to a complete request.
 fn answer_of<R: Wait, J: Naming>(
     rt: &R,
     alloc: Global,
@@ -267,7 +274,7 @@ fn answer_of<R: Wait, J: Naming>(
     }
 }
 
-// Milliseconds since the exchange was opened; the last ones where the clock can't be read.
+// Returns milliseconds since the exchange was opened, or `last` if the clock can't be read.
 fn moment<R: Clock>(rt: &R, opened: Instant, last: u64) -> u64 {
     match opened.elapsed(rt) {
         Ok(elapsed) => u64::try_from(elapsed.as_millis()).unwrap_or(last),

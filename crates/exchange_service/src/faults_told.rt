@@ -1,4 +1,4 @@
-//! What the log says of a service that doesn't begin: what is refused, by its address or path, and the system's error.
+//! Log lines about a service that can't start: the refusal, its address or path, and the system's error.
 use crate::running::Settings;
 use control_server::NotBound;
 use log::{Log, error};
@@ -7,7 +7,7 @@ use std::fmt::Display;
 use std::io;
 use std::net::{Ipv4Addr, Net, SocketAddr, SocketAddrV4, UdpSocket};
 
-// What is refused, and the system's error, where there is one.
+// Logs the refusal, and the system's error if there is one.
 fn tell<L: Log, D: Display>(log: &L, what: &D, code: Option<i32>) {
     match code {
         Some(code) => error!(log; "{what}: {}", io::Error::from_raw_os_error(code)),
@@ -15,7 +15,7 @@ fn tell<L: Log, D: Display>(log: &L, what: &D, code: Option<i32>) {
     }
 }
 
-/// Tells which way in isn't bound.
+/// Logs which listener isn't bound.
 pub(crate) fn tell_not_bound<L: Log>(log: &L, settings: &Settings<'_>, fault: NotBound) {
     let Settings {
         control,
@@ -33,7 +33,7 @@ pub(crate) fn tell_not_bound<L: Log>(log: &L, settings: &Settings<'_>, fault: No
     }
 }
 
-/// Tells which worker's address and port can't be bound, once none of the workers is bound any more.
+/// Logs which worker's address and port can't be bound. By then no worker is bound any more.
 pub(crate) fn tell_workers<L: Log, R: Net>(rt: &R, log: &L, plan: &Plan) {
     for (place, endpoint) in plan.workers().iter().enumerate() {
         let Endpoint { address, port } = *endpoint;
@@ -47,7 +47,7 @@ pub(crate) fn tell_workers<L: Log, R: Net>(rt: &R, log: &L, plan: &Plan) {
     }
 }
 
-/// Tells why no trace is written to a folder.
+/// Logs why no trace is written to a folder.
 pub(crate) fn tell_trace<L: Log>(log: &L, path: &str, error: &io::Error) {
     error!(log; "trace in {path}, a folder of this user alone (mode 0700) with regular files: {error}");
 }

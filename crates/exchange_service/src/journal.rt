@@ -1,4 +1,4 @@
-//! The log: lines on standard error, each with its moment.
+//! The log: lines on standard error, each with its time.
 use jiff::Timestamp;
 use log::kv::Source;
 use log::span::Spans;
@@ -9,29 +9,30 @@ use std::sync::atomic::{AtomicU64, Ordering};
 use std::time::{Clock, SystemTime};
 use system_limits::{is_above, is_writable};
 
-// Standard error.
+// The descriptor of standard error.
 const ERRORS: i32 = 2;
 
-/// Writes each line to standard error: the moment (RFC 3339, in UTC, with milliseconds), the level, the text. A line for which
-/// standard error has no room is lost, and the next one says how many were: calls go on while nobody reads.
+/// Writes each line to standard error: the time (RFC 3339, in UTC, with milliseconds), the level, and the text. A line is
+/// lost if standard error has no room for it, and the next line reports the number of lost ones. So calls continue while
+/// nobody reads.
 #[derive(Drop)]
 pub(crate) struct Journal<'r, R> {
     rt: &'r R,
     alloc: Global,
-    // Which levels are written.
+    // The levels that are written.
     level: LevelFilter,
-    // How many lines were lost since one was written.
+    // The number of lines lost since the last one was written.
     lost: AtomicU64,
 }
 
-// This moment; none where the clock can't be read.
+// Returns the current time, or `None` if the clock can't be read.
 fn moment<R: Clock>(rt: &R) -> Option<Timestamp> {
     let now = SystemTime::now(rt).ok()?;
     Timestamp::try_from(now).ok()
 }
 
 impl<'r, R> Journal<'r, R> {
-    /// A log of these levels.
+    /// Returns a log of lines up to this level.
     pub(crate) fn new(rt: &'r R, alloc: Global, level: LevelFilter) -> Journal<'r, R> {
         Journal {
             rt,
@@ -43,7 +44,7 @@ impl<'r, R> Journal<'r, R> {
 }
 
 impl<'r, R: Clock + Eprint> Journal<'r, R> {
-    // A line, with its moment.
+    // Formats a line with its time.
     fn line<D: Display>(&self, level: &str, text: &D) -> Result<String, AllocError> {
         match moment(self.rt) {
             Some(moment) => format!(in self.alloc; "{moment:.3} {level} {text}"),
@@ -51,7 +52,7 @@ impl<'r, R: Clock + Eprint> Journal<'r, R> {
         }
     }
 
-    // Writes whole lines, where standard error takes them at once. Whether it did.
+    // Writes complete lines, if standard error takes them at once. Returns whether it did.
     fn write(&self, lines: &str) -> bool {
         if !is_writable(ERRORS) || is_above(ERRORS, lines.len().saturating_add(1)) {
             return false;
@@ -60,7 +61,7 @@ impl<'r, R: Clock + Eprint> Journal<'r, R> {
         true
     }
 
-    // Says how many lines were lost, if some were. Whether standard error takes lines.
+    // Reports the number of lost lines, if there are any. Returns whether standard error takes lines.
     fn tell_lost(&self) -> bool {
         let lost = self.lost.load(Ordering::Relaxed);
         if lost == 0 {

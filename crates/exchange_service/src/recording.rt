@@ -1,5 +1,4 @@
-//! The files that are written while a service runs, the records of ended legs and the trace: what is made for them, and the
-//! thread that writes each beside the others.
+//! The files that a running service writes: the records of ended legs, and the trace. Each has a thread that writes it.
 use crate::faults_told::tell_trace;
 use crate::journal::Journal;
 use crate::running::{Settings, TraceOptions};
@@ -20,7 +19,7 @@ use trace_writer::{
 };
 use worker_seats::ServiceError;
 
-/// What a thread needs that writes the rows of ended legs to a file.
+/// The state of the thread that writes the rows of ended legs to a file.
 #[derive(Drop)]
 pub(crate) struct Records<'s> {
     path: &'s str,
@@ -28,7 +27,7 @@ pub(crate) struct Records<'s> {
     rows: CallRows,
 }
 
-/// What a thread needs that writes a trace.
+/// The state of the thread that writes a trace.
 #[derive(Drop)]
 pub(crate) struct Tracing<'s> {
     folder: TraceFolder<'s>,
@@ -38,13 +37,13 @@ pub(crate) struct Tracing<'s> {
     file: TraceFile,
 }
 
-/// What is written beside the workers.
+/// The files that are written next to the workers.
 pub(crate) struct Written<'s> {
     pub(crate) records: Option<Records<'s>>,
     pub(crate) tracing: Option<Tracing<'s>>,
 }
 
-// (Written out, so that whoever owns one proves a call where it is dropped, and not the drop of each field.)
+// Written out, so that an owner proves one call at its drop, not the drop of each field.
 impl<'s> Drop for Written<'s> {
     fn drop(self) {
         let Written {
@@ -54,7 +53,7 @@ impl<'s> Drop for Written<'s> {
     }
 }
 
-// This moment by the calendar; the beginning of 1970 where the clock can't be read.
+// Returns the current time by the calendar, or the beginning of 1970 if the clock can't be read.
 fn calendar<R: Clock>(rt: &R) -> Calendar {
     let opened_us = match SystemTime::now(rt) {
         Ok(now) => match Timestamp::try_from(now) {
@@ -66,7 +65,7 @@ fn calendar<R: Clock>(rt: &R) -> Calendar {
     Calendar { opened_us }
 }
 
-// Where the rows of ended legs go, and who writes them, where that is wanted.
+// Returns the outlets for the rows of ended legs, and their writer, if a file of call records is wanted.
 fn records_of<'s>(
     alloc: Global,
     plan: &Plan,
@@ -85,7 +84,7 @@ fn records_of<'s>(
     Ok((Some(outlets), Some(records)))
 }
 
-// The date of the moment 0, as the head of a trace tells it.
+// Formats the date of the moment 0 for the head of a trace.
 fn date_of(alloc: Global, calendar: Calendar) -> Result<String, AllocError> {
     match Timestamp::from_millisecond(calendar.opened_us / 1000) {
         Ok(date) => format!(in alloc; "{date:.3}"),
@@ -93,7 +92,7 @@ fn date_of(alloc: Global, calendar: Calendar) -> Result<String, AllocError> {
     }
 }
 
-// The first file of a trace. The log says why there is none.
+// Opens the first file of a trace. If that fails, the log says why.
 fn first_file<R: Clock + Eprint, D: Folder>(
     rt: &R,
     disk: &D,
@@ -111,14 +110,14 @@ fn first_file<R: Clock + Eprint, D: Folder>(
     }
 }
 
-// What the head of each file of a trace says of the service.
+// Formats the line about the service in the head of each file of a trace.
 fn about(alloc: Global, settings: &Settings<'_>, calendar: Calendar) -> Result<String, AllocError> {
     let date = date_of(alloc, calendar)?;
     let (version, plan_path) = (settings.version, settings.plan_path);
     format!(in alloc; "exchange_main {version}, plan {plan_path}, moment 0 is {date}")
 }
 
-// Who writes what so many threads note.
+// Returns the state of the thread that writes the notes of `threads` threads.
 fn tracing_of<'s, R: Clock + Eprint, D: Folder>(
     rt: &R,
     disk: &D,
@@ -147,7 +146,7 @@ fn tracing_of<'s, R: Clock + Eprint, D: Folder>(
     })
 }
 
-// Where it is noted what the exchange is given, and who writes that, where a trace is wanted.
+// Returns the trace of the exchange's input, and its writer, if a trace is wanted.
 fn trace_of<'s, R: Clock + Eprint, D: Folder>(
     rt: &R,
     disk: &D,
@@ -167,7 +166,7 @@ fn trace_of<'s, R: Clock + Eprint, D: Folder>(
     }
 }
 
-// The watch of a service of this plan, with what is written beside it.
+// Returns the watch of a service of this plan, with its outlets and its trace.
 fn watch_with<'s>(
     alloc: Global,
     plan: &Plan,
@@ -182,7 +181,7 @@ fn watch_with<'s>(
     }
 }
 
-/// The watch of a service of this plan, and what has to be written beside it, where that is wanted.
+/// Returns the watch of a service of this plan, and the files to be written, if any are wanted.
 pub(crate) fn watch_of<'s, R: Clock + Eprint, D: Folder>(
     rt: &R,
     disk: &D,
@@ -203,7 +202,7 @@ pub(crate) fn watch_of<'s, R: Clock + Eprint, D: Folder>(
     }
 }
 
-// Has a service serve, beside a thread that writes the trace, where one is wanted. False if a thread was refused.
+// Runs a service, with a thread that writes the trace if one is wanted. Returns false if a thread was refused.
 fn serve_traced<R: Clock + Threads + Wait + Sync, D: Folder + Sync, F: FnOnce() -> bool>(
     rt: &R,
     disk: &D,
@@ -235,8 +234,8 @@ fn serve_traced<R: Clock + Threads + Wait + Sync, D: Folder + Sync, F: FnOnce() 
     write_trace_beside(rt, disk, trace, plan, settings, notes, file, serve)
 }
 
-/// Has a service serve, beside the threads that write what is wanted: the rows of ended legs, the trace. False if a thread was
-/// refused. The log tells which rows couldn't be written.
+/// Runs a service, with the threads that write the rows of ended legs and the trace, if these are wanted. Returns false if
+/// a thread was refused. The log reports the rows that couldn't be written.
 pub(crate) fn serve_written<R: ServiceSystem, D: ServiceDisk, F: FnOnce() -> bool>(
     rt: &R,
     disk: &D,

@@ -1,4 +1,4 @@
-//! A service: the workers of a plan serve until they are told to stop.
+//! A service: the workers of a plan carry calls until a stop.
 ghost use Rattle.std.specs.Prelude.{◌≡◌, ◌+◌, ◌≤◌, length, vec_len};
 
 use crate::control::Control;
@@ -23,35 +23,37 @@ use std::net::SocketAddr;
 use std::sync::ledger::Ledger;
 use std::time::Instant;
 use udp_workers::{Post, TurnReport};
-use worker_seats::{ServiceError, service_error_name, tell_reports, with_drawn, with_spare_pass};
+use worker_seats::{
+    ServiceError, first_serial, service_error_name, tell_reports, with_drawn, with_spare_pass,
+};
 
-/// How a service is run.
+/// The settings of a service.
 #[derive(Clone, Copy)]
 pub struct Settings<'a> {
-    /// The version of the program, as the log tells it.
+    /// The version of the program, for the log.
     pub version: &'a str,
-    /// The file of the plan, as the log tells it.
+    /// The path of the plan's file, for the log.
     pub plan_path: &'a str,
-    /// The path of the control socket, if there is to be one.
+    /// The path of the control socket, if one is wanted.
     pub control: Option<&'a str>,
-    /// The address at which the metrics are, if they are wanted.
+    /// The address that serves the metrics, if they are wanted.
     pub metrics: Option<SocketAddr>,
-    /// Whether the end of standard input stops the service, where that is a pipe, a socket or a terminal.
+    /// Whether the end of standard input stops the service. It can if standard input is a pipe, a socket or a terminal.
     pub stops_with_input: bool,
-    /// Which levels are logged.
+    /// The levels that are logged.
     pub level: LevelFilter,
     /// How calls are logged.
     pub call_lines: CallLines,
-    /// How long a drain lasts at most, in milliseconds.
+    /// The longest duration of a drain, in milliseconds.
     pub drain_ms: u64,
     /// The file to which the records of ended legs are appended.
     pub calls: Option<&'a str>,
-    /// The trace that is written of what the exchange is given.
+    /// The trace of the exchange's input, if one is written.
     pub trace: Option<TraceOptions<'a>>,
 }
 
 impl<'a> Settings<'a> {
-    /// The name of the folder of the trace, if one is written.
+    /// Returns the path of the trace's folder, if one is written.
     pub(crate) fn trace_path(&self) -> Option<&'a str> {
         match self.trace {
             Some(options) => Some(options.path),
@@ -60,18 +62,18 @@ impl<'a> Settings<'a> {
     }
 }
 
-/// What trace is written.
+/// The settings of a trace.
 #[derive(Clone, Copy)]
 pub struct TraceOptions<'a> {
     /// The folder for its files.
     pub path: &'a str,
-    /// How many octets these have together for each worker at most, but for a turn.
+    /// The limit on the octets of one worker's part of all files together. A turn that is under way may exceed it.
     pub limit: u64,
-    /// Whether digits are written as they are; else each is a 0.
+    /// Whether digits are shown. Otherwise each is written as 0.
     pub shows_digits: bool,
 }
 
-// Has the workers of the plan serve, with a watch that is made for it. (It has two ways out alone: each drops the watch.)
+// Runs the workers of the plan with a watch that is made for it. (The match has only two exits, and each drops the watch.)
 fn serve_beside<J: Naming, P: Post + Send + Sync, R: ServiceSystem, D: ServiceDisk>(
     rt: &R,
     disk: &D,
@@ -102,8 +104,8 @@ fn serve_beside<J: Naming, P: Post + Send + Sync, R: ServiceSystem, D: ServiceDi
     }
 }
 
-// The workers of the plan serve on an exchange that is opened for it, by the ledgers and the plan that the caller names; then their
-// reports are written, and its accounts.
+// Runs the workers on an exchange opened for the plan, with the ledgers and the plan that the caller names; its first leg has
+// this serial. Then writes their reports and the accounts.
 fn work<
     O: Ledger + Send + Sync,
     S: Ledger + Send + Sync,
@@ -120,6 +122,7 @@ fn work<
     writer: &mut W,
     octets: Blank,
     steps: Blank,
+    first_serial: u64,
 ) -> Result<(), ServiceError>
     requires plan { plan ≡ P.plan }
     requires enough { length plan.workers + 1 ≤ plan.passes }
@@ -127,12 +130,13 @@ fn work<
     requires steps { (steps.name ≡ S.name) × (steps.parts ≡ S.parts) × (steps.parts ≡ length plan.peers + plan.passes) }
 {
     let _passes = plan.passes();
-    let exchange = Exchange::<NoGate, Service<O, S>>::open(
+    let exchange = Exchange::<NoGate, Service<O, S>>::open_at(
         control.alloc,
         plan,
         NoGate,
         octets,
         steps,
+        first_serial,
     );
     let Ok((exchange, mut passes)) = exchange else {
         return Err(ServiceError::Memory);
@@ -140,7 +144,7 @@ fn work<
     let reports = serve_beside::<_, P, R, D>(rt, disk, &exchange, &mut passes, control, opened);
     match tell_reports(reports, writer) {
         Ok(()) => settle(exchange, passes, writer),
-        // (Closed and not dropped, since that would have to be proved here anew, field by field.)
+        // Closed and not dropped, because a drop would have to be proved here field by field.
         Err(error) => {
             let _accounts = closed_accounts(exchange, passes);
             Err(error)
@@ -148,7 +152,7 @@ fn work<
     }
 }
 
-// The service of a plan that is right.
+// Runs the service of a valid plan.
 fn serve_plan<R: ServiceSystem, D: ServiceDisk, W: Write>(
     rt: &R,
     disk: &D,
@@ -159,13 +163,19 @@ fn serve_plan<R: ServiceSystem, D: ServiceDisk, W: Write>(
     let Ok(opened) = Instant::now(rt) else {
         return Err(ServiceError::Clock);
     };
+    let serial = match first_serial(rt) {
+        Ok(serial) => serial,
+        Err(error) => return Err(error),
+    };
     let plan = match with_drawn(rt, with_spare_pass(plan)) {
         Ok(plan) => plan,
         Err(error) => return Err(error),
     };
     let parts = u64::from(plan.peer_count()) + u64::from(plan.passes());
     let (octets, steps) = (Blank::new(parts), Blank::new(parts));
-    work::<Brand, Brand, Brand, R, D, W>(rt, disk, plan, control, opened, writer, octets, steps)
+    work::<Brand, Brand, Brand, R, D, W>(
+        rt, disk, plan, control, opened, writer, octets, steps, serial,
+    )
 }
 
 fn refuse<W: Write>(writer: &mut W, name: &str) -> u8 {
@@ -173,7 +183,7 @@ fn refuse<W: Write>(writer: &mut W, name: &str) -> u8 {
     1
 }
 
-// The status of a way in that isn't bound, which the log names.
+// Returns the status for a listener that isn't bound, which the log names.
 fn refuse_way<R: ServiceSystem, W: Write>(
     rt: &R,
     alloc: Global,
@@ -186,7 +196,7 @@ fn refuse_way<R: ServiceSystem, W: Write>(
     refuse(writer, fault.name)
 }
 
-// The service, once the ways in that are wanted are bound. Afterwards the file of the control socket is gone.
+// Runs the service once the wanted listeners are bound. Afterwards the file of the control socket is gone.
 fn serve_open<R: ServiceSystem + Files<File = File>, D: ServiceDisk, W: Write>(
     rt: &R,
     disk: &D,
@@ -202,7 +212,7 @@ fn serve_open<R: ServiceSystem + Files<File = File>, D: ServiceDisk, W: Write>(
     status
 }
 
-// The same, with what the ways in need of the system.
+// Runs it with the limits that the listeners need of the system.
 fn serve_through<R: ServiceSystem + Files<File = File>, D: ServiceDisk, W: Write>(
     rt: &R,
     disk: &D,
@@ -220,7 +230,7 @@ fn serve_through<R: ServiceSystem + Files<File = File>, D: ServiceDisk, W: Write
     }
 }
 
-// The status, and what is printed of a refusal.
+// Returns the status, and prints a refusal.
 fn status_of<W: Write>(served: Result<(), ServiceError>, writer: &mut W) -> u8 {
     match served {
         Ok(()) => 0,
@@ -231,21 +241,27 @@ fn status_of<W: Write>(served: Result<(), ServiceError>, writer: &mut W) -> u8 {
     }
 }
 
-/// Has the workers of a plan carry calls until a client of the control socket stops them, or without end where there is none.
-/// Then it writes `worker <place> <received> <sent> <lost> <faults>` for each, and the accounts. Answers the status: 0, or 1
-/// after a refusal.
+/// Runs the workers of a plan until a client of the control socket stops them, or without end if there is no such socket.
+/// Then writes `worker <place> <received> <sent> <lost> <faults>` for each worker, and the accounts. Returns the status: 0,
+/// or 1 after a refusal.
 ///
-/// The plan is the octets of its file; a refused one is told as `check` tells it. `refused Control`: the control socket isn't
-/// bound, since somebody answers there, what is there is no socket, or the system doesn't let it; `refused Metrics`: the address of
-/// the metrics isn't bound; `refused Descriptors`: the process may not open as many files as a service needs; the others as `serve`
-/// has them. The log has the address or path, and the system's error. A stop hangs up each leg, and the workers end once none is
-/// left, or after `drain_ms` milliseconds, or at a second stop. The file of the control socket is gone afterwards.
+/// `plan` is the content of the plan's file; a refused plan is printed as `check` prints it. The other refusals are those
+/// of `serve`, and these:
 ///
-/// Where `trace` names a folder, a thread writes there what the exchange is given, as a script that `replay` reads
-/// (`docs/INCIDENTS.md`); `refused Trace`: the folder can't be made, isn't this user's alone, or no regular file is to be had in it.
+/// - `refused Control`: the control socket isn't bound. Another service answers at its path, a file there is no socket, or the
+///   system refuses.
+/// - `refused Metrics`: the address of the metrics isn't bound.
+/// - `refused Descriptors`: the process may not open the number of files that a service needs.
+/// - `refused Trace`: the folder can't be made, isn't this user's alone, or has no regular file to write.
 ///
-/// Where `calls` names a file, a thread appends the record of each ended leg to it (`docs/RECORDS.md`), as this disk has it.
-/// Whatever becomes of the file, calls go on.
+/// The log names the address or the path, and the system's error. A stop hangs up each leg. The workers end once no leg is
+/// left, after `drain_ms` milliseconds, or at a second stop. The file of the control socket is gone afterwards.
+///
+/// If `trace` names a folder, a thread writes the exchange's input to it, as a script that `replay` reads
+/// (`docs/INCIDENTS.md`).
+///
+/// If `calls` names a file, a thread appends the record of each ended leg to it (`docs/RECORDS.md`), through `disk`. Calls
+/// continue whether or not these files can be written.
 pub fn run<R: ServiceSystem + Files<File = File>, D: ServiceDisk, W: Write>(
     rt: &R,
     disk: &D,

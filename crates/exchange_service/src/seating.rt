@@ -1,4 +1,4 @@
-//! The workers of a plan in their seats, beside the control socket.
+//! The workers of a plan at work, next to the control socket.
 ghost use Rattle.std.specs.Prelude.{◌≡◌, ◌+◌, ◌≤◌, IfOk, OnOk, length, vec_len};
 
 use crate::control::Control;
@@ -27,7 +27,8 @@ use system_limits::{has_free, user};
 use udp_workers::{Intake, MOST_TURNS, Post, TurnReport, WatchedExchange};
 use worker_seats::{ServiceError, ServiceSeat, lane_of, reports_of, seats_of, skip_numbers};
 
-/// The workers serve beside the control socket until they are told to end. False if a thread was refused: then they end at once.
+/// Runs the workers next to the control socket until they are to end. Returns false if a thread was refused; then all end
+/// at once.
 pub(crate) fn serve_seats<J: Naming, P: Post + Send + Sync, R: ServiceSystem>(
     rt: &R,
     service: &WatchedExchange<'_, ServiceWatch, NoGate, J, P>,
@@ -43,7 +44,7 @@ pub(crate) fn serve_seats<J: Naming, P: Post + Send + Sync, R: ServiceSystem>(
     })
 }
 
-// The seats of the workers, whose wakers the watch keeps. The log tells the start, and what room their sockets have.
+// Makes the seats of the workers; the watch keeps their wakers. Logs the start, and the receive buffers of their sockets.
 fn told_seats<'r, J: Naming, P: Post, R: Clock + Eprint + Net + RandomSource + Wait>(
     rt: &'r R,
     alloc: Global,
@@ -79,7 +80,7 @@ fn told_seats<'r, J: Naming, P: Post, R: Clock + Eprint + Net + RandomSource + W
     seats
 }
 
-// Has the seats serve, beside a control socket with a pass of its own, which goes back to the others.
+// Runs the seats next to a control socket, whose pass is then added back to `passes`.
 fn serve_seated<J: Naming, P: Post + Send + Sync, R: ServiceSystem, D: ServiceDisk>(
     rt: &R,
     disk: &D,
@@ -132,7 +133,7 @@ fn serve_seated<J: Naming, P: Post + Send + Sync, R: ServiceSystem, D: ServiceDi
     give_back(pass, passes, is_served)
 }
 
-// A pass goes back to the others. What came of the service that had it.
+// Adds a pass back to `passes`. Returns the result of the service that had it.
 fn give_back<J: Naming>(
     pass: Pass<J>,
     passes: &mut Vec<Pass<J>>,
@@ -148,8 +149,8 @@ fn give_back<J: Naming>(
     }
 }
 
-// How many files a service opens at most once its ways in are bound: for each worker a socket, what wakes it and what waits for
-// both, for each peer a socket, for the clients of each way in, for what is written.
+// Returns the greatest number of files that a service opens once its listeners are bound. Each worker has a socket, a waker
+// and a poll of both, and each peer a socket. The rest is for the clients of each listener, and for the written files.
 fn descriptors_of(plan: &Plan, settings: &Settings<'_>) -> usize {
     let workers = plan.workers().len().saturating_mul(3);
     let mut count = workers.saturating_add(usize::from(plan.peer_count()));
@@ -163,7 +164,7 @@ fn descriptors_of(plan: &Plan, settings: &Settings<'_>) -> usize {
     count
 }
 
-/// Has the workers of the plan serve; their passes and that of the socket go back to the others.
+/// Runs the workers of the plan. Their passes and that of the control socket are then added back to `passes`.
 pub(crate) fn serve_watched<J: Naming, P: Post + Send + Sync, R: ServiceSystem, D: ServiceDisk>(
     rt: &R,
     disk: &D,

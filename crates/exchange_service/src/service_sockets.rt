@@ -1,5 +1,5 @@
-//! Sockets of workers as a service has them: those of one endpoint share it, the system keeps more room for datagrams that wait,
-//! and each has a waker.
+//! The workers' sockets as a service sets them up: workers of one endpoint share it, the system's receive buffers are
+//! larger, and each worker has a waker.
 use libc::net as system;
 use log::{Log, info, warn};
 use service_watch::ServiceWatch;
@@ -7,16 +7,16 @@ use std::os::fd::RawFd;
 use udp_wires::WireWaker;
 use worker_seats::Sockets;
 
-/// Workers of one endpoint share it; at each socket its share of the room is asked for, and how much there is at a worker's own is
-/// logged: those that are connected to its peers have as much. The watch keeps the wakers.
+/// Workers of one endpoint share it. Each socket asks for its share of the receive buffer. The log reports the size that a
+/// worker's own socket got; the sockets connected to its peers have the same. The watch keeps the wakers.
 #[derive(Drop)]
 pub(crate) struct ServiceSockets<'l, L> {
     pub(crate) log: &'l L,
     pub(crate) watch: &'l ServiceWatch,
 }
 
-// The room of a socket in octets, after so much was asked for: the system gives as much as its `net.core.rmem_max` lets it, and
-// counts each octet twice. None where it doesn't tell.
+// Returns the size of a socket's receive buffer in octets after a request for `wanted`, or `None` if the system doesn't
+// report it. The system grants at most `net.core.rmem_max`, and counts each octet twice.
 fn room_of(descriptor: RawFd, wanted: u32) -> Option<u64> {
     let mut value = [0u8; 16];
     value[..4].copy_from_slice(&wanted.to_ne_bytes());

@@ -1,4 +1,4 @@
-//! What a service needs of the system.
+//! The parts of the system that a service uses.
 use call_writer::Disk;
 use std::net::Net;
 use std::random::RandomSource;

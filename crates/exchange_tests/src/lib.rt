@@ -1,5 +1,5 @@
-//! Tests of an exchange: growths that are refused, a storm of datagrams, and two workers at once.
-//! Those of the workers over wires and sockets stand in `wires`.
+//! Tests of an exchange: growths that are refused, a storm of datagrams, two workers at once, and its calls next to a driver
+//! that makes their steps without locks. The tests of the workers over wires and sockets are in `wires`.
 #![tactic(auto)]
 
 #[cfg(test)]

@@ -13,7 +13,7 @@ module _ {A : Type 0} (spelled : A → List ℕ) (Is : A → Type 0) (first : Li
   pub after_octets : (rest after : List ℕ) (x : A) → IsOctets rest → first rest ≡ Some (x, after) → IsOctets after
   after_octets rest after x octets e = IsOctets-back (spelled x) after (subst IsOctets (format.takes rest x after octets e).1 octets)
 
-  -- it doesn't matter how many items may be read, where they are enough
+  -- the limit on the number of items doesn't matter if it is large enough
   within_enough : (n m : ℕ) (rest : List ℕ) → IsOctets rest → length rest ≤ n → length rest ≤ m → items_within first n rest ≡ items_within first m rest
   unfolding items_within
   within_enough zero zero rest octets a b = refl
@@ -34,7 +34,7 @@ module _ {A : Type 0} (spelled : A → List ℕ) (Is : A → Type 0) (first : Li
       ∙ ap (go_on (items_within first (length rest))) e
       ∙ ap (λ (l : List A). x ∷ l) (within_enough (length rest) (length after) after (after_octets rest after x octets e) (omega (arith, fewer)) (omega arith))
 
--- nothing is read where no item stands in front
+-- nothing is read if no item is in front
 within_none : {A : Type 0} (first : List ℕ → Option (A × List ℕ)) (n : ℕ) (rest : List ℕ) → first rest ≡ None → items_within first n rest ≡ []
 unfolding items_within
 within_none first zero rest e = refl

@@ -5,7 +5,7 @@ use Rattle.std.specs.Int.{w32, to_be_bytes}
 use Rattle.iax_frames.specs.Octets.{u16_at, u32_at, flagged, below_flag}
 use Rattle.iax_frames.specs.declared.full_frame.FullHead.{FullHead}
 
--- a full frame without where it lies in memory
+-- a full frame, without its place in memory
 pub record FullFrame : Type 0 where
   pub head : FullHead
   pub payload : List ℕ

@@ -3,7 +3,7 @@ use Rattle.std.specs.Prelude.{◌≡◌, ℕ, ◌<◌, ◌^◌, List, ◌++◌, 
 use Rattle.std.specs.Int.{w16, to_be_bytes}
 use Rattle.iax_frames.specs.Octets.{u16_at}
 
--- a mini frame without where it lies in memory
+-- a mini frame, without its place in memory
 pub record MiniFrame : Type 0 where
   pub source : ℕ
   pub timestamp : ℕ

@@ -3,7 +3,7 @@ ghost use Rattle.std.specs.Prelude.{◌≡◌, ◌<◌, ◌^◌};
 
 use std::marker::Model;
 
-/// A call number of 15 bits: 0 ..= 32,767, where 0 names no call. Contracts see its number.
+/// A call number of 15 bits: 0 ..= 32,767. 0 names no call. Contracts see its number.
 #[derive(Clone, Copy, Debug, PartialEq, Eq, PartialOrd, Ord)]
 pub struct CallNumber {
     number: u16,
@@ -22,7 +22,7 @@ impl Model for CallNumber {
 }
 
 impl CallNumber {
-    /// The call number of these 15 bits, 0 ..= 32,767 ("Full Frames").
+    /// Returns the call number of these 15 bits, 0 ..= 32,767 ("Full Frames").
     pub fn new(number: u16) -> CallNumber
         requires { number < 2 ^ 15 }
         ensures { result ≡ number }
@@ -30,7 +30,7 @@ impl CallNumber {
         CallNumber { number }
     }
 
-    /// The number, 0 ..= 32,767.
+    /// Returns the number, 0 ..= 32,767.
     pub fn get(self) -> u16
         ensures value { result ≡ self }
         ensures fits { result < 2 ^ 15 }

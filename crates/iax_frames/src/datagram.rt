@@ -1,4 +1,4 @@
-//! What a datagram may be ("Full Frames", "Mini Frames", "Meta Frames").
+//! The frames of a datagram ("Full Frames", "Mini Frames", "Meta Frames").
 use crate::full_frame::Full;
 use crate::mini_frame::Mini;
 use crate::trunk_frame::Trunk;
@@ -17,7 +17,7 @@ pub enum Datagram<'a> {
     Trunk(Trunk<'a>),
 }
 
-/// Why a datagram spells no frame. `read` says in which order the causes are looked for.
+/// The reason why a datagram spells no frame. `read` has the order in which the causes are checked.
 #[derive(Clone, Copy, Debug, PartialEq, Eq)]
 pub enum FrameError {
     /// Fewer octets than the shortest frame of its kind.

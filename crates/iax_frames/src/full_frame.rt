@@ -10,9 +10,9 @@ use std::marker::Model;
 pub struct FullHead {
     /// The sender's number of the call.
     pub source: CallNumber,
-    /// R: the frame is sent again.
+    /// R: the frame is a retransmission.
     pub retransmitted: bool,
-    /// The receiver's number of the call, 0 where the sender doesn't know it yet.
+    /// The receiver's number of the call, 0 if the sender doesn't know it yet.
     pub destination: CallNumber,
     /// Milliseconds since the sender's side of the call began, modulo 2^32.
     pub timestamp: u32,
@@ -41,8 +41,8 @@ impl<'a> Model for Full<'a> {
     ghost view = { λ f. record { head = f.head; payload = f.payload.now } };
 }
 
-/// The subclass that an octet of C and subclass means ("Full Frames"): where C is clear, the seven bits behind it; where C is
-/// set, 2 to the power of them, if that is below 2^64, and else `None`.
+/// Returns the subclass that an octet of C and subclass means ("Full Frames"): if C is clear, the seven bits behind it; if
+/// C is set, 2 to the power of these, or `None` if that isn't below 2^64.
 pub fn subclass_meaning(octet: u8) -> Option<u64>
     ensures { result ≡ subclass_meaning octet }
 {
@@ -62,7 +62,7 @@ impl<'a> Full<'a> {
         Full { head, payload }
     }
 
-    /// The fields of the twelve octets in front of the data.
+    /// Returns the fields of the twelve octets in front of the data.
     pub fn head(&self) -> FullHead
         ensures { result ≡ self.now.head }
     {
@@ -70,70 +70,70 @@ impl<'a> Full<'a> {
         *head
     }
 
-    /// The sender's number of the call, 0 ..= 32,767.
+    /// Returns the sender's number of the call, 0 ..= 32,767.
     pub fn source(&self) -> CallNumber
         ensures { result ≡ self.now.head.source }
     {
         self.head.source
     }
 
-    /// R: the frame was sent before.
+    /// Returns R: whether the frame is a retransmission.
     pub fn retransmitted(&self) -> bool
         ensures { result ≡ self.now.head.retransmitted }
     {
         self.head.retransmitted
     }
 
-    /// The receiver's number of the call, 0 where the sender doesn't know it yet.
+    /// Returns the receiver's number of the call, 0 if the sender doesn't know it yet.
     pub fn destination(&self) -> CallNumber
         ensures { result ≡ self.now.head.destination }
     {
         self.head.destination
     }
 
-    /// Milliseconds since the sender's side of the call began, modulo 2^32.
+    /// Returns the milliseconds since the sender's side of the call began, modulo 2^32.
     pub fn timestamp(&self) -> u32
         ensures { result ≡ self.now.head.timestamp }
     {
         self.head.timestamp
     }
 
-    /// OSeqno: the frame's sequence number ("Message Transport").
+    /// Returns OSeqno: the frame's sequence number ("Message Transport").
     pub fn oseqno(&self) -> u8
         ensures { result ≡ self.now.head.oseqno }
     {
         self.head.oseqno
     }
 
-    /// ISeqno: the sequence number that the sender expects next ("Message Transport").
+    /// Returns ISeqno: the sequence number that the sender expects next ("Message Transport").
     pub fn iseqno(&self) -> u8
         ensures { result ≡ self.now.head.iseqno }
     {
         self.head.iseqno
     }
 
-    /// The type of the frame ("Frame Types").
+    /// Returns the type of the frame ("Frame Types").
     pub fn frame_type(&self) -> u8
         ensures { result ≡ self.now.head.frame_type }
     {
         self.head.frame_type
     }
 
-    /// The octet of C and subclass.
+    /// Returns the octet of C and subclass.
     pub fn subclass(&self) -> u8
         ensures { result ≡ self.now.head.subclass }
     {
         self.head.subclass
     }
 
-    /// What the octet of C and subclass means, if that is below 2^64.
+    /// Returns the meaning of the octet of C and subclass, if that is below 2^64.
     pub fn meaning(&self) -> Option<u64>
         ensures { result ≡ subclass_meaning self.now.head.subclass }
     {
         subclass_meaning(self.head.subclass)
     }
 
-    /// The data behind the head, which may be no octets.
+    /// Returns the data behind the head, which may be empty.
     pub fn payload(&self) -> &'a [u8]
         ensures { result.now ≡ self.now.payload }
     {

@@ -1,4 +1,4 @@
-//! The frames of IAX2 (RFC 5456), both ways: what the octets of a datagram spell, and the octets that spell a frame.
+//! The frames of IAX2 (RFC 5456), both ways: from the octets of a datagram to the frame, and from a frame to its octets.
 #![tactic(auto)]
 
 mod call_number;
@@ -8,6 +8,7 @@ mod mini_frame;
 mod octets;
 mod output;
 mod reading;
+mod remembered_octets;
 mod stored_frame;
 mod trunk_frame;
 mod video_frame;
@@ -21,6 +22,7 @@ pub use output::{
     write_trunk,
 };
 pub use reading::read;
+pub use remembered_octets::Octets;
 pub use stored_frame::{Frame, Payload};
 pub use trunk_frame::{Entries, Trunk};
 pub use video_frame::Video;

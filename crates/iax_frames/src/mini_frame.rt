@@ -26,7 +26,7 @@ impl<'a> Model for Mini<'a> {
 }
 
 impl<'a> Mini<'a> {
-    // The mini frame that the octets spell, where they begin with 1 to 32,767.
+    // Returns the mini frame that the octets spell, if they begin with 1 to 32,767.
     pub(crate) fn new(octets: &'a [u8]) -> Self
         requires long { 4 ≤ length octets.now }
         requires number { word octets.now 0 < 2 ^ 15 }
@@ -35,21 +35,21 @@ impl<'a> Mini<'a> {
         Mini { octets }
     }
 
-    /// The sender's number of the call, 1 ..= 32,767.
+    /// Returns the sender's number of the call, 1 ..= 32,767.
     pub fn source(&self) -> CallNumber
         ensures { result ≡ self.now.source }
     {
         CallNumber::new(u16_at(self.octets, 0))
     }
 
-    /// The low 16 bits of the timestamp, in milliseconds.
+    /// Returns the low 16 bits of the timestamp, in milliseconds.
     pub fn timestamp(&self) -> u16
         ensures { result ≡ self.now.timestamp }
     {
         u16_at(self.octets, 2)
     }
 
-    /// The media, which may be no octets.
+    /// Returns the media, which may be empty.
     pub fn media(&self) -> &'a [u8]
         ensures { result.now ≡ self.now.media }
     {

@@ -18,7 +18,7 @@ pub(crate) fn u32_at(bytes: &[u8], at: usize) -> u32
     u16_at(bytes, at) as u32 * 65536 + u16_at(bytes, at + 2) as u32
 }
 
-/// The highest bit of a number, and the fifteen bits below it.
+/// Returns the highest bit of a number, and the fifteen bits below it.
 pub(crate) fn flagged_at(bytes: &[u8], at: usize) -> (bool, CallNumber)
     requires { at + 2 ≤ length bytes.now }
     ensures flag { result.0 ≡ nat_le 32768 (word bytes.now at) }

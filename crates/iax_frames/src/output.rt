@@ -45,7 +45,7 @@ impl Default for Out {
 }
 
 impl Out {
-    /// The octets of the frame, at most 1,400.
+    /// Returns the octets of the frame, at most 1,400.
     pub fn octets(&self) -> &[u8]
         ensures octets { result.now ≡ self.now }
         ensures frame { IsFrame self.now }
@@ -54,7 +54,7 @@ impl Out {
         self.octets.as_slice()
     }
 
-    /// The same frame once more. It takes no memory, so it can't fail.
+    /// Returns a copy of the frame. It takes no memory, so it can't fail.
     pub fn copied(&self) -> Out
         ensures { result ≡ self.now }
     {
@@ -63,7 +63,7 @@ impl Out {
         Out { octets }
     }
 
-    /// Writes over the frame another one of at most 1,400 octets, which lie in two pieces, the front first.
+    /// Overwrites the frame by another of at most 1,400 octets, which come in two pieces, the front first.
     pub fn replace(&mut self, front: &[u8], back: &[u8])
         requires frame { IsFrame (front.now ++ back.now) }
         requires fits { length front.now + length back.now ≤ 1400 }
@@ -74,7 +74,7 @@ impl Out {
         extend(&mut self.octets, back);
     }
 
-    /// How many more octets fit, 0 ..= 1,400.
+    /// Returns the number of octets that still fit, 0 ..= 1,400.
     pub fn room(&self) -> usize
         ensures { result + length self.now ≡ 1400 }
     {
@@ -100,7 +100,7 @@ fn extend(octets: &mut ArrayVec<u8, 1400>, more: &[u8])
     octets.try_extend_from_slice(more).unwrap();
 }
 
-/// The twelve octets in front of the data of a full frame ("Full Frames").
+/// Returns the twelve octets in front of the data of a full frame ("Full Frames").
 pub fn full_head(head: FullHead) -> [u8; 12]
     ensures octets { result ≡ spec.full_head head }
     ensures widths { IsFullHead head }
@@ -130,9 +130,9 @@ pub fn full_head(head: FullHead) -> [u8; 12]
     ]
 }
 
-/// The full frame of a head and data ("Full Frames").
+/// Writes the full frame of a head and data ("Full Frames").
 ///
-/// `TooLong` comes exactly where the data has more than 1,388 octets.
+/// Returns `TooLong` if and only if the data has more than 1,388 octets.
 pub fn write_full(head: &FullHead, payload: &[u8]) -> Result<Out, TooLong>
     ensures spelled { IfOk result (λ out. SpellsFull out (record { head = head.now; payload = payload.now })) }
     ensures too_long { IsErr result ↔ (1388 < length payload.now) }
@@ -146,8 +146,8 @@ pub fn write_full(head: &FullHead, payload: &[u8]) -> Result<Out, TooLong>
     Ok(Out { octets })
 }
 
-/// The four octets in front of the media of a mini frame ("Mini Frames"): the sender's number of the call, 1 ..= 32,767, and the
-/// low 16 bits of the timestamp, in milliseconds.
+/// Returns the four octets in front of the media of a mini frame ("Mini Frames"). They are the sender's number of the call,
+/// 1 ..= 32,767, and the low 16 bits of the timestamp, in milliseconds.
 pub fn mini_head(number: CallNumber, timestamp: u16) -> [u8; 4]
     ensures octets { result ≡ to_be_bytes w16 number ++ to_be_bytes w16 timestamp }
     ensures spelled { 0 < number → (media : List ℕ)
@@ -170,10 +170,10 @@ fn mini_out(number: CallNumber, timestamp: u16, media: &[u8]) -> Out
     Out { octets }
 }
 
-/// The mini frame of media ("Mini Frames"), from call number 1 ..= 32,767, with the low 16 bits of the timestamp, in
+/// Writes the mini frame of media ("Mini Frames"), from call number 1 ..= 32,767, with the low 16 bits of the timestamp, in
 /// milliseconds.
 ///
-/// `TooLong` comes exactly where the media has more than 1,396 octets.
+/// Returns `TooLong` if and only if the media has more than 1,396 octets.
 pub fn write_mini(number: CallNumber, timestamp: u16, media: &[u8]) -> Result<Out, TooLong>
     requires { 0 < number }
     ensures spelled { IfOk result (λ out. SpellsMini out (record { source = number; timestamp = timestamp; media = media.now })) }
@@ -185,8 +185,8 @@ pub fn write_mini(number: CallNumber, timestamp: u16, media: &[u8]) -> Result<Ou
     Ok(mini_out(number, timestamp, media))
 }
 
-/// A trunk frame with no entries ("Meta Frames"), with its timestamp in milliseconds. Its entries have timestamps of their own
-/// where `timed` says so.
+/// Writes a trunk frame without entries ("Meta Frames"), with its timestamp in milliseconds. `timed` says whether its
+/// entries have timestamps.
 pub fn write_trunk(timestamp: u32, timed: bool) -> Out
     ensures { SpellsTrunk result (record { command_data = if timed then 1 else 0; timestamp = timestamp; entries = [] }) }
 {
@@ -245,9 +245,9 @@ fn extend_entry(
     extend(octets, back);
 }
 
-/// Appends an entry to a trunk frame as `append_entry` does, of media that lies in two pieces, the front first.
+/// Appends an entry to a trunk frame as `append_entry` does, of media that comes in two pieces, the front first.
 ///
-/// `TooLong` comes exactly where the frame would have more than 1,400 octets; then nothing is changed.
+/// Returns `TooLong` if and only if the frame would have more than 1,400 octets; then nothing is changed.
 pub fn append_entry_in_two(
     out: &mut Out,
     number: CallNumber,
@@ -275,10 +275,10 @@ pub fn append_entry_in_two(
     Ok(())
 }
 
-/// Appends an entry to a trunk frame ("Meta Frames"): the call number, the low 16 bits of the timestamp, in milliseconds, where
-/// the frame's entries have timestamps, and the media.
+/// Appends an entry to a trunk frame ("Meta Frames"): the call number and the media. If the frame's entries have
+/// timestamps, it has the low 16 bits of the timestamp, too, in milliseconds.
 ///
-/// `TooLong` comes exactly where the frame would have more than 1,400 octets; then nothing is changed.
+/// Returns `TooLong` if and only if the frame would have more than 1,400 octets; then nothing is changed.
 pub fn append_entry(
     out: &mut Out,
     number: CallNumber,

@@ -32,7 +32,7 @@ fn full_of(bytes: &[u8]) -> Full<'_>
     Full::new(head, &bytes[12..])
 }
 
-// The meta frame that the octets spell.
+// Returns the meta frame that the octets spell.
 fn meta_of(bytes: &[u8]) -> Result<Datagram<'_>, FrameError>
     requires long { 4 ≤ length bytes.now }
     requires no_number { word bytes.now 0 ≡ 0 }
@@ -58,7 +58,7 @@ fn meta_of(bytes: &[u8]) -> Result<Datagram<'_>, FrameError>
     }
 }
 
-// The datagram that the octets spell, or why they spell none.
+// Returns the datagram that the octets spell, or the reason why they spell none.
 fn datagram_of(bytes: &[u8]) -> Result<Datagram<'_>, FrameError>
     ensures exact { MatchResult result (Spells bytes.now) (Refuses bytes.now) }
     ensures only { (d : Datagram) → Spells bytes.now d → result ≡ Ok d }
@@ -78,16 +78,16 @@ fn datagram_of(bytes: &[u8]) -> Result<Datagram<'_>, FrameError>
     meta_of(bytes)
 }
 
-/// The frame that the octets spell ("Full Frames", "Mini Frames", "Meta Frames"), in one pass over the heads of its entries.
-/// Nothing is copied.
+/// Reads the frame that the octets spell ("Full Frames", "Mini Frames", "Meta Frames"), in one pass over the heads of its
+/// entries. Nothing is copied.
 ///
-/// The causes of a refusal are looked for in this order: `Short` where there are too few octets for any frame, or for a full
-/// frame; then, of a meta frame, `Short` where there are too few for video, `MetaCommand` where the command isn't that of a
-/// trunk, `Short` where there are too few for a trunk, and `EntryCut` where an entry passes the end.
+/// Errors are checked in this order: `Short` if there are too few octets for any frame, or for a full frame. A meta frame
+/// is then `Short` if there are too few for video, and `MetaCommand` if the command isn't that of a trunk. It is `Short` if
+/// there are too few for a trunk, and `EntryCut` if an entry passes the end.
 pub fn read(bytes: &[u8]) -> Result<Datagram<'_>, FrameError>
     // A datagram that is read spells the octets, and an error holds of them.
     ensures exact { MatchResult result (Spells bytes.now) (Refuses bytes.now) }
-    // What is spelled so is read, and each error comes wherever it holds.
+    // Each spelled datagram is read, and each error is returned if it holds.
     ensures only { (d : Datagram) → Spells bytes.now d → result ≡ Ok d }
     ensures only_error { (e : FrameError) → Refuses bytes.now e → result ≡ Err e }
 {

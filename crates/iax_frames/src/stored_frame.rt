@@ -21,7 +21,7 @@ impl Model for Payload {
 }
 
 impl Payload {
-    /// The data of these octets, at most 1,388. They are copied.
+    /// Returns the data of these octets, at most 1,388. They are copied.
     pub fn new(octets: &[u8]) -> Self
         requires { length octets.now ≤ 1388 }
         ensures { result ≡ octets.now }
@@ -31,7 +31,7 @@ impl Payload {
         Payload { octets: copy }
     }
 
-    /// Data of no octets.
+    /// Returns empty data.
     pub fn empty() -> Self
         ensures { result ≡ [] }
     {
@@ -48,7 +48,7 @@ impl Payload {
         self.octets.try_extend_from_slice(more).unwrap();
     }
 
-    /// The octets, at most 1,388.
+    /// Returns the octets, at most 1,388.
     pub fn as_slice(&self) -> &[u8]
         ensures octets { result.now ≡ self.now }
         ensures fits { length self.now ≤ 1388 }
@@ -71,7 +71,7 @@ pub struct Frame {
 }
 
 impl Frame {
-    /// The same frame once more: a copy of at most 1,388 octets, which takes no memory.
+    /// Returns a copy, of at most 1,388 octets. It takes no memory.
     pub fn copied(&self) -> Self
         ensures { result ≡ self.now }
     {

@@ -48,7 +48,7 @@ impl<'a> Model for Trunk<'a> {
 }
 
 impl<'a> Trunk<'a> {
-    // The trunk frame that the octets spell, where they begin as one and no entry is cut.
+    // Returns the trunk frame that the octets spell. They have to begin as one, and no entry may be cut.
     pub(crate) fn new(octets: &'a [u8]) -> Self
         requires long { 8 ≤ length octets.now }
         requires entries { SpellsItems entry (IsEntry (is_timed (slice_index octets.now 3))) (drop 8 octets.now)
@@ -58,21 +58,21 @@ impl<'a> Trunk<'a> {
         Trunk { octets }
     }
 
-    /// The octet whose lowest bit says that the entries have timestamps.
+    /// Returns the octet whose lowest bit says that the entries have timestamps.
     pub fn command_data(&self) -> u8
         ensures { result ≡ self.now.command_data }
     {
         self.octets[3]
     }
 
-    /// The timestamp of the whole frame, in milliseconds modulo 2^32.
+    /// Returns the timestamp of the whole frame, in milliseconds modulo 2^32.
     pub fn timestamp(&self) -> u32
         ensures { result ≡ self.now.timestamp }
     {
         u32_at(self.octets, 4)
     }
 
-    /// The entries in order, each with its number, its timestamp where it has one, and its media.
+    /// Returns the entries in order, each with its number, its timestamp if it has one, and its media.
     pub fn entries(&self) -> Entries<'a>
         ensures { result ≡ self.now.entries }
     {
@@ -83,7 +83,7 @@ impl<'a> Trunk<'a> {
     }
 }
 
-/// The entries that are left of a trunk frame, as number, timestamp and media. Contracts see their list.
+/// The remaining entries of a trunk frame, as number, timestamp and media. Contracts see their list.
 #[derive(Debug, Drop)]
 pub struct Entries<'a> {
     timed: bool,
@@ -120,7 +120,7 @@ impl<'a> Iterator for Entries<'a> {
     }
 }
 
-// The entry at the front, and what follows it.
+// Returns the entry at the front, and the octets after it.
 fn split_entry(timed: bool, octets: &[u8]) -> Option<(Entry<'_>, &[u8])>
     ensures none { IfNone result (first_entry timed octets.now ≡ None) }
     ensures some { IfSome result (λ found. first_entry timed octets.now ≡ Some (found.0, found.1.now)) }
@@ -146,8 +146,8 @@ fn split_entry(timed: bool, octets: &[u8]) -> Option<(Entry<'_>, &[u8])>
     }
 }
 
-// The entry behind a head of so many octets, with this call number field, so many octets of media and this timestamp, and what
-// follows it.
+// Returns the entry behind a head of `head` octets, with this call number field, length of media and timestamp, and the
+// octets after it.
 fn entry_behind(
     octets: &[u8],
     head: usize,
@@ -183,7 +183,7 @@ fn entry_behind(
     ))
 }
 
-// Where the first entry stands that passes the end.
+// Returns the place of the first entry that passes the end.
 pub(crate) fn cut_place(timed: bool, octets: &[u8]) -> Option<usize>
     ensures whole { IfNone result (SpellsItems entry (IsEntry timed) octets.now (entries_of timed octets.now)) }
     ensures cut { IfSome result (IsCutAt entry (IsEntry timed) octets.now) }

@@ -24,7 +24,7 @@ impl<'a> Model for Video<'a> {
 }
 
 impl<'a> Video<'a> {
-    // The video frame that the octets spell, where they begin with sixteen bits 0 and a bit 1.
+    // Returns the video frame that the octets spell, if they begin with sixteen bits 0 and a bit 1.
     pub(crate) fn new(octets: &'a [u8]) -> Self
         requires { 6 ≤ length octets.now }
         ensures { result ≡ video_at octets.now }
@@ -32,21 +32,21 @@ impl<'a> Video<'a> {
         Video { octets }
     }
 
-    /// The sender's number of the call, 0 ..= 32,767.
+    /// Returns the sender's number of the call, 0 ..= 32,767.
     pub fn source(&self) -> CallNumber
         ensures { result ≡ self.now.source }
     {
         flagged_at(self.octets, 2).1
     }
 
-    /// The timestamp with its flag, 16 bits.
+    /// Returns the timestamp with its flag, 16 bits.
     pub fn timestamp(&self) -> u16
         ensures { result ≡ self.now.timestamp }
     {
         u16_at(self.octets, 4)
     }
 
-    /// The video data, which may be no octets.
+    /// Returns the video data, which may be empty.
     pub fn payload(&self) -> &'a [u8]
         ensures { result.now ≡ self.now.payload }
     {

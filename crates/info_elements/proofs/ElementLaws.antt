@@ -36,14 +36,14 @@ format = record {
   none = refl;
 }
 
--- the elements of a text, whatever stands behind the whole ones
+-- the elements of a text, whatever follows the whole ones
 pub elements_of-more : (rest after : List ℕ) (e : Element) → IsOctets rest → first_element rest ≡ Some (e, after) → elements_of rest ≡ e ∷ elements_of after
 elements_of-more rest after e octets is = items_of-front element IsElement first_element format rest after e octets is
 
 pub elements_of-none : (rest : List ℕ) → first_element rest ≡ None → elements_of rest ≡ []
 elements_of-none rest is = items_of-no_front first_element rest is
 
--- where nothing is found
+-- if nothing is found
 pub if_none : {X : Type 0} (found : Option X) {P Q : Type 0} → (P → Q) → IfNone found P → IfNone found Q
 if_none None so p = so p
 if_none (Some x) so p = tt

@@ -6,7 +6,7 @@ ghost use Rattle.info_elements.specs.Element.{elements_of};
 
 use std::marker::Model;
 
-/// The place, in octets from the front of the data, of the element that is cut off by its end.
+/// The place, in octets from the front of the data, of the element that passes its end.
 #[derive(Clone, Copy, Debug, PartialEq, Eq)]
 pub struct Cut(pub usize);
 
@@ -27,7 +27,7 @@ impl<'a> Model for Elements<'a> {
     ghost invariant = { λ e. SpellsElements e.octets.now (elements_of e.octets.now) };
 }
 
-// The element at the front, and what follows it.
+// Returns the element at the front, and the octets after it.
 fn split_element(octets: &[u8]) -> Option<(u8, &[u8], &[u8])>
     ensures none { IfNone result (first_element octets.now ≡ None) }
     ensures some { IfSome result (λ found. first_element octets.now ≡
@@ -44,10 +44,10 @@ fn split_element(octets: &[u8]) -> Option<(u8, &[u8], &[u8])>
     }
 }
 
-/// The number and the value, at most 255 octets, of the element at the front, and the octets behind it ("Information Elements").
-/// `None` where no whole element stands there.
+/// Returns the number and the value, at most 255 octets, of the element at the front, and the octets after it ("Information
+/// Elements"). Returns `None` if there is no whole element.
 ///
-/// Who goes from one to the next meets each element of the text once, in their order.
+/// Repeated calls return each element of the text once, in order.
 pub fn next_element(octets: &[u8]) -> Option<(u8, &[u8], &[u8])>
     ensures none { IfNone result (first_element octets.now ≡ None) }
     ensures some { IfSome result (λ found.
@@ -61,7 +61,7 @@ pub fn next_element(octets: &[u8]) -> Option<(u8, &[u8], &[u8])>
     split_element(octets)
 }
 
-// Where the first element stands that is no whole one.
+// Returns the place of the first element that isn't whole.
 pub(crate) fn cut_place(octets: &[u8]) -> Option<usize>
     ensures whole { IfNone result (SpellsElements octets.now (elements_of octets.now)) }
     ensures cut { IfSome result (IsElementCutAt octets.now) }
@@ -84,7 +84,7 @@ impl<'a> Elements<'a> {
         Elements { octets }
     }
 
-    /// The value, at most 255 octets, of the last element of that number; `None` where there is none.
+    /// Returns the value, at most 255 octets, of the last element of that number, or `None` if there is none.
     pub fn last(&self, number: u8) -> Option<&'a [u8]>
         ensures last { option_copied result ≡ last_of number self.now }
         ensures short { IfSome result (λ value. length value.now ≤ 255) }
@@ -92,14 +92,16 @@ impl<'a> Elements<'a> {
         last_in(self.octets, number)
     }
 
-    /// The number in the last element of that number; `None` where there is none, or its value hasn't two octets.
+    /// Returns the number in the last element of that number, or `None` if there is none, or if its value hasn't two
+    /// octets.
     pub fn u16_of(&self, number: u8) -> Option<u16>
         ensures { result ≡ u16_in (last_of number self.now) }
     {
         u16_in(self.octets, number)
     }
 
-    /// The number in the last element of that number; `None` where there is none, or its value hasn't four octets.
+    /// Returns the number in the last element of that number, or `None` if there is none, or if its value hasn't four
+    /// octets.
     pub fn u32_of(&self, number: u8) -> Option<u32>
         ensures { result ≡ u32_in (last_of number self.now) }
     {
@@ -107,8 +109,8 @@ impl<'a> Elements<'a> {
     }
 }
 
-/// The value, at most 255 octets, of the last element of that number; `None` where there is none. Octets that are no whole
-/// element end the text.
+/// Returns the value, at most 255 octets, of the last element of that number, or `None` if there is none. Octets that
+/// aren't a whole element end the text.
 pub fn last_in(octets: &[u8], number: u8) -> Option<&[u8]>
     ensures last { option_copied result ≡ last_of number (elements_of octets.now) }
     ensures short { IfSome result (λ value. length value.now ≤ 255) }
@@ -124,8 +126,8 @@ pub fn last_in(octets: &[u8], number: u8) -> Option<&[u8]>
     found
 }
 
-/// The number in the last element of that number; `None` where there is none, or its value hasn't two octets. Octets that are no
-/// whole element end the text.
+/// Returns the number in the last element of that number, or `None` if there is none, or if its value hasn't two octets.
+/// Octets that aren't a whole element end the text.
 pub fn u16_in(octets: &[u8], number: u8) -> Option<u16>
     ensures { result ≡ u16_in (last_of number (elements_of octets.now)) }
 {
@@ -135,8 +137,8 @@ pub fn u16_in(octets: &[u8], number: u8) -> Option<u16>
     }
 }
 
-/// The number in the last element of that number; `None` where there is none, or its value hasn't four octets. Octets that are no
-/// whole element end the text.
+/// Returns the number in the last element of that number, or `None` if there is none, or if its value hasn't four octets.
+/// Octets that aren't a whole element end the text.
 pub fn u32_in(octets: &[u8], number: u8) -> Option<u32>
     ensures { result ≡ u32_in (last_of number (elements_of octets.now)) }
 {

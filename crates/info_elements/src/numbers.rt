@@ -1,10 +1,10 @@
 //! The numbers of information elements ("Information Elements").
 
-/// The number that is called: a text.
+/// The called number: a text.
 pub const CALLED_NUMBER: u8 = 0x01;
-/// The number that calls: a text.
+/// The calling number: a text.
 pub const CALLING_NUMBER: u8 = 0x02;
-/// The name of who calls: a text.
+/// The caller's name: a text.
 pub const CALLING_NAME: u8 = 0x04;
 /// A user's name: a text.
 pub const USERNAME: u8 = 0x06;
@@ -14,23 +14,23 @@ pub const CAPABILITY: u8 = 0x08;
 pub const FORMAT: u8 = 0x09;
 /// The version of the protocol: 2, in 2 octets.
 pub const VERSION: u8 = 0x0b;
-/// The methods of authentication: 2 octets, where bit 0x0002 is MD5.
+/// The methods of authentication: 2 octets, in which bit 0x0002 is MD5.
 pub const AUTHMETHODS: u8 = 0x0e;
-/// The text that is to be answered.
+/// The challenge: a text.
 pub const CHALLENGE: u8 = 0x0f;
 /// The answer: 32 hexadecimal digits.
 pub const MD5_RESULT: u8 = 0x10;
-/// Why a call ends: a text.
+/// The cause of a call's end: a text.
 pub const CAUSE: u8 = 0x16;
-/// The subclass that isn't known: 1 octet.
+/// The unknown subclass: 1 octet.
 pub const IAX_UNKNOWN: u8 = 0x17;
-/// Whether the number that calls may be shown, and who vouches for it: 1 octet.
+/// Whether the calling number may be shown, and who verified it: 1 octet.
 pub const CALLINGPRES: u8 = 0x26;
-/// What type of number calls: 1 octet.
+/// The type of the calling number: 1 octet.
 pub const CALLINGTON: u8 = 0x27;
 /// The transit network that the caller chose: 2 octets.
 pub const CALLINGTNS: u8 = 0x28;
-/// Why a call ends: 1 octet.
+/// The cause of a call's end: 1 octet.
 pub const CAUSECODE: u8 = 0x2a;
-/// A call token: a text, empty where one is asked for (chan_iax2's; RFC 5456 has none).
+/// A call token: a text, empty in a request for one (chan_iax2's; RFC 5456 has none).
 pub const CALLTOKEN: u8 = 0x36;

@@ -4,9 +4,9 @@ ghost use Rattle.info_elements.specs.Element.{Element, SpellsElements, IsElement
 
 use crate::element_list::{Cut, Elements, cut_place};
 
-/// The information elements that the octets spell, in their order ("Information Elements"). Nothing is copied.
+/// Returns the information elements that the octets spell, in their order ("Information Elements"). Nothing is copied.
 ///
-/// `Cut` comes exactly where an element passes the end of the octets, with that element's place.
+/// `Cut` comes if and only if an element passes the end of the octets, with that element's place.
 pub fn elements(octets: &[u8]) -> Result<Elements<'_>, Cut>
     ensures exact { MatchResult result (SpellsElements octets.now) (λ cut. IsElementCutAt octets.now cut.0) }
     ensures only { (es : List Element) → SpellsElements octets.now es → result ≡ Ok es }

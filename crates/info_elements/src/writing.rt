@@ -7,8 +7,8 @@ use iax_frames::{Out, Payload, TooLong};
 
 /// Appends an element to the data of a full frame ("Information Elements").
 ///
-/// `TooLong` comes exactly where the value has more than 255 octets, or the frame would have more than 1,400; then nothing is
-/// changed.
+/// Returns `TooLong` if and only if the value has more than 255 octets, or the frame would have more than 1,400; then
+/// nothing is changed.
 pub fn append(out: &mut Out, number: u8, value: &[u8]) -> Result<(), TooLong>
     requires { (f : FullFrame) × SpellsFull out.old f }
     ensures variant { IsOk result ↔ ((length value.now ≤ 255) × (length out.old + 2 + length value.now ≤ 1400)) }

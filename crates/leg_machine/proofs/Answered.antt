@@ -1,4 +1,4 @@
--- What an order leaves and sends, where it isn't refused, and what calls that answer an outcome answer.
+-- The effect and the frames of an order that isn't refused, and the answers of calls that return an outcome.
 use Rattle.std.specs.Prelude.{map, All, OnOk, OnErr, Result, Ok, Err}
 use Rattle.std.proofs.Common.{◌≡◌, ℕ, List, Option, ◌∙◌, sym, subst}
 use Rattle.std.proofs.lemmas.List.Elements.{All-same}
@@ -14,7 +14,7 @@ use Rattle.call_signals.specs.declared.signal.Onward.{Onward}
 
 -- ---- calls that may be refused
 
--- The leg's record grows as it may, what goes out are sendings from it, and what it has as sent is numbered.
+-- The leg's record grows as it may, the frames sent are sendings from it, and its sent frames are numbered.
 pub record Answers {A E : Type 0} (result : Result A E) (Grows : LegState → Type 0) (IsSent : LegState → List ℕ → Type 0) (new : LegState) (outs : List (List ℕ)) : Type 0 where
   pub tied : OnOk result (Grows new)
   pub sendings : OnOk result (All (IsSent new) outs)

@@ -1,4 +1,4 @@
--- What a leg does that waits for the answer to its challenge, and a leg whose challenge is asked by another.
+-- The steps of a leg that waits for the answer to its challenge, and of a leg that another challenges.
 use Rattle.std.specs.Prelude.{◌&&◌, ◌||◌, ◌==◌, nat_lt, is_some}
 use Rattle.std.proofs.Common.{◌≡◌, ◌≤◌, ◌+◌, ℕ, Bool, true, false, cond, List, [], ◌∷◌, ◌++◌, length, Option, None, Some, refl, sym, ap, subst, ◌∙◌, arith, length-append}
 use Rattle.std.proofs.lemmas.Bool.Decides.{nat_tests}
@@ -46,9 +46,9 @@ reflected-refused leg frame back = rw (back, last-fails) refl
 pub unhardened-answers : (rules : PeerRules) (frame : FullFrame) → rules.is_hardened ≡ false → is_reflected rules frame ≡ false
 unhardened-answers rules frame soft = rw soft refl
 
--- ---- how much a full frame adds to the record of a leg that waits for the answer to its challenge
+-- ---- the growth of the record of a leg that waits for the answer to its challenge
 
--- what answers a frame has at most 64 octets of data
+-- the answer to a frame has at most 64 octets of data
 abbrev IsShort : Answering → Type 0
 IsShort (Answered reply) = (leg : LegState) → length (data_of leg reply) ≤ 64
 IsShort Acknowledged = Unit {0}
@@ -100,7 +100,7 @@ replied-kept leg now (Answered reply) short =
 replied-kept leg now Acknowledged short = omega arith
 replied-kept leg now Silent short = omega arith
 
--- so much more data at most
+-- at most this much further data
 abbrev Adds : LegState → FullFrame → Step → Type 0
 Adds leg frame s = kept s.leg ≤ kept leg + length frame.payload + 64
 

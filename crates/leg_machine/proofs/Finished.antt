@@ -18,7 +18,7 @@ use Rattle.call_signals.specs.declared.stage.Stage.{Stage}
 use Rattle.call_signals.specs.declared.stage.Stage.TheVariants as stages
 use Rattle.leg_machine.proofs.Tied.{either, either_by}
 
--- how many are due
+-- the number of due frames
 abbrev due : ℕ → ℕ → List Sending → ℕ
 due now retry [] = 0
 due now retry (s ∷ rest) = cond (is_due now retry s) (suc (due now retry rest)) (due now retry rest)
@@ -29,11 +29,11 @@ due-length now retry (s ∷ rest) =
     either (λ n. n ≤ length (s ∷ rest)) (is_due now retry s) (suc (due now retry rest)) (due now retry rest)
     (omega (arith, due-length now retry rest)) (omega (arith, due-length now retry rest))
 
--- what is sent now isn't due now
+-- a frame sent now isn't due now
 pub fresh : (now retry : ℕ) → 1 ≤ retry → (nat_le now now && nat_le retry (now - now)) ≡ false
 fresh now retry some = grind (arith, nat_tests)
 
--- what is sent now besides
+-- a further frame sent now
 due-push : (now retry tries : ℕ) (sendings : List Sending) → 1 ≤ retry
     → let sending : Sending = record { last = now; tries = tries } in due now retry (sendings ++ sending ∷ []) ≡ due now retry sendings
 due-push now retry tries [] some = ap (λ (b : Bool). cond b 1 0) (fresh now retry some)
@@ -90,7 +90,7 @@ one-turn turns leg now first (inr (place, at, falls)) later =
     (either (λ (r : Resent). IsFinished (one_try r leg now (λ l. tries turns l now)) now) (nat_le leg.rules.max_retries (tries_at place leg.window.sendings))
     resents.Spent (resents.Again place) (inl refl) (later place falls))
 
--- as many turns as are due suffice
+-- one turn for each due frame suffices
 finishes : (turns : ℕ) (leg : LegState) (now : ℕ) → 1 ≤ leg.rules.retry_ms → due now leg.rules.retry_ms leg.window.sendings ≤ turns
     → IsFinished (tries turns leg now) now
 finishes zero leg now some enough = inr (none-due now leg.rules.retry_ms leg.window.sendings (omega arith))
@@ -145,7 +145,7 @@ rules-hung grown leg now =
     sent true = refl
     sent false = refl
 
--- a PING that goes out isn't due
+-- a PING that is sent isn't due
 ping-none : (grown : Bool) (leg : LegState) (now : ℕ) → 1 ≤ leg.rules.retry_ms → NoneDue leg now
     → NoneDue (sends_if grown leg (pinged leg now) now replies.Ping).leg now
 ping-none true leg now some none =

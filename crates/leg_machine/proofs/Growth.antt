@@ -1,4 +1,4 @@
--- What a tick skipped tells whether it had memory.
+-- The number of frames that a tick skipped shows whether it had memory.
 use Rattle.std.specs.Prelude.{◌&&◌, nat_lt, map, All}
 use Rattle.std.proofs.Common.{◌≡◌, ℕ, zero, suc, ◌+◌, ◌<◌, ◌≤◌, Bool, true, false, cond, eqb, List, [], ◌∷◌, ◌++◌, length, ◌⊎◌, inl, inr, refl, sym, ap, subst, ◌∙◌, arith}
 use Rattle.iax_frames.specs.FullFrame.{spelling}
@@ -79,11 +79,11 @@ tick-tells leg now =
     (both Tells (must_end leg now) (quiet (failed leg (end_failure leg) now)) (due_frames true leg now) (quiet (failed leg (end_failure leg) now)) (due_frames false leg now)
     (refl, inl refl) (due-tells leg now))
 
--- the step of a tick is that with memory where nothing was skipped, and that without where something was
+-- the step of a tick is that with memory if nothing was skipped, and that without if something was
 tick-told : (leg : LegState) (now : ℕ) (grown : Bool) → tick_step (eqb (tick_step grown leg now).skipped 0) leg now ≡ tick_step grown leg now
 tick-told leg now grown = agrees (λ (g : Bool). tick_step g leg now) (tick-tells leg now) grown
 
--- ---- where neither a HANGUP nor a PING is due
+-- ---- if neither a HANGUP nor a PING is due
 
 length-mark_at : (place now : ℕ) (sendings : List Sending) → length (mark_at place now sendings) ≡ length sendings
 length-mark_at place now [] = refl
@@ -117,7 +117,7 @@ due-silent leg now stays silent =
     ap (λ (b : Bool). (finish false leg now (cond b (sends_if false leg (entered leg stages.Closing now) now (replies.Hangup leg.cause)) (quiet leg))).skipped) stays
     ∙ omega (arith, last)
 
--- nothing is skipped where there was memory, or no need of it
+-- nothing is skipped if there was memory, or no need for it
 unskipped : (grown : Bool) (leg : LegState) (now : ℕ) → (grown ≡ false → (must_hang_up leg ≡ false) × (must_ping leg now ≡ false))
     → (tick_step grown leg now).skipped ≡ 0
 unskipped true leg now needless = (tick-tells leg now).0
@@ -126,7 +126,7 @@ unskipped false leg now needless =
     (either (λ (t : Tick). t.skipped ≡ 0) (must_end leg now) (quiet (failed leg (end_failure leg) now)) (due_frames false leg now)
     refl (due-silent leg now (needless refl).0 (needless refl).1))
 
--- what a tick of a leg ensures, by what it skipped
+-- the clauses of a leg's tick, by the number of frames that it skipped
 abbrev pub Told : Leg → ℕ → ℕ → Leg → List (List ℕ) → Type 0
 Told old now missed new outs = record {
   leg : new.state ≡ (tick_step (eqb missed 0) old.state now).leg;

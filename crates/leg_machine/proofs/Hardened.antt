@@ -1,4 +1,4 @@
--- What legs do that are hardened against their peers, and what those do that aren't.
+-- The steps of legs that are hardened against their peers, and of legs that aren't.
 use Rattle.std.specs.Prelude.{◌&&◌, nat_lt, min, map, option_map}
 use Rattle.std.proofs.Common.{◌≡◌, ◌≤◌, ℕ, Bool, true, false, length, Option, None, Some, refl, arith}
 use Rattle.std.proofs.lemmas.Bool.Decides.{nat_tests}

@@ -1,4 +1,4 @@
--- Idle legs, and until when a leg is idle.
+-- Idle legs, and the moment until which a leg is idle.
 use Rattle.std.specs.Prelude.{◌||◌, ◌&&◌, not, is_none}
 use Rattle.std.specs.List.{position_from}
 use Rattle.std.proofs.Common.{◌≡◌, ◌≢◌, ℕ, zero, suc, ◌+◌, ◌-◌, ◌^◌, ◌<◌, min, Bool, true, false, cond, List, [], ◌∷◌, ◌++◌, take, Option, None, Some, slice_get, refl, sym, ap, ◌∙◌, arith}
@@ -16,7 +16,7 @@ use Rattle.call_signals.specs.declared.reply.Reply.TheVariants as replies
 use Rattle.call_signals.specs.declared.stage.Stage.TheVariants as stages
 use Rattle.leg_machine.proofs.Tied.{either_by}
 
--- what is so of an idle leg that hasn't ended
+-- the state of an idle leg that hasn't ended
 record IsWaiting (short hangs none pings : Bool) : Type 0 where
   enough : short ≡ false
   stays : hangs ≡ false
@@ -35,7 +35,7 @@ none-is : {A : Type 0} (o : Option A) → is_none o ≡ true → o ≡ None
 none-is None is = refl
 none-is (Some a) is = cc
 
--- no try where none is due
+-- no try if none is due
 no-tries : (turns : ℕ) (leg : LegState) (now : ℕ) → first_due now leg.rules.retry_ms leg.window.sendings ≡ None → tries turns leg now ≡ tried leg false
 no-tries zero leg now none = refl
 no-tries (suc turns) leg now none =

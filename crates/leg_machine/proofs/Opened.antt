@@ -1,4 +1,4 @@
--- What a leg that a NEW opened is, and what its opening sends and answers.
+-- A leg that a NEW opened, and the frames and the answer of its opening.
 use Rattle.std.specs.Prelude.{map, All}
 use Rattle.std.proofs.Common.{◌≡◌, ℕ, ◌+◌, ◌≤◌, List, [], ◌++◌, Some, refl, ap, sym, subst, ◌∙◌}
 use Rattle.iax_frames.specs.FullFrame.{FullFrame, spelling}
@@ -35,7 +35,7 @@ kept Challenges leg frame now = either (λ (s : Step). KeepsCall leg s.leg) _ _ 
     (record { number = refl; remote = refl; rules = refl; width = refl; limit = refl }) (record { number = refl; remote = refl; rules = refl; width = refl; limit = refl })
 kept Offers leg frame now = record { number = refl; remote = refl; rules = refl; width = refl; limit = refl }
 
--- what an opening ensures of the leg that it makes, what it writes and what it answers
+-- the clauses of an opening: the leg, its frames and its answer
 abbrev pub Opened : PeerRules → ℕ → FullFrame → Step → LegState → List (List ℕ) → Heard → Type 0
 Opened rules number frame step new outs answer = record {
   leg : new ≡ step.leg;

@@ -1,4 +1,4 @@
--- Where a table goes on in another.
+-- Tables that continue in another.
 use Rattle.std.proofs.Common.{◌≡◌, ℕ, refl}
 use Rattle.iax_frames.specs.FullFrame.{FullFrame}
 use Rattle.leg_machine.specs.Leg.{LegState}

@@ -1,4 +1,4 @@
--- What callers at once see of a leg that a full frame reaches.
+-- The part of a leg that callers at once see, when a full frame reaches it.
 use Rattle.std.specs.Prelude.{◌&&◌, ◌||◌, not, ◌==◌, ◌+◌, length}
 use Rattle.std.proofs.Common.{◌≡◌, ℕ, Bool, true, false, List, Option, None, Some, refl, sym, ap, ◌∙◌}
 use Rattle.iax_frames.specs.FullFrame.{FullFrame}
@@ -37,7 +37,7 @@ use Rattle.leg_machine.proofs.Tied.{either, either_by, of-full-step, of-vnak-ste
 
 -- ---- the rows
 
--- a row does at a stage what one of the frames does that callers see
+-- a row has at a stage the effect of one of the frames that callers see
 abbrev SeenRow : Stage → Effect → Type 0
 SeenRow stage effect =
     (frame : SeenFrame) × (effect.stage ≡ (frame_effect frame stage).stage) × (effect.signal ≡ (frame_effect frame stage).signal)
@@ -135,7 +135,7 @@ pub seen-taken : (effect : Effect) (leg : LegState) (frame : FullFrame) (message
 seen-taken effect leg frame message now =
     seen-replied (taken effect leg frame message now) now effect.answer ∙ seen-marked (entered (end_noted leg effect.stage frame message) effect.stage now) effect.mark
 
--- ---- what changes nothing
+-- ---- frames that change nothing
 
 same-owes : (stage : Stage) (owes : Bool) → owes ≡ (owes || (is_over stage && not (is_over stage)))
 same-owes stage true = refl
@@ -147,7 +147,7 @@ same-owes stages.Up false = refl
 same-owes stages.Closing false = refl
 same-owes stages.Ended false = refl
 
--- a leg that enters the stage where it stands
+-- a leg that enters the stage in which it is
 pub moved-same : (leg : SeenLeg) → leg ≡ moved leg leg.stage
 moved-same leg = ap (λ (owes : Bool). record leg { owes = owes }) (same-owes leg.stage leg.owes)
 
@@ -186,7 +186,7 @@ vnak-seen j leg number now =
 
 -- ---- the working order
 
--- in an ended leg nothing goes on
+-- an ended leg does nothing more
 ended-frame : (frame : SeenFrame) → frame_effect frame stages.Ended ≡ seen_effect stages.Ended None
 ended-frame HangsUp = refl
 ended-frame _ = refl
@@ -195,7 +195,7 @@ pub or-none : (b : Bool) → (b || false) ≡ b
 or-none true = refl
 or-none false = refl
 
--- what happens to a leg that has just ended
+-- the effect on a leg that has just ended
 ended-seen : (old new : SeenLeg) (signal : Option Signal) → old.stage ≡ stages.Closing → IsSeenFrame (moved old stages.Ended) new signal → IsSeenFrame old new signal
 ended-seen old new signal closing s =
     let effect = ended-frame s.0 in
@@ -216,7 +216,7 @@ closing-if stages.Linked b e = cc
 closing-if stages.Up b e = cc
 closing-if stages.Ended b e = cc
 
--- a frame is worked on the leg as it was, or on one that has just ended
+-- a frame is handled on the leg as it was, or on one that has just ended
 prepared-seen : (leg : LegState) (frame : FullFrame) (new : SeenLeg) (signal : Option Signal) → IsSeenFrame (seen (prepared leg frame)) new signal → IsSeenFrame (seen leg) new signal
 prepared-seen leg frame new signal =
     let mid = acknowledged (learnt leg frame.head.source) frame.head.iseqno in
@@ -238,7 +238,7 @@ frame-seen leg frame now =
     (prepared-seen leg frame (seen vnak.leg) vnak.signal (vnak-seen judged mid frame.head.iseqno now))
     (prepared-seen leg frame (seen numbered.leg) numbered.signal (numbered-seen mid frame message now))
 
--- what a call answers of it
+-- the answer of a call
 pub heard-seen : (old new : LegState) (frame : FullFrame) (now : ℕ) (heard : Heard) → new ≡ (full_step old frame now).leg → heard ≡ heard_of (full_step old frame now)
     → IsSeenFrame (seen old) (seen new) heard.signal
 heard-seen old new frame now heard leg answer =

@@ -1,4 +1,4 @@
--- What callers at once see of a leg that gets an order.
+-- The part of a leg that callers at once see, when it gets an order.
 use Rattle.std.specs.Prelude.{◌↔◌, ◌&&◌, not, nat_le, OnOk, IfErr, Result, Ok, Err}
 use Rattle.std.proofs.Common.{◌≡◌, ℕ, Bool, true, false, cond, List, Option, None, Some, refl, ap, ◌∙◌}
 use Rattle.seq_window.specs.Window.{held_count}
@@ -26,7 +26,7 @@ use Rattle.leg_machine.proofs.Tied.{either, either_by}
 
 -- ---- the stages of each order
 
--- where the stage is a right one the order leads there, else nowhere
+-- at a right stage the order leads there, otherwise nowhere
 abbrev LeadsTo : OrderKind → Stage → Bool → Stage → Type 0
 LeadsTo kind stage right there = stage_after kind stage ≡ cond right (Some there) None
 
@@ -69,7 +69,7 @@ row-seen : (leg : LegState) (kind : OrderKind) (right : Bool) (row : Ordered) (n
 row-seen leg kind true row now leads moves unrefused = (row.stage, leads, moves)
 row-seen leg kind false row now leads moves unrefused = cc
 
--- a digit goes out where the leg talks and doesn't refuse it
+-- a digit is sent if the leg talks and doesn't refuse it
 digit-seen : (leg : LegState) (digit : ℕ) (talks refuses : Bool) (row : Ordered) (now : ℕ) → LeadsTo (kinds.Dtmf digit) leg.stage talks row.stage
     → row_refused leg (when (talks && not refuses) row) ≡ None
     → moved (seen leg) row.stage ≡ ordered (kinds.Dtmf digit) (seen leg) row.stage
@@ -114,7 +114,7 @@ order-seen leg orders.Paid now unrefused = (leg.stage, refl, refl)
 
 -- ---- the wrong stage
 
--- refused for the stage exactly where the order leads nowhere
+-- refused for the stage if and only if the order leads nowhere
 abbrev WrongTogether : Option OrderError → Option Stage → Type 0
 WrongTogether refusal there = (refusal ≡ Some errors.WrongStage) ↔ (there ≡ None)
 
@@ -161,16 +161,16 @@ order-wrong leg (orders.Hangup cause) now = row-wrong leg (kinds.Hangup cause) (
 order-wrong leg (orders.Doom cause) now = (λ e. cc, λ e. cc)
 order-wrong leg orders.Paid now = (λ e. cc, λ e. cc)
 
--- ---- what the calls answer
+-- ---- the answers of calls
 
--- the refusal that is answered is the one that is due
+-- the returned refusal is the one that is due
 pub answered-wrong : {A : Type 0} (result : Result A OrderError) (refusal : Option OrderError) (there : Option Stage) → WrongTogether refusal there
     → OnOk result (refusal ≡ None) → IfErr result (IsRefusal refusal) → (result ≡ Err errors.WrongStage) ↔ (there ≡ None)
 answered-wrong (Ok x) refusal there wrong unrefused refused = (λ e. cc, λ e. let w = wrong.1 e in cc)
 answered-wrong (Err e) (Some due) there wrong unrefused refused = (λ h. wrong.0 cc, λ h. let w = wrong.1 h in cc)
 answered-wrong (Err e) None there wrong unrefused refused = (λ h. cc, λ h. let w = wrong.1 h in cc)
 
--- where none is due the order was carried out
+-- if none is due, the order was carried out
 pub answered-seen : {A : Type 0} (result : Result A OrderError) (kind : OrderKind) (old step new : LegState) (refusal : Option OrderError)
     → (refusal ≡ None → IsSeenOrder kind (seen old) (seen step)) → OnOk result (new ≡ step) → OnOk result (refusal ≡ None)
     → OnOk result (IsSeenOrder kind (seen old) (seen new))

@@ -1,4 +1,4 @@
--- What callers at once see of a leg that opens, and of one that a tick reaches.
+-- The part of a leg that callers at once see, when it opens, and when a tick reaches it.
 use Rattle.std.specs.Prelude.{◌&&◌, not, nat_le}
 use Rattle.std.proofs.Common.{◌≡◌, ℕ, zero, suc, ◌≤◌, Bool, true, false, cond, List, ◌⊎◌, inl, inr, refl, sym, ap, subst, ◌∙◌, arith}
 use Rattle.std.proofs.lemmas.Bool.Decides.{nat_tests}
@@ -54,7 +54,7 @@ opening-seen rules number frame now challenge some =
     let goal : IsSeenOpening (seen step.leg) step.signal = (opening, seen-taken effect leg frame New now ∙ fresh opening, same-signal opening) in
     subst (λ (b : Bool). let s : Step = cond b (no_room leg) step in IsSeenOpening (seen s.leg) s.signal) (sym has_room) goal
 
--- what a call answers of it, that took the NEW with this effect on this leg
+-- the answer of a call that took the NEW with this effect on this leg
 pub opened-seen : (rules : PeerRules) (number : ℕ) (frame : FullFrame) (now : ℕ) (challenge : List ℕ) (effect : Effect) (leg new : LegState) (heard : Heard) → 1 ≤ rules.window
     → new ≡ (taken_step effect leg frame New now).leg → heard ≡ heard_of (taken_step effect leg frame New now)
     → effect ≡ opening_effect (opening_of rules frame) → leg ≡ leg_for_new rules number frame now challenge
@@ -116,7 +116,7 @@ closes old new doomed (inl same) =
 closes old new doomed (inr ended) =
     inr (Ends, ended ∙ ap (λ (owes : Bool). record old { stage = stages.Ended; owes = owes }) (or-none (moved old stages.Closing).owes))
 
--- what a tick does after the HANGUP, if there was one
+-- the rest of a tick after the HANGUP, if there was one
 abbrev finished : Bool → LegState → ℕ → Tick → LegState
 finished grown leg now hung =
     let tried = tries (held_count leg.window) hung.leg now in

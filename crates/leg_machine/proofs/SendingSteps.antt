@@ -1,4 +1,4 @@
--- What each step sends.
+-- The frames of each step.
 use Rattle.std.specs.Prelude.{◌&&◌, nat_eq, map, option_map, All}
 use Rattle.std.specs.Option.{option_to_list}
 use Rattle.std.proofs.Common.{◌≡◌, ℕ, zero, suc, Bool, true, false, List, [], ◌∷◌, ◌++◌, Option, None, Some, inl, refl, sym, ap, subst, ◌∙◌}
@@ -142,9 +142,9 @@ full-sent leg frame now all =
     (of-vnak-step Sends counted mid frame.head.iseqno now (oldest-sent noted now numbered) (resend-sent noted now numbered) (stays mid numbered))
     (either Sends (is_numbered message) (judged_step judged mid frame message now) (nothing_sent mid) (judged-sent judged mid frame message now numbered) (stays mid numbered))
 
--- ---- what a call answers
+-- ---- the answer of a call
 
--- the datagrams that spell what is sent
+-- the datagrams that spell the sent frames
 pub spelled : (leg : LegState) (frames : List FullFrame) → AllSent leg frames → All (IsSending leg) (map spelling frames)
 spelled leg frames all = All-map (IsSending leg) spelling frames (λ k d lt. (_, refl, all.sendings k d lt))
 
@@ -218,7 +218,7 @@ tries-sent (suc turns) leg now final extends all =
     try-sent (resent leg.window now leg.rules.retry_ms leg.rules.max_retries) leg now (λ l. tries turns l now) final extends all
     (λ l e a. tries-sent turns l now final e a)
 
--- what goes out last, after a record that it extends
+-- the last frames sent, after a record that they extend
 pub record LastSent (leg : LegState) (last : Tick) : Type 0 where
   pub sent : AllSent last.leg last.replies
   pub extends : Extends leg.window.history last.leg.window.history

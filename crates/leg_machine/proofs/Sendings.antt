@@ -58,7 +58,7 @@ get-drop (suc n) (x ∷ xs) i =
     let e : suc n + i ≡ suc (n + i) = omega arith in
     get-drop n xs i ∙ sym (ap (slice_get (x ∷ xs)) e)
 
--- ---- what is numbered
+-- ---- numbered frames
 
 dtmf-numbered : (meaning : Option ℕ) → is_numbered (message_by 1 meaning) ≡ true
 dtmf-numbered (Some digit) = either (λ (m : Message). is_numbered m ≡ true) (nat_lt digit 128) (messages.Dtmf digit) messages.Other refl refl
@@ -160,7 +160,7 @@ extends-push h f = record {
   sent = λ n g at. ap (λ (fs : List Frame). slice_get fs n) (sent-push h f) ∙ get-append (sent_frames h) (f ∷ []) n g at;
 }
 
--- a held frame that goes out again, perhaps before a new one
+-- a held frame that is retransmitted, perhaps before a new one
 pub again-sending : (leg : LegState) (held : Held Frame) (final : List Entry) → Extends leg.window.history final → SendsNumbered leg → IsHeldIn leg.window.history held
     → IsSendingOf final (sent_again leg held)
 again-sending leg held final extends all (n, byte, at, acked) =
@@ -175,9 +175,9 @@ again-sending leg held final extends all (n, byte, at, acked) =
       no_inval = no-inval (message_by held.frame.kind (subclass_meaning held.frame.subclass)) numbered;
     }
 
--- ---- a leg with what it sends
+-- ---- a leg with its frames
 
--- after a step: what the record has as sent is numbered, and the full frames that went out are sendings from it
+-- after a step: the record's sent frames are numbered, and the full frames sent are sendings from it
 pub record AllSent (leg : LegState) (frames : List FullFrame) : Type 0 where
   pub numbered : SendsNumbered leg
   pub sendings : All (IsSendingOf leg.window.history) frames

@@ -1,4 +1,4 @@
--- Each step of a leg is one of a network's side: what it adds to its record, and what it sends.
+-- Each step of a leg is one of a network's side: its entries in the record, and its frames.
 use Rattle.std.specs.Prelude.{◌&&◌, ◌<◌, ◌%◌, ◌^◌, map}
 use Rattle.std.proofs.Common.{◌≡◌, ℕ, true, false, cond, List, [], ◌++◌, inr, None, Some, refl, ap, ◌∙◌, arith}
 use Rattle.std.proofs.lemmas.List.Elements.{All-nil, All-cons}
@@ -28,7 +28,7 @@ use Rattle.leg_machine.proofs.Sendings.{AllSent}
 use Rattle.leg_machine.proofs.SendingSteps.{spelled, or-mini, row-sent, media-sent, taken-sent, written}
 use Rattle.leg_machine.proofs.Tied.{either, taken-history, replied-adds}
 
--- full frames that went out are spelt
+-- the full frames sent are spelled
 pub has-sent : (leg : LegState) (frames : List FullFrame) → AllSent leg frames → HasSent leg (map spelling frames)
 has-sent leg frames all = written leg leg frames (map spelling frames) all refl refl
 
@@ -40,7 +40,7 @@ orders-spelled leg frames all = record {
   sendings = or-mini leg (map spelling frames) (spelled leg frames all);
 }
 
--- nothing goes out
+-- no frame is sent
 none-out : (leg : LegState) → SendsNumbered leg → HasSentOrMini leg []
 none-out leg all = record { numbered = all; sendings = All-nil (IsSendingOrMini leg) }
 
@@ -56,7 +56,7 @@ mini-out leg timestamp octets some few short all =
           (inr (mini, record { some_source = some; source = few; timestamp = short; whole = refl })) (All-nil (IsSendingOrMini leg));
     }
 
--- however media goes out
+-- media, sent in any form
 media-out : (leg : LegState) (octets : List ℕ) (now : ℕ) → 0 < leg.number → leg.number < 2 ^ 15 → SendsNumbered leg
     → HasSentOrMini (after_media (media_sent leg now) leg octets now) (media_datagrams (media_sent leg now) leg octets now)
 media-out leg octets now some few all =

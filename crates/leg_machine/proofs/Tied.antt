@@ -1,4 +1,4 @@
--- What each step adds to the record.
+-- The entries that each step adds to the record.
 use Rattle.std.proofs.Common.{◌≡◌, ℕ, Bool, true, false, cond, List, [], ◌∷◌, ◌++◌, length, Option, None, Some, refl, sym, ap, ◌∙◌, append_assoc}
 use Rattle.std.proofs.lemmas.List.{append-nil}
 use Rattle.iax_frames.specs.FullFrame.{FullFrame}
@@ -65,7 +65,7 @@ same : (leg : LegState) (frame : FullFrame) (new : LegState) → new.window.hist
 same leg frame new e =
     (record { acknowledges = false; receives = false; reply = None }, e ∙ sym (append-nil leg.window.history))
 
--- a step that adds an acknowledgement at most
+-- a step that adds at most an acknowledgement
 acknowledges : (leg : LegState) (frame : FullFrame) (new : LegState) → new.window.history ≡ leg.window.history ++ entries_for_acknowledgement leg.window.history frame.head.iseqno → TakesTurn leg frame new
 acknowledges leg frame new e =
     let acks = entries_for_acknowledgement leg.window.history frame.head.iseqno in (
@@ -130,7 +130,7 @@ numbered-turn leg frame now =
     (λ numbered. judged-turn (judged_number mid.window.history frame.head.oseqno) leg frame message now numbered)
     (λ _. acknowledges leg frame mid (prepared-history leg frame))
 
--- what holds where a VNAK brings the oldest frame alone, where it brings all, and where it is ignored, holds of its step
+-- a property of each case of a VNAK (it brings the oldest frame, brings all, or is ignored) holds for its step
 pub of-vnak-step : (P : Step → Type 0) (j : Judgement) (leg : LegState) (number now : ℕ) → P (oldest_step (vnak_noted leg number now) now)
     → P (resend_step (vnak_noted leg number now) now) → P (nothing_sent leg) → P (vnak_step j leg number now)
 of-vnak-step P j leg number now oldest all none =
@@ -148,7 +148,7 @@ vnak-turn leg frame j now =
     (acknowledges leg frame (resend_step noted now).leg (prepared-history leg frame))
     (acknowledges leg frame mid (prepared-history leg frame))
 
--- what holds of the steps of an INVAL, heeded or not, of a VNAK and of any other frame holds of that of a full frame
+-- a property of an INVAL, heeded or not, of a VNAK and of any other frame holds for each full frame's step
 pub of-full-step : (P : Step → Type 0) (leg : LegState) (frame : FullFrame) (now : ℕ) → P (invalidated leg now) → P (nothing_sent leg)
     → P (vnak_step (judged_acknowledgement leg.window.history frame.head.iseqno) (prepared leg frame) frame.head.iseqno now)
     → P (numbered_step (prepared leg frame) frame (message_of frame.head) now) → P (full_step leg frame now)

@@ -1,4 +1,4 @@
--- An order and a tick send one numbered frame at most.
+-- An order and a tick send at most one numbered frame.
 use Rattle.std.specs.Prelude.{◌&&◌, nat_lt}
 use Rattle.std.proofs.Common.{◌≡◌, ℕ, zero, suc, Bool, true, false, cond, List, [], ◌∷◌, ◌++◌, Option, None, Some, refl, sym, ap, ◌∙◌}
 use Rattle.std.proofs.lemmas.List.{append-nil}
@@ -75,7 +75,7 @@ sends-if : (grown : Bool) (leg changed : LegState) (now : ℕ) (reply : Reply) �
 sends-if true leg changed now reply e = (Some (reply_frame changed now reply), ap (λ (w : WindowState). w.history ++ Sent (reply_frame changed now reply) ∷ []) e)
 sends-if false leg changed now reply e = none leg leg refl
 
--- what is sent later is sent
+-- a frame sent later is sent
 later : (leg mid new : LegState) → mid.window.history ≡ leg.window.history → SendsAtMostOne mid new → SendsAtMostOne leg new
 later leg mid new e s = (s.0, s.1 ∙ ap (λ (h : List Entry). h ++ entries_for_reply s.0) e)
 

@@ -1,4 +1,4 @@
--- What a row of the tables says, and what a leg notes of it.
+-- The rows of the tables, and their effect on a leg.
 pub use Rattle.call_signals.specs.Effects.{row, marking, no_effect, reply_alone, hung_up, rejected, goes_on, unless_over}
 pub use Rattle.call_signals.specs.Effects.{is_reply}
 use Rattle.std.specs.Prelude.{true, false}

@@ -1,4 +1,4 @@
--- A leg of a call, as its steps see it ("IAX Frames", "Message Transport").
+-- A leg of a call, as its steps use it ("IAX Frames", "Message Transport").
 use Rattle.std.specs.Prelude.{ℕ, ◌+◌, ◌-◌, ◌/◌, ◌%◌, ◌^◌, ◌≤◌, Bool, true, false, ◌||◌, ◌&&◌, not, nat_le, nat_lt, is_none, is_some, List, Option, None, Some, if◌then◌else◌, unwrap_or}
 use Rattle.seq_window.specs.History.{data_octets}
 use Rattle.seq_window.specs.Window.{WindowState, entry_count}
@@ -29,34 +29,34 @@ pub record LegState : Type 0 where
   pub owes : Bool
   -- to be hung up by a tick
   pub doomed : Bool
-  -- why it ends, or for what it is to be hung up
+  -- the cause of its end, or of the hang-up that is due
   pub cause : Cause
-  -- the other side wants no media
+  -- the other side quelched media
   pub quelched : Bool
   -- the challenge that was sent
   pub challenge : Option (List ℕ)
   -- an AUTHREQ was answered
   pub authenticated : Bool
-  -- the formats of which a voice frame was taken, in whatever stage
+  -- the formats of which a voice frame was taken, in any stage
   pub voice_taken : Formats
   -- the timestamp of the last voice frame that was sent
   pub voice_sent : Option ℕ
   -- the moment of the last PING, or of the opening
   pub pinged : ℕ
-  -- the moment of the last VNAK, until a frame is taken: what is missing then is another one
+  -- the moment of the last VNAK, until a frame is taken: the next gap is then another one
   pub vnak_sent : Option ℕ
   -- the VNAK of the other side that was answered last
   pub vnak_answered : Option AnsweredVnak
-  -- why it ended, where no HANGUP or REJECT did that
+  -- the failure that ended it, if no HANGUP or REJECT did
   pub failure : Option Failure
-  -- so many full frames went out again, modulo 2 ^ 64
+  -- the number of retransmitted full frames, modulo 2 ^ 64
   pub resent : ℕ
   -- when the call was offered, accepted, answered and over
   pub moments : Moments
   -- the record, and when each held frame was last sent
   pub window : WindowState
 
--- and how many more entries its record takes without asking for memory
+-- and the number of entries that its record takes without further memory
 pub record Leg : Type 0 where
   pub state : LegState
   pub spare : ℕ
@@ -90,11 +90,11 @@ leg_of m = record {
 abbrev pub whole_leg : Machine → Leg
 whole_leg m = record { state = leg_of m; spare = m.window.spare }
 
--- so many entries fit in the memory of a leg's record: those that it has, and the spare ones
+-- the entries that fit in the memory of a leg's record: those that it has, and the spare ones
 abbrev pub capacity_of : Leg → ℕ
 capacity_of leg = entry_count leg.state.window + leg.spare
 
--- A leg changes its stage. From the first that is Closing or Ended on it owes.
+-- A leg changes its stage. It owes once it enters the first stage that is Closing or Ended.
 abbrev pub staged : LegState → Stage → LegState
 staged leg stage = record leg {
   stage = stage;
@@ -105,12 +105,12 @@ staged leg stage = record leg {
 abbrev pub first_at : Bool → Option ℕ → ℕ → Option ℕ
 first_at reached before now = if reached then Some (unwrap_or before now) else before
 
--- The called side alone accepts and answers a call: the layer above by orders, if the call was offered to it, and else the other
--- side by its frames.
+-- Only the called side accepts and answers a call. If the call was offered, that is the layer above by orders; otherwise it
+-- is the other side by its frames.
 abbrev pub is_of_called : Bool → Moments → Bool
 is_of_called ordered moments = if ordered then is_some moments.offered else is_none moments.offered
 
--- the moments of a leg that enters a stage at this one, by an order or else by a frame or a tick
+-- the moments of a leg that enters a stage at this one, by an order, or by a frame or a tick
 abbrev pub noted : Bool → Moments → Stage → ℕ → Moments
 noted ordered moments stage now = record {
   offered = first_at (is_offered stage) moments.offered now;
@@ -119,7 +119,7 @@ noted ordered moments stage now = record {
   over = first_at (is_over stage) moments.over now;
 }
 
--- A leg enters a stage by a frame or a tick, and notes when, if that is the first such moment.
+-- A leg enters a stage by a frame or a tick, and notes the moment if it is the first such.
 abbrev pub entered : LegState → Stage → ℕ → LegState
 entered leg stage now = record (staged leg stage) { moments = noted false leg.moments stage now }
 
@@ -127,27 +127,27 @@ entered leg stage now = record (staged leg stage) { moments = noted false leg.mo
 abbrev pub obeyed : LegState → Stage → ℕ → LegState
 obeyed leg stage now = record (staged leg stage) { moments = noted true leg.moments stage now }
 
--- The leg ends because it can't continue. What ended before stays as it ended.
+-- The leg ends because it can't continue. A leg that had ended keeps its failure.
 abbrev pub failed : LegState → Failure → ℕ → LegState
 failed leg why now = record (entered leg Ended now) {
   failure = if is_ended leg.stage then leg.failure else Some why;
   cause = if leg.rules.carries_cause && not (is_over leg.stage) then failure_cause why else leg.cause;
 }
 
--- so many full frames more went out again
+-- this many further full frames were retransmitted
 abbrev pub resent_by : LegState → ℕ → LegState
 resent_by leg frames = record leg { resent = (leg.resent + frames) % 2 ^ 64 }
 
 abbrev pub with_window : LegState → WindowState → LegState
 with_window leg window = record leg { window = window }
 
--- While fewer frames than this are held, frames go out that no frame of the other side asks for.
+-- While fewer frames than this are held, the leg sends frames that no frame of the other side asks for.
 abbrev pub local_room : ℕ → ℕ
 local_room width = width - width / 4
 
 -- ---- when a record is full
 
--- so many octets of data are more than a rule allows, where there is one
+-- more octets of data than a rule allows, if there is one
 abbrev pub exceeds : Option ℕ → ℕ → Bool
 exceeds None octets = false
 exceeds (Some most) octets = nat_lt most octets
@@ -156,7 +156,7 @@ exceeds (Some most) octets = nat_lt most octets
 abbrev pub is_short_of_entries : LegState → Bool
 is_short_of_entries leg = nat_lt leg.window.limit (entry_count leg.window + 4)
 
--- fewer octets of data are left than a full frame may bring and its answer may have: 1,388 each
+-- fewer octets of data are left than a full frame and its answer may have: 1,388 each
 abbrev pub is_short_of_octets : LegState → Bool
 is_short_of_octets leg = exceeds leg.rules.record_octets (data_octets leg.window.history + 2776)
 
@@ -164,20 +164,20 @@ abbrev pub is_challenged : Stage → Bool
 is_challenged Challenged = true
 is_challenged _ = false
 
--- A leg that waits for the answer to its challenge may be anyone's. Its record has at most 32 entries and 4,096 octets of data, of
--- which 1,388 are left for a full frame, and 64 for its answer.
+-- The other side of a leg that waits for the answer to its challenge isn't known. So the leg's record has at most 32
+-- entries and 4,096 octets of data. Of these, 1,388 are reserved for a full frame, and 64 for its answer.
 abbrev pub has_heard_enough : LegState → Bool
 has_heard_enough leg =
     is_challenged leg.stage && is_some leg.rules.challenge_ms
     && (nat_lt 32 (entry_count leg.window + 4) || nat_lt 4096 (data_octets leg.window.history + 1452))
 
--- The record has no room for one more full frame and what follows from it.
+-- The record has no room for one more full frame and the entries that follow from it.
 abbrev pub is_record_full : LegState → Bool
 is_record_full leg = is_short_of_entries leg || is_short_of_octets leg || has_heard_enough leg
 
--- ---- when a leg ends by itself
+-- ---- when a leg ends without a frame or an order
 
--- so many milliseconds are over since a moment
+-- this many milliseconds are over since a moment
 abbrev pub is_over_since : Option ℕ → ℕ → ℕ → Bool
 is_over_since None since now = false
 is_over_since (Some ms) since now = nat_le (since + ms) now
@@ -186,15 +186,15 @@ is_over_since (Some ms) since now = nat_le (since + ms) now
 abbrev pub is_overdue : LegState → ℕ → Bool
 is_overdue leg now = is_challenged leg.stage && is_over_since leg.rules.challenge_ms leg.opened now
 
--- the leg can't go on, or may not
+-- the leg can't continue, or may not
 abbrev pub must_end : LegState → ℕ → Bool
 must_end leg now = is_record_full leg || is_overdue leg now
 
--- .. and why
+-- .. and the reason
 abbrev pub end_failure : LegState → Failure
 end_failure leg = if is_record_full leg then failures.RecordFull else failures.ChallengeTimeout
 
--- so many entries fit, with no further memory
+-- this many entries fit without further memory
 pub record HasRoom (entries : ℕ) (m : Machine) : Type 0 where
   pub limit : entry_count m.window.state + entries ≤ m.window.state.limit
   pub spare : entries ≤ m.window.spare

@@ -1,4 +1,4 @@
--- The table of the leg: what a taken frame does, row by row ("IAX Frames", "Control Frames", "Call Setup").
+-- The table of the leg: the effect of a taken frame, row by row ("IAX Frames", "Control Frames", "Call Setup").
 pub use Rattle.call_signals.specs.FrameElements.{element_in}
 use Rattle.std.specs.Prelude.{ℕ, ◌+◌, List, length, map, not, nat_le, ◌&&◌, Bool, true, false, Option, None, Some, bit_and, ◌==◌}
 use Rattle.std.specs.Prelude.{bytes_eq, nat_eq, if◌then◌else◌}
@@ -46,12 +46,12 @@ abbrev pub asks_md5 : Option ℕ → Bool
 asks_md5 (Some methods) = bit_and methods 2 == 2
 asks_md5 None = false
 
--- the answer to a challenge, where there are both a challenge and a secret
+-- the answer to a challenge, if there are a challenge and a secret
 abbrev pub answer_if : Option (List ℕ) → Option (List ℕ) → Option (List ℕ)
 answer_if (Some challenge) (Some secret) = Some (md5_answer challenge secret)
 answer_if _ _ = None
 
--- Whoever is asked a challenge by this exchange may send it back, to have it answered. A hardened leg doesn't.
+-- A peer that this exchange challenges may send the challenge back, to have it answered. A hardened leg doesn't answer it.
 abbrev pub is_reflected : PeerRules → FullFrame → Bool
 is_reflected rules frame = rules.is_hardened && is_own rules.challenge_prefix (element_in frame CHALLENGE)
 
@@ -84,7 +84,7 @@ waiting_accept leg frame =
 abbrev pub is_media : ℕ → Bool
 is_media n = nat_le 1 n && nat_le n 1380
 
--- voice of the call's format, where it holds media
+-- voice of the call's format, if it has media
 abbrev pub voice_row : Stage → LegState → FullFrame → Format → Effect
 voice_row stage leg frame voice =
     if same_format voice leg.format && is_media (length frame.payload)
@@ -125,7 +125,7 @@ linked leg frame (messages.Indicates indication) = goes_on stages.Linked (signal
 linked leg frame messages.Answer = goes_on stages.Up signals.Answered
 linked leg frame message = talking stages.Linked leg frame message
 
--- what a frame does that is taken
+-- the effect of a taken frame
 abbrev pub effect_at : Stage → LegState → FullFrame → Message → Effect
 effect_at stages.Challenged leg frame message = challenged leg frame message
 effect_at stages.Waiting leg frame message = waiting leg frame message

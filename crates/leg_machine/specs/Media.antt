@@ -34,11 +34,11 @@ abbrev pub is_other_half : Option ℕ → ℕ → Bool
 is_other_half None present = true
 is_other_half (Some last) present = not (present / 2 ^ 16 == last / 2 ^ 16)
 
--- the first media, and the first of each 2 ^ 16 milliseconds, goes out as a full frame
+-- the first media, and the first of each 2 ^ 16 milliseconds, is sent as a full frame
 abbrev pub is_voice_due : LegState → ℕ → Bool
 is_voice_due leg now = is_other_half leg.voice_sent (present_of leg now)
 
--- how media goes out
+-- how media is sent
 abbrev pub media_sent : LegState → ℕ → MediaSent
 media_sent leg now =
     if leg.quelched then Quelched
@@ -50,7 +50,7 @@ after_media Quelched leg media now = leg
 after_media Voice leg media now = record (sent leg (voice_frame leg now media) now) { voice_sent = Some (present_of leg now) }
 after_media (Mini timestamp) leg media now = leg
 
--- the full frames that go out
+-- the full frames that are sent
 abbrev pub media_frames : MediaSent → LegState → List ℕ → ℕ → List FullFrame
 media_frames Quelched leg media now = []
 media_frames Voice leg media now = outgoing leg false (next_byte leg) (voice_frame leg now media) ∷ []

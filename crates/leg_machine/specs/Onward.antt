@@ -1,4 +1,4 @@
--- What a call of a leg answers, with what its signal speaks of.
+-- The answer of a leg's call, with the values of its signal.
 use Rattle.std.specs.Prelude.{◌≡◌, map, Option, None, Some}
 use Rattle.iax_frames.specs.FullFrame.{spelling}
 use Rattle.leg_machine.specs.Leg.{LegState}
@@ -28,14 +28,14 @@ abbrev pub onward_if : LegState → Option Signal → Option Onward
 onward_if leg None = None
 onward_if leg (Some signal) = Some (onward_of leg signal)
 
--- what is handed up is a signal of which this holds
+-- this holds for the signal that is handed up
 abbrev pub HandsUp : LegState → Option Onward → (Option Signal → Type 0) → Type 0
 HandsUp leg onward Holds = (signal : Option Signal) × (onward ≡ onward_if leg signal) × Holds signal
 
--- what a call answers of a step
+-- a call's answer to a step
 abbrev pub outcome_of : Step → Outcome
 outcome_of s = record { judged = s.judged; replies = map spelling s.replies; onward = onward_if s.leg s.signal }
 
--- what a call answers of an order
+-- a call's answer to an order
 abbrev pub order_outcome : Carried → Outcome
 order_outcome carried = record { judged = Unnumbered; replies = carried.datagrams; onward = None }

@@ -1,4 +1,4 @@
--- How a leg begins: the rows of a NEW that comes, and a NEW that goes out ("Call Setup").
+-- How a leg begins: the rows of a NEW that comes, and a NEW that is sent ("Call Setup").
 pub use Rattle.call_signals.specs.Openings.{bits_in, has_bit, is_common, common_formats, chosen_format, call_format}
 pub use Rattle.call_signals.specs.Openings.{offered_formats, is_version_2, opening_of, opening_effect, challenge_sent}
 use Rattle.std.specs.Prelude.{ℕ, false, List, [], ◌∷◌, Option, None, Some, unwrap_or}
@@ -61,7 +61,7 @@ abbrev pub open_in_step : PeerRules → ℕ → FullFrame → ℕ → List ℕ �
 open_in_step rules number frame now challenge =
     taken_step (opening_effect (opening_of rules frame)) (leg_for_new rules number frame now challenge) frame New now
 
--- a NEW goes out
+-- a NEW is sent
 abbrev pub open_out_step : PeerRules → ℕ → List ℕ → List ℕ → Format → ℕ → Step
 open_out_step rules number called caller format now =
     let leg = leg_for_call rules number format now in
@@ -89,18 +89,18 @@ new_data (Taken frame ∷ entries) = frame.payload
 new_data (Sent frame ∷ entries) = frame.payload
 new_data (Acked count ∷ entries) = []
 
--- the number that is called; absent, it is empty
+-- the called number, or the empty text if it is absent
 abbrev pub called_of : LegState → List ℕ
 called_of leg = unwrap_or (last_of CALLED_NUMBER (elements_of (opening_data leg.window.history))) []
 
--- the number that calls
+-- the calling number
 abbrev pub calling_of : LegState → Option (List ℕ)
 calling_of leg = last_of CALLING_NUMBER (elements_of (opening_data leg.window.history))
 
--- .. and what more is carried on of who calls
+-- .. and the other facts about the caller that are carried on
 abbrev pub caller_of : LegState → List ℕ
 caller_of leg = caller_by leg.rules.carries_caller (new_elements (opening_data leg.window.history))
 
--- .. and the formats that it may have
+-- .. and the formats that the call may have
 abbrev pub formats_of : LegState → Formats
 formats_of leg = offered_formats leg.rules (new_elements (opening_data leg.window.history)) leg.format

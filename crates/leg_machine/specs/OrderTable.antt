@@ -1,4 +1,4 @@
--- The table of orders: what the layer above lets a leg do, row by row ("Call Setup", "Control Frames").
+-- The table of orders: the effect of the orders of the layer above, row by row ("Call Setup", "Control Frames").
 use Rattle.std.specs.Prelude.{◌≡◌, ◌≤◌, ℕ, not, ◌&&◌, ◌||◌, nat_le, length, Bool, true, false, List, [], ◌∷◌, map, Option, None}
 use Rattle.std.specs.Prelude.{Some, if◌then◌else◌}
 use Rattle.iax_frames.specs.FullFrame.{spelling}
@@ -23,18 +23,18 @@ use Rattle.call_signals.specs.declared.reply.Reply.TheVariants as replies
 use Rattle.call_signals.specs.declared.stage.Stage.{Stage}
 use Rattle.call_signals.specs.declared.stage.Stage.TheVariants as stages
 
--- this frame goes out while fewer than so many are held, and the leg enters this stage
+-- this frame is sent while fewer than this number are held, and the leg enters this stage
 abbrev pub ordered : Reply → Stage → ℕ → Ordered
 ordered reply stage most = record { reply = reply; stage = stage; most = most }
 
 abbrev pub when : Bool → Ordered → Option Ordered
 when holds row = if holds then Some row else None
 
--- A doomed leg sends no more digits: one that found no room would leave a gap before those that come after it.
+-- A doomed leg sends no more digits: a digit that found no room would leave a gap before those after it.
 abbrev pub refuses_digits : LegState → Bool
 refuses_digits leg = leg.rules.is_hardened && leg.doomed
 
--- The rows in which a numbered frame goes out; none: the stage is a wrong one, or the leg refuses digits.
+-- The rows that send a numbered frame; none: the stage is a wrong one, or the leg refuses digits.
 abbrev pub order_row : LegState → Order → Option Ordered
 order_row leg (Accept format) = when (is_offered leg.stage) (ordered (replies.Accept format) stages.Linked leg.window.width)
 order_row leg (Reject cause) = when (is_offered leg.stage) (ordered (replies.Reject cause) stages.Closing leg.window.width)
@@ -49,7 +49,7 @@ order_row leg Paid = None
 
 -- ---- refusals
 
--- why a numbered frame can't go out now: its window, then its record
+-- the reason why a numbered frame can't be sent now: its window, then its record
 abbrev pub sending_refused : LegState → ℕ → Option OrderError
 sending_refused leg most =
     if nat_le most (held_count leg.window) then Some errors.WindowFull
@@ -65,12 +65,12 @@ media_refused_as Quelched leg = None
 media_refused_as Voice leg = sending_refused leg (local_room leg.window.width)
 media_refused_as (Mini timestamp) leg = None
 
--- only media that goes out as a full frame has to find room
+-- only media that is sent as a full frame needs room
 abbrev pub media_refused : LegState → ℕ → Option OrderError
 media_refused leg now =
     if is_talking leg.stage then media_refused_as (media_sent leg now) leg else Some errors.WrongStage
 
--- why an order is refused, memory aside
+-- the refusal of an order, memory aside
 abbrev pub order_refused : LegState → Order → ℕ → Option OrderError
 order_refused leg (Media media) now = media_refused leg now
 order_refused leg (Doom cause) now = None
@@ -82,7 +82,7 @@ order_refused leg Answer now = row_refused leg (order_row leg Answer)
 order_refused leg (Dtmf digit) now = row_refused leg (order_row leg (Dtmf digit))
 order_refused leg (Hangup cause) now = row_refused leg (order_row leg (Hangup cause))
 
--- a refusal is the one that is due; where none is, memory was refused
+-- a refusal is the one that is due; if none is due, memory was refused
 abbrev pub IsRefusal : Option OrderError → OrderError → Type 0
 IsRefusal (Some due) e = e ≡ due
 IsRefusal None e = e ≡ errors.Memory
@@ -91,7 +91,7 @@ abbrev pub is_voice : MediaSent → Bool
 is_voice Voice = true
 is_voice sent = false
 
--- only an order that sends a full frame wants memory
+-- only an order that sends a full frame needs memory
 abbrev pub wants_memory : LegState → Order → ℕ → Bool
 wants_memory leg (Media media) now = is_voice (media_sent leg now)
 wants_memory leg (Doom cause) now = false
@@ -105,7 +105,7 @@ IsShortMedia _ = Unit {0}
 
 -- ---- effects
 
--- the leg after an order, and the datagrams that go out
+-- the leg after an order, and its datagrams
 pub record Carried : Type 0 where
   pub leg : LegState
   pub datagrams : List (List ℕ)
@@ -117,7 +117,7 @@ row_carried leg (Some row) now =
     let frame = reply_frame leg_in now row.reply in
     record { leg = sent leg_in frame now; datagrams = spelling (outgoing leg_in false (next_byte leg_in) frame) ∷ [] }
 
--- media that isn't quelched goes out as a full frame or as a mini frame
+-- media that isn't quelched is sent as a full frame or as a mini frame
 abbrev pub media_datagrams : MediaSent → LegState → List ℕ → ℕ → List (List ℕ)
 media_datagrams Quelched leg media now = []
 media_datagrams Voice leg media now = map spelling (media_frames Voice leg media now)
@@ -131,7 +131,7 @@ doomed leg cause = record leg {
   cause = if is_over leg.stage then leg.cause else cause;
 }
 
--- a leg that is over owes nothing any more
+-- a leg that is over owes nothing
 abbrev pub paid : LegState → LegState
 paid leg = record leg { owes = leg.owes && not (is_over leg.stage) }
 

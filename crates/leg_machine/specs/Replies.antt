@@ -57,7 +57,7 @@ voice_frame leg now media = record {
   payload = media;
 }
 
--- A frame as this leg sends it: under the number of this byte, and saying which number it expects next.
+-- A frame as this leg sends it: with the number of this byte, and the number that the leg expects next.
 abbrev pub outgoing : LegState → Bool → ℕ → Frame → FullFrame
 outgoing leg again byte frame = record {
   head = record {
@@ -77,7 +77,7 @@ outgoing leg again byte frame = record {
 abbrev pub next_byte : LegState → ℕ
 next_byte leg = sent_count leg.window.history % 256
 
--- an IAX frame without a number of its own, with the timestamp of the frame that it answers
+-- an IAX frame that isn't numbered, with the timestamp of the frame that it answers
 abbrev pub unnumbered : LegState → ℕ → ℕ → FullFrame
 unnumbered leg subclass timestamp =
     outgoing leg false (next_byte leg) (record { ts = timestamp; kind = FRAME_IAX; subclass = subclass; payload = [] })
@@ -88,6 +88,6 @@ ack leg frame = unnumbered leg IAX_ACK frame.head.timestamp
 abbrev pub vnak : LegState → FullFrame → FullFrame
 vnak leg frame = unnumbered leg IAX_VNAK frame.head.timestamp
 
--- a held frame as it goes out again
+-- a held frame as it is retransmitted
 abbrev pub sent_again : LegState → Held Frame → FullFrame
 sent_again leg held = outgoing leg true held.number held.frame

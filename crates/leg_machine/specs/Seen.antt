@@ -1,5 +1,5 @@
--- What callers at once see of a leg: where it stands, whether it is doomed and whether it owes; and what a frame, an order, a
--- tick and an opening may do to that ("IAX Frames", "Call Setup").
+-- The part of a leg that callers at once see: its stage, whether it is doomed and whether it owes. And the possible effect
+-- on it of a frame, an order, a tick and an opening ("IAX Frames", "Call Setup").
 pub use Rattle.call_signals.specs.Order.{kind_of}
 use Rattle.std.specs.Prelude.{◌≡◌, ℕ, ◌||◌, ◌&&◌, not, ◌⊎◌, Bool, false, Option, None, Some, if◌then◌else◌}
 use Rattle.leg_machine.specs.Leg.{LegState}
@@ -25,13 +25,13 @@ pub record SeenLeg : Type 0 where
 abbrev pub seen : LegState → SeenLeg
 seen leg = record { stage = leg.stage; doomed = leg.doomed; owes = leg.owes }
 
--- A leg enters a stage. From the first that is Closing or Ended on it owes.
+-- A leg enters a stage. It owes once it enters the first stage that is Closing or Ended.
 abbrev pub moved : SeenLeg → Stage → SeenLeg
 moved leg stage = record leg { stage = stage; owes = leg.owes || (is_over stage && not (is_over leg.stage)) }
 
 -- ---- frames
 
--- what a full frame may be to a leg
+-- the kinds of a full frame to a leg
 pub data SeenFrame : Type 0 where
   -- it changes nothing here
   Plain : SeenFrame
@@ -39,7 +39,7 @@ pub data SeenFrame : Type 0 where
   FailsToProve : SeenFrame
   AcceptsCall : SeenFrame
   RejectsCall : SeenFrame
-  -- the call can't go on with it: another format, busy, hung up in the call
+  -- the call can't continue: another format, busy, or a hangup
   BreaksOff : SeenFrame
   Indicates : (indication : Indication) → SeenFrame
   AnswersCall : SeenFrame
@@ -49,7 +49,7 @@ pub data SeenFrame : Type 0 where
   -- nothing is held any more
   AcknowledgesAll : SeenFrame
 
--- the stage after, and what is handed up
+-- the stage afterwards, and the signal handed up
 pub record SeenEffect : Type 0 where
   pub stage : Stage
   pub signal : Option Signal
@@ -77,7 +77,7 @@ frame_effect HangsUp stage = seen_effect stages.Ended (Some signals.Hangup)
 frame_effect AcknowledgesAll stages.Closing = seen_effect stages.Ended None
 frame_effect frame stage = seen_effect stage None
 
--- the leg after a full frame, and what it hands up, are those of one of these frames
+-- the leg after a full frame, and its signal, are those of one of these frames
 abbrev pub IsSeenFrame : SeenLeg → SeenLeg → Option Signal → Type 0
 IsSeenFrame old new signal =
     (frame : SeenFrame) × (new ≡ moved old (frame_effect frame old.stage).stage) ×
@@ -94,7 +94,7 @@ opening_effect Offers = seen_effect stages.Offered (Some signals.Offered)
 abbrev pub fresh_leg : Stage → SeenLeg
 fresh_leg stage = record { stage = stage; doomed = false; owes = is_over stage }
 
--- a leg that a NEW opened, and what it hands up, are those of one of these openings
+-- a leg that a NEW opened, and its signal, are those of one of these openings
 abbrev pub IsSeenOpening : SeenLeg → Option Signal → Type 0
 IsSeenOpening new signal =
     (opening : Opening) × (new ≡ fresh_leg (opening_effect opening).stage) × (signal ≡ (opening_effect opening).signal)
@@ -135,7 +135,7 @@ IsSeenOrder kind old new = (stage : Stage) × (stage_after kind old.stage ≡ So
 
 -- ---- ticks
 
--- what a tick may do to a leg, beside sending
+-- the possible effects of a tick on a leg, apart from its frames
 pub data Lapse : Type 0 where
   Ends : Lapse
   -- a doomed leg hangs up

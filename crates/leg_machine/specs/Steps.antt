@@ -1,4 +1,4 @@
--- The steps of a leg: what a full frame does, in its working order ("Message Transport").
+-- The steps of a leg: the effect of a full frame, in its working order ("Message Transport").
 use Rattle.std.specs.Prelude.{ℕ, ◌&&◌, false, List, [], ◌∷◌, map, Option, None, if◌then◌else◌}
 use Rattle.iax_frames.specs.FullFrame.{FullFrame}
 use Rattle.seq_window.specs.declared.judgements.Acknowledged.{Acknowledged as Judgement}
@@ -25,14 +25,14 @@ use Rattle.call_signals.specs.declared.outcomes.Judged.TheVariants as judged
 use Rattle.call_signals.specs.declared.signal.Signal.{Signal}
 use Rattle.call_signals.specs.declared.signal.Signal.TheVariants as signals
 
--- the leg after a step, the frames that it sends, how the frame was judged, and what is handed up
+-- the leg after a step, the frames that it sends, the judgement of the frame, and the signal handed up
 pub record Step : Type 0 where
   pub leg : LegState
   pub replies : List FullFrame
   pub judged : Judged
   pub signal : Option Signal
 
--- what a call answers of it
+-- a call's answer
 abbrev pub heard_of : Step → Heard
 heard_of s = record { judged = s.judged; signal = s.signal }
 
@@ -41,7 +41,7 @@ nothing_sent leg = record { leg = leg; replies = []; judged = judged.Unnumbered;
 
 -- ---- VNAK
 
--- all held frames go out again, oldest first, and are counted; that is no try
+-- all held frames are retransmitted, oldest first, and counted; that is no try
 abbrev pub resend_step : LegState → ℕ → Step
 resend_step leg now = record {
   leg = resent_by (with_window leg (after_touching_all leg.window now)) (held_count leg.window);
@@ -50,7 +50,7 @@ resend_step leg now = record {
   signal = None;
 }
 
--- the oldest held frame alone goes out again, and is counted; that is no try either
+-- only the oldest held frame is retransmitted, and counted; that is no try either
 abbrev pub oldest_step : LegState → ℕ → Step
 oldest_step leg now = record {
   leg = resent_by (with_window leg (after_touching leg.window 0 now)) 1;
@@ -66,7 +66,7 @@ answer_step leg number now =
     then oldest_step (vnak_noted leg number now) now
     else resend_step (vnak_noted leg number now) now
 
--- a VNAK has an effect where its acknowledgement counts
+-- a VNAK has an effect if its acknowledgement counts
 abbrev pub vnak_step : Judgement → LegState → ℕ → ℕ → Step
 vnak_step acknowledgement leg number now =
     if counts acknowledgement then answer_step leg number now else nothing_sent leg
@@ -78,7 +78,7 @@ abbrev pub taken : Effect → LegState → FullFrame → Message → ℕ → Leg
 taken effect leg frame message now =
     recorded (heard (marked (entered (end_noted leg effect.stage frame message) effect.stage now) effect.mark) message) frame
 
--- a numbered reply goes out
+-- a numbered reply is sent
 abbrev pub replied : LegState → ℕ → Answering → LegState
 replied leg now (Answered reply) = sent leg (reply_frame leg now reply) now
 replied leg now Acknowledged = leg
@@ -94,7 +94,7 @@ abbrev pub answered : Answering → LegState → FullFrame → ℕ → Option Si
 answered answer leg frame now signal =
     record { leg = replied leg now answer; replies = answers leg frame now answer; judged = judged.Taken; signal = signal }
 
--- where a numbered reply finds no room, the frame isn't taken and not answered
+-- if a numbered reply finds no room, the frame is neither taken nor answered
 abbrev pub no_room : LegState → Step
 no_room leg = record { leg = leg; replies = []; judged = judged.NoRoom; signal = None }
 
@@ -106,11 +106,11 @@ taken_step effect leg frame message now =
 
 -- ---- a gap
 
--- A frame comes ahead of the one that is expected: a VNAK asks for that one.
+-- A frame comes ahead of the expected one: a VNAK asks for that one.
 abbrev pub asking : LegState → FullFrame → ℕ → Step
 asking leg frame now = record { leg = asked leg now; replies = vnak leg frame ∷ []; judged = judged.Gap; signal = None }
 
--- A VNAK asked for it less than `vnak_ms` milliseconds ago: silence.
+-- A VNAK asked for it less than `vnak_ms` milliseconds ago: nothing is sent.
 abbrev pub not_asking : LegState → Step
 not_asking leg = record { leg = leg; replies = []; judged = judged.Gap; signal = None }
 

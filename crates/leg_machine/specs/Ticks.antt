@@ -1,4 +1,4 @@
--- What a tick does to a leg ("Message Transport": retransmission; "PING").
+-- The effect of a tick on a leg ("Message Transport": retransmission; "PING").
 use Rattle.std.specs.Prelude.{ℕ, ◌+◌, not, nat_lt, nat_le, ◌==◌, ◌&&◌, ◌||◌, Bool, false, is_none, List, [], ◌∷◌, ◌++◌}
 use Rattle.std.specs.Prelude.{if◌then◌else◌}
 use Rattle.iax_frames.specs.FullFrame.{FullFrame}
@@ -13,7 +13,7 @@ use Rattle.call_signals.specs.declared.reply.Reply.{Reply}
 use Rattle.call_signals.specs.declared.reply.Reply.TheVariants.{Hangup, Ping}
 use Rattle.call_signals.specs.declared.stage.Stage.TheVariants as stages
 
--- what a tick gives; skipped: so many frames were due and had no memory
+-- the result of a tick; skipped: the number of frames that were due and had no memory
 pub record Tick : Type 0 where
   pub leg : LegState
   pub replies : List FullFrame
@@ -22,7 +22,7 @@ pub record Tick : Type 0 where
 abbrev pub quiet : LegState → Tick
 quiet leg = record { leg = leg; replies = []; skipped = 0 }
 
--- the leg, changed, sends a frame where memory was had; else nothing changes
+-- the leg, changed, sends a frame if there was memory; otherwise nothing changes
 abbrev pub sends_if : Bool → LegState → LegState → ℕ → Reply → Tick
 sends_if grown leg changed now reply =
     if grown
@@ -44,7 +44,7 @@ hang_up_step grown leg now =
 
 -- ---- PING
 
--- so long ago was the last PING, or the opening
+-- the time since the last PING, or since the opening, is over
 abbrev pub is_ping_time : LegState → ℕ → Bool
 is_ping_time leg now = not (leg.rules.ping_ms == 0) && nat_le (leg.pinged + leg.rules.ping_ms) now
 
@@ -64,8 +64,8 @@ ping_step grown leg now = if must_ping leg now then sends_if grown leg (pinged l
 abbrev pub last_step : Bool → Bool → LegState → ℕ → Tick
 last_step grown spent leg now = if spent then quiet (failed leg failures.RetriesSpent now) else ping_step grown leg now
 
--- The doomed leg hangs up, then held frames that are due go out again, then a PING that is due.
--- grown: there was memory for one frame more.
+-- The doomed leg hangs up, then held frames that are due are retransmitted, then a PING that is due is sent.
+-- grown: there was memory for one more frame
 abbrev pub due_frames : Bool → LegState → ℕ → Tick
 due_frames grown leg now =
     let hung = hang_up_step grown leg now in
@@ -86,7 +86,7 @@ tick_step grown leg now =
 abbrev pub is_none_due : LegState → ℕ → Bool
 is_none_due leg now = is_none (first_due now leg.rules.retry_ms leg.window.sendings)
 
--- A tick has nothing to do: the leg has ended, or it needn't end or hang up, and neither a held frame nor a PING is due.
+-- A tick has no work: the leg has ended, or it needn't end or hang up, and neither a held frame nor a PING is due.
 abbrev pub is_idle : LegState → ℕ → Bool
 is_idle leg now =
     is_ended leg.stage

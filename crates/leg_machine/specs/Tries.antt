@@ -8,7 +8,7 @@ use Rattle.seq_window.specs.Window.{held_at, is_due, resent, after_marking}
 use Rattle.leg_machine.specs.Leg.{LegState, resent_by, with_window}
 use Rattle.leg_machine.specs.Replies.{sent_again}
 
--- what the tries of one tick give; spent: a frame that is due has had all its tries
+-- the result of the tries of one tick; spent: a frame that is due has had all its tries
 pub record Tried : Type 0 where
   pub leg : LegState
   pub replies : List FullFrame
@@ -17,11 +17,11 @@ pub record Tried : Type 0 where
 abbrev pub tried : LegState → Bool → Tried
 tried leg spent = record { leg = leg; replies = []; spent = spent }
 
--- the held frame at a place goes out again, and is counted
+-- the held frame at a place is retransmitted, and counted
 abbrev pub after_try : LegState → ℕ → ℕ → LegState
 after_try leg place now = resent_by (with_window leg (after_marking leg.window place now)) 1
 
--- the held frame at a place as it goes out again
+-- the held frame at a place as it is retransmitted
 abbrev pub frames_again : LegState → ℕ → List FullFrame
 frames_again leg place = option_to_list (option_map (sent_again leg) (held_at leg.window place))
 
@@ -32,7 +32,7 @@ one_try (resents.Again place) leg now rest =
     let later = rest (after_try leg place now) in
     record { leg = later.leg; replies = frames_again (after_try leg place now) place ++ later.replies; spent = later.spent }
 
--- The first held frame that is due goes out again, until none is due or one is spent, in at most so many turns.
+-- The first held frame that is due is retransmitted, until none is due or one is spent, in at most this many turns.
 abbrev pub tries : ℕ → LegState → ℕ → Tried
 tries zero leg now = tried leg false
 tries (suc turns) leg now =

@@ -1,4 +1,4 @@
--- The small changes of which a leg's steps are made.
+-- The small changes of a leg's steps.
 use Rattle.std.specs.Prelude.{ℕ, ◌-◌, ◌&&◌, ◌||◌, ◌==◌, not, min, Bool, true, false, nat_le, nat_lt, Option, None, Some, unwrap_or}
 use Rattle.std.specs.Prelude.{if◌then◌else◌}
 use Rattle.iax_frames.specs.FullFrame.{FullFrame}
@@ -44,7 +44,7 @@ abbrev pub recorded : LegState → FullFrame → LegState
 recorded leg frame =
     record (with_window leg (after_receiving leg.window frame.head.oseqno (stored frame))) { vnak_sent = None }
 
--- why the leg ends, where it ends by entering this stage, with this frame
+-- the cause of the leg's end, if it ends by entering this stage, with this frame
 abbrev pub end_noted : LegState → Stage → FullFrame → Message → LegState
 end_noted leg stage frame message = record leg {
   cause = if leg.rules.carries_cause && is_over stage && not (is_over leg.stage) then ending_cause frame message else leg.cause;
@@ -69,11 +69,11 @@ with_voice formats message = record {
   alaw = formats.alaw || is_voice_in Alaw message;
 }
 
--- In whatever stage voice is taken, its format is noted: that of the call may still change.
+-- The format of a voice frame is noted in any stage, because the call's format may still change.
 abbrev pub heard : LegState → Message → LegState
 heard leg message = record leg { voice_taken = with_voice leg.voice_taken message }
 
--- a moment is so many milliseconds ago or more, or there is none
+-- a moment is at least this many milliseconds ago, or there is none
 abbrev pub is_past : ℕ → ℕ → Option ℕ → Bool
 is_past least now None = true
 is_past least now (Some moment) = nat_le least (now - moment)
@@ -82,16 +82,17 @@ is_past least now (Some moment) = nat_le least (now - moment)
 abbrev pub wants_vnak : LegState → ℕ → Bool
 wants_vnak leg now = is_past leg.rules.vnak_ms now leg.vnak_sent
 
--- a VNAK goes out
+-- a VNAK is sent
 abbrev pub asked : LegState → ℕ → LegState
 asked leg now = record leg { vnak_sent = Some now }
 
--- A VNAK repeats the one that was answered last: it asks for the same number, less than so many milliseconds after it.
+-- A VNAK repeats the one that was answered last: it asks for the same number, within this many milliseconds.
 abbrev pub is_repetition : Option AnsweredVnak → ℕ → ℕ → ℕ → Bool
 is_repetition None number now within = false
 is_repetition (Some last) number now within = (last.number == number) && nat_lt (now - last.at) within
 
--- A VNAK that repeats, within the lesser of `retry_ms` and 100 milliseconds, brings the oldest held frame alone, if one is held.
+-- A VNAK that repeats, within the lesser of `retry_ms` and 100 milliseconds, brings only the oldest held frame, if one is
+-- held.
 abbrev pub brings_oldest : LegState → ℕ → ℕ → Bool
 brings_oldest leg number now =
     leg.rules.is_hardened
@@ -102,7 +103,7 @@ brings_oldest leg number now =
 abbrev pub vnak_noted : LegState → ℕ → ℕ → LegState
 vnak_noted leg number now = record leg { vnak_answered = Some (record { number = number; at = now }) }
 
--- A frame bears the leg's number, and that of the other side, if that is known.
+-- A frame has the leg's number, and that of the other side, if that is known.
 abbrev pub names_leg : LegState → FullFrame → Bool
 names_leg leg frame =
     (frame.head.destination == leg.number) && (unwrap_or leg.remote frame.head.source == frame.head.source)
@@ -111,6 +112,6 @@ names_leg leg frame =
 abbrev pub heeds_inval : LegState → FullFrame → Bool
 heeds_inval leg frame = not leg.rules.is_hardened || names_leg leg frame
 
--- a numbered frame goes out
+-- a numbered frame is sent
 abbrev pub sent : LegState → Frame → ℕ → LegState
 sent leg frame now = with_window leg (after_sending leg.window frame now)

@@ -1,4 +1,4 @@
-//! Until when a tick has nothing to do ("Message Transport": retransmission; "PING").
+//! The time until which a tick has nothing to do ("Message Transport": retransmission; "PING").
 ghost use Rattle.std.specs.Prelude.{◌≡◌, ℕ, ◌+◌, ◌^◌, ◌<◌, true, false};
 ghost use Rattle.leg_machine.specs.Leg.{is_overdue};
 ghost use Rattle.leg_machine.specs.Ticks as ticks;
@@ -8,7 +8,7 @@ use crate::machine::Machine;
 impl Machine {
     ghost use Rattle.leg_machine.specs.Leg.{leg_of};
 
-    // The first moment at which a held frame is due, as far as 64 bits go.
+    // Returns the first moment at which a held frame is due, as far as 64 bits go.
     fn due_from(&self) -> u64
         ensures before { (now : ℕ) → now < result → ticks.is_none_due (leg_of self.now) now ≡ true }
         ensures then { result + 1 < 2 ^ 64 → ticks.is_none_due (leg_of self.now) result ≡ false }
@@ -21,7 +21,7 @@ impl Machine {
         first
     }
 
-    // The first moment at which a PING is due, as far as 64 bits go.
+    // Returns the first moment at which a PING is due, as far as 64 bits go.
     fn pings_from(&self) -> u64
         ensures before { (now : ℕ) → now < result → ticks.must_ping (leg_of self.now) now ≡ false }
         ensures then { result + 1 < 2 ^ 64 → ticks.must_ping (leg_of self.now) result ≡ true }
@@ -34,7 +34,7 @@ impl Machine {
         }
     }
 
-    // The first moment at which the leg's challenge wasn't answered in time, as far as 64 bits go.
+    // Returns the first moment at which the leg's challenge wasn't answered in time, as far as 64 bits go.
     fn overdue_from(&self) -> u64
         ensures before { (now : ℕ) → now < result → is_overdue (leg_of self.now) now ≡ false }
         ensures then { result + 1 < 2 ^ 64 → is_overdue (leg_of self.now) result ≡ true }
@@ -51,8 +51,8 @@ impl Machine {
         }
     }
 
-    /// The first moment, in milliseconds, at which a tick has something to do. The largest moment stands for all later ones, and
-    /// for none.
+    /// Returns the first moment, in milliseconds, at which a tick has work. The largest moment means any
+    /// later ones, and for none.
     pub fn idle_until(&self) -> u64
         ensures before { (now : ℕ) → now < result → ticks.is_idle (leg_of self.now) now ≡ true }
         ensures then { result + 1 < 2 ^ 64 → ticks.is_idle (leg_of self.now) result ≡ false }

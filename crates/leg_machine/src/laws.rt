@@ -32,15 +32,15 @@ ghost use Rattle.call_signals.specs.declared.rules.PeerRules.{PeerRules};
 ghost use Rattle.call_signals.specs.declared.signal.MediaSpan.{MediaSpan};
 ghost use Rattle.call_signals.specs.declared.stage.Stage.TheVariants.{Challenged, Waiting, Ended};
 
-/// A tick tries as often as is due: its turns, as many as frames were held when it began, never run out before a frame is
-/// spent or none is due any more.
+/// A tick has a turn for each frame that was held when it began. These never run out before a frame is spent or none is due
+/// any more.
 pub fn ticks_finish_their_tries()
     ensures tries { (leg : LegState) (now : ℕ) → 1 ≤ leg.rules.retry_ms →
         IsFinished (tries (held_count leg.window) leg now) now }
-    // So too where a doomed leg sends its HANGUP first, which is then held beside the others.
+    // Also if a doomed leg first sends its HANGUP, which is then held with the others.
     ensures after_hanging_up { (grown : Bool) (leg : LegState) (now : ℕ) → 1 ≤ leg.rules.retry_ms →
         IsFinished (tries (held_count leg.window) (hang_up_step grown leg now).leg now) now }
-    // After a tick the leg has ended, or nothing that it holds is due.
+    // After a tick the leg has ended, or no held frame is due.
     ensures after_tick { (grown : Bool) (leg : LegState) (now : ℕ) → 1 ≤ leg.rules.retry_ms →
         ((tick_step grown leg now).leg.stage ≡ Ended) ⊎ NoneDue (tick_step grown leg now).leg now }
 {}
@@ -55,19 +55,19 @@ pub fn media_is_the_frames()
     ensures { (leg : LegState) (frame : FullFrame) (now : ℕ) → IsMediaOf frame (full_step leg frame now).signal }
 {}
 
-/// Media is judged by the format that the call has, though it may be chosen after voice was taken: mini frames and trunk entries
+/// Media is judged by the call's present format, which may be chosen after voice was taken. Mini frames and trunk entries
 /// are accepted only if a voice frame of that format was taken.
 pub fn media_is_of_the_calls_format()
     ensures accepted { (leg : LegState) (span : MediaSpan) → accepts_media leg span ≡ true →
         has_format leg.voice_taken leg.format ≡ true }
-    // A taken frame adds its own format and no other, whatever the call's is. So in a leg whose format never changes a note of
-    // voice of that format alone would say the same.
+    // A taken frame adds its own format and no other, whatever the call's is. So if a leg's format never changes, a note of
+    // voice of that format alone would suffice.
     ensures noted { (leg : LegState) (message : Message) (format : Format) →
         has_format (heard leg message).voice_taken format ≡ (has_format leg.voice_taken format || is_voice_in format message) }
 {}
 
-/// Where the plan has no `vnak_ms`, each gap is answered by a VNAK. Where it has, silence waits for the frame that the last VNAK
-/// asked for and for no other: a leg that has come to expect another one has no VNAK that counts.
+/// If the plan has no `vnak_ms`, each gap is answered by a VNAK. If it has one, silence waits only for the frame that the
+/// last VNAK asked for: once the leg expects another frame, no VNAK counts.
 pub fn gaps_are_answered()
     ensures always { (leg : LegState) (frame : FullFrame) (message : Message) (now : ℕ) → leg.rules.vnak_ms ≡ 0 →
         (judged_step Gap leg frame message now).replies ≡ vnak leg frame ∷ [] }
@@ -76,7 +76,7 @@ pub fn gaps_are_answered()
         (full_step leg frame now).leg.vnak_sent ≡ None }
 {}
 
-/// What a forged frame can make of a leg whose rules harden it: a VNAK that repeats brings one frame at most, and an INVAL that
+/// The effect of a forged frame on a leg whose rules harden it. A VNAK that repeats brings at most one frame. An INVAL that
 /// doesn't name the leg changes nothing and brings nothing.
 pub fn hardening_is_by_the_rules()
     ensures vnaks { (leg : LegState) (number : ℕ) (now : ℕ) → leg.rules.is_hardened ≡ true →
@@ -84,7 +84,7 @@ pub fn hardening_is_by_the_rules()
         length (answer_step leg number now).replies ≤ 1 }
     ensures invals { (leg : LegState) (frame : FullFrame) (now : ℕ) → leg.rules.is_hardened ≡ true →
         is_inval (message_of frame.head) ≡ true → names_leg leg frame ≡ false → full_step leg frame now ≡ nothing_sent leg }
-    // By other rules each VNAK brings all held frames, each INVAL ends the leg, and a doomed leg takes digits.
+    // By other rules each VNAK brings all held frames, each INVAL ends the leg, and a doomed leg accepts digits.
     ensures all_vnaks { (leg : LegState) (number : ℕ) (now : ℕ) → leg.rules.is_hardened ≡ false →
         (answer_step leg number now).replies ≡ map (sent_again leg) (held_frames leg.window) }
     ensures all_invals { (leg : LegState) (frame : FullFrame) (now : ℕ) → leg.rules.is_hardened ≡ false →
@@ -92,9 +92,9 @@ pub fn hardening_is_by_the_rules()
     ensures all_digits { (leg : LegState) → leg.rules.is_hardened ≡ false → refuses_digits leg ≡ false }
 {}
 
-/// What a challenge is for. One of this exchange that comes back to a hardened leg isn't answered: the call is hung up. A leg that
-/// waits for the answer to its own has at most 32 entries in its record and 4,096 octets of data, whatever full frames come, and
-/// ends by a tick, silently, once the answer is late.
+/// The handling of challenges. If one of this exchange comes back to a hardened leg, it isn't answered: the call is hung
+/// up. A leg that waits for the answer to its own has at most 32 entries in its record and 4,096 octets of data, whatever
+/// full frames come. It ends by a tick, silently, if the answer is late.
 pub fn challenges_are_by_the_rules()
     ensures reflected { (leg : LegState) (frame : FullFrame) → is_reflected leg.rules frame ≡ true →
         waiting leg frame AuthReq ≡ hung_up CallRejected }
@@ -107,14 +107,15 @@ pub fn challenges_are_by_the_rules()
         tick_step grown leg now ≡ quiet (failed leg (end_failure leg) now) }
 {}
 
-/// Seen only by its stage, whether it is doomed, whether it owes and what it hands up, each step of a leg is one that callers at
-/// once reckon with: that of a frame, an order, a tick or an opening.
+/// Each step of a leg is one that callers at once allow for: that of a frame, an order, a tick or an opening. They see only
+/// its stage, whether it is doomed, whether it owes, and the signal that it hands up.
 pub fn steps_are_seen()
     ensures frames { (leg : LegState) (frame : FullFrame) (now : ℕ) →
         IsSeenFrame (seen leg) (seen (full_step leg frame now).leg) (full_step leg frame now).signal }
     ensures orders { (leg : LegState) (order : Order) (now : ℕ) → order_refused leg order now ≡ None →
         IsSeenOrder (kind_of order) (seen leg) (seen (order_carried leg order now).leg) }
-    // An order is refused for the stage exactly where it leads nowhere from there, or is a digit that a doomed leg refuses.
+    // An order is refused for the stage if and only if it leads nowhere from there, or is a digit that a doomed leg
+    // refuses.
     ensures wrong_stages { (leg : LegState) (order : Order) (now : ℕ) →
         (order_refused leg order now ≡ Some WrongStage) ↔ (stage_ordered leg (kind_of order) ≡ None) }
     ensures ticks { (grown : Bool) (leg : LegState) (now : ℕ) → IsSeenTick (seen leg) (seen (tick_step grown leg now).leg) }
@@ -125,8 +126,9 @@ pub fn steps_are_seen()
         seen (open_out_step rules number called caller format now).leg ≡ fresh_leg Waiting }
 {}
 
-/// Each step of a leg adds to its record what one turn of a network's side adds: a full frame at most an acknowledgement, then at
-/// most a taken frame, then at most a sent one, with the octets of that frame; an order and a tick at most a sent frame.
+/// Each step of a leg adds to its record the entries of one turn of a network's side. A full frame adds at most an
+/// acknowledgement, then at most a taken frame, then at most a sent one, with the octets of that frame; an order and a tick
+/// add at most a sent frame.
 pub fn steps_take_turns()
     ensures frames { (leg : LegState) (frame : FullFrame) (now : ℕ) → TakesTurn leg frame (full_step leg frame now).leg }
     ensures orders { (leg : LegState) (order : Order) (now : ℕ) → SendsAtMostOne leg (order_carried leg order now).leg }
@@ -137,12 +139,12 @@ pub fn steps_take_turns()
         HasSentAtMostOne (open_out_step rules number called caller format now).leg }
 {}
 
-/// What a leg sends in a step, a side of a network with its record sends, or it is a mini frame; and what its record has as sent
-/// stays numbered.
+/// A side of a network with a leg's record can send each datagram that the leg sends in a step, unless it is a mini frame.
+/// The sent frames of the record stay numbered.
 pub fn steps_send_as_sides()
     ensures frames { (leg : LegState) (frame : FullFrame) (now : ℕ) → SendsNumbered leg →
         HasSent (full_step leg frame now).leg (map spelling (full_step leg frame now).replies) }
-    // A mini frame bears the leg's number, which has fifteen bits and isn't 0.
+    // A mini frame has the leg's number, which has fifteen bits and isn't 0.
     ensures orders { (leg : LegState) (order : Order) (now : ℕ) → SendsNumbered leg → 0 < leg.number → leg.number < 2 ^ 15 →
         HasSentOrMini (order_carried leg order now).leg (order_carried leg order now).datagrams }
     ensures ticks { (grown : Bool) (leg : LegState) (now : ℕ) → SendsNumbered leg →

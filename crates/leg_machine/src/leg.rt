@@ -1,4 +1,4 @@
-//! A leg, by the calls of the layer above.
+//! A leg, with the calls of the layer above.
 ghost use Rattle.std.specs.Prelude.{◌≡◌, ◌==◌, ℕ, ◌+◌, ◌≤◌, ◌<◌, ◌↔◌, true, None, Some, Err, [], length, map, All, IfOk, IfErr};
 ghost use Rattle.std.specs.Prelude.{OnOk, OnErr};
 ghost use Rattle.iax_frames.specs.FullFrame.{spelling};
@@ -30,12 +30,12 @@ use std::marker::Model;
 
 /// One end of a call with one peer.
 ///
-/// It begins by `open_in` or `open_out`. Events come by `full` and `tick`, orders by `order`; the readers, `media_in` among them,
-/// only look. Each of these calls that can send gives its datagrams in what it answers, and has a form, by its name and `_into`,
-/// that writes them to a list that the caller lends, empty. Media of the layer above has only such a form, `media_into`. No call
-/// waits or looks at a clock: moments are milliseconds that are handed in.
+/// It begins by `open_in` or `open_out`. Events come by `full` and `tick`, orders by `order`; the readers, including
+/// `media_in`, don't change it. Each call that can send returns its datagrams. It also has a form with the suffix `_into`
+/// that writes them to a list that the caller lends, empty. Media of the layer above has only that form, `media_into`. No
+/// call waits or reads a clock: moments are arguments, in milliseconds.
 ///
-/// Contracts see the leg's state, and how many more entries its record takes without asking for memory.
+/// Contracts see the leg's state, and the number of entries that its record takes without further memory.
 #[derive(Drop)]
 pub struct Leg {
     pub(crate) machine: Machine,
@@ -49,16 +49,16 @@ impl Model for Leg {
 
     ghost view = { λ l. whole_leg l.machine };
 
-    // Each frame that the record has as sent is numbered.
+    // Each sent frame of the record is numbered.
     ghost invariant = { λ l. SendsNumbered (leg_of l.machine) };
 }
 
 impl Leg {
-    /// A leg for a NEW that came ("Call Setup"), under this local number, 1 ..= 32,767, at the moment `now`, in milliseconds. Its
-    /// remote number is the NEW's source. What is sent is written to the empty list.
+    /// Returns a leg for a received NEW ("Call Setup"), under this local number, 1 ..= 32,767, at the moment `now`, in
+    /// milliseconds. Its remote number is the NEW's source. Its frames are written to the empty list.
     ///
-    /// The NEW has OSeqno 0 and at most 1,388 octets of data. The challenge goes out where the peer has a secret. `Err` comes
-    /// only where memory was refused; then nothing is written.
+    /// The NEW has OSeqno 0 and at most 1,388 octets of data. The challenge is sent if the peer has a secret. Returns `Err`
+    /// only if memory was refused; then nothing is written.
     pub fn open_in_into(
         alloc: Global,
         rules: &PeerRules,
@@ -95,16 +95,16 @@ impl Leg {
         machine.challenge = opening.challenge(challenge);
         let effect = opening.effect();
         let heard = machine.take(&effect, frame, &Message::New, now, replies);
-        // What the window says of its record: for proofs alone.
+        // The window's properties of its record, for proofs alone.
         let _legal = machine.window.record();
         let _held = machine.window.held_len();
         Ok((Leg { machine }, heard))
     }
 
-    /// A leg for a NEW that goes out ("Call Setup"), under this local number, 1 ..= 32,767, for a number of at most 255 octets,
-    /// at the moment `now`, in milliseconds. What is sent is written to the empty list.
+    /// Returns a leg that sends a NEW ("Call Setup") under this local number, 1 ..= 32,767, at the moment `now`, in
+    /// milliseconds. The called number has at most 255 octets. Its frames are written to the empty list.
     ///
-    /// `Err` comes only where memory was refused; then nothing is written.
+    /// Returns `Err` only if memory was refused; then nothing is written.
     pub fn open_out_into(
         alloc: Global,
         rules: &PeerRules,
@@ -135,12 +135,11 @@ impl Leg {
         Ok(Leg { machine })
     }
 
-    /// A full frame comes, with at most 1,388 octets of data, at the moment `now`, in milliseconds ("Full Frames", "Message
-    /// Transport"). What is sent is written to the empty list.
+    /// Handles a full frame with at most 1,388 octets of data, at the moment `now`, in milliseconds ("Full Frames",
+    /// "Message Transport"). The leg's frames are written to the empty list.
     ///
-    /// Refusals are looked for in this order: `RecordFull` if the record is full (`is_record_full`), whatever the
-    /// frame is; `Memory` where memory was refused, which never comes with four spare entries. Then nothing is changed or
-    /// written.
+    /// Refusals are checked in this order: `RecordFull` if the record is full (`is_record_full`), whatever the frame is;
+    /// `Memory` if memory was refused, which never happens with four spare entries. Then nothing is changed or written.
     pub fn full_into(
         &mut self,
         frame: &Full,
@@ -152,9 +151,9 @@ impl Leg {
         ensures leg { OnOk result (self.new.state ≡ (full_step self.old.state frame.now now).leg) }
         ensures replies { OnOk result (replies.new ≡ map spelling (full_step self.old.state frame.now now).replies) }
         ensures heard { IfOk result (λ heard. heard ≡ heard_of (full_step self.old.state frame.now now)) }
-        // The record grows as one side of a network lets it.
+        // The record grows as that of one side of a network does.
         ensures tied { OnOk result (TakesTurn self.old.state frame.now self.new.state) }
-        // What goes out is what such a side sends.
+        // Such a side can send each frame that is sent.
         ensures sendings { OnOk result (All (IsSending self.new.state) replies.new) }
         ensures seen { IfOk result (λ heard. IsSeenFrame (seen self.old.state) (seen self.new.state) heard.signal) }
         ensures record_full { (result ≡ Err StepError.RecordFull) ↔ (is_record_full self.old.state ≡ true) }
@@ -167,13 +166,13 @@ impl Leg {
         Ok(self.machine.full(frame, now, replies))
     }
 
-    /// Media of 1 to 1,380 octets goes out, at the moment `now`, in milliseconds. A full frame is written to the empty list; of
-    /// later media the caller writes the mini frame or the trunk entry. Quelched media goes nowhere ("Mini Frames", "Meta
+    /// Sends media of 1 to 1,380 octets, at the moment `now`, in milliseconds. A full frame is written to the empty list.
+    /// For later media the caller writes the mini frame or the trunk entry. Quelched media isn't sent ("Mini Frames", "Meta
     /// Frames").
     ///
-    /// Refusals are looked for in this order: `WrongStage` where the leg isn't talking; then, only of media that goes out as a
-    /// full frame, `WindowFull`, `RecordFull` if the record is full, and `Memory`, which never
-    /// comes with a spare entry. Then nothing is changed or written.
+    /// Refusals are checked in this order: `WrongStage` if the leg isn't talking; then, only for media that is sent as a
+    /// full frame, `WindowFull`, `RecordFull` if the record is full, and `Memory`, which never happens with a spare entry.
+    /// Then nothing is changed or written.
     pub fn media_into(
         &mut self,
         media: &[u8],
@@ -205,12 +204,12 @@ impl Leg {
         Ok(sent)
     }
 
-    /// An order is carried out, at the moment `now`, in milliseconds; media has 1 to 1,380 octets. What is sent is written to the
-    /// empty list.
+    /// Carries out an order, at the moment `now`, in milliseconds; media has 1 to 1,380 octets. The leg's frames are
+    /// written to the empty list.
     ///
-    /// Refusals are looked for in this order: `WrongStage` where the leg's stage has no such order, or the leg is doomed and refuses
-    /// the digit; then, only of what goes out as a full frame, `WindowFull`, `RecordFull` if the record is
-    /// full, and `Memory`, which never comes with a spare entry. Then nothing is changed or written. Doom and Paid are
+    /// Refusals are checked in this order: `WrongStage` if the leg's stage has no such order, or the leg is doomed and
+    /// refuses the digit; then, only for an order that sends a full frame, `WindowFull`, `RecordFull` if the record is
+    /// full, and `Memory`, which never happens with a spare entry. Then nothing is changed or written. Doom and Paid are
     /// never refused.
     pub fn order_into(
         &mut self,
@@ -234,15 +233,15 @@ impl Leg {
         ensures none_sent { OnErr result (replies.new ≡ replies.old) }
         ensures capacity { capacity_of self.old ≤ capacity_of self.new }
     {
-        // A mini frame bears the leg's number, which isn't 0.
+        // A mini frame has the leg's number, which isn't 0.
         let _ = self.machine.number.get();
         self.machine.order(order, now, replies)
     }
 
-    /// Time goes on, up to the moment `now`, in milliseconds ("Message Transport": retransmission; "PING"). What is sent is
+    /// Ticks the leg at the moment `now`, in milliseconds ("Message Transport": retransmission; "PING"). Its frames are
     /// written to the empty list.
     ///
-    /// The answer is how many frames were due and had no memory; they stay due. With two spare entries it is 0.
+    /// Returns the number of frames that were due and had no memory; they stay due. With two spare entries it is 0.
     pub fn tick_into(&mut self, now: u64, replies: &mut Replies) -> u32
         requires { replies.old ≡ [] }
         ensures leg { self.new.state ≡ (tick_step (result == 0) self.old.state now).leg }

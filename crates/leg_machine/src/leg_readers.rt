@@ -1,4 +1,4 @@
-//! What a leg tells without a change.
+//! Read-only queries of a leg.
 ghost use Rattle.std.specs.Prelude.{◌≡◌, ℕ, ◌+◌, ◌^◌, ◌<◌, ◌≤◌, true, false, length, option_copied, is_some, if◌then◌else◌, IfSome};
 ghost use Rattle.seq_window.specs.History.{IsLegal};
 ghost use Rattle.leg_machine.specs.Leg.{is_record_full};
@@ -23,8 +23,8 @@ use info_elements::{CALLED_NUMBER, CALLING_NUMBER, last_in};
 use seq_window::{EntryView, Record, Window};
 
 impl Leg {
-    /// Whether media of the other side counts now ("Mini Frames"): `Accepted` where the leg is talking, took voice of the format
-    /// that the call has now, and the span has 1 to 1,380 octets, else `NotYet`.
+    /// Returns whether media of the other side counts now ("Mini Frames"). It is `Accepted` if the leg is talking, took
+    /// voice of the call's present format, and the span has 1 to 1,380 octets; otherwise `NotYet`.
     pub fn media_in(&self, span: MediaSpan) -> MediaIn
         ensures { result ≡ (if accepts_media self.now.state span then MediaIn.Accepted else MediaIn.NotYet) }
     {
@@ -38,29 +38,29 @@ impl Leg {
         }
     }
 
-    /// The stage in which the leg is.
+    /// Returns the stage of the leg.
     pub fn stage(&self) -> Stage
         ensures { result ≡ self.now.state.stage }
     {
         self.machine.stage
     }
 
-    /// Whether the layer above isn't done yet with the end of the call.
+    /// Returns whether the layer above isn't done yet with the end of the call.
     pub fn owes(&self) -> bool
         ensures { result ≡ self.now.state.owes }
     {
         self.machine.owes
     }
 
-    /// Whether the leg hangs up as soon as a tick can.
+    /// Returns whether the leg hangs up as soon as a tick can.
     pub fn doomed(&self) -> bool
         ensures { result ≡ self.now.state.doomed }
     {
         self.machine.doomed
     }
 
-    /// The first moment, in milliseconds, at which a tick has something to do: the leg is idle before it. The largest moment
-    /// stands for all later ones, and for none.
+    /// Returns the first moment, in milliseconds, at which a tick has work: the leg is idle before it. The largest moment
+    /// means any later one, or none.
     pub fn idle_until(&self) -> u64
         ensures before { (now : ℕ) → now < result → is_idle self.now.state now ≡ true }
         ensures then { result + 1 < 2 ^ 64 → is_idle self.now.state result ≡ false }
@@ -68,70 +68,70 @@ impl Leg {
         self.machine.idle_until()
     }
 
-    /// The moment at which the leg was opened, in milliseconds.
+    /// Returns the moment at which the leg was opened, in milliseconds.
     pub fn opened(&self) -> u64
         ensures { result ≡ self.now.state.opened }
     {
         self.machine.opened
     }
 
-    /// Why the leg ends, or for what it is to be hung up; normal clearing until it is known.
+    /// Returns the cause of the leg's end, or of the hang-up that is due; normal clearing until it is known.
     pub fn cause(&self) -> Cause
         ensures { result ≡ self.now.state.cause }
     {
         self.machine.cause
     }
 
-    /// The format of the call: that of its NEW, until it is accepted in another one.
+    /// Returns the format of the call: that of its NEW, until it is accepted in another one.
     pub fn format(&self) -> Format
         ensures { result ≡ self.now.state.format }
     {
         self.machine.format
     }
 
-    /// The other side's number of the call, once it is known.
+    /// Returns the other side's number of the call, once it is known.
     pub fn remote(&self) -> Option<CallNumber>
         ensures { result ≡ self.now.state.remote }
     {
         self.machine.remote
     }
 
-    /// Why it ended, where no HANGUP or REJECT did that; none while it hasn't ended.
+    /// Returns the failure that ended it, if no HANGUP or REJECT did; none while it hasn't ended.
     pub fn failure(&self) -> Option<Failure>
         ensures { result ≡ self.now.state.failure }
     {
         self.machine.failure
     }
 
-    /// How many full frames went out again, modulo 2^64.
+    /// Returns the number of retransmitted full frames, modulo 2^64.
     pub fn resent(&self) -> u64
         ensures { result ≡ self.now.state.resent }
     {
         self.machine.resent
     }
 
-    /// When the call was first offered, accepted, answered and over, in milliseconds.
+    /// Returns the moments at which the call was first offered, accepted, answered and over, in milliseconds.
     pub fn moments(&self) -> Moments
         ensures { result ≡ self.now.state.moments }
     {
         self.machine.moments
     }
 
-    /// Whether a challenge was sent to the other side ("AUTHREQ").
+    /// Returns whether a challenge was sent to the other side ("AUTHREQ").
     pub fn was_challenged(&self) -> bool
         ensures { result ≡ is_some self.now.state.challenge }
     {
         self.machine.challenge.is_some()
     }
 
-    /// Whether a challenge of the other side was answered ("AUTHREP").
+    /// Returns whether a challenge of the other side was answered ("AUTHREP").
     pub fn is_authenticated(&self) -> bool
         ensures { result ≡ self.now.state.authenticated }
     {
         self.machine.authenticated
     }
 
-    /// The local number, 1 ..= 32,767.
+    /// Returns the local number, 1 ..= 32,767.
     pub fn number(&self) -> CallNumber
         ensures value { result ≡ self.now.state.number }
         ensures some { 1 ≤ result }
@@ -139,8 +139,8 @@ impl Leg {
         self.machine.number.get()
     }
 
-    /// The window and its record. Its held frames are those that the record has as sent and not acknowledged; what it has as sent
-    /// is numbered.
+    /// Returns the window and its record. Its held frames are those that the record has as sent and not acknowledged. The
+    /// sent frames of the record are numbered.
     pub fn window(&self) -> &Window
         ensures window { result.now.state ≡ self.now.state.window }
         ensures numbered { SendsNumbered self.now.state }
@@ -148,23 +148,24 @@ impl Leg {
         &self.machine.window
     }
 
-    /// Whether the record has no room for one more full frame and what follows from it: fewer than four entries are free, or fewer
-    /// than 2,776 octets of data of those that the peer's rules allow, or the leg waits for the answer to its challenge and one more
-    /// frame could bring it to more than 32 entries or 4,096 octets of data.
+    /// Returns whether the record has no room for one more full frame and the entries that follow from it. It has none if
+    /// fewer than four entries are free, or fewer than 2,776 octets of data of those that the peer's rules allow. A leg
+    /// that waits for the answer to its challenge has lower limits: one more frame must not bring it past 32 entries or
+    /// 4,096 octets of data.
     pub fn is_record_full(&self) -> bool
         ensures { result ≡ is_record_full self.now.state }
     {
         self.machine.is_record_full()
     }
 
-    /// How many more entries the record takes without asking for memory.
+    /// Returns the number of entries that the record takes without further memory.
     pub fn spare(&self) -> usize
         ensures { result ≡ self.now.spare }
     {
         self.machine.window.spare()
     }
 
-    /// The record, whole, where the leg is given up.
+    /// Returns the whole record, when the leg is given up.
     pub fn into_record(self) -> Record
         ensures entries { result.entries ≡ self.state.window.history }
         ensures legal { IsLegal self.state.window.width self.state.window.limit self.state.window.history }
@@ -196,7 +197,7 @@ impl Leg {
         window.into_record()
     }
 
-    // The data of the NEW that opened the leg.
+    // Returns the data of the NEW that opened the leg.
     fn opening_data(&self) -> &[u8]
         ensures { result.now ≡ opening_data self.now.state.window.history }
     {
@@ -208,7 +209,7 @@ impl Leg {
         }
     }
 
-    /// The number that an offered call wants, at most 255 octets; absent, it is empty.
+    /// Returns the called number of an offered call, at most 255 octets; empty if it is absent.
     pub fn called(&self) -> &[u8]
         ensures value { result.now ≡ called_of self.now.state }
         ensures short { length result.now ≤ 255 }
@@ -219,7 +220,7 @@ impl Leg {
         }
     }
 
-    /// The number from which an offered call comes, at most 255 octets; `None` where the NEW has none.
+    /// Returns the calling number of an offered call, at most 255 octets, or `None` if the NEW has none.
     pub fn calling(&self) -> Option<&[u8]>
         ensures value { option_copied result ≡ calling_of self.now.state }
         ensures short { IfSome result (λ text. length text.now ≤ 255) }
@@ -227,14 +228,14 @@ impl Leg {
         last_in(self.opening_data(), CALLING_NUMBER)
     }
 
-    /// What is carried on of who calls, where a call is offered.
+    /// Returns the caller's elements that are carried on with an offered call.
     pub fn caller(&self) -> Caller
         ensures { result ≡ caller_of self.now.state }
     {
         Caller::of(&self.opening_elements(), self.machine.rules.carries_caller)
     }
 
-    /// The formats that an offered call may have.
+    /// Returns the formats that an offered call may have.
     pub fn offered_formats(&self) -> Formats
         ensures { result ≡ formats_of self.now.state }
     {
@@ -242,7 +243,7 @@ impl Leg {
         offered_formats(&machine.rules, &self.opening_elements(), machine.format)
     }
 
-    /// The elements of the NEW that opened the leg, by one reading; all absent where no NEW came.
+    /// Reads the elements of the NEW that opened the leg; all are absent if no NEW came.
     pub fn opening_elements(&self) -> NewElements<'_>
         ensures elements { named result ≡ new_elements (opening_data self.now.state.window.history) }
         ensures called { IfSome result.called (λ text. length text.now ≤ 255) }
@@ -252,7 +253,7 @@ impl Leg {
         NewElements::read(self.opening_data())
     }
 
-    // The data of the NEW with which the call began, whichever side sent it.
+    // Returns the data of the NEW with which the call began, whichever side sent it.
     fn new_data(&self) -> &[u8]
         ensures { result.now ≡ new_data self.now.state.window.history }
     {
@@ -264,7 +265,7 @@ impl Leg {
         }
     }
 
-    /// The elements of the NEW with which the call began, whichever side sent it.
+    /// Reads the elements of the NEW with which the call began, whichever side sent it.
     pub fn new_elements(&self) -> NewElements<'_>
         ensures elements { named result ≡ new_elements (new_data self.now.state.window.history) }
         ensures called { IfSome result.called (λ text. length text.now ≤ 255) }
@@ -274,7 +275,7 @@ impl Leg {
         NewElements::read(self.new_data())
     }
 
-    // What an offered call asks for.
+    // Returns the offer of an offered call.
     fn offered(&self) -> Onward
         ensures { result ≡ onward_of self.now.state Offered }
     {
@@ -290,7 +291,7 @@ impl Leg {
         }
     }
 
-    /// A signal with what it speaks of: of an offer, the called number, the calling number and the format.
+    /// Returns a signal with its values: for an offer the called number, the calling number and the format.
     pub fn onward(&self, signal: Signal) -> Onward
         ensures { result ≡ onward_of self.now.state signal }
     {

@@ -1,4 +1,4 @@
-//! The table of the leg: what a taken frame does, row by row ("IAX Frames", "Control Frames", "Call Setup").
+//! The table of the leg: the effect of a taken frame, row by row ("IAX Frames", "Control Frames", "Call Setup").
 ghost use Rattle.std.specs.Prelude.{◌≡◌, option_copied};
 ghost use Rattle.leg_machine.specs.LegTable as rows;
 
@@ -13,7 +13,7 @@ use call_signals::{
 use iax_frames::Full;
 use info_elements::{AUTHMETHODS, CHALLENGE, FORMAT, MD5_RESULT, last_in, u16_in, u32_in};
 
-// MD5 is among the methods.
+// Returns whether MD5 is among the methods.
 fn asks_md5(methods: Option<u16>) -> bool
     ensures { result ≡ rows.asks_md5 methods }
 {
@@ -23,7 +23,7 @@ fn asks_md5(methods: Option<u16>) -> bool
     }
 }
 
-// FORMAT is absent or the one offered.
+// Returns whether FORMAT is absent or the one offered.
 fn is_wanted(format: Format, bits: Option<u32>) -> bool
     ensures { result ≡ rows.is_wanted format bits }
 {
@@ -33,7 +33,7 @@ fn is_wanted(format: Format, bits: Option<u32>) -> bool
     }
 }
 
-/// Whether so many octets may be media: 1 ..= 1,380.
+/// Returns whether `len` octets may be media: 1 ..= 1,380.
 pub fn is_media(len: usize) -> bool
     ensures { result ≡ rows.is_media len }
 {
@@ -73,7 +73,7 @@ fn auth_rep_row(digits: Option<[u8; 32]>) -> Effect
 impl Machine {
     ghost use Rattle.leg_machine.specs.Leg.{leg_of};
 
-    // The digits, in either case, are the MD5 answer.
+    // Returns whether the digits, in either case, are the MD5 answer.
     fn is_answer(&self, digits: Option<&[u8]>) -> bool
         ensures { result ≡ rows.is_answer self.now.challenge self.now.rules.secret (option_copied digits.entry) }
     {
@@ -89,7 +89,7 @@ impl Machine {
         }
     }
 
-    // The answer to a challenge, where there are both a challenge and a secret.
+    // Returns the answer to a challenge, if there are a challenge and a secret.
     fn answer_if(&self, challenge: Option<&[u8]>) -> Option<[u8; 32]>
         ensures { result ≡ rows.answer_if (option_copied challenge.entry) self.now.rules.outbound_secret }
     {
@@ -102,14 +102,15 @@ impl Machine {
         }
     }
 
-    // Whoever is asked a challenge by this exchange may send it back, to have it answered. A hardened leg doesn't.
+    // Returns whether a peer sends back a challenge of this exchange, to have it answered. A hardened leg doesn't answer
+    // it.
     fn is_reflected(&self, frame: &Full) -> bool
         ensures { result ≡ rows.is_reflected self.now.rules frame.now }
     {
         self.rules.is_hardened && self.rules.is_own(last_in(frame.payload(), CHALLENGE))
     }
 
-    // The first AUTHREQ that asks for MD5 is answered, unless its challenge is reflected.
+    // Returns the answer to the first AUTHREQ that asks for MD5, unless its challenge is reflected.
     fn auth_rep_digits(&self, frame: &Full) -> Option<[u8; 32]>
         ensures { result ≡ rows.auth_rep_digits (leg_of self.now) frame.now }
     {
@@ -143,7 +144,7 @@ impl Machine {
         }
     }
 
-    // Voice of the call's format, where it holds media.
+    // Voice of the call's format, if it has media.
     fn voice_row(&self, stage: Stage, frame: &Full, voice: Format) -> Effect
         ensures { result ≡ rows.voice_row stage (leg_of self.now) frame.now voice }
     {
@@ -208,7 +209,8 @@ impl Machine {
         }
     }
 
-    /// What a frame does that is taken: the row of the leg's stage and of what the frame means ("IAX Frames", "Control Frames").
+    /// Returns the effect of a taken frame: the row of the leg's stage and of the frame's message ("IAX Frames", "Control
+    /// Frames").
     pub fn effect_of(&self, frame: &Full, message: &Message) -> Effect
         ensures { result ≡ rows.effect_of (leg_of self.now) frame.now message.now }
     {

@@ -1,4 +1,4 @@
-//! The calls of a leg that give their datagrams in what they answer. Each is made of its form over a lent list.
+//! The calls of a leg that return their datagrams. Each uses its form over a lent list.
 ghost use Rattle.std.specs.Prelude.{◌≡◌, ◌==◌, ◌≤◌, ◌<◌, ◌↔◌, true, None, Err, length, map, All, option_copied, IfOk, IfErr};
 ghost use Rattle.std.specs.Prelude.{OnOk, OnErr};
 ghost use Rattle.std.specs.Option.{ForSome};
@@ -28,7 +28,7 @@ use std::alloc::{AllocError, Global};
 impl Leg {
     ghost use Rattle.leg_machine.specs.Onward.{onward_if};
 
-    // A signal, if there is one, with what it speaks of.
+    // Returns a signal, if there is one, with its values.
     fn onward_if(&self, signal: Option<Signal>) -> Option<Onward>
         ensures { result ≡ onward_if self.now.state signal }
     {
@@ -38,7 +38,8 @@ impl Leg {
         }
     }
 
-    /// A leg for a NEW that came: `open_in_into` with its datagrams in the outcome. `Err` comes only where memory was refused.
+    /// Returns a leg for a received NEW: `open_in_into` with its datagrams in the outcome. Returns `Err` only if memory was
+    /// refused.
     pub fn open_in(
         alloc: Global,
         rules: &PeerRules,
@@ -79,8 +80,8 @@ impl Leg {
         ))
     }
 
-    /// A leg for a NEW that goes out, with no more of who calls than a number of at most 255 octets: `open_out_into` with its
-    /// datagrams in the outcome. `Err` comes only where memory was refused.
+    /// Returns a leg that sends a NEW. A calling number of at most 255 octets is the only element about the caller. It is
+    /// `open_out_into` with its datagrams in the outcome. Returns `Err` only if memory was refused.
     pub fn open_out(
         alloc: Global,
         rules: &PeerRules,
@@ -124,9 +125,9 @@ impl Leg {
         ))
     }
 
-    /// A full frame comes: `full_into` with its datagrams in the outcome.
+    /// Handles a full frame: `full_into` with its datagrams in the outcome.
     ///
-    /// Refusals are looked for in this order: `RecordFull` if the record is full (`is_record_full`), then `Memory`.
+    /// Refusals are checked in this order: `RecordFull` if the record is full (`is_record_full`), then `Memory`.
     pub fn full(&mut self, frame: &Full, now: u64) -> Result<Outcome, StepError>
         requires { length frame.now.payload ≤ 1388 }
         ensures leg { OnOk result (self.new.state ≡ (full_step self.old.state frame.now now).leg) }
@@ -150,10 +151,10 @@ impl Leg {
         })
     }
 
-    /// An order is carried out: `order_into` with its datagrams in the outcome. Media that goes out as a mini frame is among
+    /// Carries out an order: `order_into` with its datagrams in the outcome. Media that is sent as a mini frame is among
     /// them.
     ///
-    /// Refusals are looked for in this order: `WrongStage`, `WindowFull`, `RecordFull`, `Memory`. Doom and Paid are never
+    /// Refusals are checked in this order: `WrongStage`, `WindowFull`, `RecordFull`, `Memory`. Doom and Paid are never
     /// refused.
     pub fn order(&mut self, order: &Order, now: u64) -> Result<Outcome, OrderError>
         requires { IsShortMedia order.now }
@@ -179,7 +180,7 @@ impl Leg {
         })
     }
 
-    /// Time goes on: `tick_into` with its datagrams in the outcome.
+    /// Ticks the leg: `tick_into` with its datagrams in the outcome.
     pub fn tick(&mut self, now: u64) -> TickOutcome
         ensures leg { self.new.state ≡ (tick_step (result.skipped == 0) self.old.state now).leg }
         ensures replies { result.replies ≡ map spelling (tick_step (result.skipped == 0) self.old.state now).replies }

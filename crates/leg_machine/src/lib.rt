@@ -1,5 +1,4 @@
-//! One leg of a call: what it does when a frame, an order or a tick comes ("Full Frames", "IAX Frames", "Message
-//! Transport").
+//! One leg of a call, and its steps: a frame, an order or a tick ("Full Frames", "IAX Frames", "Message Transport").
 #![tactic(auto)]
 
 mod idleness;

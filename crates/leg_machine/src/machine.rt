@@ -1,4 +1,4 @@
-//! A leg's own state, and the small changes of which its steps are made.
+//! A leg's own state, and the small changes of its steps.
 ghost use Rattle.std.specs.Prelude.{◌≡◌, ◌+◌, ◌<◌, ◌≤◌, ◌^◌, ◌∷◌, ◌++◌, ◌↔◌, [], true, false, length, Err, IfOk, OnOk, OnErr};
 ghost use Rattle.iax_frames.specs.FullFrame.{spelling};
 ghost use Rattle.seq_window.specs.Record.{frame_of};
@@ -24,11 +24,11 @@ use std::alloc::{AllocError, Global};
 pub struct AnsweredVnak {
     /// The octet of the number that it asked for: its ISeqno.
     pub number: u8,
-    /// When it came, in milliseconds.
+    /// The moment at which it came, in milliseconds.
     pub at: u64,
 }
 
-/// A leg's fields. Its steps never fail: who calls one has made room for its entries before.
+/// A leg's fields. Its steps never fail, because the caller of one has reserved room for its entries.
 #[derive(Drop)]
 pub struct Machine {
     pub rules: PeerRules,
@@ -54,7 +54,7 @@ pub struct Machine {
     pub window: Window,
 }
 
-/// The frame as the record keeps it, without its call numbers and sequence numbers.
+/// Returns the frame as the record keeps it, without its call numbers and sequence numbers.
 pub fn stored<'a>(frame: &'a Full) -> FrameView<'a>
     ensures { frame_of result ≡ steps.stored frame.now }
 {
@@ -66,7 +66,7 @@ pub fn stored<'a>(frame: &'a Full) -> FrameView<'a>
     }
 }
 
-// The moment at which something was reached first.
+// Returns the moment at which something was first reached.
 fn first_at(is_reached: bool, before: Option<u64>, now: u64) -> Option<u64>
     ensures { result ≡ first_at is_reached before now }
 {
@@ -77,8 +77,8 @@ fn first_at(is_reached: bool, before: Option<u64>, now: u64) -> Option<u64>
     }
 }
 
-// The moments of a leg that enters a stage at this one, by an order or else by a frame or a tick. The called side alone accepts and
-// answers a call: by orders if the call was offered, and else by frames.
+// Returns the moments of a leg that enters a stage at this one, by an order, or by a frame or a tick. Only the called side
+// accepts and answers a call: by orders if the call was offered, otherwise by frames.
 fn noted(is_order: bool, moments: Moments, stage: Stage, now: u64) -> Moments
     ensures { result ≡ noted is_order moments stage now }
 {
@@ -100,8 +100,8 @@ fn noted(is_order: bool, moments: Moments, stage: Stage, now: u64) -> Moments
 impl Machine {
     ghost use Rattle.leg_machine.specs.Leg.{leg_of, whole_leg, capacity_of, entered, failed, obeyed, staged, HasRoom};
 
-    /// A leg that was opened at the moment `now`, in milliseconds, under this local number, 1 ..= 32,767, before its first frame. It
-    /// waits for an answer to its NEW. `Err` comes only where memory was refused.
+    /// Returns a leg that was opened at the moment `now`, in milliseconds, under this local number, 1 ..= 32,767, before
+    /// its first frame. It waits for an answer to its NEW. Returns `Err` only if memory was refused.
     pub fn new(
         alloc: Global,
         rules: &PeerRules,
@@ -150,7 +150,7 @@ impl Machine {
         })
     }
 
-    /// The other side's number is learnt from the first frame; once it is known it stays.
+    /// Learns the other side's number from the first frame. A known number stays.
     pub fn learn(&mut self, source: CallNumber)
         ensures leg { leg_of self.new ≡ steps.learnt (leg_of self.old) source }
         ensures window { self.new.window ≡ self.old.window }
@@ -158,7 +158,7 @@ impl Machine {
         self.remote = Some(self.remote.unwrap_or(source));
     }
 
-    // Changes the stage. From the first that is Closing or Ended on the leg owes.
+    // Changes the stage. The leg owes once it enters the first stage that is Closing or Ended.
     fn set_stage(&mut self, stage: Stage)
         ensures leg { leg_of self.new ≡ staged (leg_of self.old) stage }
         ensures window { self.new.window ≡ self.old.window }
@@ -167,8 +167,8 @@ impl Machine {
         self.stage = stage;
     }
 
-    /// Enters a stage by a frame or a tick at the moment `now`, in milliseconds, and notes when the call was first offered, accepted,
-    /// answered and over.
+    /// Enters a stage by a frame or a tick at the moment `now`, in milliseconds. Notes the moments at which the call was
+    /// first offered, accepted, answered and over.
     pub fn enter(&mut self, stage: Stage, now: u64)
         ensures leg { leg_of self.new ≡ entered (leg_of self.old) stage now }
         ensures window { self.new.window ≡ self.old.window }
@@ -177,7 +177,7 @@ impl Machine {
         self.set_stage(stage);
     }
 
-    /// Enters a stage by an order at the moment `now`, in milliseconds, and notes the same.
+    /// Enters a stage by an order at the moment `now`, in milliseconds, and notes the same moments.
     pub fn obey(&mut self, stage: Stage, now: u64)
         ensures leg { leg_of self.new ≡ obeyed (leg_of self.old) stage now }
         ensures window { self.new.window ≡ self.old.window }
@@ -186,7 +186,7 @@ impl Machine {
         self.set_stage(stage);
     }
 
-    /// Why the leg ends is noted, where it ends by entering this stage, with this frame, and its rules carry causes.
+    /// Notes the cause of the leg's end, if it ends by entering this stage, with this frame, and its rules carry causes.
     pub fn note_end(&mut self, stage: Stage, frame: &Full, message: &Message)
         ensures leg { leg_of self.new ≡ steps.end_noted (leg_of self.old) stage frame.now message.now }
         ensures window { self.new.window ≡ self.old.window }
@@ -196,7 +196,7 @@ impl Machine {
         }
     }
 
-    /// An ACCEPT agrees on its format; another reply changes nothing.
+    /// Takes over the format of an ACCEPT; another reply changes nothing.
     pub fn agree(&mut self, reply: &Reply)
         ensures leg { leg_of self.new ≡ steps.agreed (leg_of self.old) reply.now }
         ensures window { self.new.window ≡ self.old.window }
@@ -206,8 +206,8 @@ impl Machine {
         }
     }
 
-    /// The leg ends at the moment `now`, in milliseconds, because it can't continue, and notes why. What ended before stays as it
-    /// ended.
+    /// Ends the leg at the moment `now`, in milliseconds, because it can't continue, and notes why. A leg that had ended
+    /// keeps its failure.
     pub fn fail(&mut self, failure: Failure, now: u64)
         ensures leg { leg_of self.new ≡ failed (leg_of self.old) failure now }
         ensures window { self.new.window ≡ self.old.window }
@@ -221,7 +221,7 @@ impl Machine {
         self.enter(Stage::Ended, now);
     }
 
-    /// A closing leg that holds nothing has ended.
+    /// Ends a closing leg that holds nothing.
     pub fn settle(&mut self)
         ensures leg { leg_of self.new ≡ steps.settled (leg_of self.old) }
         ensures window { self.new.window ≡ self.old.window }
@@ -231,8 +231,8 @@ impl Machine {
         }
     }
 
-    /// Judges the acknowledgement of a frame, ISeqno, and answers whether it counts ("Message Transport"). There is room for four
-    /// entries.
+    /// Judges the acknowledgement of a frame, ISeqno, and returns whether it counts ("Message Transport"). There is room
+    /// for four entries.
     pub fn acknowledge(&mut self, iseqno: u8) -> bool
         requires { HasRoom 4 self.old }
         ensures leg { leg_of self.new ≡ steps.acknowledged (leg_of self.old) iseqno }
@@ -243,7 +243,7 @@ impl Machine {
         matches!(self.window.acknowledge(iseqno), Ok(Acknowledged::Acked(_)))
     }
 
-    /// Records the next frame, of at most 1,388 octets of data; there is room for three entries. What is missing after it is
+    /// Records the next frame, of at most 1,388 octets of data; there is room for three entries. The next gap is then
     /// another one than before.
     pub fn record(&mut self, frame: &Full)
         requires room { HasRoom 3 self.old }
@@ -256,7 +256,8 @@ impl Machine {
         self.vnak_sent = None;
     }
 
-    /// Notes the format of a voice frame that was taken; another message changes nothing. The call's own format may still change.
+    /// Notes the format of a voice frame that was taken. Other messages change nothing. The call's own format may still
+    /// change.
     pub fn hear(&mut self, message: &Message)
         ensures leg { leg_of self.new ≡ steps.heard (leg_of self.old) message.now }
         ensures window { self.new.window ≡ self.old.window }
@@ -268,8 +269,8 @@ impl Machine {
         };
     }
 
-    /// Writes a frame as this leg sends it, with the octet of its number, behind fewer than 128 others; `again` says that it is
-    /// sent again.
+    /// Writes a frame as this leg sends it, with the octet of its number, behind fewer than 128 others; `again` marks a
+    /// retransmission.
     pub fn spell(&self, again: bool, oseqno: u8, frame: FrameView<'_>, outs: &mut Replies)
         requires more { length outs.old < 128 }
         requires short { length frame.payload.now ≤ 1388 }
@@ -317,7 +318,7 @@ impl Machine {
         self.unnumbered(IAX_ACK, frame.timestamp(), outs);
     }
 
-    /// Writes a VNAK behind fewer than 128 others, since a frame before this one is missing ("IAX Frames").
+    /// Writes a VNAK behind fewer than 128 others, because a frame before this one is missing ("IAX Frames").
     pub fn vnak(&self, frame: &Full, outs: &mut Replies)
         requires { length outs.old < 128 }
         ensures { outs.new ≡ outs.old ++ spelling (replies.vnak (leg_of self.now) frame.now) ∷ [] }
@@ -325,15 +326,16 @@ impl Machine {
         self.unnumbered(IAX_VNAK, frame.timestamp(), outs);
     }
 
-    /// Milliseconds from the opening to the moment `now`, modulo 2^32: the timestamp of a frame that is sent then.
+    /// Returns the milliseconds from the opening to the moment `now`, modulo 2^32: the timestamp of a frame that is sent
+    /// then.
     pub fn present(&self, now: u64) -> u32
         ensures { result ≡ replies.present_of (leg_of self.now) now }
     {
         (now.saturating_sub(self.opened) % 0x1_0000_0000) as u32
     }
 
-    /// Sends a numbered frame of at most 1,388 octets of data at the moment `now`, in milliseconds: it goes out, is recorded, and
-    /// is held ("Message Transport"). There is room for it in the window, in the record and in the list.
+    /// Sends a numbered frame of at most 1,388 octets of data at the moment `now`, in milliseconds. It is written, recorded
+    /// and held ("Message Transport"). There is room for it in the window, in the record and in the list.
     pub fn send_frame(&mut self, frame: FrameView<'_>, now: u64, outs: &mut Replies)
         requires room { HasRoom 1 self.old }
         requires short { length frame.payload.now ≤ 1388 }
@@ -366,8 +368,8 @@ impl Machine {
         self.send_frame(frame, now, outs);
     }
 
-    /// How many frames may be held before a frame goes out that no frame of the other side asks for: the window's width less a
-    /// quarter of it, rounded down.
+    /// Returns the number of held frames at which the leg sends only frames that the other side asked for. It is the
+    /// window's width less a quarter of it, rounded down.
     pub fn local_room(&self) -> usize
         ensures room { result ≡ local_room self.now.window.state.width }
         ensures most { result ≤ self.now.window.state.width }

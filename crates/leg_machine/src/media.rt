@@ -9,18 +9,19 @@ ghost use Rattle.leg_machine.specs.OrderTable as orders;
 use crate::machine::Machine;
 use call_signals::{OrderError, Replies};
 
-/// How media went out ("Mini Frames", "Voice Frames").
+/// The way in which media is sent ("Mini Frames", "Voice Frames").
 #[derive(Clone, Copy, Debug, PartialEq, Eq)]
 pub enum MediaSent {
-    /// Not at all: the other side wants none.
+    /// Not at all: the other side quelched it.
     Quelched,
     /// As a full frame of voice.
     Voice,
-    /// It may go as a mini frame or a trunk entry, with this timestamp: the low 16 bits of the milliseconds since the opening.
+    /// It may be sent as a mini frame or a trunk entry, with this timestamp: the low 16 bits of the milliseconds since the
+    /// opening.
     Mini(u16),
 }
 
-// The high half of the present timestamp isn't that of the last voice frame that was sent.
+// Returns whether the high half of the present timestamp differs from that of the last voice frame sent.
 fn is_other_half(last: Option<u32>, present: u32) -> bool
     ensures { result ≡ rules.is_other_half last present }
 {
@@ -33,9 +34,9 @@ fn is_other_half(last: Option<u32>, present: u32) -> bool
 impl Machine {
     ghost use Rattle.leg_machine.specs.Leg.{leg_of, whole_leg, capacity_of};
 
-    /// How media of the layer above goes out at the moment `now`, in milliseconds ("Mini Frames"): not at all where the other
-    /// side wants none; as a full frame where it is the first, or the high half of the timestamp has changed since the last such
-    /// frame; else as a mini frame. `WrongStage` where the leg isn't talking.
+    /// Returns how media of the layer above is sent at the moment `now`, in milliseconds ("Mini Frames"). Quelched media
+    /// isn't sent. Media is sent as a full frame if it is the first, or if the high half of the timestamp has changed since
+    /// the last such frame; otherwise as a mini frame. Returns `WrongStage` if the leg isn't talking.
     pub fn media_sent(&self, now: u64) -> Result<MediaSent, OrderError>
         ensures { result ≡ (if is_talking self.now.stage then Ok (rules.media_sent (leg_of self.now) now)
             else Err OrderError.WrongStage) }
@@ -53,10 +54,10 @@ impl Machine {
         })
     }
 
-    /// Media of at most 1,380 octets goes out as a full frame, at the moment `now`, in milliseconds.
+    /// Sends media of at most 1,380 octets as a full frame, at the moment `now`, in milliseconds.
     ///
-    /// Refusals are looked for in this order: `WindowFull`, `RecordFull`, and `Memory`, which never comes with a spare entry.
-    /// Then nothing is changed or written.
+    /// Refusals are checked in this order: `WindowFull`, `RecordFull`, and `Memory`, which never happens with a spare
+    /// entry. Then nothing is changed or written.
     pub fn send_voice(
         &mut self,
         media: &[u8],
@@ -82,7 +83,7 @@ impl Machine {
         Ok(())
     }
 
-    /// Media is written as a mini frame.
+    /// Writes media as a mini frame.
     pub fn mini(&self, timestamp: u16, media: &[u8], outs: &mut Replies)
         requires short { length media.now ≤ 1380 }
         requires empty { outs.old ≡ [] }

@@ -7,12 +7,12 @@ use crate::machine::Machine;
 use crate::media::MediaSent;
 use call_signals::{Cause, Order, OrderError, Replies, Reply, Stage};
 
-/// A row in which a numbered frame goes out.
+/// A row that sends a numbered frame.
 #[derive(Clone, Copy)]
 pub struct Ordered {
     pub reply: Reply,
     pub stage: Stage,
-    /// It goes out while fewer frames than this are held.
+    /// It is sent while fewer frames than this are held.
     pub most: usize,
 }
 
@@ -30,15 +30,16 @@ fn when(holds: bool, reply: Reply, stage: Stage, most: usize) -> Option<Ordered>
 impl Machine {
     ghost use Rattle.leg_machine.specs.Leg.{leg_of, whole_leg, capacity_of, HasRoom};
 
-    // A doomed leg sends no more digits: one that found no room would leave a gap before those that come after it.
+    // Returns whether the leg refuses digits because it is doomed: a digit that found no room would leave a gap before those
+    // after it.
     fn refuses_digits(&self) -> bool
         ensures { result ≡ orders.refuses_digits (leg_of self.now) }
     {
         self.rules.is_hardened && self.doomed
     }
 
-    /// The row of an order that sends a numbered frame; `None` if the stage is a wrong one, of a digit that the leg refuses because
-    /// it is doomed, and of the other orders.
+    /// Returns the row of an order that sends a numbered frame. Returns `None` if the stage is a wrong one, for a digit
+    /// that a doomed leg refuses, and for any other order.
     pub fn order_row(&self, order: &Order) -> Option<Ordered>
         ensures row { result ≡ orders.order_row (leg_of self.now) order.now }
         ensures most { IfSome result (λ row. row.most ≤ self.now.window.state.width) }
@@ -84,8 +85,8 @@ impl Machine {
         }
     }
 
-    /// Why a numbered frame can't go out now, memory aside: `WindowFull` where no fewer than `most` frames are held, then
-    /// `RecordFull` if the record is full.
+    /// Returns the reason why a numbered frame can't be sent now, memory aside. It is `WindowFull` unless fewer than `most`
+    /// frames are held, then `RecordFull` if the record is full.
     pub fn sending_refused(&self, most: usize) -> Option<OrderError>
         ensures refused { result ≡ orders.sending_refused (leg_of self.now) most }
         ensures room { IfNone result ((held_count self.now.window.state < most) ×
@@ -100,10 +101,10 @@ impl Machine {
         }
     }
 
-    /// Makes room in the record for a numbered frame, which goes out while fewer than `most` frames are held.
+    /// Makes room in the record for a numbered frame, which is sent while fewer than `most` frames are held.
     ///
-    /// Refusals are looked for in this order: `WindowFull`, `RecordFull` if the record is full, and `Memory`,
-    /// which never comes with a spare entry. Then nothing is changed.
+    /// Refusals are checked in this order: `WindowFull`, `RecordFull` if the record is full, and `Memory`, which never
+    /// happens with a spare entry. Then nothing is changed.
     pub fn room_for_sending(&mut self, most: usize) -> Result<(), OrderError>
         ensures leg { leg_of self.new ≡ leg_of self.old }
         ensures room { OnOk result (HasRoom 1 self.new) }
@@ -121,7 +122,7 @@ impl Machine {
         Ok(())
     }
 
-    /// A row is carried out.
+    /// Carries out a row.
     fn carry_out(&mut self, row: &Ordered, now: u64, outs: &mut Replies)
         requires room { HasRoom 1 self.old }
         requires window { held_count self.old.window.state < self.old.window.state.width }
@@ -135,7 +136,7 @@ impl Machine {
         self.send(row.reply, now, outs);
     }
 
-    // An order of the rows in which a numbered frame goes out.
+    // Carries out an order that sends a numbered frame.
     fn row(&mut self, order: &Order, now: u64, outs: &mut Replies) -> Result<(), OrderError>
         requires { outs.old ≡ [] }
         ensures leg { OnOk result (leg_of self.new ≡
@@ -159,7 +160,7 @@ impl Machine {
         Ok(())
     }
 
-    /// The leg is doomed, unless it is over.
+    /// Dooms the leg, unless it is over.
     fn doom(&mut self, cause: Cause)
         ensures leg { leg_of self.new ≡ orders.doomed (leg_of self.old) cause }
         ensures window { self.new.window ≡ self.old.window }
@@ -170,7 +171,7 @@ impl Machine {
         self.doomed = self.doomed || !self.stage.is_over();
     }
 
-    /// A leg that is over owes nothing any more.
+    /// Clears the debt of a leg that is over.
     fn pay(&mut self)
         ensures leg { leg_of self.new ≡ orders.paid (leg_of self.old) }
         ensures window { self.new.window ≡ self.old.window }
@@ -178,11 +179,11 @@ impl Machine {
         self.owes = self.owes && !self.stage.is_over();
     }
 
-    /// An order is carried out at the moment `now`, in milliseconds; media has 1 to 1,380 octets. What is sent is written to the
-    /// empty list.
+    /// Carries out an order at the moment `now`, in milliseconds; media has 1 to 1,380 octets. The leg's frames are written
+    /// to the empty list.
     ///
-    /// Refusals are looked for in this order: `WrongStage`, `WindowFull`, `RecordFull`, and `Memory`, which never comes with a
-    /// spare entry. Then nothing is changed or written. Doom and Paid are never refused.
+    /// Refusals are checked in this order: `WrongStage`, `WindowFull`, `RecordFull`, and `Memory`, which never happens with
+    /// a spare entry. Then nothing is changed or written. Doom and Paid are never refused.
     pub fn order(&mut self, order: &Order, now: u64, outs: &mut Replies) -> Result<(), OrderError>
         requires media { orders.IsShortMedia order.now }
         requires empty { outs.old ≡ [] }

@@ -1,4 +1,4 @@
-//! How much room the record of a leg has ("Message Transport"), and how long it waits for the answer to its challenge.
+//! The room of a leg's record ("Message Transport"), and the time that the leg waits for the answer to its challenge.
 ghost use Rattle.std.specs.Prelude.{◌≡◌, ◌<◌, ◌≤◌, ◌↔◌, true, Err, OnOk, OnErr};
 ghost use Rattle.leg_machine.specs.Leg.{is_record_full, is_short_of_entries, is_short_of_octets, is_challenged};
 ghost use Rattle.leg_machine.specs.Leg.{has_heard_enough, is_overdue};
@@ -6,10 +6,10 @@ ghost use Rattle.leg_machine.specs.Leg.{has_heard_enough, is_overdue};
 use crate::machine::Machine;
 use call_signals::{Stage, StepError};
 
-// The most octets of data that a full frame has.
+// The greatest length of a full frame's data, in octets.
 const MAX_PAYLOAD: usize = 1388;
 
-// What the record of a leg has at most that waits for the answer to its challenge, and what answers a frame in it.
+// The limits on the record of a leg that waits for the answer to its challenge, and on the answer to a frame in it.
 const CHALLENGED_ENTRIES: usize = 32;
 
 const CHALLENGED_OCTETS: usize = 4096;
@@ -19,14 +19,14 @@ const CHALLENGED_ANSWER: usize = 64;
 impl Machine {
     ghost use Rattle.leg_machine.specs.Leg.{leg_of, whole_leg, capacity_of, HasRoom};
 
-    // Whether fewer than four entries are free, which is what one event can need.
+    // Returns whether fewer than four entries are free, which is the most that one event needs.
     fn is_short_of_entries(&self) -> bool
         ensures { result ≡ is_short_of_entries (leg_of self.now) }
     {
         self.window.free_entries() < 4
     }
 
-    // Whether fewer octets of data are left than a full frame may bring and its answer may have.
+    // Returns whether fewer octets of data are left than a full frame and its answer may have.
     fn is_short_of_octets(&self) -> bool
         ensures { result ≡ is_short_of_octets (leg_of self.now) }
     {
@@ -36,14 +36,14 @@ impl Machine {
         }
     }
 
-    /// Whether the leg waits for the answer to its challenge.
+    /// Returns whether the leg waits for the answer to its challenge.
     pub fn is_challenged(&self) -> bool
         ensures { result ≡ is_challenged self.now.stage }
     {
         matches!(self.stage, Stage::Challenged)
     }
 
-    // Whether the leg waits for the answer to its challenge, and has as much in its record as it may have until then.
+    // Returns whether the leg waits for the answer to its challenge, and its record is as full as it may be until then.
     fn has_heard_enough(&self) -> bool
         ensures { result ≡ has_heard_enough (leg_of self.now) }
     {
@@ -55,15 +55,16 @@ impl Machine {
             || CHALLENGED_OCTETS < self.window.data_octets() + MAX_PAYLOAD + CHALLENGED_ANSWER
     }
 
-    /// Whether the record has no room for one more full frame and what follows from it: fewer than four entries are free, or fewer
-    /// than 2,776 octets of data, or the leg waits for the answer to its challenge and has heard enough.
+    /// Returns whether the record has no room for one more full frame and the entries that follow from it. It has none if
+    /// fewer than four entries or fewer than 2,776 octets of data are free. It has none either if the leg waits for the
+    /// answer to its challenge and has reached its limits.
     pub fn is_record_full(&self) -> bool
         ensures { result ≡ is_record_full (leg_of self.now) }
     {
         self.is_short_of_entries() || self.is_short_of_octets() || self.has_heard_enough()
     }
 
-    /// Whether the leg's challenge wasn't answered in time, at the moment `now`, in milliseconds.
+    /// Returns whether the leg's challenge wasn't answered in time, at the moment `now`, in milliseconds.
     pub fn is_overdue(&self, now: u64) -> bool
         ensures { result ≡ is_overdue (leg_of self.now) now }
     {
@@ -73,10 +74,10 @@ impl Machine {
         }
     }
 
-    /// Makes room for what a full frame can add to the record: four entries.
+    /// Makes room for the entries that a full frame can add to the record: four.
     ///
-    /// Refusals are looked for in this order: `RecordFull` where the record is full, `Memory` where memory was refused, which never
-    /// comes with four spare entries. Then nothing is changed.
+    /// Refusals are checked in this order: `RecordFull` if the record is full, `Memory` if memory was refused, which never
+    /// happens with four spare entries. Then nothing is changed.
     pub fn room_for_frame(&mut self) -> Result<(), StepError>
         ensures leg { leg_of self.new ≡ leg_of self.old }
         ensures room { OnOk result (HasRoom 4 self.new) }

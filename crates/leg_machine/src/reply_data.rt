@@ -15,7 +15,7 @@ impl Machine {
     ghost use Rattle.leg_machine.specs.Leg.{leg_of};
     ghost use Rattle.std.specs.Prelude.{unwrap_or};
 
-    // The challenge that was sent.
+    // Returns the challenge that was sent.
     fn challenge_text(&self) -> &[u8]
         ensures value { result.now ≡ unwrap_or self.now.challenge [] }
         ensures short { length result.now ≤ 255 }
@@ -26,7 +26,7 @@ impl Machine {
         }
     }
 
-    /// Writes the elements of a reply where there is none yet.
+    /// Writes the elements of a reply to the empty list.
     pub fn write_elements(&self, reply: &Reply, elements: &mut Payload)
         requires { elements.old ≡ [] }
         ensures { elements.new ≡ replies.data_of (leg_of self.now) reply.now }
@@ -47,7 +47,7 @@ impl Machine {
         }
     }
 
-    /// A reply as a frame of the moment `now`, in milliseconds, with its elements.
+    /// Returns a reply as a frame of the moment `now`, in milliseconds, with its elements.
     pub fn reply_frame<'a>(&self, reply: &Reply, now: u64, elements: &'a [u8]) -> FrameView<'a>
         requires { elements.now ≡ replies.data_of (leg_of self.now) reply.now }
         ensures { frame_of result ≡ replies.reply_frame (leg_of self.now) now reply.now }
@@ -60,8 +60,8 @@ impl Machine {
         }
     }
 
-    /// Writes the elements of the NEW of a call from here where there is none yet ("Call Setup"). The number that is called has at
-    /// most 255 octets.
+    /// Writes the elements of the NEW of an outgoing call to the empty list ("Call Setup"). The called number has at most
+    /// 255 octets.
     pub fn write_new(&self, called: &[u8], caller: &Caller, elements: &mut Payload)
         requires called { length called.now ≤ 255 }
         requires empty { elements.old ≡ [] }
@@ -70,7 +70,7 @@ impl Machine {
         append_new(elements, &self.rules.user, called, caller, self.format);
     }
 
-    /// The NEW of a call from here, at the moment `now`, in milliseconds, with its elements ("Call Setup").
+    /// Returns the NEW of an outgoing call, at the moment `now`, in milliseconds, with its elements ("Call Setup").
     pub fn new_frame<'a>(&self, elements: &'a [u8], now: u64) -> FrameView<'a>
         ensures { frame_of result ≡ replies.new_frame_with (leg_of self.now) now elements.now }
     {
@@ -82,7 +82,7 @@ impl Machine {
         }
     }
 
-    /// Media as a full frame of voice in the leg's format, at the moment `now`, in milliseconds ("Voice Frames").
+    /// Returns media as a full frame of voice in the leg's format, at the moment `now`, in milliseconds ("Voice Frames").
     pub fn voice_frame<'a>(&self, media: &'a [u8], now: u64) -> FrameView<'a>
         ensures { frame_of result ≡ replies.voice_frame (leg_of self.now) now media.now }
     {

@@ -1,4 +1,4 @@
-//! Frames that go out again ("Message Transport").
+//! Retransmissions ("Message Transport").
 ghost use Rattle.std.specs.Prelude.{◌≡◌, ◌+◌, ◌<◌, ◌≤◌, ◌++◌, [], true, length, map};
 ghost use Rattle.iax_frames.specs.FullFrame.{spelling};
 ghost use Rattle.seq_window.specs.Window.{held_count, held_frames};
@@ -11,7 +11,7 @@ use crate::machine::{AnsweredVnak, Machine};
 use call_signals::{Heard, Judged, Replies};
 use seq_window::Resent;
 
-// A VNAK repeats the one that was answered last: it asks for the same number, less than so many milliseconds after it.
+// Returns whether a VNAK repeats the one that was answered last: it asks for the same number, within `within` milliseconds.
 fn is_repetition(last: Option<AnsweredVnak>, number: u8, now: u64, within: u64) -> bool
     ensures { result ≡ working.is_repetition last number now within }
 {
@@ -24,7 +24,7 @@ fn is_repetition(last: Option<AnsweredVnak>, number: u8, now: u64, within: u64) 
 impl Machine {
     ghost use Rattle.leg_machine.specs.Leg.{leg_of, whole_leg, capacity_of, HasRoom};
 
-    // The held frames as they go out again, oldest first.
+    // Writes the held frames as they are retransmitted, oldest first.
     fn held_again(&self, outs: &mut Replies)
         requires { outs.old ≡ [] }
         ensures { outs.new ≡
@@ -36,7 +36,7 @@ impl Machine {
         }
     }
 
-    // The held frame at a place goes out again.
+    // Retransmits the held frame at a place.
     fn again(&self, place: usize, outs: &mut Replies)
         requires held { place < held_count self.now.window.state }
         requires more { length outs.old < 128 }
@@ -47,8 +47,8 @@ impl Machine {
         self.spell(true, held.number, held.frame, outs);
     }
 
-    /// The held frames that are due at the moment `now`, in milliseconds, go out again, each counted, in at most so many turns
-    /// ("Message Transport": retransmission). Answers whether one was spent. The list has at most 127 datagrams then.
+    /// Retransmits the held frames that are due at the moment `now`, in milliseconds, and counts each, in at most `turns`
+    /// turns ("Message Transport"). Returns whether one was spent. The list has at most 127 datagrams then.
     pub fn try_again(&mut self, turns: usize, now: u64, outs: &mut Replies) -> bool
         requires { length outs.old + turns ≤ 127 }
         ensures leg { leg_of self.new ≡ (tries.tries turns (leg_of self.old) now).leg }
@@ -74,7 +74,7 @@ impl Machine {
         false
     }
 
-    // All held frames go out again at the moment `now`, in milliseconds, the oldest first, and are counted, which is no try.
+    // Retransmits all held frames at the moment `now`, in milliseconds, the oldest first, and counts them. That is no try.
     fn resend(&mut self, now: u64, outs: &mut Replies) -> Heard
         requires { outs.old ≡ [] }
         ensures leg { leg_of self.new ≡ (steps.resend_step (leg_of self.old) now).leg }
@@ -91,7 +91,7 @@ impl Machine {
         }
     }
 
-    // The oldest held frame alone goes out again at the moment `now`, in milliseconds, and is counted, which is no try.
+    // Retransmits only the oldest held frame at the moment `now`, in milliseconds, and counts it. That is no try.
     fn resend_oldest(&mut self, now: u64, outs: &mut Replies) -> Heard
         requires held { 0 < held_count self.old.window.state }
         requires empty { outs.old ≡ [] }
@@ -109,8 +109,9 @@ impl Machine {
         }
     }
 
-    // A VNAK for this number, at the moment `now`, in milliseconds, brings the oldest held frame alone, because it repeats the one
-    // that was answered last. Otherwise a forged one would bring all that is held, as often as it comes.
+    // Returns whether a VNAK for this number, at the moment `now`, in milliseconds, brings only the oldest held frame. It
+    // does on a hardened leg that holds frames, if it repeats the one that was answered last. Otherwise each forged VNAK
+    // would bring all held frames.
     fn brings_oldest(&self, number: u8, now: u64) -> bool
         ensures oldest { result ≡ working.brings_oldest (leg_of self.now) number now }
         ensures held { result ≡ true → 0 < held_count self.now.window.state }
@@ -124,8 +125,9 @@ impl Machine {
         self.rules.is_hardened && 0 < self.window.held_len() && repeats
     }
 
-    /// A VNAK whose acknowledgement counts, and which asks for this number, is answered at the moment `now`, in milliseconds: all
-    /// held frames go out again, the oldest first, or the oldest alone, and are counted, which is no try. The list is empty before.
+    /// Answers a VNAK whose acknowledgement counts, and which asks for this number, at the moment `now`, in milliseconds.
+    /// All held frames are retransmitted, the oldest first, or only the oldest, and are counted. That is no try. The list
+    /// is empty before.
     pub fn answer_vnak(&mut self, number: u8, now: u64, outs: &mut Replies) -> Heard
         requires { outs.old ≡ [] }
         ensures leg { leg_of self.new ≡ (steps.answer_step (leg_of self.old) number now).leg }

@@ -1,4 +1,4 @@
-//! What a tick does to a leg ("Message Transport": retransmission; "PING").
+//! The effect of a tick on a leg ("Message Transport": retransmission; "PING").
 ghost use Rattle.std.specs.Prelude.{◌≡◌, ◌+◌, ◌<◌, ◌≤◌, ◌++◌, [], true, false, length, map};
 ghost use Rattle.iax_frames.specs.FullFrame.{spelling};
 ghost use Rattle.seq_window.specs.Window.{held_count, entry_count};
@@ -11,7 +11,7 @@ use call_signals::{Failure, Replies, Reply, Stage};
 impl Machine {
     ghost use Rattle.leg_machine.specs.Leg.{leg_of, whole_leg, capacity_of, HasRoom};
 
-    /// Whether a HANGUP is due: the leg is doomed, isn't over, and its window has room for one frame more.
+    /// Returns whether a HANGUP is due: the leg is doomed, isn't over, and its window has room for one more frame.
     pub fn must_hang_up(&self) -> bool
         ensures due { result ≡ ticks.must_hang_up (leg_of self.now) }
         ensures room { result ≡ true → held_count self.now.window.state < self.now.window.state.width }
@@ -27,8 +27,8 @@ impl Machine {
         ping_ms != 0 && is_due
     }
 
-    /// Whether a PING is due at the moment `now`, in milliseconds ("PING"): the leg is talking with local room, and `ping_ms`,
-    /// which isn't 0, is over since the last PING or the opening.
+    /// Returns whether a PING is due at the moment `now`, in milliseconds ("PING"). It is due if the leg is talking with
+    /// local room, and `ping_ms`, which isn't 0, is over since the last PING or the opening.
     pub fn must_ping(&self, now: u64) -> bool
         ensures { result ≡ ticks.must_ping (leg_of self.now) now }
     {
@@ -37,7 +37,8 @@ impl Machine {
         self.stage.is_talking() && has_room && is_ping_time
     }
 
-    /// Makes room for two entries where a HANGUP or a PING is due at the moment `now`, in milliseconds. Answers whether it did.
+    /// Makes room for two entries if a HANGUP or a PING is due at the moment `now`, in milliseconds. Returns whether it
+    /// did.
     pub fn grow(&mut self, now: u64) -> bool
         ensures leg { leg_of self.new ≡ leg_of self.old }
         ensures room { result ≡ true → is_record_full (leg_of self.new) ≡ false → HasRoom 2 self.new }
@@ -53,7 +54,7 @@ impl Machine {
         self.window.reserve(2).is_ok()
     }
 
-    // A doomed leg hangs up. Answers how many frames were skipped.
+    // Hangs up a doomed leg. Returns the number of skipped frames.
     fn hang_up(&mut self, grown: bool, now: u64, outs: &mut Replies) -> u32
         requires room { grown ≡ true → HasRoom 2 self.old }
         requires empty { outs.old ≡ [] }
@@ -78,7 +79,7 @@ impl Machine {
         0
     }
 
-    // A PING that is due. Answers how many frames were skipped.
+    // Sends a PING that is due. Returns the number of skipped frames.
     fn ping(&mut self, grown: bool, now: u64, outs: &mut Replies) -> u32
         requires room { grown ≡ true → HasRoom 1 self.old }
         requires more { length outs.old < 128 }
@@ -99,7 +100,7 @@ impl Machine {
         0
     }
 
-    // A spent frame ends the leg and stops the tick; else a PING goes out that is due.
+    // Ends the leg and the tick if a frame is spent. Otherwise sends a PING that is due.
     fn after_tries(&mut self, grown: bool, spent: bool, now: u64, outs: &mut Replies) -> u32
         requires room { grown ≡ true → HasRoom 1 self.old }
         requires more { length outs.old < 128 }
@@ -116,7 +117,7 @@ impl Machine {
         self.ping(grown, now, outs)
     }
 
-    // The doomed leg hangs up, then held frames that are due go out again, then a PING that is due.
+    // Sends the frames that are due: a doomed leg's HANGUP, then retransmissions of held frames, then a PING.
     fn due_frames(&mut self, grown: bool, now: u64, outs: &mut Replies) -> u32
         requires room { grown ≡ true → HasRoom 2 self.old }
         requires empty { outs.old ≡ [] }
@@ -133,10 +134,11 @@ impl Machine {
         unsent + self.after_tries(grown, spent, now, outs)
     }
 
-    /// Time goes on, up to the moment `now`, in milliseconds: a doomed leg's HANGUP, then the held frames that are due, then a
-    /// PING that is due; `grown` says that there is memory for a HANGUP or a PING. What is sent is written to the empty list.
+    /// Ticks the leg at the moment `now`, in milliseconds: a doomed leg's HANGUP, then the held frames that are due, then a
+    /// PING that is due. `grown` says that there is memory for a HANGUP or a PING. The leg's frames are written to the
+    /// empty list.
     ///
-    /// The answer is how many frames were due and had no memory.
+    /// Returns the number of frames that were due and had no memory.
     pub fn tick(&mut self, grown: bool, now: u64, outs: &mut Replies) -> u32
         requires room { grown ≡ true → is_record_full (leg_of self.old) ≡ false → HasRoom 2 self.old }
         requires empty { outs.old ≡ [] }

@@ -1,4 +1,4 @@
-//! What a full frame does, in its working order ("Message Transport").
+//! The effect of a full frame, in its working order ("Message Transport").
 ghost use Rattle.std.specs.Prelude.{◌≡◌, ◌+◌, ◌<◌, ◌≤◌, ◌++◌, [], true, length, map};
 ghost use Rattle.iax_frames.specs.FullFrame.{spelling};
 ghost use Rattle.seq_window.specs.Window.{held_count, judged_number, judged_acknowledgement};
@@ -27,7 +27,7 @@ impl Machine {
         }
     }
 
-    // The next frame is taken, with this effect.
+    // Takes the next frame, with this effect.
     fn take_frame(&mut self, effect: &Effect, frame: &Full, message: &Message, now: u64)
         requires room { HasRoom 3 self.old }
         requires short { length frame.now.payload ≤ 1388 }
@@ -44,7 +44,7 @@ impl Machine {
         self.record(frame);
     }
 
-    // The answer to a frame that is recorded.
+    // Writes the answer to a frame that is recorded.
     fn answer(&mut self, answer: &Answering, frame: &Full, now: u64, outs: &mut Replies)
         requires room { HasRoom 2 self.old }
         requires window { is_reply answer.now ≡ true → held_count self.old.window.state < self.old.window.state.width }
@@ -60,9 +60,9 @@ impl Machine {
         }
     }
 
-    /// The next frame comes at the moment `now`, in milliseconds, with this effect. Its data has at most 1,388 octets, there is
-    /// room for three entries, and what is sent is written behind fewer than 128 others. Where a numbered answer finds no room in
-    /// the window, the frame isn't taken.
+    /// Handles the next frame at the moment `now`, in milliseconds, with this effect. Its data has at most 1,388 octets,
+    /// there is room for three entries, and the leg's frames are written behind fewer than 128 others. If a numbered answer
+    /// finds no room in the window, the frame isn't taken.
     pub fn take(
         &mut self,
         effect: &Effect,
@@ -94,7 +94,7 @@ impl Machine {
         }
     }
 
-    // Whether a gap is answered: the last VNAK is at least `vnak_ms` milliseconds old, or asked for another number.
+    // Returns whether a gap is answered: the last VNAK is at least `vnak_ms` milliseconds old, or asked for another number.
     fn wants_vnak(&self, now: u64) -> bool
         ensures { result ≡ wants_vnak (leg_of self.now) now }
     {
@@ -104,7 +104,7 @@ impl Machine {
         }
     }
 
-    // A frame comes ahead of the one that is expected: a VNAK asks for that one, or there is silence.
+    // Handles a frame ahead of the expected one: a VNAK asks for that one, or nothing is sent.
     fn answer_gap(&mut self, frame: &Full, now: u64, outs: &mut Replies)
         requires { length outs.old < 128 }
         ensures leg { leg_of self.new ≡ (steps.gap_step (leg_of self.old) frame.now now).leg }
@@ -117,14 +117,14 @@ impl Machine {
         }
     }
 
-    // What a frame is by its number.
+    // Returns the judgement of a frame's number.
     fn judged(&self, frame: &Full) -> Received
         ensures { result ≡ judged_number self.now.window.state.history frame.now.head.oseqno }
     {
         self.window.judge(frame.oseqno())
     }
 
-    // A numbered frame comes.
+    // Handles a numbered frame.
     fn judge(&mut self, frame: &Full, message: &Message, now: u64, outs: &mut Replies) -> Heard
         requires room { HasRoom 3 self.old }
         requires short { length frame.now.payload ≤ 1388 }
@@ -162,7 +162,7 @@ impl Machine {
         }
     }
 
-    // A frame bears the leg's number, and that of the other side, if that is known.
+    // Returns whether a frame has the leg's number, and that of the other side, if that is known.
     fn names_leg(&self, frame: &Full) -> bool
         ensures { result ≡ names_leg (leg_of self.now) frame.now }
     {
@@ -171,7 +171,7 @@ impl Machine {
         is_to && is_from
     }
 
-    // An INVAL has an effect: a hardened leg heeds only one that names it.
+    // Returns whether an INVAL has an effect: a hardened leg heeds only one that names it.
     fn heeds_inval(&self, frame: &Full) -> bool
         ensures { result ≡ heeds_inval (leg_of self.now) frame.now }
     {
@@ -179,7 +179,7 @@ impl Machine {
         !self.rules.is_hardened || names_leg
     }
 
-    // An INVAL comes; it is never answered.
+    // Handles an INVAL, which is never answered.
     fn invalidate(&mut self, frame: &Full, now: u64) -> Heard
         ensures leg { leg_of self.new ≡ (steps.inval_step (leg_of self.old) frame.now now).leg }
         ensures silent { (steps.inval_step (leg_of self.old) frame.now now).replies ≡ [] }
@@ -200,7 +200,7 @@ impl Machine {
         }
     }
 
-    // A frame that has a number is judged by it; any other does no more.
+    // Judges a numbered frame by its number; any other has no further effect.
     fn numbered(&mut self, frame: &Full, message: &Message, now: u64, outs: &mut Replies) -> Heard
         requires room { HasRoom 3 self.old }
         requires short { length frame.now.payload ≤ 1388 }
@@ -221,7 +221,7 @@ impl Machine {
         }
     }
 
-    // The other side's number is learnt, the acknowledgement judged, and a closing leg that holds nothing has ended. Answers
+    // Learns the other side's number, judges the acknowledgement, and ends a closing leg that holds nothing. Returns
     // whether the acknowledgement counts.
     fn prepare(&mut self, frame: &Full) -> bool
         requires { HasRoom 4 self.old }
@@ -236,8 +236,8 @@ impl Machine {
         counts
     }
 
-    /// A full frame comes at the moment `now`, in milliseconds, with at most 1,388 octets of data, and there is room for what it
-    /// can add to the record. What is sent is written to the empty list.
+    /// Handles a full frame at the moment `now`, in milliseconds, with at most 1,388 octets of data. There is room for the
+    /// entries that it can add to the record. The leg's frames are written to the empty list.
     pub fn full(&mut self, frame: &Full, now: u64, outs: &mut Replies) -> Heard
         requires room { HasRoom 4 self.old }
         requires short { length frame.now.payload ≤ 1388 }

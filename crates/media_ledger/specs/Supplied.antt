@@ -1,7 +1,7 @@
--- what was supplied
+-- the supply of a ledger
 use Rattle.std.specs.Prelude.{ℕ}
 
--- how many shares there are, and what all of them have together
+-- the number of shares, and their sum
 pub record Supplied : Type 0 where
   pub shares : ℕ
   pub amount : ℕ

@@ -1,7 +1,7 @@
 //! Shares of a fixed supply. Amounts move from share to share, and all shares together have what was supplied.
 //!
-//! A ledger, the parameter `L`, has a number of parts. A `Blank` of it is supplied once, with one share for each part,
-//! and no share is ever of another ledger or made anew. So whoever holds as many shares as were supplied holds them all.
+//! A ledger, the parameter `L`, has a number of parts. A `Blank` of it is supplied once, with one share for each part. No
+//! share belongs to another ledger, and none is made later. So an owner of as many shares as were supplied has them all.
 #![tactic(auto)]
 
 mod share;

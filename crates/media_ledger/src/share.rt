@@ -26,7 +26,7 @@ impl<L: Ledger> Model for Share<L> {
 }
 
 impl<L: Ledger> Share<L> {
-    /// The amount that the share has, 0 ..= 2^64 - 1.
+    /// Returns the amount that the share has, 0 ..= 2^64 - 1.
     pub fn amount(&self) -> u64
         ensures { result ≡ self.now }
     {

@@ -9,7 +9,7 @@ use std::alloc::{AllocError, Global};
 use std::sync::Arc;
 use std::sync::ledger::{Blank, Book, Ledger, Share as Token, Total};
 
-// The sum of the amounts, where it fits.
+// Returns the sum of the amounts, if it fits.
 fn sum_of(amounts: &[u64]) -> Option<u64>
     ensures some { IfSome result (λ n. n ≡ sum amounts.now) }
     ensures none { IsNone result ↔ (2 ^ 64 ≤ sum amounts.now) }
@@ -23,8 +23,8 @@ fn sum_of(amounts: &[u64]) -> Option<u64>
 
 /// Supplies these amounts, at least one: one share for each, in order. The blank is of this ledger, with one part for each.
 ///
-/// `TooMuch` comes exactly where the amounts add up to 2^64 or more, `Memory` only where memory was refused. At an `Err` the
-/// blank is dropped.
+/// Returns `TooMuch` if and only if the amounts add up to 2^64 or more, and `Memory` only if memory was refused. At an
+/// `Err` the blank is dropped.
 pub fn supply<L: Ledger>(
     alloc: Global,
     blank: Blank,
@@ -53,7 +53,7 @@ pub fn supply<L: Ledger>(
     Ok((supply, shares))
 }
 
-// The closed book, for every share to hold.
+// Returns the closed book, which every share holds.
 fn shared<L: Ledger>(alloc: Global, book: Book<L>) -> Result<Arc<Total<L>>, AllocError>
     ensures { IfOk result (λ t. ((arc_value t).amount ≡ book.total) × ((arc_value t).parts ≡ L.parts)) }
 {
@@ -105,9 +105,9 @@ pub fn pass_on<L: Ledger>(from: &mut Share<L>, to: &mut Share<L>, n: u64)
     to.amount += n;
 }
 
-/// The sum of all shares, which is what was supplied. It takes no memory.
+/// Returns the sum of all shares, which is the supply. It takes no memory.
 ///
-/// `Missing` comes exactly where one is absent; the shares come back.
+/// Returns `Missing` if and only if one is absent; the shares come back.
 pub fn gather<L: Ledger>(
     supply: &Supply<L>,
     shares: Vec<Share<L>>,
@@ -125,7 +125,7 @@ pub fn gather<L: Ledger>(
     Ok(merged(supply, shares))
 }
 
-// The sum of all shares of a supply.
+// Returns the sum of all shares of a supply.
 fn merged<L: Ledger>(supply: &Supply<L>, shares: Vec<Share<L>>) -> u64
     requires { supply.now.shares ≤ vec_len shares }
     ensures all { vec_len shares ≡ supply.now.shares }

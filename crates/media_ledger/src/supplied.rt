@@ -1,4 +1,4 @@
-//! What was supplied.
+//! The supply of a ledger.
 ghost use Rattle.std.specs.Prelude.{◌≡◌, ◌<◌, ◌≤◌, ◌^◌};
 
 use std::alloc::AllocError;
@@ -6,7 +6,7 @@ use std::marker::Model;
 use std::sync::Arc;
 use std::sync::ledger::{Ledger, Share as Token, Total};
 
-/// What was supplied to a ledger: the number of shares, and their sum.
+/// The supply of a ledger: the number of shares, and their sum.
 #[derive(Drop)]
 pub struct Supply<L: Ledger> {
     pub(crate) shares: u64,
@@ -28,7 +28,7 @@ impl<L: Ledger> Model for Supply<L> {
 }
 
 impl<L: Ledger> Supply<L> {
-    // A token has no more than was supplied, and with every part it has all of it.
+    // Checks a token: it has no more than the supply, and with every part all of it.
     pub(crate) fn audit(&self, token: &mut Token<L>)
         ensures parts { token.new.parts ≡ token.old.parts }
         ensures amount { token.new.amount ≡ token.old.amount }
@@ -42,7 +42,7 @@ impl<L: Ledger> Supply<L> {
     }
 }
 
-/// Why nothing was supplied.
+/// The reason why nothing was supplied.
 #[derive(Clone, Copy, Debug, PartialEq, Eq)]
 pub enum SupplyError {
     /// The amounts add up to 2^64 or more.

@@ -1,4 +1,4 @@
--- The steps of what was made, and of one more.
+-- The steps of a trail, and of one more note.
 use Rattle.std.specs.Prelude.{◌≡◌, List, [], ◌∷◌, ◌++◌, ◌+◌}
 use Rattle.std.proofs.Common.{arith}
 use Rattle.noted_steps.specs.Notes.{steps_in, steps_of}

@@ -1,5 +1,5 @@
--- What the steps of a trail put at a peer, one step after another.
-use Rattle.std.proofs.Common.{◌≡◌, ◌≢◌, ℕ, ◌==◌, true, List, [], ◌∷◌, Option, None, Some, length, slice_get, refl, sym, ap, subst, ◌∙◌, inl, inr}
+-- The load that the steps of a trail put at a peer, one step after another.
+use Rattle.std.proofs.Common.{◌≡◌, ◌≢◌, ℕ, ◌+◌, ◌==◌, arith, true, List, [], ◌∷◌, Option, None, Some, length, slice_get, refl, sym, ap, subst, ◌∙◌, inl, inr}
 use Rattle.std.specs.Prelude.{Ok, Err}
 use Rattle.std.proofs.lemmas.Bool.{cases_Bool, eqb-true, eq-eqb}
 use Rattle.call_book.specs.declared.leg_name.LegName.{LegName}
@@ -11,7 +11,7 @@ use Rattle.call_signals.specs.declared.order.OrderKind.{OrderKind}
 use Rattle.iax_frames.specs.FullFrame.{FullFrame}
 use Rattle.iax_frames.specs.declared.datagram.Datagram.{Datagram}
 use Rattle.leg_machine.specs.OrderTable.{IsShortMedia}
-use Rattle.noted_steps.specs.Followed.{Follow, Leads, LeadsAll, LeadsAt, Obeys, load_at, load_of_step, loads_at, place_of}
+use Rattle.noted_steps.specs.Followed.{Follow, Leads, LeadsAll, LeadsAt, Obeys, TakesOut, load_at, load_of_step, loads_at, place_of}
 use Rattle.noted_steps.specs.Notes.{media_of}
 use Rattle.noted_steps.specs.declared.made.Made.{Made}
 use Rattle.noted_steps.specs.declared.made.Made.TheVariants as mades
@@ -34,7 +34,7 @@ media_is (orders.Hangup cause) = refl
 media_is (orders.Doom cause) = refl
 media_is orders.Paid = refl
 
--- what stands at a place after a step, and what the step put there
+-- the peer at a place after a step, and the load that the step put there
 record Next (load : Load) (first : PeerView) (place : ℕ) (new : List PeerView) : Type 0 where
   peer : PeerView
   at : slice_get new place ≡ Some peer
@@ -52,6 +52,18 @@ module _ (datagrams : (first : ℕ) (peer : PeerView) (datagram : Datagram) (now
     (together : (one other : Load) (old mid new : PeerView) → Puts one old mid → Puts other mid new → Puts (plus one other) old new) where
   unchanged : (old new : PeerView) → new ≡ old → Puts no_load old new
   unchanged old new same = subst (λ (p : PeerView). Puts no_load old p) (sym same) (none old)
+
+  taken_puts : (out : List ℕ) (old new : PeerView) → TakesOut out old new → Puts no_load old new
+  taken_puts out old new takes =
+      let shorter = ap (λ (waiting : List (List ℕ)). length waiting) takes.oldest in
+      subst (λ (p : PeerView). Puts no_load old p) (sym takes.becomes) (record {
+        rules = refl;
+        most = omega (arith, shorter);
+        sent = λ fits. refl;
+        entries = omega arith;
+        octets = omega arith;
+        queued = λ room. refl;
+      })
 
   obeys_puts : (name : LegName) (kind : OrderKind) (media : List ℕ) (now : ℕ) (old new : PeerView) → Obeys name kind media now old new
       → Puts (order_load kind (length media)) old new
@@ -82,6 +94,8 @@ module _ (datagrams : (first : ℕ) (peer : PeerView) (datagram : Datagram) (now
   step_puts (mades.Retire peer name (Some leg)) old new leads =
       subst (λ (p : PeerView). Puts no_load old p) (sym leads) (retiring old name)
   step_puts (mades.Retire peer name None) old new leads = unchanged old new leads
+  step_puts (mades.TakeOut peer (Some out)) old new leads = taken_puts out old new leads
+  step_puts (mades.TakeOut peer None) old new leads = unchanged old new leads.1
   step_puts (mades.Look peer number answer) old new leads = unchanged old new leads
   step_puts (mades.Reserve peer answer) old new leads = unchanged old new leads
   step_puts (mades.Bridge one other answer) old new leads = unchanged old new leads

@@ -1,4 +1,4 @@
--- What a pass has noted, by its parts.
+-- The notes of a pass, by their parts.
 use Rattle.std.specs.Prelude.{◌≡◌, ℕ, List}
 use Rattle.std.proofs.Common.{◌∙◌, ap}
 use Rattle.peer_accounts.specs.Accounts.{Credit}

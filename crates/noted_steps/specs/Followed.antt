@@ -1,4 +1,5 @@
--- What the steps of a trail make of the peers of a plan, where no one else makes steps, and what they put at each of them.
+-- The effect of a trail's steps on the peers of a plan, if no one else makes steps, and the load that they put at each
+-- peer.
 use Rattle.std.specs.Prelude.{◌≡◌, ◌≢◌, ℕ, ◌==◌, List, [], ◌∷◌, length, slice_get, Option, None, Some, Ok, if◌then◌else◌}
 use Rattle.call_book.specs.declared.leg_name.LegName.{LegName}
 use Rattle.call_signals.specs.Order.{kind_of}
@@ -16,6 +17,7 @@ use Rattle.peer_lock.specs.HandedUp.{HandedUp}
 use Rattle.peer_lock.specs.Loads.{Load, datagram_load, load_of, no_load, order_load, plus, tick_load}
 use Rattle.peer_lock.specs.Openings.{opens_in, opens_out, rejects_new}
 use Rattle.peer_lock.specs.Orders.{ordered_step}
+use Rattle.peer_lock.specs.Outbox.{with_waiting}
 use Rattle.peer_lock.specs.Peer.{PeerView, without_leg}
 use Rattle.peer_lock.specs.SoundPeer.{IsSoundPeer}
 use Rattle.peer_lock.specs.Ticks.{Ticks}
@@ -23,7 +25,7 @@ use Rattle.peer_lock.specs.declared.steps.Step.{Step}
 
 -- ---- one step, at its peer
 
--- a datagram was worked; first: the octet credit with which every peer begins
+-- a datagram was handled; first: the octet credit with which every peer begins
 pub record Works (octets : List ℕ) (now : ℕ) (step : Step) (onwards : HandedUp) (old new : PeerView) : Type 0 where
   pub first : ℕ
   pub datagram : Datagram
@@ -39,12 +41,12 @@ pub record OpensIn (name : LegName) (head : FullHead) (payload : List ℕ) (now 
   pub answers : step ≡ (opens_in old name (record { head = head; payload = payload }) now challenge).step
   pub signals : onwards.signals ≡ (opens_in old name (record { head = head; payload = payload }) now challenge).signals
 
--- a NEW was rejected, since no number was free
+-- a NEW was rejected because no number was free
 pub record RejectsNew (head : FullHead) (payload : List ℕ) (step : Step) (old new : PeerView) : Type 0 where
   pub becomes : new ≡ (rejects_new old (record { head = head; payload = payload })).peer
   pub answers : step ≡ (rejects_new old (record { head = head; payload = payload })).step
 
--- a leg obeyed an order, of which the kind and the media are noted
+-- a leg obeyed an order, whose kind and media are noted
 pub record Obeys (name : LegName) (kind : OrderKind) (media : List ℕ) (now : ℕ) (old new : PeerView) : Type 0 where
   pub order : Order
   pub kind_is : kind_of order ≡ kind
@@ -52,7 +54,12 @@ pub record Obeys (name : LegName) (kind : OrderKind) (media : List ℕ) (now : �
   pub short : IsShortMedia order
   pub becomes : new ≡ ordered_step old name order now
 
--- what a step that is noted so makes of its peer; a step that was refused changes nothing
+-- the oldest datagram that waited in the outbox was taken out, and nothing else changed
+pub record TakesOut (out : List ℕ) (old new : PeerView) : Type 0 where
+  pub oldest : old.outbox.waiting ≡ out ∷ new.outbox.waiting
+  pub becomes : new ≡ record old { outbox = with_waiting old.outbox new.outbox.waiting }
+
+-- the effect on its peer of a noted step; a refused step changes nothing
 abbrev pub Leads : Made → PeerView → PeerView → Type 0
 Leads (mades.Datagram peer octets now (Ok step) onwards) old new = Works octets now step onwards old new
 Leads (mades.OpenIn peer name head payload now challenge (Ok step) onwards) old new =
@@ -63,9 +70,11 @@ Leads (mades.OpenOut peer name called caller format now (Ok step)) old new =
 Leads (mades.Order peer name kind media now (Ok step)) old new = Obeys name kind media now old new
 Leads (mades.Tick peer now (Ok report)) old new = Ticks old now report new
 Leads (mades.Retire peer name (Some leg)) old new = new ≡ without_leg old name
+Leads (mades.TakeOut peer (Some out)) old new = TakesOut out old new
+Leads (mades.TakeOut peer None) old new = (old.outbox.waiting ≡ []) × (new ≡ old)
 Leads made old new = new ≡ old
 
--- what it puts there
+-- the load that it puts there
 abbrev pub load_of_step : (made : Made) (old new : PeerView) → Leads made old new → Load
 load_of_step (mades.Datagram peer octets now (Ok step) onwards) old new leads = datagram_load old leads.datagram now
 load_of_step (mades.OpenIn peer name head payload now challenge (Ok step) onwards) old new leads = load_of 1
@@ -86,9 +95,10 @@ place_of (mades.OpenOut peer name called caller format now answer) = Some peer
 place_of (mades.Order peer name kind media now answer) = Some peer
 place_of (mades.Tick peer now answer) = Some peer
 place_of (mades.Retire peer name leg) = Some peer
+place_of (mades.TakeOut peer out) = Some peer
 place_of made = None
 
--- the peer of that place is led on by it, and is sound again; the others stay as they are
+-- the peer at that place changes by the step, and is sound again; the others stay as they are
 pub record LeadsAt (place : ℕ) (made : Made) (old new : List PeerView) : Type 0 where
   pub before : PeerView
   pub was : slice_get old place ≡ Some before
@@ -102,22 +112,22 @@ abbrev pub LeadsAll : Option ℕ → Made → List PeerView → List PeerView �
 LeadsAll None made old new = new ≡ old
 LeadsAll (Some place) made old new = LeadsAt place made old new
 
--- the peers follow a trail: each step is made on what the one before it left, and none else is made
+-- the peers follow a trail: each step is made on the result of the one before it, and there are no other steps
 abbrev pub Follow : List Made → List PeerView → List PeerView → Type 0
 Follow [] old new = new ≡ old
 Follow (made ∷ rest) old new = (mid : List PeerView) × LeadsAll (place_of made) made old mid × Follow rest mid new
 
--- each of these peers is such as its lock leaves it
+-- each of these peers is in a state that its lock leaves
 abbrev pub AreSound : List PeerView → Type 0
 AreSound peers = (place : ℕ) (peer : PeerView) → slice_get peers place ≡ Some peer → IsSoundPeer peer
 
--- what a step puts at the peer of a place
+-- the load that a step puts at the peer of a place
 abbrev pub load_at : (place : ℕ) (other : Option ℕ) (made : Made) (old new : List PeerView) → LeadsAll other made old new → Load
 load_at place None made old new leads = no_load
 load_at place (Some other) made old new leads =
     if other == place then load_of_step made leads.before leads.after leads.leads else no_load
 
--- what the steps of a trail put there together
+-- the load that the steps of a trail put there together
 abbrev pub loads_at : (place : ℕ) (trail : List Made) (old new : List PeerView) → Follow trail old new → Load
 loads_at place [] old new follow = no_load
 loads_at place (made ∷ rest) old new follow =

@@ -1,4 +1,3 @@
 pub mod Followed
-pub mod Looked
 pub mod Notes
 pub mod Stepped

@@ -1,4 +1,4 @@
--- What a pass has noted.
+-- The notes of a pass.
 use Rattle.std.specs.Prelude.{◌≡◌, ℕ, List, [], ◌∷◌, ◌++◌, ◌+◌, Result, Ok, Err, Option, None, Some}
 use Rattle.peer_accounts.specs.Accounts.{Credit}
 use Rattle.peer_lock.specs.Peer.{PeerView}
@@ -7,18 +7,18 @@ use Rattle.call_signals.specs.declared.order.Order.TheVariants as orders
 use Rattle.noted_steps.specs.declared.made.Made.{Made}
 use Rattle.noted_steps.specs.declared.made.Made.TheVariants as mades
 
--- the credit of a pass, the steps that it began with, and what was made under it since, in order
+-- the credit of a pass, the number of steps with which it began, and the steps noted under it since, in order
 pub record Noted : Type 0 where
   pub credit : Credit
   pub begun : ℕ
   pub made : List Made
 
--- a step was made where it wasn't refused
+-- 1 for a step that wasn't refused
 abbrev pub if_made : {A E : Type 0} → Result A E → ℕ
 if_made (Ok made) = 1
 if_made (Err refusal) = 0
 
--- how many steps of a peer it is
+-- the number of peer steps that it is
 abbrev pub steps_of : Made → ℕ
 steps_of (mades.Datagram peer octets now answer onwards) = if_made answer
 steps_of (mades.OpenIn peer name head payload now challenge answer onwards) = if_made answer
@@ -28,12 +28,12 @@ steps_of (mades.Order peer name order media now answer) = if_made answer
 steps_of (mades.Tick peer now answer) = if_made answer
 steps_of made = 0
 
--- how many steps of peers were made
+-- the number of peer steps in a trail
 abbrev pub steps_in : List Made → ℕ
 steps_in [] = 0
 steps_in (made ∷ rest) = steps_of made + steps_in rest
 
--- .. and this more was made
+-- .. and with one more note
 abbrev pub note : Made → Noted → Noted
 note made pass = record pass { made = pass.made ++ made ∷ [] }
 
@@ -57,7 +57,7 @@ pub record Peer : Type 0 where
   pub number : ℕ
   pub state : PeerView
 
--- .. and this more was made, whatever it did to the credit
+-- .. and with one more note, whatever its effect on the credit
 pub record Notes (step : Made) (old new : Noted) : Type 0 where
   pub made : new.made ≡ old.made ++ step ∷ []
   pub begun : new.begun ≡ old.begun

@@ -1,4 +1,4 @@
--- At which peers steps were made under a pass since their last tick.
+-- The peers at which steps were made under a pass since their last tick.
 use Rattle.std.specs.Prelude.{ℕ, List, [], ◌∷◌, Bool, true, false, nat_lt, Result, Ok, Err, get_or, replicate, set}
 use Rattle.noted_steps.specs.Notes.{Noted}
 use Rattle.noted_steps.specs.declared.made.Made.{Made}
@@ -6,17 +6,17 @@ use Rattle.noted_steps.specs.declared.made.Made.TheVariants as mades
 use Rattle.peer_lock.specs.declared.errors.StepsSpent.{StepsSpent}
 use Rattle.peer_lock.specs.declared.steps.TickReport.{TickReport}
 
--- for each place of a plan, which has at most 32, that its peer isn't one of them
+-- no peer is one of them; a plan has at most 32 places
 abbrev pub no_peers : List Bool
 no_peers = replicate 32 false
 
--- a tick found no memory for a frame, so it is to be made again
+-- a tick found no memory for a frame, so it has to be repeated
 abbrev pub has_skipped : Result TickReport StepsSpent → Bool
 has_skipped (Ok report) = nat_lt 0 report.skipped
 has_skipped (Err spent) = false
 
--- What was asked of a peer adds it, whatever was answered, and a tick takes it out, unless it is to be made again. A look changes nothing at the peer, and what
--- is asked of the book isn't asked of a peer.
+-- A request to a peer adds the peer, whatever the answer. A tick removes it, unless the tick has to be repeated. A look
+-- changes nothing at the peer, and a request to the book isn't one to a peer.
 abbrev pub with_made : Made → List Bool → List Bool
 with_made (mades.Datagram peer octets now answer onwards) peers = set peers peer true
 with_made (mades.OpenIn peer name head payload now challenge answer onwards) peers = set peers peer true
@@ -32,6 +32,6 @@ abbrev pub with_all : List Bool → List Made → List Bool
 with_all peers [] = peers
 with_all peers (made ∷ rest) = with_all (with_made made peers) rest
 
--- whether a step was made at a peer under the pass since its last tick, or that tick is to be made again
+-- whether a step was made at a peer under the pass since its last tick, or that tick has to be repeated
 abbrev pub is_unticked : Noted → ℕ → Bool
 is_unticked pass peer = get_or (with_all no_peers pass.made) peer false

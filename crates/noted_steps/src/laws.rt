@@ -1,12 +1,12 @@
-//! What holds of every trail that peers follow.
+//! Laws of every trail that peers follow.
 ghost use Rattle.std.specs.Prelude.{◌≡◌, ◌+◌, ◌≤◌, ℕ, List, Some, slice_get};
 ghost use Rattle.noted_steps.specs.Followed.{Follow, loads_at};
 ghost use Rattle.noted_steps.specs.declared.made.Made.{Made};
 ghost use Rattle.peer_lock.specs.Loads.{Puts, QueueHasRoom, dropped_for_room};
 ghost use Rattle.peer_lock.specs.Peer.{PeerView, to_send};
 
-/// The steps of a trail put no more into a peer's outbox and trunk queue than their loads together. As long as both have room for
-/// all of it, beside what waited before, nothing is lost, and only media that the other side wants none of is dropped.
+/// The steps of a trail put no more into a peer's outbox and trunk queue than their loads together. As long as both have
+/// room for that and for what waited before, nothing is lost, and only quelched media is dropped.
 pub fn trails_that_fit_lose_nothing()
     ensures puts { (trail : List Made) (old new : List PeerView) (follow : Follow trail old new)
         (place : ℕ) (first last : PeerView) → slice_get old place ≡ Some first → slice_get new place ≡ Some last →

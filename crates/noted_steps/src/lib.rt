@@ -1,11 +1,10 @@
-//! The states that lie behind locks, whose every step is noted under the pass that it is made with.
+//! States behind locks. Each step of a state is noted under the pass that makes it.
 #![tactic(auto)]
 
 pub mod laws;
 mod made;
 mod noted_book;
 mod noted_peer;
-mod octets;
 mod pass;
 mod peer_steps;
 mod seen;
@@ -15,5 +14,4 @@ pub mod trail;
 pub use made::Made;
 pub use noted_book::NotedBook;
 pub use noted_peer::NotedPeer;
-pub use octets::Octets;
 pub use pass::Pass;

@@ -1,4 +1,4 @@
-//! The book of calls, as it lies under its lock.
+//! The book of calls, under its lock.
 ghost use Rattle.std.specs.Prelude.{◌≡◌, ◌↔◌, None, Some, false, IsErr, IfErr, IfOk, IfSome, OnErr, OnOk};
 ghost use Rattle.std.specs.FinMap.{get};
 ghost use Rattle.call_book.specs.Book.{IsBook, IsNumberOf, after_reserve, bridge_answer, bridged, has_name, partner_of, released};
@@ -12,12 +12,12 @@ use call_book::{BridgeError, CallBook, Lease, LegName, ReserveError, Stale};
 use peer_lock::Naming;
 use std::marker::Model;
 
-/// The book of calls, whose every step is noted under the pass that it is made with. Contracts see it as the book.
+/// The book of calls. Each of its steps is noted under the pass with which it is made. Contracts see it as the book.
 pub struct NotedBook {
     book: CallBook,
 }
 
-// (Written out, so that whoever owns one proves a call where it is dropped, and not the drop of each field.)
+// Written out, so that an owner proves one call at its drop, not the drop of each field.
 impl Drop for NotedBook {
     fn drop(self) {
         let NotedBook { book: _ } = self;
@@ -34,7 +34,7 @@ impl Model for NotedBook {
     ghost view = { λ b. b.book };
 }
 
-// The name that was given, if one was.
+// Returns the name that was given, if one was.
 fn named(answer: &Result<Lease, ReserveError>) -> Result<LegName, ReserveError>
     ensures { result ≡ answer.now }
 {
@@ -45,17 +45,18 @@ fn named(answer: &Result<Lease, ReserveError>) -> Result<LegName, ReserveError>
 }
 
 impl NotedBook {
-    /// The book, whose every step is noted from now on.
+    /// Returns the book. Each of its steps is noted from now on.
     pub fn new(book: CallBook) -> NotedBook
         ensures { result ≡ book }
     {
         NotedBook { book }
     }
 
-    /// Gives out the peer's number that was freed longest ago, at first in ascending order, under the next serial, and notes it.
+    /// Reserves the peer's number that was freed longest ago, at first in ascending order, under the next serial, and notes
+    /// the step.
     ///
-    /// Refusals are looked for in this order: `SerialsSpent` where the next serial would be 2^64 - 1, `NoNumber` where no number
-    /// of the peer is free, or the book doesn't know the peer.
+    /// Refusals are checked in this order. `SerialsSpent`: the next serial would be 2^64 - 1. `NoNumber`: no number of the
+    /// peer is free, or the book doesn't know the peer.
     #[tactic(auto, using(crate::proofs::Counted::steps_in_longer, crate::proofs::Stepping::with_longer))]
     pub fn reserve<J: Naming>(
         &mut self,
@@ -75,7 +76,7 @@ impl NotedBook {
         answer
     }
 
-    /// The partner of a name; `None` where the book hasn't the name, or it isn't bridged. It is noted.
+    /// Returns the partner of a name, or `None` if the book hasn't the name or it isn't bridged. Notes the step.
     #[tactic(auto, using(crate::proofs::Counted::steps_in_longer, crate::proofs::Stepping::with_longer))]
     pub fn partner<J: Naming>(&self, pass: &mut Pass<J>, name: LegName) -> Option<LegName>
         ensures partner { result ≡ partner_of self.now name }
@@ -88,10 +89,10 @@ impl NotedBook {
         answer
     }
 
-    /// Makes two names partners of each other, and notes it.
+    /// Makes two names partners of each other, and notes the step.
     ///
-    /// Refusals are looked for in this order: `Same` where they are one name, `Stale` where the book hasn't one of them,
-    /// `Bridged` where one has a partner already; then the book is as before.
+    /// Refusals are checked in this order: `Same` if they are one name, `Stale` if the book hasn't one of them, `Bridged`
+    /// if one has a partner already; then the book is as before.
     #[tactic(auto, using(crate::proofs::Counted::steps_in_longer, crate::proofs::Stepping::with_longer))]
     pub fn bridge<J: Naming>(
         &mut self,
@@ -111,10 +112,10 @@ impl NotedBook {
         answer
     }
 
-    /// Takes a name back: its number is free again, behind the peer's other free numbers, and its bridge ends on both sides.
-    /// Gives the former partner. It is noted.
+    /// Takes a name back: its number is free again, behind the peer's other free numbers, and its bridge ends on both
+    /// sides. Returns the former partner, and notes the step.
     ///
-    /// `Stale` comes exactly where the book hasn't the name; the lease comes back, and the book is as before.
+    /// Returns `Stale` if and only if the book hasn't the name; the lease comes back, and the book is as before.
     #[tactic(auto, using(crate::proofs::Counted::steps_in_longer, crate::proofs::Stepping::with_longer))]
     pub fn release<J: Naming>(
         &mut self,
@@ -137,7 +138,7 @@ impl NotedBook {
         answer
     }
 
-    /// The partner of a name, for whoever asks from outside: it isn't noted. `None` where the book hasn't the name, or it isn't
+    /// Returns the partner of a name, as a query that isn't noted. Returns `None` if the book hasn't the name or it isn't
     /// bridged.
     pub fn partner_of(&self, name: LegName) -> Option<LegName>
         ensures partner { result ≡ partner_of self.now name }
@@ -146,7 +147,14 @@ impl NotedBook {
         self.book.partner(name)
     }
 
-    /// Gives the book itself back.
+    /// The serial of the next name, for whoever asks from outside: it isn't noted.
+    pub fn next_serial(&self) -> u64
+        ensures { result ≡ self.now.next }
+    {
+        self.book.next_serial()
+    }
+
+    /// Returns the book itself.
     pub fn into_book(self) -> CallBook
         ensures { result ≡ self }
     {

@@ -1,24 +1,21 @@
-//! The state of a peer, as it lies under its lock.
-ghost use Rattle.std.specs.Prelude.{◌≡◌, ◌≤◌, ◌∷◌, [], option_map, MatchOption, count_by, is_some};
-ghost use Rattle.std.specs.Bool.{OnTrue, OnFalse};
+//! The state of a peer, under its lock.
+ghost use Rattle.std.specs.Prelude.{◌≡◌, ◌≤◌, option_map, IfSome, count_by, is_some};
 ghost use Rattle.peer_lock.specs.Accounts.{shown};
-ghost use Rattle.peer_lock.specs.Descriptions.{description_of};
+ghost use Rattle.peer_lock.specs.Descriptions.{description_from, description_of};
 ghost use Rattle.peer_lock.specs.Legs.{leg_at};
-ghost use Rattle.peer_lock.specs.Outbox.{with_waiting};
 ghost use Rattle.peer_lock.specs.Statuses.{status_of};
 
-use iax_frames::Out;
-use peer_lock::{Description, Losses, Naming, PeerState, Status, Sums};
+use peer_lock::{Description, Losses, Naming, PeerState, Pokes, Status, Sums};
 use std::marker::Model;
 
-/// The state of a peer, whose every step is noted under the pass that it is made with. Contracts see that state and the peer's
-/// place in the plan.
+/// The state of a peer. Each of its steps is noted under the pass with which it is made. Contracts see that state and the
+/// peer's place in the plan.
 pub struct NotedPeer<J: Naming> {
     pub(crate) number: u16,
     pub(crate) state: PeerState<J>,
 }
 
-// (Written out, so that whoever owns one proves a call where it is dropped, and not the drop of each field.)
+// Written out, so that an owner proves one call at its drop, not the drop of each field.
 impl<J: Naming> Drop for NotedPeer<J> {
     fn drop(self) {
         let NotedPeer {
@@ -37,7 +34,7 @@ impl<J: Naming> Model for NotedPeer<J> {
 }
 
 impl<J: Naming> NotedPeer<J> {
-    /// The state of the peer that is at this place of the plan, whose every step is noted from now on.
+    /// Returns the state of the peer at this place of the plan. Each of its steps is noted from now on.
     pub fn new(number: u16, state: PeerState<J>) -> NotedPeer<J>
         requires { state.legs.peer ≡ number }
         ensures number { result.number ≡ number }
@@ -46,52 +43,35 @@ impl<J: Naming> NotedPeer<J> {
         NotedPeer { number, state }
     }
 
-    /// The peer's place in the plan, from 0 on.
+    /// Returns the peer's place in the plan, from 0 on.
     pub fn number(&self) -> u16
         ensures { result ≡ self.now.number }
     {
         self.number
     }
 
-    /// Takes the oldest datagram of the outbox; `None` where none waits. It isn't noted.
-    pub fn take_out(&mut self) -> Option<Out>
-        ensures oldest { MatchOption result ((self.old.state.outbox.waiting ≡ []) × (self.new.state ≡ self.old.state))
-            (λ out. (self.old.state.outbox.waiting ≡ out ∷ self.new.state.outbox.waiting)
-            × (self.new.state ≡ record self.old.state {
-              outbox = with_waiting self.old.state.outbox self.new.state.outbox.waiting;
-            })) }
-        ensures number { self.new.number ≡ self.old.number }
-    {
-        self.state.take_out()
-    }
-
-    /// Takes the oldest datagram of the outbox, and writes it over this one; false, and nothing is changed, where none waits. It
-    /// isn't noted.
-    pub fn take_into(&mut self, out: &mut Out) -> bool
-        ensures taken { OnTrue result ((self.old.state.outbox.waiting ≡ out.new ∷ self.new.state.outbox.waiting)
-            × (self.new.state ≡ record self.old.state {
-              outbox = with_waiting self.old.state.outbox self.new.state.outbox.waiting;
-            })) }
-        ensures empty { OnFalse result (self.old.state.outbox.waiting ≡ []) }
-        ensures same { OnFalse result ((self.new.state ≡ self.old.state) × (out.new ≡ out.old)) }
-        ensures number { self.new.number ≡ self.old.number }
-    {
-        self.state.take_into(out)
-    }
-
-    /// How the leg of a local number stands, for whoever asks from outside: it isn't noted. `None` where there is none.
+    /// Returns the status of the leg of a local number, as a query that isn't noted, or `None` if there is none.
     pub fn status(&self, number: u16) -> Option<Status>
         ensures { result ≡ option_map status_of (leg_at self.now.state.legs number) }
     {
         self.state.look(number)
     }
 
-    /// The leg of a local number, with what its call is about, for whoever asks from outside: it isn't noted. `None` where there
-    /// is none.
+    /// Returns the leg of a local number, with the values of its call, as a query that isn't noted, or `None` if there is
+    /// none.
     pub fn describe(&self, number: u16) -> Option<Description>
         ensures { result ≡ option_map description_of (leg_at self.now.state.legs number) }
     {
         self.state.describe(number)
+    }
+
+    /// The leg with the least local number that is at least this one, with what its call is about, for whoever asks from outside:
+    /// it isn't noted. The name in its status has its number. `None` if no leg has such a number.
+    pub fn describe_from(&self, number: u16) -> Option<Description>
+        ensures leg { result ≡ description_from self.now.state.legs number }
+        ensures from { IfSome result (λ leg. number ≤ leg.status.name.number) }
+    {
+        self.state.describe_from(number)
     }
 
     /// Sets whether the peer drains: while it does, no NEW opens a leg. It is no step, and isn't noted.
@@ -102,14 +82,14 @@ impl<J: Naming> NotedPeer<J> {
         self.state.set_draining(drains);
     }
 
-    /// How many legs the peer has, 0 ..= 512. It isn't noted.
+    /// Returns the number of the peer's legs, 0 ..= 512. It isn't noted.
     pub fn leg_count(&self) -> usize
         ensures { result ≡ count_by is_some self.now.state.legs.places }
     {
         self.state.leg_count()
     }
 
-    /// The sums of the accounts, for whoever asks from outside: it isn't noted.
+    /// Returns the sums of the accounts, as a query that isn't noted.
     pub fn sums(&self) -> Sums
         ensures sums { result ≡ shown self.now.state.accounts }
         ensures part { result.quelched ≤ result.dropped }
@@ -117,14 +97,21 @@ impl<J: Naming> NotedPeer<J> {
         self.state.sums()
     }
 
-    /// How many datagrams a full outbox lost, for whoever asks from outside: it isn't noted.
+    /// Returns the number of datagrams that a full outbox lost, as a query that isn't noted.
     pub fn lost(&self) -> Losses
         ensures { result ≡ self.now.state.outbox.lost }
     {
         self.state.lost()
     }
 
-    /// Gives the state of the peer itself back.
+    /// Returns the state of the exchange's POKEs to the peer. It isn't noted.
+    pub fn pokes(&self) -> Pokes
+        ensures { result ≡ self.now.state.pokes }
+    {
+        self.state.pokes()
+    }
+
+    /// Returns the state of the peer itself.
     pub fn into_state(self) -> PeerState<J>
         ensures { result ≡ self.state }
     {

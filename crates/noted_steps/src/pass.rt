@@ -1,4 +1,4 @@
-//! The token of one worker or caller, with what was done under it.
+//! The token of one worker or caller, with the steps made under it.
 ghost use Rattle.std.specs.Prelude.{◌≡◌, ◌+◌, []};
 ghost use Rattle.peer_accounts.specs.HandedUp.{IsNothing};
 
@@ -10,17 +10,18 @@ use peer_lock::{Naming, Onwards, Pass as Credits};
 use std::alloc::Global;
 use std::marker::Model;
 
-/// The token of one worker or caller. Contracts see the credit that peers have passed to it, the steps that it began with, and
-/// what was made under it since: each step of a locked state, in order, with its answer.
+/// The token of one worker or caller. Contracts see the credit that peers have passed to it, the number of steps with which
+/// it began, and the notes made under it since. A note is a step of a locked state with its answer; notes are in order.
 ///
-/// Its step credit is what it began with and one for each step of a peer among those. What was made is kept by proofs alone.
+/// Its step credit is the number with which it began and 1 for each step of a peer in the notes. Only proofs keep the
+/// notes.
 pub struct Pass<J: Naming> {
     pub(crate) credits: Credits<J>,
     pub(crate) made: Trail,
     pub(crate) stepped: SteppedPeers,
 }
 
-// (Written out, so that whoever owns one proves a call where it is dropped, and not the drop of each field.)
+// Written out, so that an owner proves one call at its drop, not the drop of each field.
 impl<J: Naming> Drop for Pass<J> {
     fn drop(self) {
         let Pass {
@@ -49,7 +50,7 @@ impl<J: Naming> Pass<J> {
     ghost use Rattle.noted_steps.specs.Stepped.{is_unticked};
     ghost use Rattle.noted_steps.specs.declared.made.Made.TheVariants as mades;
 
-    /// A pass with this credit, under which nothing was made.
+    /// Returns a pass with this credit, without notes.
     pub fn new(octets: Share<J::Octets>, steps: Share<J::Steps>) -> Pass<J>
         ensures octets { result.credit.octets ≡ octets }
         ensures steps { result.credit.steps ≡ steps }
@@ -65,22 +66,22 @@ impl<J: Naming> Pass<J> {
         }
     }
 
-    /// The media octets for which it has credit: those that peers accepted and that aren't carried yet.
+    /// Returns the media octets for which it has credit: those that peers accepted and that aren't carried yet.
     pub fn octets(&self) -> u64
         ensures { result ≡ self.now.credit.octets }
     {
         self.credits.octets()
     }
 
-    /// Its step credit: what it began with, and one for each step of a peer that was made under it.
+    /// Returns its step credit: the number with which it began, and 1 for each step of a peer made under it.
     pub fn steps(&self) -> u64
         ensures { result ≡ self.now.credit.steps }
     {
         self.credits.steps()
     }
 
-    /// An empty list for what a step hands up. It should come back by `keep`; without one that came back it is a new one, which
-    /// has no memory yet.
+    /// Returns an empty list for the signals that a step hands up. The caller should give it back by `keep`. If none was
+    /// given back, it is a new list without memory.
     pub fn lend(&mut self, alloc: Global) -> Onwards
         ensures nothing { IsNothing result }
         ensures same { self.new ≡ self.old }
@@ -95,16 +96,16 @@ impl<J: Naming> Pass<J> {
         self.credits.keep(onwards);
     }
 
-    /// Whether a step was made at the peer at this place of the plan since its last tick under this pass, whatever it was
-    /// answered, or that tick found no memory for a frame. A place past the 32nd has no peer.
+    /// Returns whether the peer at this place of the plan had a step since its last tick under this pass, whatever the
+    /// answer. Also returns true if that tick found no memory for a frame. A place past the 32nd has no peer.
     pub fn is_unticked(&self, peer: u16) -> bool
         ensures { result ≡ is_unticked self.now peer }
     {
         self.stepped.is_unticked(peer)
     }
 
-    /// Whether a step, or a tick, was made at the peer at this place of the plan under this pass since this was asked about it
-    /// last.
+    /// Returns whether the peer at this place of the plan had a step or a tick under this pass since the last call for this
+    /// peer.
     pub fn take_unasked(&mut self, peer: u16) -> bool
         ensures same { self.new ≡ self.old }
     {
@@ -119,8 +120,8 @@ impl<J: Naming> Pass<J> {
         push(&mut self.made, Made::Unasked);
     }
 
-    /// Gives up the share of octets and that of steps. That of steps is what the pass began with, and one for each step of a peer
-    /// among what was made under it.
+    /// Gives up the shares of octets and of steps. The share of steps is the number with which the pass began, and 1 for
+    /// each step of a peer in its notes.
     pub fn part(self) -> (Share<J::Octets>, Share<J::Steps>)
         ensures octets { result.0 ≡ self.credit.octets }
         ensures steps { result.1 ≡ self.credit.steps }

@@ -1,6 +1,7 @@
 //! The steps of a peer, each noted under its pass.
-ghost use Rattle.std.specs.Prelude.{◌≡◌, ◌+◌, ◌≤◌, ◌↔◌, ◌⊎◌, length, option_map, true, false, All, Err, None, Some, IfErr, IfOk};
+ghost use Rattle.std.specs.Prelude.{◌≡◌, ◌+◌, ◌≤◌, ◌↔◌, ◌⊎◌, [], length, option_map, true, false, if◌then◌else◌, All, Err, None, Some, IfErr, IfOk};
 ghost use Rattle.std.specs.Prelude.{IfNone, IfSome, IsErr, IsNone, IsTrue, OnErr, OnOk, OnSome};
+ghost use Rattle.std.specs.Bool.{OnTrue, OnFalse};
 ghost use Rattle.call_signals.specs.Order.{kind_of};
 ghost use Rattle.call_signals.specs.declared.outcomes.Judged.TheVariants.{Unnumbered};
 ghost use Rattle.iax_frames.specs.declared.datagram.Datagram.{Datagram as DatagramValue};
@@ -20,25 +21,25 @@ ghost use Rattle.peer_lock.specs.Ticks.{Ticks};
 ghost use Rattle.peer_lock.specs.declared.errors.PeerError.{PeerError as PeerErrorValue};
 ghost use Rattle.peer_lock.specs.Unworked.{IsUnworked, IsWorked};
 ghost use Rattle.seq_window.specs.History.{IsLegal};
+ghost use Rattle.noted_steps.specs.Followed.{TakesOut};
 ghost use Rattle.noted_steps.specs.Notes.{Notes, given_up, media_of, note, without_lease};
 ghost use Rattle.noted_steps.specs.declared.made.Made.TheVariants as mades;
 
 use crate::made::{Made, push, told};
 use crate::noted_peer::NotedPeer;
-use crate::octets::Octets;
 use crate::pass::Pass;
 use crate::seen::Seen;
 use crate::stepped_peers::has_skipped;
 use call_auth::Challenge;
 use call_book::{Lease, LegName};
-use iax_frames::Full;
+use iax_frames::{Full, Octets, Out};
 use leg_machine::{Caller, Format, Order};
 use peer_lock::{
     EndedLeg, Naming, Onwards, OpenError, OrderError, PeerError, ReadDatagram, RejectError, Status,
     Step, StepsSpent, TickReport,
 };
 
-// The octets of an order's media; of another order none.
+// Returns the octets of an order's media; any other order has none.
 fn media_in(order: &Order) -> Octets
     ensures { result ≡ media_of order.now }
 {
@@ -48,7 +49,7 @@ fn media_in(order: &Order) -> Octets
     }
 }
 
-// A leg that was given up, without its lease, as it is noted.
+// Returns a leg that was given up, without its lease, as it is noted.
 fn seen_of(answer: &Option<(Lease, EndedLeg)>) -> Option<Seen<EndedLeg>>
     ensures { result ≡ given_up answer.now }
 {
@@ -58,12 +59,22 @@ fn seen_of(answer: &Option<(Lease, EndedLeg)>) -> Option<Seen<EndedLeg>>
     }
 }
 
+// Returns a datagram that was taken out, if one was, as it is noted.
+fn seen_datagram(taken: &Option<Out>) -> Option<Seen<Out>>
+    ensures { result ≡ taken.now }
+{
+    match taken {
+        Some(out) => Some(Seen::of(out)),
+        None => None,
+    }
+}
+
 impl<J: Naming> NotedPeer<J> {
-    /// A datagram that was read comes from the peer, at the moment `now`, in milliseconds: one step, at the leg that it concerns,
-    /// if any. What is handed up is written to the list, which is empty. It is noted, with the answer.
+    /// Handles a datagram of the peer that was read, at the moment `now`, in milliseconds: one step, at the leg that it
+    /// concerns, if there is one. The signals handed up are written to the empty list. Notes the step with its answer.
     ///
-    /// Refusals are looked for in the order of `PeerError`. `Memory` comes only where memory was refused. Then the peer and the
-    /// credit are as before.
+    /// Refusals are checked in the order of `PeerError`. `Memory` is returned only if memory was refused. Then the peer and
+    /// the credit are as before.
     #[tactic(auto, using(crate::proofs::Counted::steps_in_longer, crate::proofs::Stepping::with_longer))]
     pub fn datagram_read(
         &mut self,
@@ -100,11 +111,11 @@ impl<J: Naming> NotedPeer<J> {
         answer
     }
 
-    /// A NEW that came opens a leg, under the lease, at the moment `now`, in milliseconds: one step ("Call Setup"). It is one
-    /// that `datagram` answers by `NeedsNumber`. What is handed up is written to the list, which is empty. It is noted, with the
-    /// answer.
+    /// Opens a leg by a received NEW, under the lease, at the moment `now`, in milliseconds: one step ("Call Setup"). It is
+    /// a NEW that `datagram` answers by `NeedsNumber`. The signals handed up are written to the empty list. Notes the step
+    /// with its answer.
     ///
-    /// Refusals are looked for in this order: `StepsSpent`, `NumberBusy`, `RemoteBusy`, `Memory`. `Memory` comes only where
+    /// Refusals are checked in this order: `StepsSpent`, `NumberBusy`, `RemoteBusy`, `Memory`. `Memory` is returned only if
     /// memory was refused. The lease comes back, and the peer and the credit are as before.
     #[tactic(auto, using(crate::proofs::Counted::steps_in_longer, crate::proofs::Stepping::with_longer))]
     pub fn open_in(
@@ -154,10 +165,10 @@ impl<J: Naming> NotedPeer<J> {
         answer
     }
 
-    /// A NEW that came is rejected, since no number is free for its leg: one step without a leg ("REJECT"). It is one that
-    /// `datagram_read` answers by `NeedsNumber`. It is noted, with the answer.
+    /// Rejects a received NEW because no number is free for its leg: one step without a leg ("REJECT"). It is a NEW that
+    /// `datagram_read` answers by `NeedsNumber`. Notes the step with its answer.
     ///
-    /// Refusals are looked for in this order: `Unanswered`, `StepsSpent`, `RemoteBusy`. Then the peer and the credit are as
+    /// Refusals are checked in this order: `Unanswered`, `StepsSpent`, `RemoteBusy`. Then the peer and the credit are as
     /// before.
     #[tactic(auto, using(crate::proofs::Counted::steps_in_longer, crate::proofs::Stepping::with_longer))]
     pub fn reject_new(&mut self, pass: &mut Pass<J>, frame: &Full) -> Result<Step, RejectError>
@@ -183,11 +194,11 @@ impl<J: Naming> NotedPeer<J> {
         answer
     }
 
-    /// A call goes out under the lease, for a number of at most 255 octets, at the moment `now`, in milliseconds: one step ("Call
-    /// Setup"). It is noted, with the answer.
+    /// Places a call under the lease, for a number of at most 255 octets, at the moment `now`, in milliseconds: one step
+    /// ("Call Setup"). Notes the step with its answer.
     ///
-    /// Refusals are looked for in this order: `StepsSpent`, `NumberBusy`, `Memory`. `Memory` comes only where memory was refused.
-    /// The lease comes back, and the peer and the credit are as before.
+    /// Refusals are checked in this order: `StepsSpent`, `NumberBusy`, `Memory`. `Memory` is returned only if memory was
+    /// refused. The lease comes back, and the peer and the credit are as before.
     #[tactic(auto, using(crate::proofs::Counted::steps_in_longer, crate::proofs::Stepping::with_longer))]
     pub fn open_out(
         &mut self,
@@ -228,12 +239,12 @@ impl<J: Naming> NotedPeer<J> {
         answer
     }
 
-    /// The leg of a name obeys an order at the moment `now`, in milliseconds: one step. Media is 1 to 1,380 octets, for which the
-    /// pass has the credit; the credit comes back to the peer, which counts what became of the media. It is noted, with the
-    /// answer.
+    /// Gives an order to the leg of a name at the moment `now`, in milliseconds: one step. Media is 1 to 1,380 octets, for
+    /// which the pass has the credit. The credit comes back to the peer, which counts whether the media was packed, queued
+    /// or dropped. Notes the step with its answer.
     ///
-    /// Refusals are looked for in this order: `StepsSpent`, `Gone`, `WrongStage`, `WindowFull`, `RecordFull`, `Memory`. `Memory`
-    /// comes only where memory was refused. Then the peer and the credit are as before.
+    /// Refusals are checked in this order: `StepsSpent`, `Gone`, `WrongStage`, `WindowFull`, `RecordFull`, `Memory`.
+    /// `Memory` is returned only if memory was refused. Then the peer and the credit are as before.
     #[tactic(auto, using(crate::proofs::Counted::steps_in_longer, crate::proofs::Stepping::with_longer))]
     pub fn order(
         &mut self,
@@ -272,10 +283,11 @@ impl<J: Naming> NotedPeer<J> {
         answer
     }
 
-    /// Time goes on, up to the moment `now`, in milliseconds: one step. Each leg's tick by ascending number, then the trunk queue
-    /// is packed while the outbox has room. Tells, too, whether a leg is to be finished then. It is noted, with the answer.
+    /// Ticks the peer at the moment `now`, in milliseconds: one step. Each leg is ticked by ascending number, and then the
+    /// trunk queue is packed while the outbox has room. Also returns whether a leg is to be finished then. Notes the step
+    /// with its answer.
     ///
-    /// `StepsSpent` comes exactly where the peer has no step credit left; then the peer and the credit are as before.
+    /// Returns `StepsSpent` if and only if the peer has no step credit left; then the peer and the credit are as before.
     #[tactic(auto, using(crate::proofs::Counted::steps_in_longer, crate::proofs::Stepping::with_longer))]
     pub fn tick(&mut self, pass: &mut Pass<J>, now: u64) -> Result<TickReport, StepsSpent>
         ensures noted { Notes (mades.Tick self.old.number now result) pass.old pass.new }
@@ -293,7 +305,8 @@ impl<J: Naming> NotedPeer<J> {
         answer
     }
 
-    /// How the leg of a local number stands; `None` where there is none. It is noted, and is no step of the peer.
+    /// Returns the status of the leg of a local number, or `None` if there is none. It is noted, and is no step of the
+    /// peer.
     #[tactic(auto, using(crate::proofs::Counted::steps_in_longer, crate::proofs::Stepping::with_longer))]
     pub fn look(&self, pass: &mut Pass<J>, number: u16) -> Option<Status>
         ensures status { result ≡ option_map status_of (leg_at self.now.state.legs number) }
@@ -304,10 +317,10 @@ impl<J: Naming> NotedPeer<J> {
         answer
     }
 
-    /// Gives up the leg of a name that has ended and owes nothing: its lease, its record and what it tells beside that. Queued
-    /// media of its call goes out before, in plan format 4. It is noted, and is no step of the peer.
+    /// Gives up the leg of a name that has ended and owes nothing: its lease, its record and its other facts. Queued media
+    /// of its call is sent before, in plan version 4. It is noted, and is no step of the peer.
     ///
-    /// `None` exactly where no such leg has that name; then the peer is as before.
+    /// Returns `None` if and only if no such leg has that name; then the peer is as before.
     #[tactic(auto, using(crate::proofs::Counted::steps_in_longer, crate::proofs::Stepping::with_longer))]
     pub fn retire(&mut self, pass: &mut Pass<J>, name: LegName) -> Option<(Lease, EndedLeg)>
         ensures noted { pass.new ≡ note (mades.Retire self.old.number name (given_up result)) pass.old }
@@ -328,5 +341,39 @@ impl<J: Naming> NotedPeer<J> {
         push(&mut pass.made, made);
         pass.stepped.step(self.number);
         answer
+    }
+
+    /// Takes the oldest datagram of the outbox, or returns `None` if none waits. It is noted, and is no step of the peer.
+    #[tactic(auto, using(crate::proofs::Counted::steps_in_longer, crate::proofs::Stepping::with_longer))]
+    pub fn take_out(&mut self, pass: &mut Pass<J>) -> Option<Out>
+        ensures noted { pass.new ≡ note (mades.TakeOut self.old.number result) pass.old }
+        ensures number { self.new.number ≡ self.old.number }
+        ensures oldest { IfSome result (λ out. TakesOut out self.old.state self.new.state) }
+        ensures empty { IfNone result ((self.old.state.outbox.waiting ≡ []) × (self.new.state ≡ self.old.state)) }
+    {
+        let taken = self.state.take_out();
+        let made = Made::TakeOut(self.number, seen_datagram(&taken));
+        push(&mut pass.made, made);
+        taken
+    }
+
+    /// Takes the oldest datagram of the outbox, and writes it over this one. If none waits, returns false and changes
+    /// nothing. It is noted, and is no step of the peer.
+    #[tactic(auto, using(crate::proofs::Counted::steps_in_longer, crate::proofs::Stepping::with_longer))]
+    pub fn take_into(&mut self, pass: &mut Pass<J>, out: &mut Out) -> bool
+        ensures noted { pass.new ≡ note (mades.TakeOut self.old.number (if result then Some out.new else None)) pass.old }
+        ensures number { self.new.number ≡ self.old.number }
+        ensures oldest { OnTrue result (TakesOut out.new self.old.state self.new.state) }
+        ensures empty { OnFalse result ((self.old.state.outbox.waiting ≡ []) × (self.new.state ≡ self.old.state)) }
+        ensures same { OnFalse result (out.new ≡ out.old) }
+    {
+        let is_taken = self.state.take_into(out);
+        let seen = if is_taken {
+            Some(Seen::of(&*out))
+        } else {
+            None
+        };
+        push(&mut pass.made, Made::TakeOut(self.number, seen));
+        is_taken
     }
 }

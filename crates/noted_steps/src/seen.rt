@@ -17,7 +17,7 @@ impl<T> Model for Seen<T> {
 }
 
 impl<T> Seen<T> {
-    /// The value as it is now. Only proofs keep anything of it.
+    /// Returns the value as it is now. Only proofs keep it.
     pub fn of(value: &T) -> Seen<T>
         ensures { result ≡ value.now }
     {

@@ -1,23 +1,23 @@
-//! Peers by the steps that were made at them.
+//! Sets of peers at which steps were made.
 ghost use Rattle.std.specs.Prelude.{◌≡◌, true, false, get_or, set};
 ghost use Rattle.noted_steps.specs.Stepped.{has_skipped, no_peers};
 
 use peer_lock::{StepsSpent, TickReport};
 
-// A plan has at most so many peers.
+// The greatest number of peers of a plan.
 const PEERS: usize = 32;
 
-// Peers by the steps that were made at them under a pass, each by its place in the plan. A place past the 32nd is in no set.
+// The peers at which steps were made under a pass, by their places in the plan. A place past the 32nd is in no set.
 #[derive(Clone, Copy, Drop)]
 pub(crate) struct SteppedPeers {
-    // Those at which a step was made since their last tick, or whose last tick is to be made again.
+    // Those at which a step was made since their last tick, or whose last tick has to be repeated.
     pub(crate) unticked: [bool; PEERS],
-    // Those at which a step was made since they were asked about.
+    // Those at which a step was made since the last call of `take_unasked` for them.
     unasked: [bool; PEERS],
 }
 
 impl SteppedPeers {
-    // No peer.
+    // Returns the empty sets.
     pub(crate) fn none() -> SteppedPeers
         ensures { result.unticked ≡ no_peers }
     {
@@ -27,7 +27,7 @@ impl SteppedPeers {
         }
     }
 
-    // A step other than a tick was made at a peer.
+    // Notes a step other than a tick at a peer.
     #[tactic(auto, using(std::proofs::lemmas::List::set_past))]
     pub(crate) fn step(&mut self, peer: u16)
         ensures { self.new.unticked ≡ set self.old.unticked peer true }
@@ -39,7 +39,7 @@ impl SteppedPeers {
         }
     }
 
-    // A peer was ticked. `is_undone`: the tick is to be made again.
+    // Notes a tick of a peer. `is_undone`: the tick has to be repeated.
     #[tactic(auto, using(std::proofs::lemmas::List::set_past))]
     pub(crate) fn tick(&mut self, peer: u16, is_undone: bool)
         ensures { self.new.unticked ≡ set self.old.unticked peer is_undone }
@@ -51,7 +51,7 @@ impl SteppedPeers {
         }
     }
 
-    // Whether a step was made at a peer since its last tick, or that tick is to be made again.
+    // Returns whether a step was made at a peer since its last tick, or that tick has to be repeated.
     pub(crate) fn is_unticked(&self, peer: u16) -> bool
         ensures { result ≡ get_or self.now.unticked peer false }
     {
@@ -59,7 +59,7 @@ impl SteppedPeers {
         place < PEERS && self.unticked[place]
     }
 
-    // Whether a step was made at a peer since this was asked about it last.
+    // Returns whether a step was made at a peer since the last call for it.
     pub(crate) fn take_unasked(&mut self, peer: u16) -> bool
         ensures { self.new.unticked ≡ self.old.unticked }
     {
@@ -73,7 +73,7 @@ impl SteppedPeers {
     }
 }
 
-// Whether a tick found no memory for a frame, so that it is to be made again.
+// Returns whether a tick found no memory for a frame, so that it has to be repeated.
 pub(crate) fn has_skipped(answer: Result<TickReport, StepsSpent>) -> bool
     ensures { result ≡ has_skipped answer }
 {

@@ -1,4 +1,4 @@
-//! What was made under a pass, for proofs.
+//! The notes made under a pass, for proofs.
 ghost use Rattle.std.specs.Prelude.{◌≡◌, ℕ, List, [], ◌∷◌, ◌++◌};
 ghost use Rattle.std.specs.Borrow.{ftrue};
 ghost use Rattle.noted_steps.specs.declared.made.Made.{Made as MadeValue};
@@ -6,8 +6,8 @@ ghost use Rattle.noted_steps.specs.declared.made.Made.{Made as MadeValue};
 use crate::made::Made;
 use std::marker::Model;
 
-/// The step credit that a pass began with, and what was made under it since, in order. Contracts see them as `begun` and `items`; at run
-/// time it has no octets. The list is no Rust type's, so whoever holds one isn't proved with the types of all that can be made; that
+/// The step credit with which a pass began, and the notes made under it since, in order. Contracts see them as `begun` and
+/// `items`; at run time it is empty. The list has no Rust type, so an owner isn't proved with the types of all notes; that
 /// costs proofs by hand.
 #[derive(Drop)]
 pub struct Trail {
@@ -25,14 +25,14 @@ unsafe impl Send for Trail {}
 unsafe impl Sync for Trail {}
 
 impl Trail {
-    // Nothing that was made since this credit.
+    // Returns a trail without notes since this credit.
     pub(crate) fn new(_begun: &u64) -> Trail
         ensures { (result.begun ≡ _begun.now) × (result.items ≡ []) }
     {
         Trail {}
     }
 
-    // What was made, and one more.
+    // Returns the trail with one more note.
     pub(crate) fn with(_before: &Trail, _made: &Made) -> Trail
         ensures { (result.begun ≡ _before.now.begun) × (result.items ≡ _before.now.items ++ _made.now ∷ []) }
     {

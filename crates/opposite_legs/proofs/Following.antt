@@ -1,4 +1,4 @@
--- What two ends do, two sides of a network do by fresh events.
+-- Two sides of a network can follow two ends by fresh events.
 use Rattle.std.proofs.Common.{◌≡◌, ℕ, zero, suc, ◌+◌, ◌≤◌, true, All, inl, inr, List, [], ◌∷◌, ◌++◌, map, pos, Some, None, OnSome}
 use Rattle.std.proofs.Common.{slice_get, refl, ap, sym, subst, ◌∙◌, arith}
 use Rattle.std.proofs.lemmas.List.Elements.{All-head, All-tail}
@@ -29,7 +29,7 @@ use Rattle.peer_lock.proofs.SidesSent.{after_both, all_still_sent}
 use Rattle.opposite_legs.proofs.Freshness.{AreFresh, all_fresh, fresh_both, fresh_reply, fresh_turn}
 use Rattle.opposite_legs.proofs.Freshness.{run_both, events_both, first_runs, second_runs, first_fresh, second_fresh}
 
--- ---- a side that stands for an end
+-- ---- a side that represents an end
 
 -- it has the end's record and its sizes, and has sent at least what the end has
 pub record StandsFor (end : End) (side : Side) : Type 0 where
@@ -39,7 +39,7 @@ pub record StandsFor (end : End) (side : Side) : Type 0 where
   pub sent : (which : ℕ) (datagram : Datagram) → slice_get end.sent which ≡ Some datagram → HasDatagram side datagram
   pub unused : end.leg ≡ None → side ≡ unused_side end.rules
 
--- fresh actions, by which a side comes to stand for the end after its step
+-- fresh actions, by which a side comes to represent the end after its step
 record Follows (new : End) (side other : Side) : Type 0 where
   pub actions : List Action
   pub fresh : AreFresh actions side other
@@ -55,7 +55,7 @@ either_has P (one ∷ more) old all has zero datagram at =
 either_has P (one ∷ more) old all has (suc which) datagram at =
     either_has P more old (All-tail P one more all) has which datagram at
 
--- where the leg of an end is this one
+-- the side of an end with this leg
 is_leg : (rules : PeerRules) (own : End) (side : Side) (leg : LegState) → rules ≡ own.rules → StandsFor own side
     → own.leg ≡ Some leg → IsSideOf rules leg side
 is_leg rules own side leg same stands is = record {
@@ -64,12 +64,12 @@ is_leg rules own side leg same stands is = record {
   history = stands.history ∙ ap record_of is;
 }
 
--- where an end isn't opened yet, so is its side
+-- the side of an end that isn't opened yet
 is_unused : (rules : PeerRules) (own : End) (side : Side) → rules ≡ own.rules → StandsFor own side → own.leg ≡ None
     → unused_side rules ≡ side
 is_unused rules own side same stands is = ap unused_side same ∙ sym (stands.unused is)
 
--- what comes to the end is fresh to its side
+-- a frame that comes to the end is fresh to its side
 module _ (own other : End) (side : Side) (stands : StandsFor own side) (frame : FullFrame) (comes : Comes own other frame) where
   acknowledgement_fresh : IsFreshAcknowledgement side comes.datagram
   acknowledgement_fresh =
@@ -85,7 +85,7 @@ module _ (own other : End) (side : Side) (stands : StandsFor own side) (frame : 
 abbrev size_of : PeerRules → Size
 size_of rules = record { width = rules.window; limit = rules.record_limit }
 
--- a fresh run, to a network whose sides stand for the ends
+-- a fresh run, to a network whose sides represent the ends
 pub record IsReached (one two : PeerRules) (ends : Ends) : Type 0 where
   pub events : List Event
   pub fresh : IsFresh events (start (size_of one) (size_of two))
@@ -116,7 +116,7 @@ unopened_stands rules =
 module _ (sendings : (rules : PeerRules) (leg : LegState) → IsLegOf rules leg → (own other : Side) → IsSideOf rules leg own
     → (datagrams : List Datagram) → All (IsSentFrom leg) datagrams
     → SendsAll Datagram HasDatagram rules leg own other datagrams) where
-  -- a side that has come to the record after a step sends what the leg sends
+  -- a side with the record after a step can send the frames of the leg
   goes_on : (own new : End) (peer : PeerView) (leg : LegState) (side other : Side) (actions : List Action) → StandsFor own side
       → GoesOn own new peer leg → IsLegOf peer.rules leg → AreFresh actions side other
       → IsSideOf peer.rules leg (after_all actions side other)
@@ -228,7 +228,7 @@ module _ (sendings : (rules : PeerRules) (leg : LegState) → IsLegOf rules leg 
         reached_all one two (before_all one two) steps
         (record { events = []; fresh = tt; first = unopened_stands one; second = unopened_stands two }) are
 
--- ---- what holds of the sides holds of the ends
+-- ---- a property of the sides is one of the ends
 
 module _ (end other : End) (side beyond : Side) (stands : StandsFor end side) (there : StandsFor other beyond) where
   pub taken_as : TakesInOrder side beyond → TakesInOrder (side_of end) (side_of other)
@@ -264,7 +264,7 @@ module _ (end other : End) (side beyond : Side) (stands : StandsFor end side) (t
         (subst (λ (h : List Entry). OnSome datagram.frame (taken_count h ≤ datagram.number + 128)) (sym stands.history) fresh));
   }
 
--- whatever the steps, a fresh run leads to sides that stand for the ends
+-- for any steps, a fresh run leads to sides that represent the ends
 abbrev pub AreFollowed : Type 0
 AreFollowed =
     (one two : PeerRules) (steps : List Ends) → AreSteps (before_all one two) steps

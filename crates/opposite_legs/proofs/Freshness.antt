@@ -17,7 +17,7 @@ use Rattle.seq_window.specs.Window.{count_of, entries_for_count, judged_acknowle
 use Rattle.seq_window.proofs.Records.{taken_count-append}
 use Rattle.peer_lock.proofs.Choices.{either}
 
--- each of these actions of a side is fresh, where the other side is as given
+-- each of these actions of a side is fresh, given the other side
 abbrev pub AreFresh : List Action → Side → Side → Type 0
 AreFresh [] own other = Unit {0}
 AreFresh (action ∷ actions) own other = IsFreshAction action own other × AreFresh actions (after action own other) other
@@ -27,7 +27,7 @@ pub fresh_both : (first rest : List Action) (own other : Side) → AreFresh firs
 fresh_both [] rest own other one more = more
 fresh_both (action ∷ first) rest own other one more = (one.0, fresh_both first rest (after action own other) other one.1 more)
 
--- ---- what judges nothing is fresh
+-- ---- an action that judges nothing is fresh
 
 fresh_nothing_new : (action : Action) (own other : Side) → SendsNothingNew action → IsFreshAction action own other
 fresh_nothing_new SendUnnumbered own other is = tt
@@ -60,7 +60,7 @@ still_taken limit history count =
     (nat_le (length history + length (entries_for_count count)) limit) (history ++ entries_for_count count) history
     (omega (arith, taken_count-append history (entries_for_count count), count_takes_none count)) refl
 
--- an acknowledgement takes nothing
+-- an acknowledgement adds no received frame
 acknowledged_takes : (own : Side) (datagram : Option Datagram)
     → taken_count (after_acknowledgement own datagram).history ≡ taken_count own.history
 acknowledged_takes own None = refl
@@ -73,7 +73,7 @@ module _ (own other : Side) (which : ℕ) (datagram : Datagram) (at : slice_get 
   acknowledges : IsFreshAction (JudgeAcknowledgement which) own other
   acknowledges = subst (λ (o : Option Datagram). IfSome o (IsFreshAcknowledgement own)) (sym at) acknowledgement
 
-  -- so too where it has judged the acknowledgement before
+  -- also if it has judged the acknowledgement before
   receives : (side : Side) → taken_count side.history ≡ taken_count own.history → IsFreshAction (JudgeNumber which) side other
   receives side same =
       subst (λ (o : Option Datagram). IfSome o (IsFreshNumber side)) (sym at)

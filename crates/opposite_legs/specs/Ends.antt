@@ -34,7 +34,7 @@ side_of end = record {
 
 -- ---- a step of an end
 
--- The other end sent this full frame: it bears the numbers of one of that end's datagrams, and lies at most 128 behind.
+-- The other end sent this full frame: it has the numbers of one of that end's datagrams, and is at most 128 behind.
 pub record Comes (own other : End) (frame : FullFrame) : Type 0 where
   pub which : ℕ
   pub datagram : Datagram
@@ -43,8 +43,8 @@ pub record Comes (own other : End) (frame : FullFrame) : Type 0 where
   pub acknowledgement : IsFreshAcknowledgement (side_of own) datagram
   pub number : IsFreshNumber (side_of own) datagram
 
--- After a step that made its peer so, which is sound, the end has this leg, and has sent more from that leg's record: any
--- datagrams of full frames that are sendings from it, as all are that the step sends.
+-- After a step with this result for its peer, which is sound, the end has this leg. It has also sent datagrams from that
+-- leg's record: any datagrams of full frames that are sendings from it, as all of the step are.
 pub record GoesOn (own new : End) (peer : PeerView) (leg : LegState) : Type 0 where
   pub sound : IsSoundPeer peer
   pub peers : peer.rules ≡ own.rules
@@ -54,7 +54,7 @@ pub record GoesOn (own new : End) (peer : PeerView) (leg : LegState) : Type 0 wh
   pub from : All (IsSentFrom leg) more
   pub sent : new.sent ≡ more ++ own.sent
 
--- What one end does, where the other end is as given: a step of its peer that concerns its leg.
+-- The steps of one end, given the other end: those of its peer that concern its leg.
 pub data Steps (own other new : End) : Type 0 where
   -- a full frame of the other end comes
   TakesFrame : (old peer : PeerView) (frame : FullFrame) (turn : TakesTurnAtLeg old frame peer) → own.leg ≡ Some turn.named.leg
@@ -67,7 +67,7 @@ pub data Steps (own other new : End) : Type 0 where
   -- its leg is opened by a NEW of the other end,
   OpensIn : (old peer : PeerView) (name : LegName) (frame : FullFrame) (takes : TakesNew old name frame peer) → own.leg ≡ None
       → is_new (message_of frame.head) ≡ true → Comes own other frame → GoesOn own new peer takes.leg → Steps own other new
-  -- or with a NEW that goes out
+  -- or with a NEW that is sent
   OpensOut : (old peer : PeerView) (name : LegName) (sends : SendsNew old name peer) → own.leg ≡ None
       → GoesOn own new peer sends.leg → Steps own other new
 
@@ -83,7 +83,7 @@ OneSteps ends next =
     (Steps ends.first ends.second next.first × (next.second ≡ ends.second))
     ⊎ (Steps ends.second ends.first next.second × (next.first ≡ ends.first))
 
--- one step leads to each of these from the one before it
+-- each of these comes from the one before it by one step
 abbrev pub AreSteps : Ends → List Ends → Type 0
 AreSteps ends [] = Unit {0}
 AreSteps ends (next ∷ later) = OneSteps ends next × AreSteps next later
@@ -101,7 +101,7 @@ before_all first second = record { first = unopened first; second = unopened sec
 abbrev pub network_of : Ends → Network
 network_of ends = record { first = side_of ends.first; second = side_of ends.second }
 
--- This is so of both ends after whatever steps, where each window is at most 127 wide.
+-- This holds for both ends after any steps, if each window is at most 127 wide.
 abbrev pub AfterAllSteps : (Network → Type 0) → Type 0
 AfterAllSteps Holds =
     (first second : PeerRules) → first.window ≤ 127 → second.window ≤ 127

@@ -1,17 +1,17 @@
-//! What holds of two opposite legs, in whatever order they make their steps.
+//! Laws of two opposite legs, in any order of their steps.
 ghost use Rattle.seq_window.specs.Network.{EachWay, TakesInOrder, AcksTaken, HasLegalRecord, BytesSayNumbers};
 ghost use Rattle.opposite_legs.specs.Ends.{AfterAllSteps};
 
-/// Two legs of sound peers, by their records as they are stored: what the one has as taken is the beginning of what the other has
-/// as sent, whatever steps the two peers made, in whatever order, and whatever the network lost, repeated, delayed or reordered,
-/// as long as each full frame that came to one was sent by the other, and nothing that came lay more than 128 behind.
+/// Two legs of sound peers, by their stored records: the frames that one has as taken are the first of those that the other
+/// has as sent. That holds for any steps of the two peers in any order, and whatever the network lost, repeated, delayed or
+/// reordered. Each full frame that came to one was sent by the other, and none was more than 128 behind.
 pub fn opposite_legs_stay_in_step()
     // Each numbered frame is taken at most once, and in order.
     ensures prefix { AfterAllSteps (EachWay TakesInOrder) }
-    // Nothing counts as acknowledged that was not taken.
+    // A frame counts as acknowledged only if it was taken.
     ensures acked { AfterAllSteps (EachWay AcksTaken) }
     ensures legal { AfterAllSteps (EachWay HasLegalRecord) }
-    // Each octet is judged as the number that it stands for.
+    // Each octet is judged as the number that it denotes.
     ensures bytes { AfterAllSteps (EachWay BytesSayNumbers) }
 {
     peer_lock::laws::steps_are_actions();

@@ -8,13 +8,13 @@ use Rattle.std.proofs.lemmas.List.{take-append-le, take_all, drop_all, drop-appe
 use Rattle.outbox.specs.Outbox.{OutboxView, put, extended, lose, with_lost}
 use Rattle.outbox.specs.declared.losses.Losses.{Losses}
 
--- what doesn't fit twice doesn't fit once
+-- two cuts to one length are one cut
 take_cut : {A : Type 0} (n : ℕ) (xs ys : List A) → take n (take n xs ++ ys) ≡ take n (xs ++ ys)
 take_cut zero xs ys = refl
 take_cut (suc n) [] ys = refl
 take_cut (suc n) (x ∷ xs) ys = ap (λ rest. x ∷ rest) (take_cut n xs ys)
 
--- what is cut off at once is cut off in two goes
+-- the elements cut off in two steps are those cut off at once
 drop_cut : {A : Type 0} (n : ℕ) (xs ys : List A) → drop n xs ++ drop n (take n xs ++ ys) ≡ drop n (xs ++ ys)
 drop_cut zero xs ys = refl
 drop_cut (suc n) [] ys = refl
@@ -72,7 +72,7 @@ take_more xs i x there =
     (let plus : i + 1 ≡ suc i = omega arith in ap (λ n. take n xs) plus)
     ∙ take-suc xs i x (slice_get_within xs i x there) ∙ ap (λ y. take i xs ++ y ∷ []) (get_or_from_slice_get xs i x x there)
 
--- one datagram more of a list
+-- one more datagram of a list
 pub put_more : (outbox : OutboxView) (replies : List (List ℕ)) (i : ℕ) (out : List ℕ) → slice_get replies i ≡ Some out
     → put (put outbox (take i replies)) (out ∷ []) ≡ put outbox (take (i + 1) replies)
 put_more outbox replies i out there =

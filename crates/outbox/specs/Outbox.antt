@@ -1,4 +1,4 @@
--- The datagrams that wait to be sent to a peer, and how many were lost.
+-- The datagrams that wait to be sent to a peer, and the number of lost ones.
 use Rattle.std.specs.Prelude.{ℕ, ◌+◌, ◌%◌, ◌^◌, ◌==◌, ◌&&◌, ◌++◌, nat_le, List, [], ◌∷◌, take, drop, slice_index, if◌then◌else◌}
 use Rattle.outbox.specs.declared.losses.Losses.{Losses}
 

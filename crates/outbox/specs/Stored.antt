@@ -1,9 +1,9 @@
--- How the datagrams of an outbox lie in its octets: one after another, as long as the numbers in a ring of lengths say.
+-- The layout of an outbox: its datagrams, one after another. A ring has the length of each.
 use Rattle.std.specs.Prelude.{◌≡◌, ℕ, ◌≤◌, List, [], ◌∷◌, length, take, drop, sum}
 use Rattle.std.specs.List.{AllByRecursion}
 use Rattle.iax_frames.specs.Datagram.{IsFrame}
 
--- the datagrams of these lengths that lie in the octets
+-- the datagrams of these lengths in the octets
 abbrev pub datagrams_in : List ℕ → List ℕ → List (List ℕ)
 datagrams_in [] octets = []
 datagrams_in (len ∷ lens) octets = take len octets ∷ datagrams_in lens (drop len octets)

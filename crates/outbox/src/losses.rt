@@ -1,11 +1,11 @@
-//! What a full outbox lost.
+//! The losses of a full outbox.
 ghost use Rattle.std.specs.Prelude.{◌≡◌};
 ghost use Rattle.outbox.specs.Outbox.{with_lost};
 
-/// How many datagrams were put into a full outbox and lost, by kind, each modulo 2^64.
+/// The datagrams that a full outbox lost, by kind, each modulo 2^64.
 #[derive(Clone, Copy, Debug, Default, PartialEq, Eq)]
 pub struct Losses {
-    /// Full frames. What is numbered goes out again, as long as it isn't acknowledged.
+    /// Full frames. A numbered one is retransmitted as long as it isn't acknowledged.
     pub full: u64,
     /// Mini frames.
     pub mini: u64,
@@ -14,7 +14,7 @@ pub struct Losses {
 }
 
 impl Losses {
-    // One datagram more, which begins with these two octets.
+    // Returns the losses with one more datagram, which begins with these two octets.
     pub(crate) fn with(self, first: u8, second: u8) -> Losses
         ensures { result ≡ with_lost self first second }
     {

@@ -11,24 +11,25 @@ use iax_frames::{CallNumber, Out, mini_head};
 use std::alloc::{AllocError, Global};
 use std::marker::Model;
 
-/// The most datagrams of an outbox.
+/// The greatest number of datagrams in an outbox.
 const MAX_DATAGRAMS: usize = 256;
 /// The octets of a full outbox: 1,400 for each of its datagrams.
 const CAPACITY: usize = 358400;
 
-/// The datagrams that wait to be sent, at most 256, the oldest first. Contracts see the octets of each, and how many datagrams
-/// were lost.
+/// The datagrams that wait to be sent, at most 256, the oldest first. Contracts see the octets of each, and the number of
+/// lost datagrams.
 ///
-/// Each is kept at its own length, of at most 1,400 octets. Only `new` takes memory, and nothing else can fail: a full outbox
-/// loses what is put into it, and counts it.
+/// Each is kept at its own length, of at most 1,400 octets. Only `new` takes memory, and nothing else can fail: a full
+/// outbox loses the next datagram, and counts it.
 #[derive(Drop)]
 pub struct Outbox {
-    // The octets of the datagrams, one after another, behind those that were taken out. They begin anew whenever none waits, so
-    // that an outbox that is often emptied stays in a processor's own memory: a ring goes round all of its memory.
+    // The octets of the datagrams, one after another, behind those that were taken out. They start again from the front
+    // whenever none waits. So an outbox that is often emptied stays in the processor's cache; a ring would use all of its
+    // memory in turn.
     octets: Vec<u8>,
-    // How many octets were taken out.
+    // The number of octets that were taken out.
     taken: usize,
-    // How many octets each datagram has.
+    // The length of each datagram, in octets.
     lens: HeapCircularBuffer<u16>,
     lost: Losses,
 }
@@ -48,7 +49,7 @@ impl Model for Outbox {
 }
 
 impl Outbox {
-    /// An empty outbox, with room for 256 datagrams of 1,400 octets. `Err` comes only where memory was refused.
+    /// Returns an empty outbox, with room for 256 datagrams of 1,400 octets. Returns `Err` only if memory was refused.
     pub fn new(alloc: Global) -> Result<Outbox, AllocError>
         ensures { IfOk result (λ outbox. outbox ≡ record { waiting = []; lost = no_losses }) }
     {
@@ -60,7 +61,7 @@ impl Outbox {
         })
     }
 
-    /// How many datagrams wait, 0 ..= 256.
+    /// Returns the number of waiting datagrams, 0 ..= 256.
     #[tactic(auto, using(crate::proofs::StoredLaws::as_many))]
     pub fn len(&self) -> usize
         ensures len { result ≡ length self.now.waiting }
@@ -69,21 +70,21 @@ impl Outbox {
         self.lens.len()
     }
 
-    /// Whether no datagram waits.
+    /// Returns whether no datagram waits.
     pub fn is_empty(&self) -> bool
         ensures { IsTrue result ↔ (self.now.waiting ≡ []) }
     {
         self.len() == 0
     }
 
-    /// How many datagrams were lost since it was made.
+    /// Returns the number of datagrams lost since it was made.
     pub fn lost(&self) -> Losses
         ensures { result ≡ self.now.lost }
     {
         self.lost
     }
 
-    /// Whether no datagram more fits: 256 wait.
+    /// Returns whether no further datagram fits: 256 wait.
     #[tactic(auto, using(crate::proofs::StoredLaws::as_many))]
     pub fn is_full(&self) -> bool
         ensures full { IsTrue result ↔ (256 ≤ length self.now.waiting) }
@@ -92,15 +93,15 @@ impl Outbox {
         self.lens.is_full()
     }
 
-    /// One datagram more; a full outbox loses it, and counts it.
+    /// Adds a datagram. A full outbox loses it, and counts it.
     pub fn put(&mut self, datagram: &Out)
         ensures { self.new ≡ put self.old (datagram.now ∷ []) }
     {
         self.put_in_two(datagram.octets(), &[]);
     }
 
-    /// One mini frame more ("Mini Frames"), from call number 1 ..= 32,767, with the low 16 bits of the timestamp, in
-    /// milliseconds, and media of at most 1,396 octets; a full outbox loses it, and counts it.
+    /// Adds a mini frame ("Mini Frames") from call number 1 ..= 32,767, with media of at most 1,396 octets. It has the low
+    /// 16 bits of the timestamp, in milliseconds. A full outbox loses it, and counts it.
     pub fn put_mini(&mut self, number: CallNumber, timestamp: u16, media: &[u8])
         requires some { 0 < number }
         requires fits { length media.now ≤ 1396 }
@@ -110,7 +111,7 @@ impl Outbox {
         self.put_in_two(&mini_head(number, timestamp), media);
     }
 
-    // One datagram more, whose octets lie in two pieces, the first two in front; a full outbox loses it.
+    // Adds a datagram whose octets come in two pieces, the first two octets in front. A full outbox loses it.
     fn put_in_two(&mut self, front: &[u8], back: &[u8])
         requires frame { IsFrame (front.now ++ back.now) }
         requires first { 2 ≤ length front.now }
@@ -127,7 +128,7 @@ impl Outbox {
         }
     }
 
-    /// Takes the oldest datagram, and writes it over this one; false, and nothing is changed, where none waits.
+    /// Takes the oldest datagram, and writes it over this one. If none waits, returns false and changes nothing.
     pub fn take_into(&mut self, out: &mut Out) -> bool
         ensures taken { OnTrue result (self.old.waiting ≡ out.new ∷ self.new.waiting) }
         ensures empty { OnFalse result (self.old.waiting ≡ []) }
@@ -143,7 +144,7 @@ impl Outbox {
         }
     }
 
-    /// Takes the oldest datagram; `None` where none waits.
+    /// Takes the oldest datagram, or returns `None` if none waits.
     pub fn take_out(&mut self) -> Option<Out>
         ensures taken { MatchOption result ((self.old.waiting ≡ []) × (self.new ≡ self.old))
             (λ out. self.old.waiting ≡ out ∷ self.new.waiting) }
@@ -158,7 +159,7 @@ impl Outbox {
     }
 }
 
-// Makes room at the end for so many octets more: where there is too little, those that were taken out give theirs.
+// Makes room at the end for `len` more octets. If there is too little, it uses the room of those that were taken out.
 fn make_room(octets: &mut Vec<u8>, taken: &mut usize, len: usize)
     requires taken { taken.old ≤ length octets.old.items }
     requires fits { length octets.old.items + len ≤ taken.old + 358400 }
@@ -188,8 +189,8 @@ fn extend(octets: &mut Vec<u8>, front: &[u8], back: &[u8])
     let _ = octets.extend_from_slice(back);
 }
 
-// Takes so many octets from the front of those that wait, which spell a frame, and writes them over another. Where none is left,
-// there is room from the beginning again.
+// Takes `len` octets, which spell a frame, from the front of the waiting ones, and writes them over another frame. If none
+// is left, there is room from the beginning again.
 fn move_front(octets: &mut Vec<u8>, taken: &mut usize, len: usize, out: &mut Out)
     requires within { taken.old + len ≤ length octets.old.items }
     requires frame { IsFrame (take len (drop taken.old octets.old.items)) }

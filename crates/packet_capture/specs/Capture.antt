@@ -5,8 +5,8 @@ use Rattle.packet_capture.specs.InternetChecksum.{checksum}
 use Rattle.packet_capture.specs.declared.packet.UdpEndpoint.{UdpEndpoint}
 use Rattle.packet_capture.specs.declared.packet.Packet.{Packet}
 
--- the head of the file: magic number of microseconds, version 2.4, no zone, no accuracy told, packets of at most 65,535 octets,
--- and link type 101, which is raw IP
+-- the head of the file: the magic number of microseconds, version 2.4, no time zone, no accuracy, packets of at most 65,535
+-- octets, and link type 101, which is raw IP
 abbrev pub file_header : List ℕ
 file_header =
     to_be_bytes w32 0xa1b2c3d4 ++ (to_be_bytes w16 2 ++ (to_be_bytes w16 4
@@ -18,8 +18,8 @@ record_header moment octets =
     to_be_bytes w32 (moment / 1000 % 2 ^ 32) ++ (to_be_bytes w32 (moment % 1000 * 1000)
     ++ (to_be_bytes w32 octets ++ to_be_bytes w32 octets))
 
--- "Internet Header Format" (RFC 791), up to the checksum: version 4, five words; no service; the total length; no identification,
--- since it is not to be fragmented; 64 hops; UDP
+-- "Internet Header Format" (RFC 791), up to the checksum: version 4, five words; no service; the total length; no
+-- identification, because it is not to be fragmented; 64 hops; UDP
 abbrev pub ipv4_front : ℕ → List ℕ
 ipv4_front octets = 0x45 ∷ 0 ∷ to_be_bytes w16 (20 + octets) ++ (0 ∷ 0 ∷ 0x40 ∷ 0 ∷ 64 ∷ 17 ∷ [])
 
@@ -28,12 +28,12 @@ abbrev pub ipv4_header_with : ℕ → ℕ → ℕ → ℕ → List ℕ
 ipv4_header_with sum source destination octets =
     ipv4_front octets ++ (to_be_bytes w16 sum ++ (to_be_bytes w32 source ++ to_be_bytes w32 destination))
 
--- with its checksum, which is that of the header with 0 in its place
+-- with its checksum, which is that of the header with 0 in the checksum's place
 abbrev pub ipv4_header : ℕ → ℕ → ℕ → List ℕ
 ipv4_header source destination octets =
     ipv4_header_with (checksum (ipv4_header_with 0 source destination octets)) source destination octets
 
--- "Fields" (RFC 768): what is summed before the UDP header
+-- "Fields" (RFC 768): the pseudo header, which the checksum covers before the UDP header
 abbrev pub pseudo_header : ℕ → ℕ → ℕ → List ℕ
 pseudo_header source destination octets =
     to_be_bytes w32 source ++ (to_be_bytes w32 destination ++ (0 ∷ 17 ∷ to_be_bytes w16 octets))
@@ -44,13 +44,13 @@ udp_with sum source destination payload =
     to_be_bytes w16 source ++ (to_be_bytes w16 destination
     ++ (to_be_bytes w16 (8 + length payload) ++ (to_be_bytes w16 sum ++ payload)))
 
--- what is summed for a packet
+-- the octets that a packet's UDP checksum covers
 abbrev pub udp_summed : ℕ → Packet → List ℕ
 udp_summed sum packet =
     pseudo_header packet.from.address packet.to.address (8 + length packet.payload.now)
     ++ udp_with sum packet.from.port packet.to.port packet.payload.now
 
--- a checksum of 0 is sent as 65,535, since 0 says that there is none
+-- a checksum of 0 is sent as 65,535, because 0 means that there is none
 abbrev pub sent_checksum : ℕ → ℕ
 sent_checksum sum = if sum == 0 then 65535 else sum
 

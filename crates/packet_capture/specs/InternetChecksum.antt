@@ -7,8 +7,8 @@ word_sum [] = 0
 word_sum (high ∷ []) = 256 * high
 word_sum (high ∷ low ∷ octets) = 256 * high + low + word_sum octets
 
--- a sum, kept to 16 bits: what is carried out of the highest bit comes in at the lowest, which is arithmetic modulo 65,535, where
--- only the sum 0 is kept as 0
+-- A sum kept to 16 bits: a carry out of the highest bit is added at the lowest. That is arithmetic modulo 65,535, except
+-- that only the sum 0 is kept as 0.
 abbrev pub ones_complement : ℕ → ℕ
 ones_complement sum = if sum == 0 then 0 else (sum - 1) % 65535 + 1
 

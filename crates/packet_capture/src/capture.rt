@@ -7,7 +7,7 @@ use crate::spelling::packet_octets;
 use std::alloc::{AllocError, Global};
 use std::marker::Model;
 
-/// Why a packet isn't in a capture, in the order in which causes are looked for.
+/// The reason why a packet isn't in a capture, in the order in which reasons are checked.
 #[derive(Clone, Copy, Debug, PartialEq, Eq)]
 pub enum CaptureError {
     /// It has more octets of payload than a UDP datagram can have over IPv4.
@@ -36,7 +36,7 @@ const FILE_HEADER: [u8; 24] = [
 ];
 
 impl Capture {
-    /// A capture of no packet: the 24 octets of the file's header.
+    /// Returns an empty capture: the 24 octets of the file's header.
     ///
     /// `AllocError`: a request for memory was refused.
     pub fn new(alloc: Global) -> Result<Capture, AllocError>
@@ -47,7 +47,7 @@ impl Capture {
         Ok(Capture { file })
     }
 
-    /// One more packet, behind the others. A capture that refuses it stays as it was.
+    /// Adds a packet behind the others. A capture that refuses it stays as it was.
     ///
     /// `TooLong`: its payload has more than 65,507 octets. `Memory`: a request for memory was refused.
     pub fn push(&mut self, alloc: Global, packet: &Packet<'_>) -> Result<(), CaptureError>
@@ -67,7 +67,7 @@ impl Capture {
         }
     }
 
-    /// The octets of the file: its header, and the packets in their order.
+    /// Returns the octets of the file: its header, and the packets in their order.
     pub fn octets(&self) -> &[u8]
         ensures { result.now ≡ self.now }
     {

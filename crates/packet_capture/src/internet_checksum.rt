@@ -3,7 +3,7 @@ ghost use Rattle.std.specs.Prelude.{◌≡◌, ◌+◌, ◌*◌, ◌≤◌, ◌<
 ghost use Rattle.packet_capture.specs.InternetChecksum.{checksum as checksum_of};
 ghost use Rattle.packet_capture.specs.InternetChecksum.{ones_complement, word_sum};
 
-// The sum of the words.
+// Returns the sum of the words.
 fn sum_words(octets: &[u8]) -> u64
     requires { length octets.now < 2 ^ 32 }
     ensures { result ≡ word_sum octets.now }
@@ -20,7 +20,7 @@ fn sum_words(octets: &[u8]) -> u64
     }
 }
 
-// The sum, kept to 16 bits.
+// Returns the sum, kept to 16 bits.
 fn kept(sum: u64) -> u16
     ensures { result ≡ ones_complement sum }
 {
@@ -31,7 +31,7 @@ fn kept(sum: u64) -> u16
     }
 }
 
-/// The checksum of fewer than 2^32 octets (RFC 1071): the one's complement of their one's complement sum.
+/// Returns the checksum of fewer than 2^32 octets (RFC 1071): the one's complement of their one's complement sum.
 pub fn checksum(octets: &[u8]) -> u16
     requires { length octets.now < 2 ^ 32 }
     ensures { result ≡ checksum_of octets.now }

@@ -1,4 +1,4 @@
-//! What a receiver finds who sums what is written (RFC 791, RFC 768, RFC 1071).
+//! The sums that a receiver of the written packets computes (RFC 791, RFC 768, RFC 1071).
 ghost use Rattle.std.specs.Prelude.{◌≡◌, ℕ, ◌+◌, ◌++◌, length};
 ghost use Rattle.packet_capture.specs.InternetChecksum.{end_around, ones_complement, word_sum};
 ghost use Rattle.packet_capture.specs.Capture.{ipv4_header, pseudo_header, udp_datagram};

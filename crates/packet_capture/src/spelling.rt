@@ -8,7 +8,7 @@ use crate::internet_checksum::checksum;
 use crate::packet::Packet;
 use std::alloc::{AllocError, Global};
 
-// Pieces, one behind the other.
+// Adds pieces, one behind the other.
 fn push_pieces(octets: &mut Vec<u8>, pieces: &[&[u8]]) -> Result<(), AllocError>
     ensures { OnOk result (octets.new.items ≡ octets.old.items ++ flat_map (λ piece. piece.now) pieces.now) }
 {
@@ -18,7 +18,7 @@ fn push_pieces(octets: &mut Vec<u8>, pieces: &[&[u8]]) -> Result<(), AllocError>
     Ok(())
 }
 
-// The head of a packet of so many octets.
+// Adds the head of a packet of `count` octets.
 fn push_record_header(octets: &mut Vec<u8>, moment: u64, count: u32) -> Result<(), AllocError>
     ensures { OnOk result (octets.new.items ≡ octets.old.items ++ record_header moment count) }
 {
@@ -32,7 +32,7 @@ fn push_record_header(octets: &mut Vec<u8>, moment: u64, count: u32) -> Result<(
     push_pieces(octets, &[&seconds, &micros, &count, &count])
 }
 
-// The IPv4 header of a datagram of so many octets, up to the checksum.
+// Adds the IPv4 header of a datagram of `count` octets, up to the checksum.
 fn push_ipv4_front(octets: &mut Vec<u8>, count: u16) -> Result<(), AllocError>
     requires { 20 + count < 2 ^ 16 }
     ensures { OnOk result (octets.new.items ≡ octets.old.items ++ ipv4_front count) }
@@ -41,7 +41,7 @@ fn push_ipv4_front(octets: &mut Vec<u8>, count: u16) -> Result<(), AllocError>
     push_pieces(octets, &[&[0x45, 0], &count, &[0, 0, 0x40, 0, 64, 17]])
 }
 
-// The IPv4 header of a packet, with this checksum.
+// Adds the IPv4 header of a packet, with this checksum.
 fn push_ipv4_with(octets: &mut Vec<u8>, sum: u16, packet: &Packet<'_>) -> Result<(), AllocError>
     requires { length packet.now.payload.now ≤ 65507 }
     ensures { OnOk result (octets.new.items ≡ octets.old.items
@@ -57,7 +57,7 @@ fn push_ipv4_with(octets: &mut Vec<u8>, sum: u16, packet: &Packet<'_>) -> Result
     push_pieces(octets, &[&sum, &source, &destination])
 }
 
-// The checksum of that header.
+// Returns the checksum of that header.
 fn ipv4_checksum(alloc: Global, packet: &Packet<'_>) -> Result<u16, AllocError>
     requires { length packet.now.payload.now ≤ 65507 }
     ensures { IfOk result (λ sum.
@@ -69,7 +69,7 @@ fn ipv4_checksum(alloc: Global, packet: &Packet<'_>) -> Result<u16, AllocError>
     Ok(checksum(header.as_slice()))
 }
 
-// The UDP header, with this checksum, and the data.
+// Adds the UDP header, with this checksum, and the data.
 fn push_udp_with(octets: &mut Vec<u8>, sum: u16, packet: &Packet<'_>) -> Result<(), AllocError>
     requires { length packet.now.payload.now ≤ 65507 }
     ensures { OnOk result (octets.new.items ≡ octets.old.items
@@ -81,7 +81,7 @@ fn push_udp_with(octets: &mut Vec<u8>, sum: u16, packet: &Packet<'_>) -> Result<
     push_pieces(octets, &[&from, &to, &count, &sum, packet.payload])
 }
 
-// What is summed before the UDP header of a packet.
+// Adds the pseudo header of a packet.
 fn push_pseudo_header(octets: &mut Vec<u8>, packet: &Packet<'_>) -> Result<(), AllocError>
     requires { length packet.now.payload.now ≤ 65507 }
     ensures { OnOk result (octets.new.items ≡ octets.old.items
@@ -96,7 +96,7 @@ fn push_pseudo_header(octets: &mut Vec<u8>, packet: &Packet<'_>) -> Result<(), A
     )
 }
 
-// All that is summed for a packet.
+// Returns all octets that a packet's UDP checksum covers.
 fn summed(alloc: Global, packet: &Packet<'_>) -> Result<Vec<u8>, AllocError>
     requires { length packet.now.payload.now ≤ 65507 }
     ensures { IfOk result (λ octets. octets.items ≡ udp_summed 0 packet.now) }
@@ -107,14 +107,14 @@ fn summed(alloc: Global, packet: &Packet<'_>) -> Result<Vec<u8>, AllocError>
     Ok(octets)
 }
 
-// A checksum as it is sent.
+// Returns a checksum as it is sent.
 fn sent(sum: u16) -> u16
     ensures { result ≡ sent_checksum sum }
 {
     if sum == 0 { 65535 } else { sum }
 }
 
-// The checksum of a packet's UDP header and data.
+// Returns the checksum of a packet's UDP header and data.
 fn udp_checksum(alloc: Global, packet: &Packet<'_>) -> Result<u16, AllocError>
     requires { length packet.now.payload.now ≤ 65507 }
     ensures { IfOk result (λ sum. sum ≡ udp_checksum packet.now) }
@@ -123,7 +123,7 @@ fn udp_checksum(alloc: Global, packet: &Packet<'_>) -> Result<u16, AllocError>
     Ok(sent(checksum(octets.as_slice())))
 }
 
-// The IPv4 header of a packet.
+// Adds the IPv4 header of a packet.
 fn push_ipv4(octets: &mut Vec<u8>, alloc: Global, packet: &Packet<'_>) -> Result<(), AllocError>
     requires { length packet.now.payload.now ≤ 65507 }
     ensures { OnOk result (octets.new.items ≡ octets.old.items
@@ -133,7 +133,7 @@ fn push_ipv4(octets: &mut Vec<u8>, alloc: Global, packet: &Packet<'_>) -> Result
     push_ipv4_with(octets, sum, packet)
 }
 
-// The UDP header of a packet, and its data.
+// Adds the UDP header of a packet, and its data.
 fn push_udp(octets: &mut Vec<u8>, alloc: Global, packet: &Packet<'_>) -> Result<(), AllocError>
     requires { length packet.now.payload.now ≤ 65507 }
     ensures { OnOk result (octets.new.items ≡ octets.old.items ++ udp_datagram packet.now) }
@@ -142,7 +142,7 @@ fn push_udp(octets: &mut Vec<u8>, alloc: Global, packet: &Packet<'_>) -> Result<
     push_udp_with(octets, sum, packet)
 }
 
-/// The octets of a packet in the file.
+/// Returns the octets of a packet in the file.
 pub(crate) fn packet_octets(alloc: Global, packet: &Packet<'_>) -> Result<Vec<u8>, AllocError>
     requires { length packet.now.payload.now ≤ 65507 }
     ensures { IfOk result (λ octets. octets.items ≡ packet_octets packet.now) }

@@ -4,9 +4,9 @@ use Rattle.peer_accounts.specs.declared.account.Carried.{Carried}
 use Rattle.peer_accounts.specs.declared.account.Carried.TheVariants.{Packed, Queued, Dropped, Quelched}
 use Rattle.peer_accounts.specs.declared.sums.Sums.{Sums}
 
--- The accounts of a peer are their sums. The media octets of a peer: those that it brought and were accepted; of those that were
--- carried to it, those written into frames, those in its trunk queue, and those dropped, of which some were quelched; and the
--- steps that it made.
+-- The accounts of a peer are their sums. The media octets accepted from the peer; of the octets carried to it, those
+-- written into frames, those in its trunk queue, and those dropped, of which some were quelched; and the steps that it
+-- made.
 abbrev pub Accounts : Type 0
 Accounts = Sums
 
@@ -28,19 +28,19 @@ carry_to a Queued n = record a { queued = a.queued + n }
 carry_to a Dropped n = record a { dropped = a.dropped + n }
 carry_to a Quelched n = record a { dropped = a.dropped + n; quelched = a.quelched + n }
 
--- one step more
+-- one more step
 abbrev pub stepped : Accounts → Accounts
 stepped a = record a { steps = a.steps + 1 }
 
--- n octets more were accepted
+-- n more octets were accepted
 abbrev pub with_accepted : Accounts → ℕ → Accounts
 with_accepted a n = record a { accepted = a.accepted + n }
 
--- What a pass holds: octets that peers accepted and that aren't carried yet, and steps that were made under it.
+-- The credit of a pass: octets that peers accepted and that aren't carried yet, and steps made under it.
 pub record Credit : Type 0 where
   pub octets : ℕ
   pub steps : ℕ
 
--- one step more was made under the pass, which accepted so many octets
+-- one more step was made under the pass, which accepted this many octets
 abbrev pub with_step : Credit → ℕ → Credit
 with_step credit octets = record { octets = credit.octets + octets; steps = credit.steps + 1 }

@@ -1,15 +1,15 @@
--- What is handed up once the octet credit of a peer was looked at ("Mini Frames", "Meta Frames").
+-- The signal that is handed up after a check of the peer's octet credit ("Mini Frames", "Meta Frames").
 use Rattle.std.specs.Prelude.{ℕ, ◌+◌, nat_le, Option, None, Some, if◌then◌else◌}
 use Rattle.leg_machine.specs.Signal.{span_len}
 use Rattle.call_signals.specs.declared.signal.Signal.{Signal}
 use Rattle.call_signals.specs.declared.signal.Signal.TheVariants.{Media}
 
--- what is handed up, and the octets of credit that it takes
+-- the signal handed up, and the octets of credit that it takes
 pub record Granted : Type 0 where
   pub signal : Option Signal
   pub octets : ℕ
 
--- media is accepted where the peer has credit for all of it
+-- media is accepted if the peer has credit for all of it
 abbrev pub granted_media : ℕ → ℕ → Signal → ℕ → Granted
 granted_media first accepted signal octets =
     if nat_le (accepted + octets) first

@@ -1,4 +1,4 @@
--- What the legs of a peer hand up in one step.
+-- The signals that the legs of a peer hand up in one step.
 use Rattle.std.specs.Prelude.{◌≡◌, ℕ, List, [], Option, None}
 use Rattle.call_book.specs.declared.leg_name.LegName.{LegName}
 use Rattle.call_signals.specs.declared.signal.Signal.{Signal}
@@ -7,9 +7,9 @@ use Rattle.peer_accounts.specs.declared.onwards.Offer.{Offer}
 pub record HandedUp : Type 0 where
   -- in order, each with the name of its leg
   pub signals : List (LegName × Signal)
-  -- what an offered call asks for
+  -- the offer of an offered call
   pub offer : Option Offer
-  -- for so many signals more there is room
+  -- the room for further signals
   pub room : ℕ
 
 abbrev pub nothing : ℕ → HandedUp

@@ -12,16 +12,16 @@ use leg_machine::Signal;
 use media_ledger::{Share, pass_on};
 use std::marker::{Model, PhantomData};
 
-/// What became of media that was carried to a peer.
+/// The outcome of media that was carried to a peer.
 #[derive(Clone, Copy)]
 pub enum Carried {
     /// Written into a frame.
     Packed,
     /// Put into the trunk queue.
     Queued,
-    /// Dropped, since the trunk queue was full.
+    /// Dropped because the trunk queue was full.
     Dropped,
-    /// Dropped, since the other side wants none.
+    /// Dropped because the other side quelched it.
     Quelched,
 }
 
@@ -30,7 +30,7 @@ pub enum Carried {
 pub struct Account<J: Naming> {
     pub(crate) octets: Share<J::Octets>,
     pub(crate) steps: Share<J::Steps>,
-    // What the peer may still bring.
+    // The octets that may still be accepted from the peer.
     pub(crate) unspent: u64,
     pub(crate) sums: Sums,
     pub(crate) naming: PhantomData<J>,
@@ -51,7 +51,7 @@ impl<J: Naming> Model for Account<J> {
 }
 
 impl<J: Naming> Account<J> {
-    /// The accounts of a peer that has done nothing yet, with the first shares of a peer.
+    /// Returns the accounts of a peer before its first step, with the first shares of a peer.
     pub fn new(octets: Share<J::Octets>, steps: Share<J::Steps>) -> Account<J>
         requires octets { octets ≡ J.first_octets }
         requires steps { steps ≡ J.first_steps }
@@ -68,14 +68,14 @@ impl<J: Naming> Account<J> {
         }
     }
 
-    /// Whether no step credit is left, so that no step can be made.
+    /// Returns whether no step credit is left, so that no step can be made.
     pub fn is_spent(&self) -> bool
         ensures { IsTrue result ↔ (self.now.steps ≡ J.first_steps) }
     {
         self.steps.amount() == 0
     }
 
-    /// The sums of the accounts, as they are now.
+    /// Returns the current sums of the accounts.
     pub fn sums(&self) -> Sums
         ensures sums { result ≡ shown self.now }
         ensures part { result.quelched ≤ result.dropped }
@@ -83,8 +83,8 @@ impl<J: Naming> Account<J> {
         self.sums
     }
 
-    /// Takes in media of n octets, and passes their credit on. False, and nothing is changed, exactly where the peer has less
-    /// unspent credit.
+    /// Accepts media of n octets, and passes their credit on. Returns false and changes nothing if and only if the peer has
+    /// less unspent credit.
     pub fn accept(&mut self, pass: &mut Pass<J>, n: u64) -> bool
         ensures exactly { IsTrue result ↔ (self.old.accepted + n ≤ J.first_octets) }
         ensures counted { OnTrue result (self.new ≡ with_accepted self.old n) }
@@ -100,8 +100,8 @@ impl<J: Naming> Account<J> {
         true
     }
 
-    /// Takes the credit of n octets back from the pass, which has it, and counts what became of them. Quelched octets are counted
-    /// among the dropped ones, too.
+    /// Takes the credit of n octets back from the pass, which has it, and counts their outcome. Quelched octets count among
+    /// the dropped ones, too.
     pub fn carry(&mut self, pass: &mut Pass<J>, n: u64, outcome: Carried)
         requires { n ≤ pass.old.octets }
         ensures credit { pass.new.octets + n ≡ pass.old.octets }
@@ -120,7 +120,7 @@ impl<J: Naming> Account<J> {
         }
     }
 
-    /// Counts n queued octets, no more than are queued, as written into frames.
+    /// Counts n queued octets as written into frames. At least n are queued.
     pub fn pack(&mut self, n: u64)
         requires { n ≤ self.old.queued }
         ensures packed { self.new.packed ≡ self.old.packed + n }
@@ -132,7 +132,7 @@ impl<J: Naming> Account<J> {
         self.sums.packed += n;
     }
 
-    /// Counts one step, and passes its credit on. There is step credit left.
+    /// Counts one step, and passes its credit on. Step credit is left.
     pub fn count_step(&mut self, pass: &mut Pass<J>)
         requires { self.old.steps ≢ J.first_steps }
         ensures counted { self.new ≡ stepped self.old }
@@ -142,8 +142,8 @@ impl<J: Naming> Account<J> {
         self.sums.steps += 1;
     }
 
-    /// Takes in what a leg hands up: media only where there is credit for all of its octets, which is passed on; without it
-    /// nothing is handed up. Other signals are handed up as they are.
+    /// Accepts a leg's signal. Media is handed up only if there is credit for all of its octets, which is passed on. Other
+    /// signals are handed up as they are.
     pub fn grant(&mut self, pass: &mut Pass<J>, signal: Option<Signal>) -> Option<Signal>
         ensures signal { result ≡ (granted J.first_octets self.old.accepted signal).signal }
         ensures counted { self.new ≡ with_accepted self.old (granted J.first_octets self.old.accepted signal).octets }
@@ -162,8 +162,8 @@ impl<J: Naming> Account<J> {
         }
     }
 
-    /// Gives the shares up: the accounts without them, the share of octets and that of steps. They have the credit that is left,
-    /// and that of octets what was carried to the peer, too.
+    /// Gives the shares up: returns the accounts without them, the share of octets and that of steps. They have the credit
+    /// that is left; the share of octets also has the credit of the octets carried to the peer.
     pub fn part(self) -> (ClosedAccount<J>, Share<J::Octets>, Share<J::Steps>)
         ensures same { result.0 ≡ self }
         ensures octets { result.1 + self.accepted ≡ J.first_octets + carried self }

@@ -29,7 +29,7 @@ impl<J: Naming> Model for ClosedAccount<J> {
 }
 
 impl<J: Naming> ClosedAccount<J> {
-    /// The sums of the accounts, as they were when the shares were given up.
+    /// Returns the sums of the accounts, as they were when the shares were given up.
     pub fn sums(&self) -> Sums
         ensures sums { result ≡ shown self.now }
         ensures part { result.quelched ≤ result.dropped }
@@ -37,7 +37,7 @@ impl<J: Naming> ClosedAccount<J> {
         self.sums
     }
 
-    /// The peer with its shares again, as `part` gave them.
+    /// Returns the peer with its shares again, as `part` gave them.
     pub fn whole(self, octets: Share<J::Octets>, steps: Share<J::Steps>) -> Account<J>
         requires octets { octets + self.accepted ≡ J.first_octets + carried self }
         requires steps { steps + self.steps ≡ J.first_steps }

@@ -1,4 +1,5 @@
-//! What every state and every pass of one exchange share: the names of their two ledgers, and the first share of every peer.
+//! Values that every state and every pass of one exchange share: the names of its two ledgers, and the first share of every
+//! peer.
 ghost use Rattle.std.specs.Prelude.{ℕ, ◌^◌};
 
 use std::marker::PhantomData;

@@ -1,4 +1,4 @@
-//! What the legs of a peer hand up in one step.
+//! The signals that the legs of a peer hand up in one step.
 ghost use Rattle.std.specs.Prelude.{◌≡◌, ◌≤◌, ◌+◌, ◌<◌, ◌++◌, ◌∷◌, [], ◌==◌, length, slice_get, option_copied, Option, None};
 ghost use Rattle.std.specs.Prelude.{Some, OnOk, OnErr};
 
@@ -7,27 +7,28 @@ use leg_machine::{Caller, ElementText, Format, Formats, Signal};
 use std::alloc::{AllocError, Global};
 use std::marker::Model;
 
-/// What an offered call asks for ("Call Setup").
+/// The offer of an offered call ("Call Setup").
 #[derive(Drop)]
 pub struct Offer {
-    /// The number that is called, at most 255 octets; absent, it is empty.
+    /// The called number, at most 255 octets; empty if it is absent.
     pub called: ElementText,
-    /// Who calls, as far as it is carried on.
+    /// The caller's elements that are carried on.
     pub caller: Caller,
-    /// The format that is chosen by the NEW alone.
+    /// The format that the NEW alone chooses.
     pub format: Format,
     /// The formats that the call may have.
     pub formats: Formats,
 }
 
-/// What the legs of a peer hand up in one step, in order, each with the leg's name; and what an offered call asks for.
+/// The signals that the legs of a peer hand up in one step, in order, each with the leg's name; and the offer of an offered
+/// call.
 ///
 /// The caller of a step lends an empty list, reads it, and clears it for the next step. Its memory stays with it.
-/// Contracts see the signals, the offer, and for how many signals more there is room.
+/// Contracts see the signals, the offer, and the room for further signals.
 #[derive(Drop)]
 pub struct Onwards {
     signals: Vec<(LegName, Signal)>,
-    // At most one. It lies apart, so that what is handed up can be passed on at little cost.
+    // At most one. It is separate, so that passing signals on costs little.
     offers: Vec<Offer>,
 }
 
@@ -37,7 +38,7 @@ impl Model for Onwards {
 
     ghost Value = { HandedUp };
 
-    // There is room for a signal where there is some for an offer, too.
+    // If there is room for a signal, there is room for an offer, too.
     ghost view = { λ o. record {
       signals = o.signals.items;
       offer = slice_get o.offers.items 0;
@@ -50,7 +51,7 @@ impl Model for Onwards {
 impl Onwards {
     ghost use Rattle.peer_accounts.specs.HandedUp.{nothing};
 
-    /// An empty list, which has no memory yet.
+    /// Returns an empty list, which has no memory yet.
     pub fn new(alloc: Global) -> Onwards
         ensures { result ≡ nothing 0 }
     {
@@ -60,7 +61,7 @@ impl Onwards {
         }
     }
 
-    /// Takes all signals and the offer out.
+    /// Removes all signals and the offer.
     pub fn clear(&mut self)
         ensures signals { self.new.signals ≡ [] }
         ensures offer { self.new.offer ≡ None }
@@ -69,8 +70,8 @@ impl Onwards {
         self.offers.clear();
     }
 
-    /// Room for so many signals more, and for what an offered call asks for. `Err` comes only where memory was refused; the
-    /// signals and the offer stay as they are.
+    /// Reserves room for `signals` more signals, and for an offer. Returns `Err` only if memory was refused; the signals
+    /// and the offer stay as they are.
     pub fn reserve(&mut self, signals: usize) -> Result<(), AllocError>
         ensures signals { self.new.signals ≡ self.old.signals }
         ensures offer { self.new.offer ≡ self.old.offer }
@@ -80,28 +81,28 @@ impl Onwards {
         self.offers.try_reserve(1)
     }
 
-    /// How many signals there are.
+    /// Returns the number of signals.
     pub fn len(&self) -> usize
         ensures { result ≡ length self.now.signals }
     {
         self.signals.len()
     }
 
-    /// Whether there are no signals.
+    /// Returns whether there are no signals.
     pub fn is_empty(&self) -> bool
         ensures { result ≡ (length self.now.signals == 0) }
     {
         self.signals.len() == 0
     }
 
-    /// The signal at a place, 0 for the first, and the name of its leg; `None` where there is none.
+    /// Returns the signal at a place, 0 for the first, and the name of its leg, or `None` if there is none.
     pub fn get(&self, place: usize) -> Option<(LegName, Signal)>
         ensures { result ≡ slice_get self.now.signals place }
     {
         self.signals.get(place).copied()
     }
 
-    /// What the offered call asks for, where one is.
+    /// Returns the offer of the offered call, if there is one.
     pub fn offer(&self) -> Option<&Offer>
         ensures { option_copied result ≡ self.now.offer }
     {
@@ -118,7 +119,7 @@ impl Onwards {
         self.signals.push_reserved((name, signal));
     }
 
-    /// Says what the offered call asks for; there is room for a signal more.
+    /// Sets the offer of the offered call. There is room for one more signal.
     pub fn set_offer(&mut self, offer: Offer)
         requires { 1 ≤ self.old.room }
         ensures { self.new ≡ record self.old { offer = Some offer } }

@@ -10,7 +10,7 @@ use std::marker::Model;
 
 /// The token of one worker or caller: the credit that peers have passed to it. Contracts see it as that credit.
 ///
-/// Beside it lies the memory of a list for what steps hand up, so that a step needs no new one.
+/// It also keeps the memory of a list for the signals of steps, so that a step needs no new one.
 #[derive(Drop)]
 pub struct Pass<J: Naming> {
     pub(crate) octets: Share<J::Octets>,
@@ -27,7 +27,7 @@ impl<J: Naming> Model for Pass<J> {
 }
 
 impl<J: Naming> Pass<J> {
-    /// A pass with this credit.
+    /// Returns a pass with this credit.
     pub fn new(octets: Share<J::Octets>, steps: Share<J::Steps>) -> Pass<J>
         ensures octets { result.octets ≡ octets }
         ensures steps { result.steps ≡ steps }
@@ -39,22 +39,22 @@ impl<J: Naming> Pass<J> {
         }
     }
 
-    /// The media octets for which it has credit: those that peers accepted and that aren't carried yet.
+    /// Returns the media octets for which it has credit: those that peers accepted and that aren't carried yet.
     pub fn octets(&self) -> u64
         ensures { result ≡ self.now.octets }
     {
         self.octets.amount()
     }
 
-    /// The step credit that it has.
+    /// Returns its step credit.
     pub fn steps(&self) -> u64
         ensures { result ≡ self.now.steps }
     {
         self.steps.amount()
     }
 
-    /// An empty list for what a step hands up. It should come back by `keep`; without one that came back it is a new one, which
-    /// has no memory yet.
+    /// Returns an empty list for the signals that a step hands up. The caller should give it back by `keep`. If none was
+    /// given back, it is a new list without memory.
     pub fn lend(&mut self, alloc: Global) -> Onwards
         ensures nothing { IsNothing result }
         ensures same { self.new ≡ self.old }

@@ -1,18 +1,18 @@
-//! The sums of a peer's accounts, for whoever looks at them.
+//! The sums of a peer's accounts, for read-only queries.
 
 /// The media octets of a peer, and its steps, as they are at one moment.
 #[derive(Clone, Copy, Debug, Default, PartialEq, Eq)]
 pub struct Sums {
-    /// What it brought and was taken in.
+    /// Octets accepted from this peer.
     pub accepted: u64,
-    /// What was carried to it and written into frames.
+    /// Octets carried to it and written into frames.
     pub packed: u64,
-    /// What was carried to it and waits for a trunk frame.
+    /// Octets carried to it that wait for a trunk frame.
     pub queued: u64,
-    /// What was carried to it and dropped.
+    /// Octets carried to it and dropped.
     pub dropped: u64,
-    /// Of the dropped octets, those that the other side wanted none of.
+    /// The part of the dropped octets that the other side had quelched.
     pub quelched: u64,
-    /// How many steps it made.
+    /// The number of steps that it made.
     pub steps: u64,
 }

@@ -1,4 +1,4 @@
--- Until when the legs of a peer rest.
+-- The moment until which the legs of a peer rest.
 use Rattle.std.specs.Prelude.{◌&&◌, All}
 use Rattle.std.proofs.Common.{◌≡◌, ℕ, ◌+◌, ◌<◌, ◌≤◌, Bool, true, false, min, List, length, take, Option, None, Some, Result, Ok, Err, IfOk, OnOk, OnErr, get_or, slice_get, slice_set, refl, sym, ap, subst, ◌∙◌, arith}
 use Rattle.std.proofs.lemmas.List.Elements.{All-more, All-set}
@@ -19,15 +19,15 @@ pub rest_placed : (until here : ℕ) (places : List (Option NamedLeg)) (index : 
 rest_placed until here places index new rest new_rests now before =
     All-set (λ (place : Option NamedLeg). is_resting place now ≡ true) places index new (new_rests now (omega arith)) (rest now (omega arith))
 
--- a leg goes
+-- a leg is removed
 pub rest_gone : (until : ℕ) (places : List (Option NamedLeg)) (index : ℕ) → RestUntil until places → RestUntil until (slice_set places index None)
 rest_gone until places index rest now before = All-set (λ (place : Option NamedLeg). is_resting place now ≡ true) places index None refl (rest now before)
 
--- nothing is said of a moment before the first
+-- no leg has to rest before the first moment
 pub rest_never : (places : List (Option NamedLeg)) → RestUntil 0 places
 rest_never places now before = absurd (omega arith)
 
--- what rests at a place that is read
+-- the leg at a place rests if all do
 rest_there : (now : ℕ) (places : List (Option NamedLeg)) (index : ℕ) (place : Option NamedLeg) → slice_get places index ≡ Some place
     → All (λ p. is_resting p now ≡ true) places → is_resting place now ≡ true
 rest_there now places index place at all =
@@ -66,7 +66,7 @@ rest_quiet until places rest some = λ k d within. quiet_place (get_or places k 
     quiet_place None is = refl
     quiet_place (Some named) is = and-left (is_quiet (Some named)) (is_idle named.leg 0) is
 
--- one place more
+-- one more place
 pub rest_more : (until next : ℕ) (places : List (Option NamedLeg)) (index : ℕ) (place : Option NamedLeg) → index < length places → place ≡ get_or places index place
     → next ≤ until → RestUntil until (take index places) → ((now : ℕ) → now < next → is_resting place now ≡ true) → RestUntil next (take (index + 1) places)
 rest_more until next places index place within is less rest here now before =

@@ -1,4 +1,4 @@
--- The legs of a peer stay sound as one comes, changes or goes.
+-- The legs of a peer stay sound when one is added, changed or removed.
 use Rattle.std.proofs.Common.{◌≡◌, ◌≢◌, ℕ, ◌+◌, ◌-◌, ◌<◌, ◌≤◌, ◌^◌, zero, suc, replicate, nat_le, true, get_or, List, length, Option, Some, None, is_none, unwrap_or, ◌⊎◌, inl, inr, slice_get, refl, sym, ap, subst, ◌∙◌, arith}
 use Rattle.std.specs.Option.{ForSome}
 use Rattle.std.proofs.lemmas.Bool.{le-leb}
@@ -14,7 +14,7 @@ use Rattle.peer_legs.proofs.LegSearch.{none_first}
 use Rattle.peer_legs.proofs.PlaceLaws.{slice_set_same}
 use Rattle.peer_legs.proofs.SameCall.{IsSameCall, MayLearn}
 
--- what is so of the legs and of the array of their remote numbers
+-- the invariant of the legs and of the array of their remote numbers
 pub record AreIndexed (legs : PeerLegs) (index : List (Option ℕ)) : Type 0 where
   pub legs_are : AreLegs legs
   pub index_is : IsIndex legs index
@@ -47,9 +47,9 @@ fresh peer first count index some within none = record {
   };
 }
 
--- ---- what was noted
+-- ---- the noted remote number
 
--- where an old leg's remote number is kept, what was noted is right
+-- if an old leg's remote number is kept, the note is right
 noted_index : (legs : PeerLegs) (place : ℕ) (old new : Option NamedLeg) (index : List (Option ℕ)) (remote : Option ℕ) → slice_get legs.places place ≡ Some old → IsIndex legs index
     → remote_of new ≡ remote → ((other : ℕ) → remote_of old ≡ Some other → remote ≡ Some other) → ForSome remote (λ r. r < length index)
     → IsWritten legs place old new index (noted index remote (Some (legs.first + place)))
@@ -61,7 +61,7 @@ noted_index legs place old new index None at is e kept within = kept_index legs 
 noted_index legs place old new index (Some remote) at is e kept within =
     entered_index legs place old new index remote (within remote refl) e (λ other was. let same : Some remote ≡ Some other = kept other was in cc)
 
--- ---- a leg comes
+-- ---- a leg is added
 
 empty_place : (o : Option NamedLeg) (places : List (Option NamedLeg)) (place : ℕ) → slice_get places place ≡ Some o → filled (slice_get places place) ≡ None → slice_get places place ≡ Some None
 empty_place o places place is empty = is ∙ ap Some (sym (ap filled is) ∙ empty)
@@ -72,7 +72,7 @@ empty_at legs number place is first within empty =
     let from : nat_le legs.first number ≡ true = le-leb legs.first number first in
     empty_place (get_or legs.places place None) legs.places place (slice_get-get_or legs.places place None (omega arith)) (rw is (rw from at empty))
 
--- what a leg that comes under a name has to be
+-- the requirements of a leg that is added under a name
 pub record IsNew (legs : PeerLegs) (name : LegName) (leg : LegState) : Type 0 where
   pub peer : name.peer ≡ legs.peer
   pub first : legs.first ≤ name.number
@@ -96,7 +96,7 @@ inserted legs value place name leg index index' remote number view are is_new at
     (subst (IsWritten legs place None (Some named) index) (sym (written ∙ ap (λ n. noted index remote (Some n)) there))
     (noted_index legs place None (Some named) index remote at are.index_is (sym is_remote) (λ other never. cc) within))
 
--- ---- a leg goes
+-- ---- a leg is removed
 
 noted_none : (legs : PeerLegs) (place : ℕ) (old : Option NamedLeg) (index : List (Option ℕ)) (remote : Option ℕ) → slice_get legs.places place ≡ Some old → IsIndex legs index
     → remote_of old ≡ remote → ForSome remote (λ r. r < length index) → IsWritten legs place old None index (noted index remote None)

@@ -34,7 +34,7 @@ apart-index legs index is a b remote one other =
     let numbers : legs.first + a ≡ legs.first + b = cc in
     omega arith
 
--- the array before and after, where the leg at a place changes
+-- the array before and after, if the leg at a place changes
 pub record IsWritten (legs : PeerLegs) (place : ℕ) (old new : Option NamedLeg) (before after : List (Option ℕ)) : Type 0 where
   pub there : (remote : ℕ) → remote_of new ≡ Some remote → slice_get after remote ≡ Some (Some (legs.first + place))
   pub gone : (remote number : ℕ) → remote_of old ≡ Some remote → remote_of new ≢ Some remote → slice_get after remote ≢ Some (Some number)
@@ -118,7 +118,7 @@ cleared_index legs place old index remote within is = record {
   others = λ other ne _. slice_get-set_other index remote other None (λ e. ne (is ∙ ap Some (sym e)));
 }
 
--- ---- what is so of every peer's legs
+-- ---- facts about the legs of every peer
 
 -- the numbers are those of the place
 pub record IsPlaced (legs : PeerLegs) (place : ℕ) (named : NamedLeg) : Type 0 where

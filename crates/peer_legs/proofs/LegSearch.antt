@@ -47,7 +47,7 @@ first_none (Some first ∷ places) remote none =
       | inr e ↦ rw e (first_none places remote (λ place. none (suc place)))
     ]
 
--- where none is found, none of these has the remote number
+-- if none is found, none of these has the remote number
 pub none_first : (places : List (Option NamedLeg)) (place remote : ℕ) (named : NamedLeg) → first_remote places remote ≡ None → slice_get places place ≡ Some (Some named) → named.leg.remote ≢ Some remote
 none_first [] place remote named none at = cc
 none_first (o ∷ places) zero remote named none at = λ is.
@@ -61,7 +61,7 @@ none_first (Some first ∷ places) (suc place) remote named none at =
       | inr e ↦ none_first places place remote named (rw e at none) at
     ]
 
--- ---- what the array of remote numbers says
+-- ---- the content of the array of remote numbers
 
 module _ (legs : PeerLegs) (index : List (Option ℕ)) (is : IsIndex legs index) (remote : ℕ) where
   remote_found : (place : ℕ) (has : HasRemote legs place remote) → leg_of_remote legs remote ≡ Some has.named
@@ -78,7 +78,7 @@ module _ (legs : PeerLegs) (index : List (Option ℕ)) (is : IsIndex legs index)
       let listed : slice_get index remote ≡ Some (Some (legs.first + place)) = is.listed place remote (record { named = named; at = at; is = is_remote }) in
       cc)
 
-  -- what the array answers
+  -- the answer of the array
   pub found_or_none : (result : Option ℕ) → slice_get index remote ≡ Some result → IfSome result (λ number. leg_at legs number ≡ leg_of_remote legs remote)
   found_or_none None at = tt
   found_or_none (Some number) at = found_in_index number at
@@ -89,7 +89,7 @@ module _ (legs : PeerLegs) (index : List (Option ℕ)) (is : IsIndex legs index)
       let listed = is.right remote number at in
       (λ none. cc, λ none. let never : None ≡ Some listed.2.named = sym none ∙ remote_found listed.0 listed.2 in cc)
 
--- ---- what reading a place says
+-- ---- the result of reading a place
 
 pub leg_read : (legs value : PeerLegs) (place : ℕ) (o : Option NamedLeg) (named : NamedLeg) → legs ≡ value → place < length value.places → o ≡ get_or legs.places place o → o ≡ Some named
     → slice_get legs.places place ≡ Some (Some named)
@@ -138,12 +138,12 @@ filled-get_or (o ∷ places) (suc place) = filled-get_or places place
 none_from_get_or : (places : List (Option NamedLeg)) (place : ℕ) → get_or places place None ≡ None → (named : NamedLeg) → filled (slice_get places place) ≡ Some named → ⊥
 none_from_get_or places place none named e = let both : None ≡ Some named = sym none ∙ sym (filled-get_or places place) ∙ e in cc
 
--- no leg has a place past the end
+-- there is no leg at a place past the end
 pub none_past : (legs value : PeerLegs) (place : ℕ) → legs ≡ value → length legs.places ≤ place → (named : NamedLeg) → filled (slice_get value.places place) ≡ Some named → ⊥
 none_past legs value place view past =
     none_from_get_or value.places place (ap (λ v. get_or v.places place None) (sym view) ∙ get_or_past legs.places place None past)
 
--- no leg has a place that was read as empty
+-- there is no leg at a place that was read as empty
 pub none_read : (legs value : PeerLegs) (place : ℕ) (o : Option NamedLeg) → legs ≡ value → o ≡ get_or legs.places place o → o ≡ None
     → (named : NamedLeg) → filled (slice_get value.places place) ≡ Some named → ⊥
 none_read legs value place o view read is =

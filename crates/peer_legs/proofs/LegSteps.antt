@@ -1,4 +1,4 @@
--- A step of the leg at a place, carried out or refused: what becomes of the peer's legs.
+-- A step of the leg at a place, whether carried out or refused: its effect on the peer's legs.
 use Rattle.std.proofs.Common.{◌≡◌, ℕ, Option, Some, Result, Ok, Err, OnOk, OnErr, slice_get, sym, ap, subst, ◌∙◌}
 use Rattle.std.specs.Vec.{with_item}
 use Rattle.std.proofs.lemmas.Result.{on_ok_weaker, on_err_weaker}
@@ -20,12 +20,12 @@ use Rattle.peer_legs.proofs.SameCall.{KeepsRules, IsSameCall, same}
 abbrev pub named_leg : LegName → LegState → NamedLeg
 named_leg name leg = record { name = name; leg = leg }
 
--- what a step keeps, and what is so of the leg's record afterwards
+-- the parts that a step keeps, and the property of the leg's record afterwards
 pub record IsKept (old new : LegState) (step : LegState → LegState) : Type 0 where
   pub rules : KeepsRules old (step old)
   pub recorded : IsRecorded new
 
--- A step was carried out at the leg that stands at a place, or was refused and left it. The clauses speak of `said`.
+-- A step was carried out at the leg of a place, or was refused and left it. The clauses name that leg `said`.
 pub record IsMade {T E : Type 0} (legs : Inside) (value : PeerLegs) (place : ℕ) (said : Option NamedLeg) (was : LegInside) (new : Leg) (result : Result T E) (step : LegState → LegState) : Type 0 where
   pub view : legs_of legs ≡ value
   pub are : AreIndexed (legs_of legs) legs.by_remote
@@ -64,14 +64,14 @@ after_step legs place was new = placed (legs_of legs) place (Some (named_leg was
 
 module _ {T E : Type 0} {legs : Inside} {value : PeerLegs} {place : ℕ} {said : Option NamedLeg} {was : LegInside} {new : Leg} {result : Result T E}
     {step : LegState → LegState} (made : IsMade legs value place said was new result step) where
-  -- what is so of the leg there is so of the one that the clauses speak of
+  -- a property of the leg at the place holds for the leg that the clauses name
   pub of_said : (P : NamedLeg → Type 0) → P (named_leg was.lease was.leg.state) → (named : NamedLeg) → said ≡ Some named → P named
   of_said P here named is =
       let both : Some (named_leg was.lease was.leg.state) ≡ Some named = sym made.said_is ∙ is in
       let it : named_leg was.lease was.leg.state ≡ named = cc in
       subst P it here
 
-  -- what is so of the leg before and after the step is so of it now
+  -- a property of the leg before and after the step holds for it now
   pub of_either : (P : LegState → Type 0) → P (step was.leg.state) → P was.leg.state → P new.state
   of_either P = chosen result P was.leg new (step was.leg.state) made.carried made.refused
 
@@ -99,7 +99,7 @@ module _ {T E : Type 0} {legs : Inside} {value : PeerLegs} {place : ℕ} {said :
   pub kept_made : IsSameCall was.leg.state (step was.leg.state) → AreIndexed (after_step legs place was new) legs.by_remote
   kept_made stays = stepped (legs_of legs) place (named_leg was.lease was.leg.state) new.state legs.by_remote made.are made.at (of_either (IsSameCall was.leg.state) stays (same was.leg.state))
 
--- what a step that may be refused leaves
+-- the effect of a step that may be refused
 pub step_made : {T E : Type 0} {legs : Inside} {value : PeerLegs} {place number : ℕ} {was : LegInside} {new : Leg} {result : Result T E} {step : LegState → LegState}
     → IsMade legs value place (leg_at value number) was new result step → AreLegs (after_step legs place was new) → IsStep value (after_step legs place was new) number result step
 step_made made sound = record { leg = leg_made made; err = none_made made; sound = sound; ruled = ruled_made made }

@@ -1,4 +1,4 @@
--- A leg that changed, or came, stands under its number.
+-- A leg that changed, or was added, is found under its number.
 use Rattle.std.proofs.Common.{◌≡◌, ◌+◌, ◌-◌, ◌≤◌, ℕ, Option, Some, None, Result, Ok, Err, IfOk, OnOk, slice_get, slice_set, ap, true, ◌∙◌, arith}
 use Rattle.std.proofs.lemmas.Option.{slice_get_within}
 use Rattle.std.proofs.lemmas.Result.{on_ok_weaker}
@@ -10,7 +10,7 @@ use Rattle.peer_legs.proofs.PlaceLaws.{slice_get-set_same, stands_at, leg_at_pla
 same_place : (first number other : ℕ) → first ≤ number → other ≡ first + (number - first) → other - first ≡ number - first
 same_place first number other le is = omega arith
 
--- a leg that changed stands under its number still
+-- a leg that changed is still found under its number
 pub kept_there : (legs : PeerLegs) (number : ℕ) (named : NamedLeg) (leg : LegState) → AreLegs legs → leg_at legs number ≡ Some named
     → leg_at (with_leg legs named.name leg) number ≡ Some (record { name = named.name; leg = leg })
 kept_there legs number named leg are at =
@@ -21,7 +21,7 @@ kept_there legs number named leg are at =
     ∙ slice_get-set_same legs.places (number - legs.first) (Some (record { name = named.name; leg = leg }))
     (slice_get_within legs.places (number - legs.first) (Some named) here.place))
 
--- .. and so where a step was made
+-- .. also if a step was made
 pub made_there : {T E : Type 0} (result : Result T E) (legs after : PeerLegs) (number : ℕ) (named : NamedLeg) (step : LegState → LegState) → AreLegs legs
     → leg_at legs number ≡ Some named → OnOk result (after ≡ with_leg legs named.name (step named.leg))
     → OnOk result (leg_at after number ≡ Some (record { name = named.name; leg = step named.leg }))
@@ -34,7 +34,7 @@ pub from_reached : (legs : PeerLegs) (source : ℕ) (place : Option NamedLeg) (n
 from_reached legs source None named reached is = absurd (cc)
 from_reached legs source (Some other) named reached is = let same : other ≡ named = cc in rw (← same) reached
 
--- what is so of each leg where a step was made
+-- a property of each leg for which a step was made
 pub each_ok : {T E : Type 0} (result : Result T E) (place : Option NamedLeg) (P : NamedLeg → Type 0)
     → ((named : NamedLeg) → place ≡ Some named → OnOk result (P named)) → OnOk result ((named : NamedLeg) → place ≡ Some named → P named)
 each_ok (Ok answer) place P each = each

@@ -4,6 +4,7 @@ pub mod LegIndex
 pub mod LegSearch
 pub mod LegSteps
 pub mod LegThere
+pub mod NextLegs
 pub mod PlaceLaws
 pub mod RuleChanges
 pub mod SameCall

@@ -1,4 +1,4 @@
--- The laws of legs by their local numbers: what stands in the list of places stands under its number, also after a write.
+-- The laws of legs by their local numbers: the leg in the list of places is found under its number, also after a write.
 use Rattle.std.proofs.Common.{◌≡◌, ◌≢◌, ℕ, zero, suc, ◌+◌, ◌-◌, ◌<◌, ◌≤◌, nat_le, inl, inr, true, List, [], ◌∷◌, length, Option, Some, None, slice_get, slice_set, refl, ap, arith}
 use Rattle.std.proofs.lemmas.Bool.{cases_Bool, leb-true, le-leb}
 use Rattle.peer_legs.specs.Legs.{NamedLeg, PeerLegs, filled, leg_at, with_place}
@@ -17,7 +17,7 @@ slice_get-set_other (y ∷ ys) zero (suc j) x ne = refl
 slice_get-set_other (y ∷ ys) (suc i) zero x ne = refl
 slice_get-set_other (y ∷ ys) (suc i) (suc j) x ne = slice_get-set_other ys i j x (λ e. ne (ap suc e))
 
--- a write of what stands there already
+-- a write of the element that is there already
 pub slice_set_same : {A : Type 0} (xs : List A) (i : ℕ) (x : A) → slice_get xs i ≡ Some x → slice_set xs i x ≡ xs
 slice_set_same [] i x there = cc
 slice_set_same (y ∷ ys) zero x there = let is : x ≡ y = cc in ap (λ first. first ∷ ys) is
@@ -29,7 +29,7 @@ pub filled_at : (o : Option (Option NamedLeg)) (named : NamedLeg) → filled o �
 filled_at None named is = cc
 filled_at (Some place) named is = ap Some is
 
--- where a leg stands
+-- the place of a leg
 pub record StandsAt (legs : PeerLegs) (number : ℕ) (named : NamedLeg) : Type 0 where
   pub first : legs.first ≤ number
   pub place : slice_get legs.places (number - legs.first) ≡ Some (Some named)
@@ -55,7 +55,7 @@ back first number le = omega arith
 in_place : (first number count : ℕ) → first ≤ number → number < first + count → number - first < count
 in_place first number count le lt = omega arith
 
--- what is put under a number stands there
+-- the leg put under a number is found there
 pub placed_there : (legs : PeerLegs) (number : ℕ) (place : Option NamedLeg) → legs.first ≤ number → number < legs.first + length legs.places
     → leg_at (with_place legs number place) number ≡ place
 placed_there legs number place first within =

@@ -1,4 +1,4 @@
--- The legs of a peer go by its rules still, as one comes, changes or goes.
+-- The legs of a peer still follow its rules after one is added, changes or is taken out.
 use Rattle.std.proofs.Common.{◌≡◌, ℕ, ◌+◌, ◌-◌, ◌^◌, ◌<◌, inl, inr, replicate, length, length-set, Option, Some, None, slice_get, slice_set, refl, sym, ap, subst, ◌∙◌, arith}
 use Rattle.std.proofs.lemmas.Bool.{cases_eq}
 use Rattle.std.proofs.lemmas.Option.{slice_get_within}
@@ -29,7 +29,7 @@ placed_legs_of legs value place new rules view all here number named at =
 
 -- ---- a leg changes
 
--- the step keeps what a peer says of each of its legs
+-- the step preserves the facts about each of a peer's legs
 pub record IsLegStep (old new : LegState) : Type 0 where
   pub ruled : KeepsRules old new
   pub recorded : IsRecorded new

@@ -49,7 +49,7 @@ pub record MayLearn (source : ℕ) (old new : LegState) : Type 0 where
   pub remote : (new.remote ≡ old.remote) ⊎ (new.remote ≡ Some (unwrap_or old.remote source))
   pub ruled : KeepsRules old new
 
--- what is so of both is so of the one that is chosen
+-- a property of both holds for the chosen one
 chosen : {A : Type 0} (P : A → Type 0) (b : Bool) (x y : A) → P x → P y → P (cond b x y)
 chosen P true x y first second = first
 chosen P false x y first second = second

@@ -18,7 +18,7 @@ pub record PeerLegs : Type 0 where
   pub first : ℕ
   pub places : List (Option NamedLeg)
 
--- the leg at a place, where there is one
+-- the leg at a place, if there is one
 abbrev pub filled : Option (Option NamedLeg) → Option NamedLeg
 filled None = None
 filled (Some place) = place

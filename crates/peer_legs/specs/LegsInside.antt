@@ -1,4 +1,4 @@
--- The legs that the arrays stand for.
+-- The legs that the arrays represent.
 use Rattle.std.specs.Prelude.{◌≡◌, ℕ, ◌+◌, ◌<◌, true, List, Option, Some, slice_get, All}
 use Rattle.leg_machine.specs.Leg.{LegState}
 use Rattle.leg_machine.specs.Tie.{SendsNumbered}

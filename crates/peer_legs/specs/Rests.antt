@@ -1,4 +1,4 @@
--- When the legs of a peer have nothing to do.
+-- The moments at which the legs of a peer have nothing to do.
 use Rattle.std.specs.Prelude.{ℕ, ◌&&◌, not, Bool, true, Option, None, Some}
 use Rattle.leg_machine.specs.Stage.{is_ended}
 use Rattle.leg_machine.specs.Ticks.{is_idle}

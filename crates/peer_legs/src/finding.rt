@@ -1,16 +1,28 @@
-//! Which leg of a peer a full frame goes to, and which names are free ("Full Frames", "Call Setup").
-ghost use Rattle.std.specs.Prelude.{◌≡◌, ◌↔◌, true, None, Some, IfSome, IsNone, IsSome};
+//! Finds the leg that gets a full frame, and checks whether names are free ("Full Frames", "Call Setup").
+ghost use Rattle.std.specs.Prelude.{◌≡◌, ◌≤◌, ◌↔◌, true, None, Some, IfSome, IsNone, IsSome, option_copied};
 ghost use Rattle.leg_machine.specs.Leg.{is_record_full};
-ghost use Rattle.peer_legs.specs.Finding.{can_reach, is_reached, found};
-ghost use Rattle.peer_legs.specs.Legs.{NamedLeg as NamedLegValue, is_free_name, leg_at};
+ghost use Rattle.peer_legs.specs.Finding.{can_reach, is_reached, found, first_leg, next_leg, AreFreeFrom, AreFreeBetween};
+ghost use Rattle.peer_legs.specs.Legs.{NamedLeg as NamedLegValue, AreLegs, is_free_name, leg_at};
 
 use crate::named_leg::NamedLeg;
 use crate::peer_legs::PeerLegs;
 use call_book::LegName;
 use iax_frames::{CallNumber, Full};
 
+// The first of these places that has a leg.
+fn first_leg(places: &[Option<NamedLeg>]) -> Option<&NamedLeg>
+    ensures { option_copied result ≡ first_leg places.now }
+{
+    for place in places {
+        if place.is_some() {
+            return place.as_ref();
+        }
+    }
+    None
+}
+
 impl PeerLegs {
-    // Whether a full frame from this source goes to the leg.
+    // Returns whether the leg gets full frames from this source.
     fn reaches(&self, source: CallNumber, named: &NamedLeg) -> bool
         ensures { result ≡ is_reached self.now source named.now }
     {
@@ -20,7 +32,7 @@ impl PeerLegs {
         }
     }
 
-    /// Whether the record of the leg that has this local number is full.
+    /// Returns whether the record of the leg with this local number is full.
     pub fn is_record_full(&self, number: u16) -> bool
         requires { IsSome (leg_at self.now number) }
         ensures { (named : NamedLegValue) → leg_at self.now number ≡ Some named → result ≡ is_record_full named.leg }
@@ -28,9 +40,10 @@ impl PeerLegs {
         self.get(number).unwrap().leg().is_record_full()
     }
 
-    /// The local number of the leg to which a full frame goes ("Full Frames", "Call Setup"): that of its destination, where the
-    /// leg there has the frame's source as its remote number, or has none yet and no other leg has it; of a frame with
-    /// destination 0 that of the leg whose remote number is the source. `None` where no leg is found.
+    /// Returns the local number of the leg that gets a full frame, or `None` if no leg is found ("Full Frames", "Call
+    /// Setup"). With a destination it is that number, if the leg there has the frame's source as its remote number. A leg
+    /// without a remote number gets it, too, unless the source is the remote number of another leg. With destination 0 it
+    /// is the number of the leg whose remote number is the source.
     pub fn find(&self, frame: &Full) -> Option<u16>
         ensures some { IfSome result (λ number. leg_at self.now number ≡ found self.now frame.now) }
         ensures reached { IfSome result (λ number. can_reach self.now frame.now.head.source (leg_at self.now number) ≡ true) }
@@ -52,7 +65,31 @@ impl PeerLegs {
         }
     }
 
-    /// Whether the name is one of this peer's, and no leg has its number.
+    // The leg with the least local number that is at least this one.
+    fn next_leg(&self, number: u16) -> Option<&NamedLeg>
+        ensures next { option_copied result ≡ next_leg self.now number }
+        ensures sound { AreLegs self.now }
+    {
+        let passed = usize::from(number.saturating_sub(self.first()));
+        match self.places.get(passed..) {
+            Some(places) => first_leg(places),
+            None => None,
+        }
+    }
+
+    /// The leg with the least local number that is at least this one; `None` if no leg has such a number. Takes the time of a
+    /// look at each number in between.
+    pub fn next_from(&self, number: u16) -> Option<&NamedLeg>
+        ensures next { option_copied result ≡ next_leg self.now number }
+        ensures there { IfSome result (λ named. leg_at self.now named.now.name.number ≡ Some named.now) }
+        ensures from { IfSome result (λ named. number ≤ named.now.name.number) }
+        ensures least { IfSome result (λ named. AreFreeBetween self.now number named.now.name.number) }
+        ensures none { IsNone result ↔ AreFreeFrom self.now number }
+    {
+        self.next_leg(number)
+    }
+
+    /// Returns whether the name is one of this peer's, and no leg has its number.
     pub fn is_free(&self, name: LegName) -> bool
         ensures free { result ≡ is_free_name self.now name }
     {

@@ -1,4 +1,4 @@
-//! The steps of one of a peer's legs: a full frame comes, an order is carried out, media goes out, time goes on.
+//! The steps of one of a peer's legs: a full frame, an order, media, or a tick.
 ghost use Rattle.std.specs.Option.{ForSome};
 ghost use Rattle.std.specs.Prelude.{◌≡◌, ◌==◌, ◌≤◌, ◌↔◌, length, map};
 ghost use Rattle.std.specs.Prelude.{slice_get, slice_set, true, Some, Err, [], IfNone, IfOk};
@@ -24,12 +24,12 @@ use leg_machine::{Heard, MediaSent, Order, OrderError, Replies, StepError};
 impl PeerLegs {
     ghost use Rattle.peer_legs.specs.Legs.{AreLegs, AreLegsOf, leg_at, filled, with_leg};
 
-    /// A full frame comes to the leg of a local number, at the moment `now`, in milliseconds, as `Leg::full_into` takes it; the
-    /// leg stands under its number still. The frame's source can reach that leg, and its data has at most 1,388 octets. What is
-    /// sent is written to the empty list.
+    /// Gives a full frame to the leg of a local number, at the moment `now`, in milliseconds, as `Leg::full_into` handles
+    /// it. The leg keeps its number. The frame's source can reach that leg, and its data has at most 1,388 octets. The
+    /// leg's frames are written to the empty list.
     ///
-    /// Refusals are looked for in this order: `RecordFull` if the leg's record is full, whatever
-    /// the frame is, then `Memory`. Then the legs are as before.
+    /// Refusals are checked in this order: `RecordFull` if the leg's record is full, whatever the frame is, then `Memory`.
+    /// Then the legs are as before.
     pub fn full(
         &mut self,
         number: u16,
@@ -45,7 +45,7 @@ impl PeerLegs {
             replies.new ≡ map spelling (full_step named.leg frame.now now).replies) }
         ensures heard { IfOk result (λ heard. (named : NamedLegValue) → leg_at self.old number ≡ Some named →
             heard ≡ heard_of (full_step named.leg frame.now now)) }
-        // The leg's record grows as one side of a network lets it.
+        // The leg's record grows as that of a side of a network does.
         ensures tied { (named : NamedLegValue) → leg_at self.old number ≡ Some named →
             OnOk result (TakesTurn named.leg frame.now (full_step named.leg frame.now now).leg) }
         ensures kept { OnOk result (IsSome (leg_at self.new number)) }
@@ -65,10 +65,10 @@ impl PeerLegs {
         heard
     }
 
-    /// An order to the leg that has this local number, at the moment `now`, in milliseconds, as `Leg::order_into` carries it out;
-    /// media has 1 to 1,380 octets. What is sent is written to the empty list.
+    /// Gives an order to the leg with this local number, at the moment `now`, in milliseconds, as `Leg::order_into` carries
+    /// it out. Media has 1 to 1,380 octets. The leg's frames are written to the empty list.
     ///
-    /// Refusals are looked for in this order: `WrongStage`, `WindowFull`, `RecordFull`, `Memory`; then nothing is changed or
+    /// Refusals are checked in this order: `WrongStage`, `WindowFull`, `RecordFull`, `Memory`; then nothing is changed or
     /// written. Doom and Paid are never refused.
     pub fn order(
         &mut self,
@@ -97,10 +97,10 @@ impl PeerLegs {
         obeyed
     }
 
-    /// Media of 1 to 1,380 octets goes out at the leg that has this local number, at the moment `now`, in milliseconds, as
-    /// `Leg::media_into` sends it. A full frame is written to the empty list.
+    /// Sends media of 1 to 1,380 octets at the leg with this local number, at the moment `now`, in milliseconds, as
+    /// `Leg::media_into` does. A full frame is written to the empty list.
     ///
-    /// Refusals are looked for in this order: `WrongStage`; then, only of a full frame, `WindowFull`, `RecordFull`, `Memory`.
+    /// Refusals are checked in this order: `WrongStage`; then, only for a full frame, `WindowFull`, `RecordFull`, `Memory`.
     /// Then nothing is changed or written.
     pub fn media(
         &mut self,
@@ -132,10 +132,10 @@ impl PeerLegs {
         sent
     }
 
-    /// Time goes on, up to the moment `now`, in milliseconds, for the leg at a place, the first number's being 0. What is sent is
-    /// written to the empty list.
+    /// Ticks the leg at a place, 0 for the first number, at the moment `now`, in milliseconds. The leg's frames are written
+    /// to the empty list.
     ///
-    /// The answer is how many frames were due and had no memory; they stay due. Where there is no leg, it is 0.
+    /// Returns the number of frames that were due and had no memory; they stay due. Returns 0 if there is no leg.
     pub fn tick(&mut self, index: usize, now: u64, replies: &mut Replies) -> u32
         requires { replies.old ≡ [] }
         ensures leg { ForSome (filled (slice_get self.old.places index)) (λ named.

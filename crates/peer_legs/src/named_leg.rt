@@ -23,28 +23,28 @@ impl Model for NamedLeg {
 }
 
 impl NamedLeg {
-    /// The name that the lease is for.
+    /// Returns the name of the lease.
     pub fn name(&self) -> LegName
         ensures { result ≡ self.now.name }
     {
         self.lease.name()
     }
 
-    /// The leg, which can only be read.
+    /// Returns the leg, read-only.
     pub fn leg(&self) -> &Leg
         ensures { result.now.state ≡ self.now.leg }
     {
         &self.leg
     }
 
-    // Whether it hasn't ended and owes nothing.
+    // Returns whether it hasn't ended and owes nothing.
     pub(crate) fn is_quiet(&self) -> bool
         ensures { result ≡ is_quiet (Some self.now) }
     {
         !self.leg.stage().is_ended() && !self.leg.owes()
     }
 
-    // Before this moment it hasn't ended, owes nothing, and a tick has nothing to do.
+    // Returns the moment before which it hasn't ended, owes nothing, and a tick has no work.
     pub(crate) fn rest_until(&self) -> u64
         ensures { (now : ℕ) → now < result → is_resting (Some self.now) now ≡ true }
     {
@@ -55,8 +55,8 @@ impl NamedLeg {
         }
     }
 
-    // Until when the legs rest after media went out at this one, where they rested until a moment before it: only a full frame
-    // changes the leg.
+    // Returns the moment until which the legs rest after this one sent media. Before, they rested until `rest_until`. Only
+    // media sent as a full frame changes that of the leg.
     pub(crate) fn rest_after_media(
         &self,
         sent: &Result<MediaSent, OrderError>,
@@ -73,7 +73,7 @@ impl NamedLeg {
         }
     }
 
-    /// The lease and the leg, each by itself.
+    /// Returns the lease and the leg separately.
     pub fn into_parts(self) -> (Lease, Leg)
         ensures lease { result.0 ≡ self.name }
         ensures leg { result.1.state ≡ self.leg }
@@ -83,7 +83,7 @@ impl NamedLeg {
     }
 }
 
-// What a leg says of its record: for proofs alone.
+// The property of a leg's record, for proofs alone.
 pub(crate) fn recorded(leg: &Leg)
     ensures { IsRecorded leg.now.state }
 {

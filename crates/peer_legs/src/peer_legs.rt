@@ -15,9 +15,9 @@ use std::marker::Model;
 
 /// The legs of one peer, each found at once by its local number and by its remote number.
 ///
-/// Readers find a leg or a place; the other calls are the coming and going of a leg and, in `leg_steps.rt`, the steps of one,
-/// which leave the other legs as they are. Only `new` takes memory for the legs as a whole; a leg's record takes its own.
-/// Contracts see the peer's place in the plan, the first of its local numbers, and the leg that each of its numbers has.
+/// Readers find a leg or a place. The other calls add or remove a leg or, in `leg_steps.rt`, make a step of one, and leave
+/// the other legs as they are. Only `new` takes memory for the legs as a whole; each leg's record takes memory for itself.
+/// Contracts see the peer's place in the plan, the first of its local numbers, and the leg of each of its numbers.
 #[derive(Drop)]
 pub struct PeerLegs {
     peer: u16,
@@ -25,7 +25,7 @@ pub struct PeerLegs {
     // By local number, from the first on.
     pub(crate) places: Vec<Option<NamedLeg>>,
     pub(crate) by_remote: RemoteIndex,
-    // Before this moment no leg has ended or owes, and no tick has anything to do.
+    // Before this moment no leg has ended or owes, and no tick has work.
     pub(crate) rest_until: u64,
 }
 
@@ -41,7 +41,7 @@ impl Model for PeerLegs {
     ghost invariant = { IsSound };
 }
 
-// So many places without a leg.
+// Returns `count` places without a leg.
 fn no_legs(alloc: Global, count: u16) -> Result<Vec<Option<NamedLeg>>, AllocError>
     ensures { IfOk result (λ places. places.items ≡ replicate count None) }
 {
@@ -56,8 +56,8 @@ impl PeerLegs {
     ghost use Rattle.peer_legs.specs.Legs.{AreLegs, IsLegOf, AreLegsOf, leg_at, leg_named, leg_of_remote, has_remote};
     ghost use Rattle.peer_legs.specs.Legs.{filled, with_place};
 
-    /// A peer without a leg, whose local numbers are so many, 1 ..= 512, from the first on, all of them 1 ..= 32,767. `Err` comes
-    /// only where memory was refused.
+    /// Returns a peer without a leg. It has `count` local numbers, 1 ..= 512, from the first on, all of them 1 ..= 32,767.
+    /// Returns `Err` only if memory was refused.
     pub fn new(alloc: Global, peer: u16, first: u16, count: u16) -> Result<PeerLegs, AllocError>
         requires first { 1 ≤ first }
         requires some { 1 ≤ count }
@@ -76,28 +76,28 @@ impl PeerLegs {
         })
     }
 
-    /// The peer's place in the plan, from 0 on.
+    /// Returns the peer's place in the plan, from 0 on.
     pub fn peer(&self) -> u16
         ensures { result ≡ self.now.peer }
     {
         self.peer
     }
 
-    /// The first of the peer's local numbers, 1 ..= 32,767.
+    /// Returns the first of the peer's local numbers, 1 ..= 32,767.
     pub fn first(&self) -> u16
         ensures { result ≡ self.now.first }
     {
         self.first
     }
 
-    // Whether a local number is one of the peer's.
+    // Returns whether a local number is one of the peer's.
     pub(crate) fn has_number(&self, number: u16) -> bool
         ensures { result ≡ (nat_le self.now.first number && nat_lt number (self.now.first + length self.now.places)) }
     {
         self.first <= number && usize::from(number - self.first) < self.places.len()
     }
 
-    /// How many local numbers there are, 1 ..= 512.
+    /// Returns the count of local numbers, 1 ..= 512.
     pub fn count(&self) -> usize
         ensures count { result ≡ length self.now.places }
         ensures sound { AreLegs self.now }
@@ -106,7 +106,7 @@ impl PeerLegs {
         self.places.len()
     }
 
-    /// How many local numbers have a leg, 0 ..= 512.
+    /// Returns the count of local numbers that have a leg, 0 ..= 512.
     pub fn leg_count(&self) -> usize
         ensures { result ≡ count_by is_some self.now.places }
     {
@@ -119,7 +119,7 @@ impl PeerLegs {
         legs
     }
 
-    /// The leg of a local number; `None` where there is none.
+    /// Returns the leg of a local number, or `None` if there is none.
     pub fn get(&self, number: u16) -> Option<&NamedLeg>
         ensures leg { option_copied result ≡ leg_at self.now number }
         ensures sound { AreLegs self.now }
@@ -134,7 +134,7 @@ impl PeerLegs {
         }
     }
 
-    /// The call number of the leg that has this local number, 1 ..= 32,767.
+    /// Returns the call number of the leg that has this local number, 1 ..= 32,767.
     pub fn call_number(&self, number: u16) -> CallNumber
         requires { IsSome (leg_at self.now number) }
         ensures number { result ≡ number }
@@ -145,7 +145,7 @@ impl PeerLegs {
         CallNumber::new(number)
     }
 
-    /// The leg of a name; `None` where there is none.
+    /// Returns the leg of a name, or `None` if there is none.
     pub fn named(&self, name: LegName) -> Option<&NamedLeg>
         ensures leg { option_copied result ≡ leg_named self.now name }
         ensures at { IfSome result (λ named. leg_at self.now name.number ≡ Some named.now) }
@@ -164,7 +164,7 @@ impl PeerLegs {
         }
     }
 
-    /// The local number of the leg that has a remote number; `None` where no leg has it.
+    /// Returns the local number of the leg that has a remote number, or `None` if no leg has it.
     pub fn of_remote(&self, remote: CallNumber) -> Option<u16>
         ensures found { IfSome result (λ number. leg_at self.now number ≡ leg_of_remote self.now remote) }
         ensures remote { IfSome result (λ number. has_remote (leg_at self.now number) remote ≡ true) }
@@ -174,7 +174,7 @@ impl PeerLegs {
         self.by_remote.get(remote)
     }
 
-    // The place of a local number that a leg has.
+    // Returns the place of a local number that a leg has.
     pub(crate) fn place_of(&self, number: u16) -> usize
         requires { IsSome (leg_at self.now number) }
         ensures place { result ≡ number - self.now.first }
@@ -184,8 +184,8 @@ impl PeerLegs {
         usize::from(number - self.first)
     }
 
-    /// A leg comes, under the name that its lease is for. The name is one of this peer's, its number is the leg's and has no leg
-    /// yet, and no leg has the remote number.
+    /// Adds a leg under the name of its lease. The name is one of this peer's, its number is the leg's and has no leg yet,
+    /// and no leg has the remote number.
     pub fn insert(&mut self, lease: Lease, leg: Leg)
         requires peer { lease.peer ≡ self.old.peer }
         requires first { self.old.first ≤ lease.number }
@@ -205,7 +205,7 @@ impl PeerLegs {
         self.places[usize::from(number - self.first)] = Some(named);
     }
 
-    /// The leg of a local number, which has one, goes.
+    /// Removes and returns the leg of a local number, which has one.
     pub fn take(&mut self, number: u16) -> NamedLeg
         requires { IsSome (leg_at self.old number) }
         ensures leg { leg_at self.old number ≡ Some result }

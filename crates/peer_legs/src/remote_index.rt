@@ -7,7 +7,7 @@ use iax_frames::CallNumber;
 use std::alloc::{AllocError, Global};
 use std::marker::Model;
 
-// There are as many call numbers as 15 bits make.
+// The count of call numbers, which have 15 bits.
 const CALL_NUMBERS: usize = 0x8000;
 
 // The local number of the leg that has each remote number: an array with a place for each call number.
@@ -26,7 +26,7 @@ impl Model for RemoteIndex {
     ghost invariant = { λ index. length index.numbers.items ≡ 2 ^ 15 };
 }
 
-// So many places without a number.
+// Returns `places` places without a number.
 fn no_numbers(alloc: Global, places: usize) -> Result<Vec<Option<u16>>, AllocError>
     ensures len { IfOk result (λ numbers. length numbers.items ≡ places) }
     ensures none { IfOk result (λ numbers. AreNone numbers.items) }
@@ -35,7 +35,7 @@ fn no_numbers(alloc: Global, places: usize) -> Result<Vec<Option<u16>>, AllocErr
 }
 
 impl RemoteIndex {
-    // No leg has a remote number.
+    // Returns an index in which no leg has a remote number.
     pub(crate) fn new(alloc: Global) -> Result<RemoteIndex, AllocError>
         ensures { IfOk result AreNone }
     {
@@ -44,14 +44,14 @@ impl RemoteIndex {
         })
     }
 
-    // The local number of the leg that has a remote number.
+    // Returns the local number of the leg that has a remote number.
     pub(crate) fn get(&self, remote: CallNumber) -> Option<u16>
         ensures { slice_get self.now remote ≡ Some result }
     {
         self.numbers[usize::from(remote.get())]
     }
 
-    // From now on the leg of this local number, or none, has the remote number, if one is known.
+    // Notes that the leg of this local number, or none, has the remote number, if one is known.
     pub(crate) fn note(&mut self, remote: Option<CallNumber>, number: Option<u16>)
         ensures index { self.new ≡ noted self.old remote number }
         ensures within { ForSome remote (λ remote. remote < length self.old) }

@@ -1,4 +1,4 @@
-//! Until when the legs of a peer have nothing to do.
+//! The time until which the legs of a peer have nothing to do.
 ghost use Rattle.std.specs.Prelude.{◌≡◌, ◌↔◌, true, All, IsTrue};
 ghost use Rattle.peer_legs.specs.LegsInside.{RestUntil};
 ghost use Rattle.peer_legs.specs.Rests.{is_quiet, is_resting};
@@ -6,7 +6,7 @@ ghost use Rattle.peer_legs.specs.Rests.{is_quiet, is_resting};
 use crate::named_leg::NamedLeg;
 use crate::peer_legs::PeerLegs;
 
-// Whether no leg at this place has ended or owes.
+// Returns whether no leg at this place has ended or owes.
 fn is_quiet_place(place: &Option<NamedLeg>) -> bool
     ensures { result ≡ is_quiet place.now }
 {
@@ -16,7 +16,7 @@ fn is_quiet_place(place: &Option<NamedLeg>) -> bool
     }
 }
 
-// Before this moment all legs rest.
+// Returns the moment before which all legs rest.
 fn all_rest_until(places: &[Option<NamedLeg>]) -> u64
     ensures { RestUntil result places.now }
 {
@@ -30,21 +30,21 @@ fn all_rest_until(places: &[Option<NamedLeg>]) -> u64
 }
 
 impl PeerLegs {
-    /// Whether no leg has ended and none owes.
+    /// Returns whether no leg has ended and none owes.
     pub fn are_quiet(&self) -> bool
         ensures { IsTrue result ↔ All (λ place. is_quiet place ≡ true) self.now.places }
     {
         0 < self.rest_until || self.places.iter().all(is_quiet_place)
     }
 
-    /// Whether it is known that a tick at this moment, in milliseconds, has nothing to do. False says nothing.
+    /// Returns whether it is known that a tick at this moment, in milliseconds, has no work. False means that it may have some.
     pub fn are_resting(&self, now: u64) -> bool
         ensures { result ≡ true → All (λ place. is_resting place now ≡ true) self.now.places }
     {
         now < self.rest_until
     }
 
-    /// Finds out until when the legs rest, for `are_resting`. Contracts see no change.
+    /// Finds the moment until which the legs rest, for `are_resting`. Contracts see no change.
     pub fn settle(&mut self)
         ensures { self.new ≡ self.old }
     {

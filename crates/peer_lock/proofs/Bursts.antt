@@ -1,4 +1,4 @@
--- What media adds to that which is to be sent.
+-- The number of datagrams that media adds to those to be sent.
 use Rattle.std.specs.Prelude.{map}
 use Rattle.std.proofs.Common.{◌≡◌, ◌≤◌, ℕ, ◌+◌, ◌&&◌, Bool, true, false, List, [], ◌∷◌, ◌++◌, Option, None, Some, length, ap, refl, ◌∙◌, arith}
 use Rattle.std.proofs.lemmas.List.{drop_all, length-append, length-take}
@@ -21,7 +21,7 @@ use Rattle.peer_lock.specs.Trunks.{has_any, goes_ahead, begins_next, is_full_for
 use Rattle.peer_lock.proofs.Choices.{either}
 use Rattle.trunk_packer.specs.Queue.{QueueEntry, trunk_spelling}
 
--- So much more is to be sent at most, and nothing is lost as long as that fits in 256.
+-- At most n more datagrams are to be sent, and nothing is lost as long as all fit in 256.
 pub record Adds (n : ℕ) (old new : PeerView) : Type 0 where
   pub most : to_send new ≤ to_send old + n
   pub kept : to_send old + n ≤ 256 → new.outbox.lost ≡ old.outbox.lost
@@ -52,7 +52,7 @@ put_adds peer datagrams = record {
 
 -- ---- the queue
 
--- the queue is one datagram before and after it goes out
+-- sending the queue replaces one waiting datagram by another
 pub flush_adds : (goes : Bool) (peer : PeerView) (queue : List QueueEntry) → Adds 0 (record peer { queue = queue }) (flushed_if goes (record peer { queue = queue }))
 flush_adds false peer queue = none_added (record peer { queue = queue })
 flush_adds true peer [] = none_added (record peer { queue = [] })

@@ -20,13 +20,13 @@ use Rattle.call_signals.specs.declared.signal.Signal.{Signal}
 use Rattle.call_signals.specs.declared.signal.Signal.TheVariants as signals
 use Rattle.peer_lock.specs.Arrivals.{delivered_step, datagram_step, media_at, mini_span, entries_media, entry_span, entries_len}
 use Rattle.peer_lock.specs.CarriedMedia.{LiesWithin, signal_octets, handed_octets, CarriesItsOwn}
-use Rattle.peer_lock.specs.Delivery.{Delivery, Reaches, NeedsNumber, NoToken, Gets, NoCall, delivery}
+use Rattle.peer_lock.specs.Delivery.{Delivery, Reaches, NeedsNumber, NoToken, Gets, Pongs, NoCall, delivery}
 use Rattle.peer_legs.specs.Legs.{NamedLeg, PeerLegs, leg_of_remote}
 use Rattle.peer_accounts.specs.Grants.{granted}
 use Rattle.peer_lock.specs.Peer.{PeerView, PeerStep, handed_up}
 use Rattle.peer_lock.proofs.Shortness.{trunk_len}
 
--- signals that hand up media within so many octets, so many of them
+-- signals that hand up this many octets of media, all within a datagram of len octets
 record Carries (len : ℕ) (up : List (LegName × Signal)) (octets : ℕ) : Type 0 where
   pub within : AllByRecursion (LiesWithin len) up
   pub taken : handed_octets up ≡ octets
@@ -81,6 +81,7 @@ delivered_carries law len first peer frame now fits (Reaches named) =
 delivered_carries law len first peer frame now fits NeedsNumber = carries_own len _ (none len)
 delivered_carries law len first peer frame now fits NoToken = carries_own len _ (none len)
 delivered_carries law len first peer frame now fits (Gets answer) = carries_own len _ (none len)
+delivered_carries law len first peer frame now fits Pongs = carries_own len _ (none len)
 delivered_carries law len first peer frame now fits NoCall = carries_own len _ (none len)
 
 -- ---- media

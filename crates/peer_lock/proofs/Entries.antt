@@ -11,7 +11,7 @@ use Rattle.peer_accounts.specs.HandedUp.{HandedUp}
 use Rattle.peer_legs.specs.Legs.{NamedLeg, leg_of_remote}
 use Rattle.peer_lock.specs.Peer.{PeerView}
 
--- these entries are left, of those that were to give so much
+-- these entries are left, and this is the media that all of them give
 pub record AreLeft (first : ℕ) (start : PeerView) (before : Credit) (total : MediaTaken) (timed : Bool) (at : ℕ) (items : List (ℕ × Option ℕ × List ℕ)) (peer : PeerView) (pass : Credit) (onwards : HandedUp) : Type 0 where
   pub done : ℕ
   pub here : peer ≡ record start { accounts = with_accepted start.accounts done }
@@ -35,7 +35,7 @@ module _ (first : ℕ) (start : PeerView) (before : Credit) (total : MediaTaken)
   short_on : (at head media rest : ℕ) → at + (head + media + rest) ≤ 2048 → at + head + media + rest ≤ 2048
   short_on at head media rest short = omega arith
 
-  -- one entry is worked
+  -- one entry is handled
   pub one_less : (at : ℕ) (item : ℕ × Option ℕ × List ℕ) (items all : List (ℕ × Option ℕ × List ℕ)) (peer next : PeerView) (pass after : Credit) (onwards more : HandedUp)
       → Left at all peer pass onwards
       → all ≡ item ∷ items
@@ -79,7 +79,7 @@ module _ (first : ℕ) (start : PeerView) (before : Credit) (total : MediaTaken)
       later : MediaTaken
       later = entries_media first peer.legs timed (entry_span timed at item).end (peer.accounts.accepted + now.octets) items
 
-  -- the same, where the place of the media is worked out in another way
+  -- the same, if the place of the media is computed in another way
   one_less_in : (at : ℕ) (span : MediaSpan) (item : ℕ × Option ℕ × List ℕ) (items all : List (ℕ × Option ℕ × List ℕ)) (peer next : PeerView) (pass after : Credit) (onwards more : HandedUp)
       → Left at all peer pass onwards
       → all ≡ item ∷ items
@@ -101,7 +101,7 @@ module _ (first : ℕ) (start : PeerView) (before : Credit) (total : MediaTaken)
       here
       (one_less at item items all peer next pass after onwards more whole these)
 
-  -- .. and the leg found in another way
+  -- .. and if the leg is found in another way
   pub one_less_at : (leg : Option NamedLeg) (at : ℕ) (span : MediaSpan) (item : ℕ × Option ℕ × List ℕ) (items all : List (ℕ × Option ℕ × List ℕ)) (peer next : PeerView) (pass after : Credit) (onwards more : HandedUp)
       → leg ≡ leg_of_remote peer.legs item.0
       → Left at all peer pass onwards

@@ -18,9 +18,10 @@ use Rattle.leg_machine.specs.Tie.{IsLegOf}
 use Rattle.leg_machine.specs.Working.{acknowledged, brings_oldest, counts, learnt, vnak_noted}
 use Rattle.peer_legs.specs.Finding.{found}
 use Rattle.peer_legs.specs.Legs.{NamedLeg}
-use Rattle.peer_lock.specs.Delivery.{delivered, unknown_call}
+use Rattle.peer_lock.specs.Delivery.{delivered, legless}
 use Rattle.peer_lock.specs.Loads.{datagram_load, delivered_load}
 use Rattle.peer_lock.specs.Peer.{PeerView}
+use Rattle.peer_lock.specs.declared.pokes.Pokes.{Pokes}
 use Rattle.peer_lock.specs.SoundPeer.{IsSoundPeer}
 use Rattle.peer_lock.proofs.Choices.{either}
 use Rattle.peer_lock.proofs.UnknownCalls.{of_each}
@@ -57,7 +58,7 @@ prepared_few leg frame =
     either (λ (l : LegState). held_count l.window ≤ held_count leg.window) (is_closing judged.stage && (held_count judged.window == 0))
     (staged judged Ended) judged fewer fewer
 
--- ---- what goes out again
+-- ---- retransmitted datagrams
 
 list_few : {A : Type 0} (o : Option A) → length (option_to_list o) ≤ 1
 list_few None = omega arith
@@ -94,14 +95,15 @@ message_few_at most message leg frame now some few =
 -- ---- at a peer
 
 -- without a leg
-unknown_few : (drains : Bool) (rules : PeerRules) (frame : FullFrame) (now : ℕ) → (delivered_load (unknown_call drains rules frame now) frame now).datagrams ≤ 127
-unknown_few drains rules frame now =
-    of_each (λ d. (delivered_load d frame now).datagrams ≤ 127) drains rules frame now (omega arith) (omega arith) (omega arith) (omega arith) (omega arith) (omega arith) (omega arith)
+unknown_few : (drains : Bool) (rules : PeerRules) (pokes : Pokes) (frame : FullFrame) (now : ℕ) → (delivered_load (legless drains rules pokes frame now) frame now).datagrams ≤ 127
+unknown_few drains rules pokes frame now =
+    of_each (λ d. (delivered_load d frame now).datagrams ≤ 127) drains rules pokes frame now (omega arith) (omega arith) (omega arith) (omega arith) (omega arith) (omega arith) (omega arith)
+    (omega arith)
     (λ tokens. omega arith)
 
 found_few : (peer : PeerView) (frame : FullFrame) (now : ℕ) (o : Option NamedLeg) → IsSoundPeer peer → found peer.legs frame ≡ o
-    → (delivered_load (delivered peer.drains peer.rules o frame now) frame now).datagrams ≤ 127
-found_few peer frame now None sound is = unknown_few peer.drains peer.rules frame now
+    → (delivered_load (delivered peer.drains peer.rules peer.pokes o frame now) frame now).datagrams ≤ 127
+found_few peer frame now None sound is = unknown_few peer.drains peer.rules peer.pokes frame now
 found_few peer frame now (Some named) sound is =
     let at = found_named peer.legs frame named sound.legs is in
     let few = held_few peer.rules named.leg (sound.kept.ruled named.name.number named at) in

@@ -1,4 +1,4 @@
--- What holds of a peer whenever its lock is free still holds where its legs have stepped, and where its queue went out.
+-- The invariant of a peer's lock still holds after its legs have stepped, and after its queue was sent.
 use Rattle.std.proofs.Common.{◌≡◌, ◌≤◌, ℕ, ◌+◌, Bool, true, false, cond, List, [], ◌∷◌, ◌++◌, length, ap, sym, subst, refl, ◌∙◌, arith}
 use Rattle.iax_frames.specs.TrunkFrame.{head_len}
 use Rattle.outbox.specs.Outbox.{OutboxView}
@@ -10,7 +10,7 @@ use Rattle.peer_lock.specs.SoundPeer.{IsKept}
 use Rattle.peer_lock.specs.Trunks.{flushes, waits, queue_after, accounts_after}
 use Rattle.trunk_packer.specs.Queue.{QueueEntry, media_octets, trunk_octets}
 
--- the legs go by the rules by which they went before
+-- the legs follow the same rules as before
 pub legs_kept : (peer : PeerView) (legs : PeerLegs) (outbox : OutboxView) → IsKept peer
     → ((rules : PeerRules) → AreLegsOf rules peer.legs → AreLegsOf rules legs) → IsKept (record peer { legs = legs; outbox = outbox })
 legs_kept peer legs outbox kept ruled =
@@ -48,7 +48,7 @@ kept_queued peer queue since accounts e kept more counted queued room = record {
       (omega (arith, push_octets peer.rules.trunk_timestamps peer.queue e, room waiting));
 }
 
--- .. and what waited for a trunk frame went out
+-- .. and the queue was sent
 pub kept_after : (peer : PeerView) (goes : Bool) (legs : PeerLegs) (outbox : OutboxView) (queue : List QueueEntry) (accounts : Accounts) → IsKept peer
     → ((rules : PeerRules) → AreLegsOf rules peer.legs → AreLegsOf rules legs)
     → queue ≡ queue_after goes peer.queue → accounts ≡ accounts_after goes peer.queue peer.accounts

@@ -4,6 +4,7 @@ pub mod Choices
 pub mod Entries
 pub mod FewAgain
 pub mod Kept
+pub mod LegRefusals
 pub mod NoneDropped
 pub mod NumberTicks
 pub mod Opened

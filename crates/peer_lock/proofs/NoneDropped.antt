@@ -1,4 +1,4 @@
--- In plan format 4 a full trunk queue drops nothing: it goes out first.
+-- In plan version 4 a full trunk queue drops nothing: it is sent first.
 use Rattle.std.specs.Prelude.{nat_lt, not, ◌||◌, ◌≢◌}
 use Rattle.std.proofs.Common.{◌≡◌, ◌≤◌, ℕ, ◌+◌, ◌&&◌, Bool, true, false, cond, inl, inr, List, [], ◌∷◌, Option, Some, length, ap, refl, ◌∙◌, arith}
 use Rattle.std.proofs.lemmas.Bool.{cases_Bool, ltb-true}

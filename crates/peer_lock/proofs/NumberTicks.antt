@@ -1,4 +1,4 @@
--- What a tick leaves under each local number.
+-- The leg of each local number after a tick.
 use Rattle.std.proofs.Common.{◌≡◌, ℕ, zero, suc, ◌-◌, ◌==◌, ◌≤◌, ◌⊎◌, nat_le, Bool, inl, inr, List, [], ◌∷◌, Option, Some, None, slice_get, refl, ap, subst, sym, ◌∙◌}
 use Rattle.std.proofs.lemmas.Bool.{cases_Bool}
 use Rattle.call_signals.specs.declared.stage.Stage.TheVariants.{Ended}

@@ -1,4 +1,4 @@
--- What a NEW that comes, or one that goes out, makes of a peer.
+-- The effect of a received NEW, or of one that is sent, on a peer.
 use Rattle.std.specs.Prelude.{map}
 use Rattle.std.proofs.Common.{◌≡◌, ℕ, List, None, ap, arith, ◌∙◌}
 use Rattle.std.proofs.lemmas.Grind.{common_steps}
@@ -13,7 +13,7 @@ use Rattle.peer_lock.specs.Openings.{open_in_refused, with_opened, with_seated}
 use Rattle.outbox.specs.Outbox.{OutboxView, put}
 use Rattle.peer_lock.specs.Peer.{PeerView}
 
--- what a leg that calls sends goes to the outbox
+-- the frames of a calling leg are put into the outbox
 pub sent_new : (view old : PeerView) (name : LegName) (number : ℕ) (called : List ℕ) (caller : List ℕ) (format : Format) (now : ℕ) (outbox : OutboxView) (replies : List (List ℕ))
     → view ≡ old → number ≡ name.number → outbox ≡ put view.outbox replies → replies ≡ map spelling (open_out_step view.rules number called caller format now).replies
     → record view { outbox = outbox } ≡ record old { outbox = put old.outbox (map spelling (open_out_step old.rules name.number called caller format now).replies) }
@@ -22,17 +22,17 @@ sent_new view old name number called caller format now outbox replies view_is nu
     ∙ ap (λ (n : ℕ). record view { outbox = put view.outbox (map spelling (open_out_step view.rules n called caller format now).replies) }) number_is
     ∙ ap (λ (v : PeerView). record v { outbox = put v.outbox (map spelling (open_out_step v.rules name.number called caller format now).replies) }) view_is
 
--- where no refusal of a NEW is due, no leg has its source
+-- if no refusal of a NEW is due, no leg has its source
 pub new_source : (old : PeerView) (credit : ℕ) (name : LegName) (source : ℕ) → open_in_refused old credit name source ≡ None → leg_of_remote old.legs source ≡ None
 new_source old credit name source is = grind (arith, common_steps)
 
--- a NEW that came was taken: the step is that of the peer before, under the lease
+-- a received NEW was accepted: the step is that of the peer before, under the lease
 pub taken_in : (view old : PeerView) (lease name : LegName) (number : ℕ) (frame : FullFrame) (now : ℕ) (challenge : List ℕ) → view ≡ old → number ≡ name.number → name ≡ lease
     → open_in_step view.rules number frame now challenge ≡ open_in_step old.rules lease.number frame now challenge
 taken_in view old lease name number frame now challenge view_is number_is name_is =
     λ i. open_in_step (view_is i).rules ((number_is ∙ ap (λ (n : LegName). n.number) name_is) i) frame now challenge
 
--- its leg takes its place, and what it sends goes to the outbox
+-- its leg takes its place, and its frames are put into the outbox
 pub opened_in : (view old new : PeerView) (lease : LegName) (step opens : Step) (outbox : OutboxView) (replies : List (List ℕ)) (leg : LegState) → view ≡ old → step ≡ opens
     → new ≡ with_seated (record view { outbox = outbox }) (record { name = lease; leg = leg })
     → outbox ≡ put view.outbox replies → replies ≡ map spelling step.replies → leg ≡ step.leg

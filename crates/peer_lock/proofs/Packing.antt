@@ -18,7 +18,7 @@ fronts_more timed now [] old between new datagram here front shorter =
 fronts_more timed now (first ∷ datagrams) old between new datagram here front shorter =
     (here.0, here.1, here.2, fronts_more timed now datagrams here.0 between new datagram here.3 front shorter)
 
--- what was packed so far
+-- the trunk frames packed so far
 pub record ArePacked (start : PeerView) (now octets : ℕ) (peer : PeerView) : Type 0 where
   pub datagrams : List (List ℕ)
   pub fronts : PacksFronts start.rules.trunk_timestamps now start.queue datagrams peer.queue
@@ -64,7 +64,7 @@ pub all_packed : (start : PeerView) (now octets : ℕ) (peer : PeerView) → Are
 all_packed start now octets peer so done =
     record { datagrams = so.datagrams; fronts = so.fronts; media = so.media; rest = so.rest; done = done }
 
--- what is left is no longer than what was there
+-- the rest is no longer than the whole
 rest_octets : (timed : Bool) (front rest : List QueueEntry) → trunk_octets timed rest ≤ trunk_octets timed (front ++ rest)
 rest_octets timed [] rest = omega arith
 rest_octets timed (e ∷ front) rest = omega (arith, rest_octets timed front rest)

@@ -1,4 +1,4 @@
--- What a full frame that reaches a leg makes of a peer.
+-- The effect on a peer of a full frame that reaches a leg.
 use Rattle.std.specs.Prelude.{map}
 use Rattle.std.proofs.Common.{◌≡◌, ℕ, ap, ◌∙◌}
 use Rattle.call_signals.specs.declared.outcomes.Heard.{Heard}
@@ -12,7 +12,7 @@ use Rattle.peer_lock.specs.Makes.{Makes}
 use Rattle.peer_lock.specs.Peer.{PeerView, granted, handed_up, leg_alone, offer_with, with_sent}
 use Rattle.peer_lock.specs.declared.steps.Step.{Step}
 
--- the leg takes its step, and what it heard is counted and handed up
+-- the leg takes its step, and its signal is counted and handed up
 pub reached : (first : ℕ) (old between new : PeerView) (named : NamedLeg) (frame : FullFrame) (now : ℕ) (heard : Heard) (step : Step) (pass_old pass_new : Credit) (onwards : HandedUp)
     → between ≡ record (with_sent old named.name.number (map spelling (full_step named.leg frame now).replies)) {
       legs = with_leg old.legs named.name (full_step named.leg frame now).leg;

@@ -1,4 +1,4 @@
--- Why a datagram is refused, from how it was read and what came of it.
+-- The reason why a datagram is refused, from its reading and from the answer of its step.
 use native.Mathlib.Omega.{arith}
 use Rattle.std.proofs.Common.{◌≡◌, ◌≢◌, ◌<◌, ◌≤◌, ◌⊎◌, ◌∙◌, ℕ, Bool, false, true≢false, List, length, Result, Ok, Err}
 use Rattle.std.proofs.Common.{inl, inr, ap, refl, subst, sym}
@@ -24,7 +24,7 @@ pub record AreLookedAt (credit made : ℕ) (octets : List ℕ) (answer : Result 
   pub short : length octets ≤ 2048
   pub reading : IsReading octets answer
 
--- by whatever names they go
+-- the same under other names
 pub looked_at : (inside peer : PeerView) (credit : ℕ) (spent : Bool) (octets other : List ℕ) (answer given : Result Datagram FrameError)
     → inside ≡ peer → (inside.accounts.steps ≡ credit → IsTrue spent) → spent ≡ false → length octets ≤ 2048 → IsReading octets answer
     → octets ≡ other → answer ≡ given → AreLookedAt credit peer.accounts.steps other given
@@ -34,7 +34,7 @@ looked_at inside peer credit spent octets other answer given same tells is short
   reading = subst (IsReading other) answer_is (subst (λ (o : List ℕ). IsReading o answer) octets_are reading);
 }
 
--- octets that are read are refused by nothing, and spell nothing else
+-- octets that are read aren't refused, and spell nothing else
 module _ (octets : List ℕ) (d : Datagram) (reading : IsReading octets (Ok d)) where
   unrefused : (error : FrameError) → Refuses octets error → ⊥
   unrefused error why = subst (λ (answer : Result Datagram FrameError). OnErr answer ⊥) (reading.only_error error why) tt
@@ -44,13 +44,13 @@ module _ (octets : List ℕ) (d : Datagram) (reading : IsReading octets (Ok d)) 
       subst (λ (answer : Result Datagram FrameError). IfOk answer (λ x. x ≡ d)) (reading.only other spelled) refl
 
 module _ (credit made : ℕ) (octets : List ℕ) (steps : made ≢ credit) (short : length octets ≤ 2048) where
-  -- octets that aren't read are refused for it
+  -- octets that can't be read are refused with the reader's error
   pub err_refused : (error : FrameError) → Refuses octets error → IsUnworked credit made octets (from_frame error)
   err_refused unread.Short why = (steps, short, why)
   err_refused (unread.MetaCommand command) why = (steps, short, (command, why))
   err_refused (unread.EntryCut place) why = (steps, short, (place, why))
 
-  -- a datagram that is read and not worked is refused for it
+  -- a datagram that is read but has no effect is refused with the error for it
   read_refused : (d : Datagram) (e : PeerError) → Spells octets d → IsRefusedRead d e → IsUnworked credit made octets e
   read_refused (Full frame) errors.TooLong spelled why = (steps, inr (short, (Full frame, spelled, why)))
   read_refused (Full frame) errors.NoSource spelled why = (steps, short, (Full frame, spelled, why))
@@ -73,7 +73,7 @@ module _ (credit made : ℕ) (octets : List ℕ) (steps : made ≢ credit) (shor
       not_both : (n : ℕ) → 2048 < n → n ≤ 2048 → ⊥
       not_both n a b = omega arith
 
-  -- the datagram is the one that was read, and what refuses it comes
+  -- the datagram is the one that was read, and its refusal is the result
   module _ (result : Result Step PeerError) (d : Datagram) (none : (error : FrameError) → Refuses octets error → ⊥)
       (only : (other : Datagram) → Spells octets other → other ≡ d) (unsound : (e : PeerError) → IsRefusedRead d e → result ≡ Err e) where
     as_read : (e : PeerError) (other : Datagram) → Spells octets other → IsRefusedRead other e → result ≡ Err e

@@ -1,4 +1,4 @@
--- Where a peer has room for what a step puts there, nothing is lost.
+-- If a peer has room for a step's load, nothing is lost.
 use Rattle.std.specs.Prelude.{map, nat_le, nat_lt, ◌||◌}
 use Rattle.std.proofs.Common.{◌≡◌, ◌≤◌, ℕ, ◌+◌, ◌-◌, ◌&&◌, Bool, true, false, cond, inl, inr, List, [], ◌∷◌, ◌++◌, Option, None, Some, length, ap, sym, subst, refl, ◌∙◌, arith}
 use Rattle.std.proofs.lemmas.Bool.{cases_Bool, ltb-true, leb-true}
@@ -78,7 +78,7 @@ then_puts first second a b c one other =
     (then_adds first.datagrams second.datagrams a b c (adds_of first a b one) (adds_of second b c other))
     (then_queues first second a b c (queues_of first a b one) (queues_of second b c other))
 
--- what puts less puts no more than that
+-- a smaller load has room if a larger one does
 room_less : (peer : PeerView) (less more : Load) → less.datagrams ≤ more.datagrams → less.octets ≤ more.octets → QueueHasRoom peer more → QueueHasRoom peer less
 room_less peer less more datagrams octets (inl waiting) = inl waiting
 room_less peer less more datagrams octets (inr (inl none)) = inr (inl none)
@@ -107,7 +107,7 @@ none_put peer = record {
   queued = λ _. refl;
 }
 
--- the legs and the count of steps play no part
+-- the legs and the count of steps don't matter
 pub puts_too : (load : Load) (old new : PeerView) (legs : PeerLegs) (accounts : Accounts) → dropped_for_room accounts ≡ dropped_for_room new.accounts
     → Puts load old new → Puts load old (record new { legs = legs; accounts = accounts })
 puts_too load old new legs accounts same puts = record {
@@ -119,7 +119,7 @@ puts_too load old new legs accounts same puts = record {
   queued = λ room. same ∙ puts.queued room;
 }
 
--- ---- what goes out
+-- ---- sent datagrams
 
 pub put_puts : (peer : PeerView) (datagrams : List (List ℕ)) → Puts (load_of (length datagrams)) peer (record peer { outbox = put peer.outbox datagrams })
 put_puts peer datagrams =
@@ -162,7 +162,7 @@ neither : (a b : Bool) → a ≡ false → b ≡ false → (a || b) ≡ false
 neither true b first second = first
 neither false b first second = second
 
--- so many entries and octets leave room
+-- few entries and few octets leave room
 has_space : (queue : List QueueEntry) (octets : ℕ) → length queue + 1 ≤ 256 → media_octets queue + octets ≤ 16384 → is_full_for queue octets ≡ false
 has_space queue octets few short =
     neither (nat_le 256 (length queue)) (nat_lt 16384 (media_octets queue + octets))
@@ -172,7 +172,7 @@ has_space queue octets few short =
 abbrev media_load : ℕ → Load
 media_load octets = record { datagrams = 1; octets = octets }
 
--- .. once the queue went out, if this begins the next frame
+-- .. once the queue was sent, if this media begins the next frame
 isnt_full : (peer : PeerView) (number octets : ℕ) → peer.rules.trunk ≡ true → octets ≤ 1380
     → QueueHasRoom (flushed_if (begins_next peer.rules peer.queue number octets) peer) (media_load octets)
     → is_full_for (flushed_if (begins_next peer.rules peer.queue number octets) peer).queue octets ≡ false
@@ -227,7 +227,7 @@ short_queues peer number timestamp media now short =
           (record { rules = refl; entries = omega arith; octets = omega arith; queued = λ _. refl })
     ]
 
--- what the other side wants none of is counted twice
+-- quelched media is counted twice
 quelched_away : (dropped quelched octets : ℕ) → (dropped + octets) - (quelched + octets) ≡ dropped - quelched
 quelched_away dropped quelched octets = omega arith
 

@@ -1,4 +1,4 @@
--- What datagrams, openings, ticks and the taking out of a leg put into a peer's outbox and trunk queue.
+-- The loads that datagrams, openings, ticks and the removal of a leg put into a peer's outbox and trunk queue.
 use Rattle.std.specs.Prelude.{map, nat_lt}
 use Rattle.std.proofs.Common.{◌≡◌, ◌≤◌, ℕ, ◌+◌, ◌&&◌, Bool, false, cond, List, [], ◌∷◌, ◌++◌, Option, None, Some, length, ap, sym, subst, refl, arith}
 use Rattle.std.proofs.lemmas.List.{length-append, length-map}
@@ -24,11 +24,13 @@ use Rattle.peer_accounts.specs.Accounts.{stepped, with_accepted}
 use Rattle.peer_accounts.specs.Grants.{granted}
 use Rattle.peer_legs.specs.Legs.{NamedLeg, with_leg, with_place}
 use Rattle.peer_lock.specs.Arrivals.{MediaTaken, answering, datagram_step, delivered_step, media_step, mini_media, trunk_media}
-use Rattle.peer_lock.specs.Delivery.{Delivery, Reaches, NeedsNumber, NoToken, Gets, NoCall, answer_octets, delivery, reject_for}
-use Rattle.peer_lock.specs.Loads.{Puts, datagram_load, delivered_load, dropped_for_room, frames_packed, load_of, no_load, plus, tick_load}
+use Rattle.peer_lock.specs.Delivery.{Delivery, Reaches, NeedsNumber, NoToken, Gets, Pongs, NoCall, answer_octets, delivery, reject_for}
+use Rattle.peer_lock.specs.Loads.{Load, Puts, datagram_load, delivered_load, dropped_for_room, frames_packed, load_of, no_load, plus, tick_load}
 use Rattle.peer_lock.specs.Openings.{opens_in, opens_out, rejects_new, with_opened, with_seated}
 use Rattle.peer_lock.specs.Peer.{PeerView, counted, flushed_if, with_datagram, with_sent, with_step, without_leg}
-use Rattle.peer_lock.specs.Ticks.{LegsTick, Packs, PacksFronts, Ticks, flushed_ahead, legs_tick}
+use Rattle.peer_lock.specs.Pokes.{answered as pokes_answered, pokes_after, pokes_sent}
+use Rattle.peer_lock.specs.declared.pokes.Pokes.{Pokes}
+use Rattle.peer_lock.specs.Ticks.{asked, LegsTick, Packs, PacksFronts, Ticks, flushed_ahead, legs_tick}
 use Rattle.peer_lock.specs.Trunks.{has_any, goes_ahead, is_due, waits}
 use Rattle.peer_lock.specs.declared.steps.TickReport.{TickReport}
 use Rattle.peer_lock.specs.declared.unknown_calls.Answer.{Answer}
@@ -87,6 +89,7 @@ delivered_few (Reaches named) frame now other = message_few (message_of frame.he
 delivered_few NeedsNumber frame now other = omega arith
 delivered_few NoToken frame now other = omega arith
 delivered_few (Gets answer) frame now other = omega arith
+delivered_few Pongs frame now other = omega arith
 delivered_few NoCall frame now other = omega arith
 
 pub full_frame_few : (peer : PeerView) (frame : FullFrame) (now : ℕ) → is_vnak (message_of frame.head) ≡ false
@@ -100,6 +103,17 @@ nothing_put : (peer : PeerView) → Puts (load_of 1) peer (counted peer)
 nothing_put peer =
     puts_less no_load (load_of 1) peer (counted peer) (omega arith) (omega arith)
     (puts_too no_load peer peer peer.legs (stepped peer.accounts) refl (none_put peer))
+
+-- the state of POKEs has no weight
+puts_pokes : (load : Load) (old new : PeerView) (pokes : Pokes) → Puts load old new → Puts load old (record new { pokes = pokes })
+puts_pokes load old new pokes puts = record {
+  rules = puts.rules;
+  most = puts.most;
+  sent = puts.sent;
+  entries = puts.entries;
+  octets = puts.octets;
+  queued = puts.queued;
+}
 
 -- media of a datagram is put elsewhere
 media_puts : (peer : PeerView) (media : MediaTaken) → Puts no_load peer (media_step peer media).peer
@@ -127,6 +141,8 @@ delivered_puts first peer NeedsNumber frame now = nothing_put peer
 delivered_puts first peer NoToken frame now = nothing_put peer
 delivered_puts first peer (Gets answer) frame now =
     answering_puts peer answer
+delivered_puts first peer Pongs frame now =
+    puts_pokes (load_of 1) peer (counted peer) (pokes_answered peer.pokes now) (nothing_put peer)
 delivered_puts first peer NoCall frame now = nothing_put peer
 
 pub datagram_puts : (first : ℕ) (peer : PeerView) (datagram : Datagram) (now : ℕ)
@@ -202,7 +218,9 @@ packs_puts (Some wait) old now octets new packs =
 pub tick_puts : (old : PeerView) (now : ℕ) (report : TickReport) (new : PeerView) (ticks : Ticks old now report new)
     → Puts (tick_load old now report new ticks) old new
 tick_puts old now report new ticks =
-    let first : PeerView = counted old in
+    let sent : List (List ℕ) = pokes_sent old.rules old.pokes now in
+    let pokes : ℕ = length sent in
+    let first : PeerView = asked (counted old) now in
     let all : LegsTick = legs_tick ticks.legs.skips first.legs.places now in
     let flushed : PeerView = flushed_ahead first all.datagrams in
     let stepped_legs : PeerView = record flushed {
@@ -211,16 +229,19 @@ tick_puts old now report new ticks =
     } in
     let sends : ℕ = length all.datagrams in
     let packed : ℕ = frames_packed ticks.between.rules.trunk_ms ticks.between now ticks.octets new ticks.packs in
-    let ahead : Puts no_load old flushed =
-    then_puts no_load no_load old first flushed
-    (puts_too no_load old old old.legs (stepped old.accounts) refl (none_put old))
+    let poke : Puts (load_of pokes) old first =
+    puts_pokes (load_of pokes) old (record (counted old) { outbox = put old.outbox sent }) (pokes_after old.rules old.pokes now)
+    (puts_too (load_of pokes) old (record old { outbox = put old.outbox sent }) old.legs (stepped old.accounts) refl (put_puts old sent)) in
+    let ahead : Puts (plus (load_of pokes) no_load) old flushed =
+    then_puts (load_of pokes) no_load old first flushed poke
     (flush_puts (has_any all.datagrams && waits first.rules) first) in
     let out : Puts (load_of sends) flushed stepped_legs =
     puts_too (load_of sends) flushed (record flushed { outbox = put flushed.outbox all.datagrams })
     (record first.legs { places = all.places }) flushed.accounts refl (put_puts flushed all.datagrams) in
-    let legs : Puts (plus no_load (load_of sends)) old ticks.between =
-    subst (λ (p : PeerView). Puts (plus no_load (load_of sends)) old p) (sym ticks.legs.legs)
-    (then_puts no_load (load_of sends) old flushed stepped_legs ahead out) in
-    puts_less (plus (plus no_load (load_of sends)) (load_of packed)) (load_of (sends + packed)) old new (omega arith) (omega arith)
-    (then_puts (plus no_load (load_of sends)) (load_of packed) old ticks.between new legs
+    let before : Load = plus (load_of pokes) no_load in
+    let legs : Puts (plus before (load_of sends)) old ticks.between =
+    subst (λ (p : PeerView). Puts (plus before (load_of sends)) old p) (sym ticks.legs.legs)
+    (then_puts before (load_of sends) old flushed stepped_legs ahead out) in
+    puts_less (plus (plus before (load_of sends)) (load_of packed)) (load_of (pokes + sends + packed)) old new (omega arith) (omega arith)
+    (then_puts (plus before (load_of sends)) (load_of packed) old ticks.between new legs
     (packs_puts ticks.between.rules.trunk_ms ticks.between now ticks.octets new ticks.packs))

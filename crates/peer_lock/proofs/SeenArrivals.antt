@@ -1,4 +1,4 @@
--- What is seen of a step in which a datagram comes.
+-- The visible effect of a step in which a datagram comes.
 use Rattle.std.specs.Prelude.{◌&&◌, option_map, map}
 use Rattle.std.proofs.Common.{◌≡◌, ℕ, ◌+◌, ◌==◌, nat_le, Bool, true, false, inl, inr, List, [], ◌∷◌, ◌++◌, Option, Some, None, refl, sym, ap, ◌∙◌}
 use Rattle.std.proofs.lemmas.Bool.{cases_Bool}
@@ -22,7 +22,7 @@ use Rattle.call_signals.specs.declared.stage.Stage.{Stage}
 use Rattle.call_signals.specs.declared.stage.Stage.TheVariants as stages
 use Rattle.peer_lock.specs.Arrivals.{delivered_step, reached_step, datagram_step, media_at, mini_span, entries_media, entry_span}
 use Rattle.peer_legs.specs.Finding.{found, if_reached, is_reached}
-use Rattle.peer_lock.specs.Delivery.{Delivery, NeedsNumber, NoToken, Gets, NoCall, delivered, drained_for, inval_for, pong_for, regrej_for, token_for, unknown_call}
+use Rattle.peer_lock.specs.Delivery.{Delivery, NeedsNumber, NoToken, Gets, Pongs, NoCall, delivered, drained_for, inval_for, legless, pong_for, regrej_for, token_for}
 use Rattle.peer_legs.specs.Legs.{NamedLeg, PeerLegs, AreLegs, leg_at, leg_of_remote}
 use Rattle.peer_accounts.specs.Grants.{granted}
 use Rattle.peer_lock.specs.Peer.{PeerView, PeerStep, handed_up}
@@ -31,7 +31,7 @@ use Rattle.peer_lock.specs.declared.unknown_calls.Answer.{Answer}
 use Rattle.peer_lock.proofs.UnknownCalls.{of_each}
 use Rattle.peer_lock.proofs.SeenChanges.{leg_turns, own_number, remote_named}
 
--- what a leg's law says of full frames
+-- the law of a leg's full frames
 abbrev pub FramesAreSeen : Type 0
 FramesAreSeen = (leg : LegState) (frame : FullFrame) (now : ℕ) → IsSeenFrame (seen leg) (seen (full_step leg frame now).leg) (full_step leg frame now).signal
 
@@ -69,7 +69,7 @@ media_keeps HangsUp stage span e = cc
 media_keeps AcknowledgesAll stages.Closing span e = cc
 media_keeps AcknowledgesAll stage span e = refl
 
--- where the credit doesn't suffice, the frame is seen as a plain one
+-- if the credit doesn't suffice, the frame is seen as a plain one
 granted_seen : (old new : SeenLeg) (first accepted : ℕ) (signal : Option Signal) → IsSeenFrame old new signal
     → IsSeenFrame old new (granted first accepted signal).signal
 granted_seen old new first accepted None s = s
@@ -92,7 +92,7 @@ reached_is legs source (Some one) named is = elim (cases_Bool (is_reached legs s
   | inr e ↦ let never : None ≡ Some named = rw e at is in cc
 ]
 
--- the leg that is found for a frame stands under its own number
+-- the leg that is found for a frame is under its own number
 pub found_named : (legs : PeerLegs) (frame : FullFrame) (named : NamedLeg) → AreLegs legs → found legs frame ≡ Some named
     → leg_at legs named.name.number ≡ Some named
 found_named legs frame named are is = elim (cases_Bool (frame.head.destination == 0)) [
@@ -124,19 +124,20 @@ reached_seen law first peer named frame now at =
 nothing_seen : (old : PeerLegs) (step : PeerStep) → step.peer.legs ≡ old → step.signals ≡ [] → step.step.touched ≡ None → IsSeenDatagram old step
 nothing_seen old step same none untouched = inr (record { same = same; media = []; signals = none; touched = untouched })
 
-unknown_seen : (first : ℕ) (peer : PeerView) (frame : FullFrame) (now : ℕ) → IsSeenDatagram peer.legs (delivered_step first peer (unknown_call peer.drains peer.rules frame now) frame now)
+unknown_seen : (first : ℕ) (peer : PeerView) (frame : FullFrame) (now : ℕ) → IsSeenDatagram peer.legs (delivered_step first peer (legless peer.drains peer.rules peer.pokes frame now) frame now)
 unknown_seen first peer frame now =
     let P : Delivery → Type 0 = λ d. IsSeenDatagram peer.legs (delivered_step first peer d frame now) in
     let needs : P NeedsNumber = nothing_seen peer.legs _ refl refl refl in
     let gets : (answer : Answer) → P (Gets answer) = λ answer. nothing_seen peer.legs _ refl refl refl in
     let no_token : P NoToken = nothing_seen peer.legs _ refl refl refl in
     let no_call : P NoCall = nothing_seen peer.legs _ refl refl refl in
-    of_each P peer.drains peer.rules frame now needs no_token no_call (gets (inval_for frame.head)) (gets (pong_for frame.head)) (gets (regrej_for frame.head))
+    let pongs : P Pongs = nothing_seen peer.legs _ refl refl refl in
+    of_each P peer.drains peer.rules peer.pokes frame now needs no_token no_call pongs (gets (inval_for frame.head)) (gets (pong_for frame.head)) (gets (regrej_for frame.head))
     (gets (drained_for frame.head))
     (λ tokens. gets (token_for tokens frame.head now))
 
 full_seen : (law : FramesAreSeen) (first : ℕ) (peer : PeerView) (frame : FullFrame) (now : ℕ) (o : Option NamedLeg) → AreLegs peer.legs → found peer.legs frame ≡ o
-    → IsSeenDatagram peer.legs (delivered_step first peer (delivered peer.drains peer.rules o frame now) frame now)
+    → IsSeenDatagram peer.legs (delivered_step first peer (delivered peer.drains peer.rules peer.pokes o frame now) frame now)
 full_seen law first peer frame now (Some named) are is = inl (reached_seen law first peer named frame now (found_named peer.legs frame named are is))
 full_seen law first peer frame now None are is = unknown_seen first peer frame now
 
@@ -151,7 +152,7 @@ talking_speaks stages.Offered span e = cc
 talking_speaks stages.Closing span e = cc
 talking_speaks stages.Ended span e = cc
 
--- what is handed up is media of legs that talk
+-- the signals handed up are media of legs that talk
 abbrev IsMedia : PeerLegs → List (LegName × Signal) → Type 0
 IsMedia legs up = (media : List (ℕ × MediaSpan)) × (up ≡ all_media legs media)
 

@@ -1,4 +1,4 @@
--- The legs of a peer as they are seen, once one has come, changed or gone.
+-- The visible legs of a peer after one was added, changed or removed.
 use Rattle.std.proofs.Common.{◌≡◌, ◌≢◌, ℕ, zero, suc, ◌+◌, ◌-◌, ◌<◌, ◌≤◌, nat_le, true, inl, inr, List, [], ◌∷◌, length, Option, Some, None, slice_get, refl, ap, ◌∙◌, arith}
 use Rattle.std.specs.Prelude.{option_map}
 use Rattle.std.proofs.lemmas.Bool.{cases_Bool}
@@ -15,7 +15,7 @@ use Rattle.call_book.proofs.NameLaws.{is_same_itself, same_name}
 
 -- ---- names
 
--- the leg of a name stands under its number
+-- the leg of a name is under its number
 pub record IsNamed (legs : PeerLegs) (name : LegName) (named : NamedLeg) : Type 0 where
   pub at : leg_at legs name.number ≡ Some named
   pub is : named.name ≡ name
@@ -30,7 +30,7 @@ named_is (Some other) name named is = elim (cases_Bool (is_same other.name name)
 pub named_at : (legs : PeerLegs) (name : LegName) (named : NamedLeg) → leg_named legs name ≡ Some named → IsNamed legs name named
 named_at legs name named is = let found = named_is (leg_at legs name.number) name named is in record { at = found.0; is = found.1 }
 
--- no leg has a name that none was found for
+-- a name for which no leg was found has none
 pub none_named : (o : Option NamedLeg) (name : LegName) (named : NamedLeg) → if_named name o ≡ None → o ≡ Some named → named.name ≢ name
 none_named None name named none at = cc
 none_named (Some other) name named none at = λ is.
@@ -50,7 +50,7 @@ seen_of_name legs name named is = ap (option_map seen_named) is.at ∙ λ i. Som
 back : (first number : ℕ) → first ≤ number → first + (number - first) ≡ number
 back first number le = omega arith
 
--- a leg stands under its own number
+-- a leg is under its own number
 pub own_number : (legs : PeerLegs) (number : ℕ) (named : NamedLeg) → AreLegs legs → leg_at legs number ≡ Some named → named.name.number ≡ number
 own_number legs number named are at =
     let here = stands_at legs number named at in
@@ -65,7 +65,7 @@ remote_at (Some first ∷ places) remote named is = elim (cases_Bool (is_remote 
   | inr e ↦ let later = remote_at places remote named (rw e at is) in (suc later.0, later.1)
 ]
 
--- the leg that has a remote number stands under its own number
+-- the leg that has a remote number is under its own number
 pub remote_named : (legs : PeerLegs) (remote : ℕ) (named : NamedLeg) → AreLegs legs → leg_of_remote legs remote ≡ Some named
     → leg_at legs named.name.number ≡ Some named
 remote_named legs remote named are is =
@@ -97,7 +97,7 @@ placed_turns legs number place first within = record {
 within : (first number count : ℕ) → first ≤ number → number - first < count → number < first + count
 within first number count le lt = omega (arith, le, lt)
 
--- a leg that stands under a number is taken out, or another comes there
+-- a leg under a number is taken out, or another takes its place
 pub put_turns : (legs : PeerLegs) (number : ℕ) (named : NamedLeg) (place : Option NamedLeg) → leg_at legs number ≡ Some named
     → TurnsAt legs (with_place legs number place) number (option_map seen_named place)
 put_turns legs number named place at =

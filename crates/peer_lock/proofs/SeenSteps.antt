@@ -1,4 +1,4 @@
--- What is seen of an opening, an order, a tick, and of a leg that is taken out.
+-- The visible effect of an opening, an order, a tick, and the removal of a leg.
 use Rattle.std.specs.Prelude.{◌&&◌, not, option_map, nat_lt, ◌↔◌, is_some, if◌then◌else◌}
 use Rattle.std.proofs.Common.{◌≡◌, ◌≢◌, ℕ, zero, suc, ◌+◌, ◌<◌, ◌≤◌, ◌==◌, nat_le, Bool, true, false, cond, inl, inr, List, [], ◌∷◌, length, Option, Some, None, slice_get, refl, sym, ap, subst, ◌∙◌, ◌-◌}
 use Rattle.std.proofs.lemmas.Bool.{cases_Bool, eqb-true, leb-true, ltb-true}
@@ -143,7 +143,7 @@ none_due : (due : Option LegError) → from_leg_due due ≡ None → due ≡ Non
 none_due None e = refl
 none_due (Some due) e = cc
 
--- the order isn't refused by a leg that is there
+-- an existing leg doesn't refuse the order
 pub unspent : (spent : Bool) (refusal : Option OrderError) → (if spent then Some errors.StepsSpent else refusal) ≡ None → refusal ≡ None
 unspent true refusal e = cc
 unspent false refusal e = e
@@ -188,7 +188,7 @@ gone legs name none before = gone_at (leg_at legs name.number) name before none
         let same : seen_named named ≡ record { name = name; seen = before } = cc in
         none_named (Some named) name named none refl (ap (λ (n : SeenNamed). n.name) same)
 
--- what a leg may refuse for want of memory it may refuse for want of room
+-- an order that a leg may refuse for want of memory it may refuse for want of room
 alike : (kind : OrderKind) → (refuses_order kind errors.WindowFull ≡ refuses_order kind errors.Memory) ×
     (refuses_order kind errors.RecordFull ≡ refuses_order kind errors.Memory)
 alike (kinds.Doom cause) = (refl, refl)
@@ -202,7 +202,7 @@ refusable leg (orders.Doom cause) now due is = cc
 refusable leg orders.Paid now due is = cc
 refusable leg order now due is = refl
 
--- .. or for which it may want memory
+-- .. or for which it may need memory
 unsure : (leg : LegState) (order : Order) (now : ℕ) → wants_memory leg order now ≡ true → refuses_order (kind_of order) errors.Memory ≡ true
 unsure leg (orders.Doom cause) now wants = cc
 unsure leg orders.Paid now wants = cc
@@ -212,7 +212,7 @@ right_stage : (there : Option Stage) → there ≢ None → is_some there ≡ tr
 right_stage None some = absurd (some refl)
 right_stage (Some stage) some = refl
 
--- an order that leads nowhere from a stage leads no leg of that stage anywhere
+-- an order without a next stage from a stage changes no leg of that stage
 none_ordered : (leg : LegState) (kind : OrderKind) → stage_after kind leg.stage ≡ None → stage_ordered leg kind ≡ None
 none_ordered leg (kinds.Dtmf digit) none = either_way (refuses_digits leg)
   where
@@ -221,7 +221,7 @@ none_ordered leg (kinds.Dtmf digit) none = either_way (refuses_digits leg)
     either_way false = none
 none_ordered leg kind none = none
 
--- what leads a leg nowhere though the stage is a right one is a digit
+-- an order that a leg of the right stage ignores is a digit
 digit_refused : (leg : LegState) (kind : OrderKind) → stage_ordered leg kind ≡ None → is_some (stage_after kind leg.stage) ≡ true
     → refuses_order kind errors.WrongStage ≡ true
 digit_refused leg (kinds.Dtmf digit) none right = refl
@@ -229,7 +229,7 @@ digit_refused leg kind none right =
     let never : is_some (stage_after kind leg.stage) ≡ false = ap is_some none in cc
 
 module _ (law : (leg : LegState) (order : Order) (now : ℕ) → (order_refused leg order now ≡ Some leg_errors.WrongStage) ↔ (stage_ordered leg (kind_of order) ≡ None)) where
-  -- a leg that is there refuses an order at a right stage
+  -- an existing leg refuses an order at a right stage
   there : (legs : PeerLegs) (name : LegName) (named : NamedLeg) (order : Order) (now : ℕ) (error : OrderError) → leg_named legs name ≡ Some named
       → order_refused named.leg order now ≢ Some leg_errors.WrongStage → refuses_order (kind_of order) error ≡ true → Refuses legs name (kind_of order) error true
   there legs name named order now error is right refuses = record {

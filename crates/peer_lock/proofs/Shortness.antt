@@ -1,4 +1,4 @@
--- How much a datagram of at most 2,048 octets holds.
+-- The greatest content of a datagram of at most 2,048 octets.
 use native.Mathlib.Omega.{arith}
 use Rattle.std.proofs.Common.{◌≡◌, ◌≤◌, ℕ, suc, ◌+◌, Bool, true, false, List, [], ◌∷◌, Option, Some, None, length, map, ap, ◌∙◌, subst, refl}
 use Rattle.std.proofs.lemmas.List.{length-append}
@@ -43,7 +43,7 @@ within n m here short = omega arith
 mini_short : (octets : List ℕ) (m : MiniFrame) → SpellsMini octets m → length octets ≤ 2048 → length m.media ≤ 2048
 mini_short octets m s short = within (length octets) (length m.media) (ap length s.whole) short
 
--- what octets, at most 2,048 of them, spell is short
+-- a datagram spelled by at most 2,048 octets is short
 pub short_datagram : (octets : List ℕ) (d : Datagram) → Spells octets d → length octets ≤ 2048 → IsShortDatagram d
 short_datagram octets (Full frame) s short = tt
 short_datagram octets (Mini mini) s short = mini_short octets mini s short

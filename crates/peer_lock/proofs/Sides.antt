@@ -1,4 +1,4 @@
--- The steps of a peer but its ticks, as steps of sides of networks.
+-- The steps of a peer, except its ticks, as steps of sides of networks.
 use Rattle.std.specs.Prelude.{◌&&◌, map}
 use Rattle.std.proofs.Common.{◌≡◌, ◌^◌, ℕ, ◌-◌, ◌<◌, ◌==◌, ◌⊎◌, true, All, inl, inr, List, [], ◌∷◌, length, Option, Some, None, refl, ap, sym, subst, ◌∙◌, arith}
 use Rattle.std.proofs.lemmas.Bool.{cases_Bool}
@@ -26,7 +26,7 @@ use Rattle.peer_legs.proofs.PlaceLaws.{placed_there, stands_at}
 use Rattle.peer_legs.proofs.RuleChanges.{number_fits}
 use Rattle.call_auth.specs.declared.call_token.CallTokens.{CallTokens}
 use Rattle.peer_lock.specs.Arrivals.{datagram_step, delivered_step}
-use Rattle.peer_lock.specs.Delivery.{Delivery, NeedsNumber, NoToken, Gets, NoCall, delivered, drained_for, inval_for, pong_for, regrej_for, token_for, unknown_call}
+use Rattle.peer_lock.specs.Delivery.{Delivery, NeedsNumber, NoToken, Gets, Pongs, NoCall, delivered, drained_for, inval_for, legless, pong_for, regrej_for, token_for}
 use Rattle.peer_lock.specs.Openings.{opens_in, opens_out}
 use Rattle.peer_lock.specs.Orders.{order_refused_by, refused_at, ordered_if, ordered_at, ordered_step, counted_media, short_media, queued_media, waiting_media, carried_media, with_media}
 use Rattle.peer_lock.specs.Peer.{PeerView, flushed_if, with_datagram, with_sent}
@@ -47,7 +47,7 @@ use Rattle.peer_lock.proofs.SeenSteps.{free_name, ordered_legs, unspent}
 
 module _ (turns : (leg : LegState) (frame : FullFrame) (now : ℕ) → TakesTurn leg frame (full_step leg frame now).leg)
     (sends : (leg : LegState) (frame : FullFrame) (now : ℕ) → SendsNumbered leg → HasSent (full_step leg frame now).leg (map spelling (full_step leg frame now).replies)) where
-  unknown_side : (first : ℕ) (peer : PeerView) (frame : FullFrame) (now : ℕ) → ComesToNone peer frame (delivered_step first peer (unknown_call peer.drains peer.rules frame now) frame now).peer
+  unknown_side : (first : ℕ) (peer : PeerView) (frame : FullFrame) (now : ℕ) → ComesToNone peer frame (delivered_step first peer (legless peer.drains peer.rules peer.pokes frame now) frame now).peer
   unknown_side first peer frame now =
       let P : Delivery → Type 0 = λ d. ComesToNone peer frame (delivered_step first peer d frame now).peer in
       let needs : P NeedsNumber = record { legs = refl; outbox = inl refl } in
@@ -58,10 +58,11 @@ module _ (turns : (leg : LegState) (frame : FullFrame) (now : ℕ) → TakesTurn
       let drained : P (Gets (drained_for frame.head)) = record { legs = refl; outbox = inr (inr (inr (inr (inl refl)))) } in
       let token : (tokens : CallTokens) → P (Gets (token_for tokens frame.head now)) = λ tokens. record { legs = refl; outbox = inr (inr (inr (inr (inr (tokens, now, refl))))) } in
       let no_call : P NoCall = record { legs = refl; outbox = inl refl } in
-      of_each P peer.drains peer.rules frame now needs no_token no_call inval pong regrej drained token
+      let pongs : P Pongs = record { legs = refl; outbox = inl refl } in
+      of_each P peer.drains peer.rules peer.pokes frame now needs no_token no_call pongs inval pong regrej drained token
 
   full_side : (first : ℕ) (peer : PeerView) (frame : FullFrame) (now : ℕ) (o : Option NamedLeg) → IsSoundPeer peer → found peer.legs frame ≡ o
-      → TakesTurnAtLeg peer frame (delivered_step first peer (delivered peer.drains peer.rules o frame now) frame now).peer ⊎ ComesToNone peer frame (delivered_step first peer (delivered peer.drains peer.rules o frame now) frame now).peer
+      → TakesTurnAtLeg peer frame (delivered_step first peer (delivered peer.drains peer.rules peer.pokes o frame now) frame now).peer ⊎ ComesToNone peer frame (delivered_step first peer (delivered peer.drains peer.rules peer.pokes o frame now) frame now).peer
   full_side first peer frame now None sound is = inr (unknown_side first peer frame now)
   full_side first peer frame now (Some named) sound is =
       let at = found_named peer.legs frame named sound.legs is in
@@ -84,7 +85,7 @@ module _ (turns : (leg : LegState) (frame : FullFrame) (now : ℕ) → TakesTurn
 
 -- ---- orders
 
--- these datagrams go out, or none, behind media that was queued
+-- these datagrams, or none, are sent behind media that was queued
 record Puts (peer : PeerView) (new : OutboxView) (sent : List (List ℕ)) : Type 0 where
   pub datagrams : List (List ℕ)
   pub outbox : Ahead peer new datagrams
@@ -116,7 +117,7 @@ short_puts peer named timestamp now media same =
       which = inl (ap (λ (n : ℕ). mini_spelling (record { source = n; timestamp = timestamp; media = media }) ∷ []) same);
     })
 
--- what the leg of a number sends goes out, behind media of its call
+-- the frames of the leg of a number are sent behind media of its call
 sent_puts : (peer : PeerView) (number : ℕ) (datagrams : List (List ℕ)) → Puts peer (with_sent peer number datagrams).outbox datagrams
 sent_puts peer number datagrams = record {
   datagrams = datagrams;
@@ -182,7 +183,7 @@ module _ (turns : (leg : LegState) (order : Order) (now : ℕ) → SendsAtMostOn
 
 -- ---- openings
 
--- what is put under a free name stands there
+-- a leg that is put under a free name is found there
 opened_there : (peer : PeerView) (name : LegName) (leg : LegState) → is_free_name peer.legs name ≡ true
     → leg_at (with_place peer.legs name.number (Some (record { name = name; leg = leg }))) name.number ≡ Some (record { name = name; leg = leg })
 opened_there peer name leg free =

@@ -1,4 +1,4 @@
--- What a step of a leg adds to its record, and what it sends, actions of a side of a network add and send.
+-- A side of a network can add to its record, and send, all that a step of a leg adds and sends.
 use Rattle.std.specs.Prelude.{◌&&◌}
 use Rattle.std.proofs.Common.{◌≡◌, ℕ, suc, ◌+◌, ◌-◌, ◌<◌, ◌≤◌, nat_lt, Bool, true, false, cond, All, List, [], ◌∷◌, ◌++◌, length, Option, Some, None, slice_get, refl, ap, sym, subst, ◌∙◌, arith}
 use Rattle.std.proofs.lemmas.Bool.{lt-ltb}
@@ -82,7 +82,7 @@ legal_by rules leg is =
 within : (first number count : ℕ) → first ≤ number → number - first < count → number < first + count
 within first number count le lt = omega (arith, le, lt)
 
--- the leg that stepped stands under its number
+-- the leg that stepped is under its number
 pub leg_after : (old new : PeerView) (named : NamedLeg) (leg : LegState) (datagrams : List (List ℕ))
     → OneSteps old new named leg datagrams
     → leg_at new.legs named.name.number ≡ Some (record { name = named.name; leg = leg })
@@ -104,7 +104,7 @@ both_true : (a b : Bool) → a ≡ true → b ≡ true → (a && b) ≡ true
 both_true true b one other = other
 both_true false b one other = cc
 
--- a side that sends a frame, where its record stays legal
+-- a side that sends a frame and whose record stays legal
 module _ (own other : Side) (frame : Frame) (legal : IsLegal own.width own.limit (own.history ++ Sent frame ∷ [])) where
   abbrev after_it : List Entry
   after_it = own.history ++ Sent frame ∷ []
@@ -195,7 +195,7 @@ module _ (law : (own other : Side) (which : ℕ) (datagram : Datagram) (turn : T
       (sound.kept.ruled turn.named.name.number (record { name = turn.named.name; leg = turn.leg }) (leg_after old new turn.named turn.leg turn.datagrams turn.steps)) is at bears
       turn.sendings
 
-  -- ---- a NEW that comes
+  -- ---- a received NEW
 
   pub call_in_events : (old new : PeerView) (name : LegName) (frame : FullFrame) (takes : TakesNew old name frame new)
       → IsSoundPeer new → is_new (message_of frame.head) ≡ true
@@ -214,7 +214,7 @@ module _ (law : (own other : Side) (which : ℕ) (datagram : Datagram) (turn : T
       let sends = sendings_out new.rules takes.leg goes other mid takes.opens.datagrams side takes.opens.sendings in
       (turn, record { grows = side; sends = sends })
 
--- ---- an order, and a NEW that goes out
+-- ---- an order, and a NEW that is sent
 
 pub order_events : (old new : PeerView) (name : LegName) (sends : SendsAtLeg old name new) → IsSoundPeer new → (own other : Side) → IsSideOf new.rules sends.named.leg own
     → SendsInto IsSentByOrMini new.rules own other sends.leg sends.datagrams
@@ -225,7 +225,7 @@ order_events old new name sends sound own other is =
     let mid = after_all (reply_actions one.0) own other in
     (one.0, record { grows = one.1; sends = or_minis_out new.rules sends.leg goes other mid sends.datagrams one.1 sends.sendings })
 
--- all that goes out is full frames
+-- only full frames are sent
 sent_into : (rules : PeerRules) (leg : LegState) (own other : Side) (datagrams : List (List ℕ)) → IsLegOf rules leg
     → SendsTo rules own other leg → All (IsSending leg) datagrams
     → SendsInto IsSentBy rules own other leg datagrams

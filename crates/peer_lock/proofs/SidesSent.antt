@@ -1,4 +1,4 @@
--- What a leg sends from its record, a side of a network with that record sends.
+-- A side of a network with a leg's record can send all that the leg sends from it.
 use Rattle.std.specs.Prelude.{◌&&◌, nat_lt}
 use Rattle.std.proofs.Common.{◌≡◌, ℕ, suc, ◌+◌, ◌-◌, ◌≤◌, Bool, true, false, All, inl, inr, List, [], ◌∷◌, ◌++◌, length}
 use Rattle.std.proofs.Common.{Option, Some, None, slice_get, refl, ap, sym, subst, ◌∙◌, arith}
@@ -19,11 +19,11 @@ use Rattle.seq_window.specs.Network.{after_retransmission, datagram_of}
 use Rattle.seq_window.proofs.Places.{slice_get-drop}
 use Rattle.peer_lock.proofs.Choices.{either}
 
--- a side that has sent one more
+-- a side that has sent one more datagram
 abbrev with_datagram : Side → Datagram → Side
 with_datagram own datagram = record own { datagrams = datagram ∷ own.datagrams }
 
--- ---- what a side has sent it has sent
+-- ---- a side keeps the datagrams that it has sent
 
 one_more : (own : Side) (datagram one : Datagram) → HasDatagram own one → HasDatagram (with_datagram own datagram) one
 one_more own datagram one (which, at) = (suc which, at)
@@ -85,7 +85,7 @@ pub after_both : (first rest : List Action) (own other : Side)
 after_both [] rest own other = refl
 after_both (action ∷ first) rest own other = after_both first rest (after action own other) other
 
--- ---- a frame that goes out is held
+-- ---- a frame that is sent is held
 
 newest_there : (before : List Entry) (frame : Frame)
     → slice_get (sent (before ++ Sent frame ∷ [])) (sent_count before) ≡ Some frame
@@ -108,7 +108,7 @@ before_within width limit before frame legal =
     (take-append-le (length before) before (Sent frame ∷ []) (omega arith) ∙ take_all (length before) before (omega arith))
     (legal.at_each_moment (length before))
 
--- the frame stands in the record as sent, and isn't acknowledged
+-- the frame is in the record as sent, and isn't acknowledged
 record IsHeldAt (history : List Entry) (frame : Frame) (number : ℕ) : Type 0 where
   pub sent_there : slice_get (sent history) number ≡ Some frame
   pub beyond : acked_count history ≤ number
@@ -209,7 +209,7 @@ module _ (X : Type 0) (IsSent : Side → X → Type 0) (Sends : X → Type 0) (r
             (All-cons (IsSent end) x xs (still rest.actions mid x (All-head (IsSent mid) x [] one.sent)) rest.sent);
       }
 
--- ---- what a leg of the peer sends
+-- ---- the frames that a leg of the peer sends
 
 module _ (rules : PeerRules) (leg : LegState) (goes : IsLegOf rules leg) (other : Side) where
   datagram_out : (own : Side) (datagram : Datagram) → IsSideOf rules leg own → IsSentFrom leg datagram

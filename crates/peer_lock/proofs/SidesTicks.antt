@@ -1,6 +1,6 @@
 -- A tick of a peer, as steps of sides of networks.
 use Rattle.std.specs.Prelude.{map}
-use Rattle.std.proofs.Common.{◌≡◌, ◌&&◌, ℕ, zero, suc, ◌+◌, ◌==◌, Bool, All, List, [], ◌∷◌, ◌++◌, Option, Some, None, slice_get, refl, ap, sym, subst, ◌∙◌, arith}
+use Rattle.std.proofs.Common.{◌≡◌, ◌&&◌, ℕ, zero, suc, ◌+◌, ◌==◌, Bool, cond, true, false, inl, inr, All, List, [], ◌∷◌, ◌++◌, Option, Some, None, slice_get, refl, ap, sym, subst, ◌∙◌, arith}
 use Rattle.std.proofs.lemmas.List.Elements.{All-append}
 use Rattle.iax_frames.specs.FullFrame.{spelling}
 use Rattle.leg_machine.specs.Leg.{LegState}
@@ -9,10 +9,11 @@ use Rattle.leg_machine.specs.Tie.{SendsAtMostOne, SendsNumbered, HasSent, IsSend
 use Rattle.peer_legs.specs.Legs.{NamedLeg, PeerLegs, leg_at}
 use Rattle.peer_legs.proofs.PlaceLaws.{leg_at_place}
 use Rattle.outbox.specs.Outbox.{OutboxView, extended}
-use Rattle.peer_lock.specs.Peer.{PeerView}
-use Rattle.peer_lock.specs.Sides.{SendsAt, EachSends}
+use Rattle.peer_lock.specs.Peer.{PeerView, counted}
+use Rattle.peer_lock.specs.Pokes.{is_poke_due, poke_octets, pokes_sent}
+use Rattle.peer_lock.specs.Sides.{SendsAt, EachSends, IsAtMostPoke}
 use Rattle.peer_lock.specs.SoundPeer.{IsSoundPeer}
-use Rattle.peer_lock.specs.Ticks.{legs_tick, place_tick, Ticks}
+use Rattle.peer_lock.specs.Ticks.{asked, legs_tick, place_tick, Ticks}
 use Rattle.peer_lock.specs.Trunks.{has_any, flushes, waits}
 use Rattle.peer_lock.specs.declared.steps.TickReport.{TickReport}
 use Rattle.peer_lock.proofs.NumberTicks.{ticked_at, ticked_legs}
@@ -33,6 +34,10 @@ record SentFrom (places : List (Option NamedLeg)) (datagram : List ℕ) : Type 0
 
 none_sent : (P : List ℕ → Type 0) → All P []
 none_sent P = λ k d within. absurd (omega arith)
+
+at_most_poke : (due : Bool) (now : ℕ) → IsAtMostPoke (cond due (poke_octets now ∷ []) [])
+at_most_poke true now = inr (now, refl)
+at_most_poke false now = inl refl
 
 module _ (turns : (grown : Bool) (leg : LegState) (now : ℕ) → SendsAtMostOne leg (tick_step grown leg now).leg)
     (sends : (grown : Bool) (leg : LegState) (now : ℕ) → SendsNumbered leg → HasSent (tick_step grown leg now).leg (map spelling (tick_step grown leg now).replies)) where
@@ -72,7 +77,8 @@ module _ (turns : (grown : Bool) (leg : LegState) (now : ℕ) → SendsAtMostOne
       let sent = places_send ticks.legs.skips old.legs.places now
       (λ place named at. (sound.kept.ruled (old.legs.first + place) named (leg_at_place old.legs (old.legs.first + place) place (Some named) refl at)).numbered) in
       let datagrams = (legs_tick ticks.legs.skips old.legs.places now).datagrams in
-      let ahead = ahead_of old (flushes (has_any datagrams && waits old.rules) old.queue) datagrams in
+      let start : PeerView = asked (counted old) now in
+      let ahead = ahead_of start (flushes (has_any datagrams && waits old.rules) old.queue) datagrams in
       let more = packs_more ticks.between.rules.trunk_ms ticks.between now ticks.octets new ticks.packs in
       record {
         each = λ number. let is = ticked_at old new now report ticks number in subst (SendsAt (leg_at old.legs number)) (sym is.1) (place_side is.0 (leg_at old.legs number) now);
@@ -84,6 +90,8 @@ module _ (turns : (grown : Bool) (leg : LegState) (now : ℕ) → SendsAtMostOne
               ∙ leg_at_place (record old.legs { places = (legs_tick ticks.legs.skips old.legs.places now).places }) (old.legs.first + one.place) one.place (Some one.named) refl one.at;
           sending = one.sending;
         };
+        pokes = pokes_sent old.rules old.pokes now;
+        poke = at_most_poke (is_poke_due old.rules old.pokes now) now;
         ahead = ahead.ahead;
         queued = ahead.queued;
         trunks = more.trunks;

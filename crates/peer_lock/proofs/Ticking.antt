@@ -23,13 +23,13 @@ use Rattle.outbox.proofs.Puts.{put_none}
 use Rattle.peer_lock.proofs.Trunks.{outbox_twice, queue_twice, accounts_twice}
 use Rattle.seq_window.specs.Window.{held_count}
 
--- what stands there already
+-- writing the element that is there already
 pub place_same : (places : List (Option NamedLeg)) (index : ℕ) (place : Option NamedLeg) → slice_get places index ≡ Some place → places ≡ slice_set places index place
 place_same [] index place there = cc
 place_same (first ∷ places) zero place there = ap (λ p. p ∷ places) (cc)
 place_same (first ∷ places) (suc index) place there = ap (λ ps. first ∷ ps) (place_same places index place there)
 
--- ---- how many frames have no memory
+-- ---- the count of frames without memory
 
 few_sends : (grown : Bool) (leg changed : LegState) (now : ℕ) (reply : Reply) → (sends_if grown leg changed now reply).skipped ≤ 1
 few_sends true leg changed now reply = omega arith
@@ -121,7 +121,7 @@ ticked_more (t ∷ skips) s (p ∷ places) place now same =
       skipped = (sym (add_assoc (place_tick t p now).skipped (legs_tick skips places now).skipped (place_tick s place now).skipped)) i;
     }
 
--- where two lists meet
+-- the element at the border of two lists
 seam_get : (front : List (Option NamedLeg)) (place : Option NamedLeg) (rest : List (Option NamedLeg)) → slice_get (front ++ place ∷ rest) (length front) ≡ Some place
 seam_get [] place rest = refl
 seam_get (p ∷ front) place rest = seam_get front place rest
@@ -145,7 +145,7 @@ taken_len [] index place there = cc
 taken_len (p ∷ places) zero place there = refl
 taken_len (p ∷ places) (suc index) place there = ap suc (taken_len places index place there)
 
--- the place that comes next is as it was
+-- the next place is unchanged so far
 pub next_is : (start peer : PeerView) (now place skipped : ℕ) (so : AreTicked start now place peer skipped) (p : Option NamedLeg) → slice_get start.legs.places place ≡ Some p
     → (slice_get peer.legs.places place ≡ Some p)
 next_is start peer now place skipped so p there =
@@ -257,7 +257,7 @@ all_ticked start peer now place skipped so past = record {
         ap (λ rest. (legs_tick so.skips (take place start.legs.places) now).places ++ rest) (drop_all place start.legs.places past)
         ∙ append-nil (legs_tick so.skips (take place start.legs.places) now).places ∙ ap (λ ps. (legs_tick so.skips ps now).places) whole
 
--- the ticks leave as many places as there were
+-- the ticks don't change the number of places
 pub ticked_count : (start peer : PeerView) (now place skipped : ℕ) → AreTicked start now place peer skipped → length peer.legs.places ≡ length start.legs.places
 ticked_count start peer now place skipped so =
     ap (λ (q : PeerView). length q.legs.places) so.here
@@ -266,13 +266,13 @@ ticked_count start peer now place skipped so =
     ∙ sym (length-append (take place start.legs.places) (drop place start.legs.places))
     ∙ ap length (take-append-drop place start.legs.places)
 
--- a place that is within has something
+-- a place within the list has an element
 pub some_at : (places : List (Option NamedLeg)) (index : ℕ) → index < length places → (p : Option NamedLeg) × (slice_get places index ≡ Some p)
 some_at [] index within = absurd (omega arith)
 some_at (p ∷ places) zero within = (p, refl)
 some_at (p ∷ places) (suc index) within = some_at places index (omega arith)
 
--- ---- where all legs rest
+-- ---- if all legs rest
 
 -- an idle leg stays as it is
 abbrev pub IdleLegsStay : Type 0

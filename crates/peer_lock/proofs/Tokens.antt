@@ -1,4 +1,4 @@
--- A NEW needs a number only under a call token, where its peer is asked for them.
+-- A NEW needs a number only with a call token, if its peer needs tokens.
 use Rattle.std.specs.Prelude.{◌&&◌, ◌==◌}
 use Rattle.std.proofs.Common.{◌≡◌, ℕ, Bool, true, false, List, [], ◌∷◌, Option, None, Some, cond, refl, subst}
 use Rattle.call_auth.specs.CallToken.{is_given}
@@ -11,9 +11,11 @@ use Rattle.info_elements.specs.Numbers.{CALLTOKEN}
 use Rattle.leg_machine.specs.Leg.{is_record_full}
 use Rattle.leg_machine.specs.Message.{message_of, is_numbered}
 use Rattle.peer_legs.specs.Legs.{NamedLeg}
-use Rattle.peer_lock.specs.Delivery.{Delivery, Gets, NeedsNumber, NoCall, NoToken, BearsToken, by_token, delivered, delivery_refused, found, full_refused}
-use Rattle.peer_lock.specs.Delivery.{drained_for, inval_for, is_new, is_poke, is_registration, newcomer, pong_for, regrej_for, welcome}
+use Rattle.peer_lock.specs.Delivery.{Delivery, Gets, NeedsNumber, NoCall, NoToken, Pongs, BearsToken, by_token, delivered, delivery_refused, found, full_refused}
+use Rattle.peer_lock.specs.Delivery.{drained_for, inval_for, is_new, is_poke, is_registration, newcomer, pong_for, regrej_for, unknown_call, welcome}
 use Rattle.peer_lock.specs.Peer.{PeerView}
+use Rattle.peer_lock.specs.Pokes.{answers_poke, is_own_pong}
+use Rattle.peer_lock.specs.declared.pokes.Pokes.{Pokes}
 use Rattle.peer_lock.specs.declared.errors.PeerError.{PeerError}
 use Rattle.peer_lock.specs.declared.errors.PeerError.TheVariants as errors
 
@@ -51,15 +53,23 @@ only_new true false false false numbered head comes is = cc
 only_new false new poked registers true head comes is = cc
 only_new false new poked registers false head comes is = cc
 
-by_delivery : (drains : Bool) (rules : PeerRules) (frame : FullFrame) (now : ℕ) (at : Option NamedLeg) (tokens : CallTokens) → rules.call_tokens ≡ Some tokens
-    → delivery_refused (delivered drains rules at frame now) ≡ Some errors.NeedsNumber → BearsToken tokens now frame
-by_delivery drains rules frame now (Some named) tokens asked is = absurd (at_leg (is_record_full named.leg) is)
-by_delivery drains rules frame now None tokens asked is =
+-- a PONG needs none
+no_pong : (own counts : Bool) (rest : Delivery) → delivery_refused (cond own (cond counts Pongs NoCall) rest) ≡ Some errors.NeedsNumber
+    → delivery_refused rest ≡ Some errors.NeedsNumber
+no_pong true true rest is = cc
+no_pong true false rest is = cc
+no_pong false counts rest is = is
+
+by_delivery : (drains : Bool) (rules : PeerRules) (pokes : Pokes) (frame : FullFrame) (now : ℕ) (at : Option NamedLeg) (tokens : CallTokens) → rules.call_tokens ≡ Some tokens
+    → delivery_refused (delivered drains rules pokes at frame now) ≡ Some errors.NeedsNumber → BearsToken tokens now frame
+by_delivery drains rules pokes frame now (Some named) tokens asked is = absurd (at_leg (is_record_full named.leg) is)
+by_delivery drains rules pokes frame now None tokens asked is =
+    let other = no_pong (is_own_pong rules frame.head) (answers_poke pokes frame.head) (unknown_call drains rules frame now) is in
     let new = only_new (frame.head.destination == 0) (is_new (message_of frame.head) && (frame.head.oseqno == 0)) (rules.poke && is_poke (message_of frame.head))
-    (rules.is_hardened && is_registration frame.head) (is_numbered (message_of frame.head)) frame.head (newcomer drains rules.call_tokens frame now) is in
+    (rules.is_hardened && is_registration frame.head) (is_numbered (message_of frame.head)) frame.head (newcomer drains rules.call_tokens frame now) other in
     by_element tokens frame.head now (element_in frame CALLTOKEN)
     (subst (λ (t : Option CallTokens). delivery_refused (welcome t frame now) ≡ Some errors.NeedsNumber) asked (undrained drains frame.head (welcome rules.call_tokens frame now) new))
 
 pub calls_bear_tokens : (peer : PeerView) (frame : FullFrame) (now : ℕ) (tokens : CallTokens) → peer.rules.call_tokens ≡ Some tokens
     → full_refused peer frame now ≡ Some errors.NeedsNumber → BearsToken tokens now frame
-calls_bear_tokens peer frame now tokens asked is = by_delivery peer.drains peer.rules frame now (found peer.legs frame) tokens asked is
+calls_bear_tokens peer frame now tokens asked is = by_delivery peer.drains peer.rules peer.pokes frame now (found peer.legs frame) tokens asked is

@@ -1,4 +1,4 @@
--- What waits for a trunk frame goes out.
+-- Media that waits for a trunk frame is sent.
 use Rattle.std.specs.Prelude.{nat_lt, not, ◌||◌}
 use Rattle.std.proofs.Common.{◌≡◌, ◌≤◌, ◌<◌, ℕ, ◌+◌, ◌&&◌, Bool, true, false, cond, inl, inr, List, [], ◌∷◌, ◌++◌, Option, None, Some, length, ap, sym, refl, subst, ◌∙◌, arith}
 use Rattle.std.proofs.lemmas.Bool.{cases_Bool, ltb-true, ltb-false}
@@ -17,12 +17,12 @@ use Rattle.peer_lock.specs.Ticks.{Packs}
 use Rattle.peer_lock.specs.Trunks.{has_any, flushes, waits, goes_ahead, is_full_for, fills_frame, begins_next, is_due, outbox_after, queue_after, accounts_after}
 use Rattle.trunk_packer.specs.Queue.{QueueEntry, has_call, trunk_octets, trunk_spelling}
 
--- ---- ahead of what a leg sends
+-- ---- ahead of a leg's frames
 
 abbrev whole : PeerView → List ℕ
 whole peer = trunk_spelling peer.rules.trunk_timestamps peer.since peer.queue
 
--- what goes out is what was queued, if it goes, and these datagrams
+-- the queued media if it is sent, and these datagrams
 pub record Ahead (peer : PeerView) (outbox : OutboxView) (datagrams : List (List ℕ)) : Type 0 where
   pub ahead : List (List ℕ)
   pub queued : IsQueued peer ahead
@@ -37,7 +37,7 @@ pub alone_of : (peer : PeerView) (flushed : Bool) → Ahead peer (cond flushed (
 alone_of peer true = record { ahead = whole peer ∷ []; queued = inr refl; is = put_both peer.outbox [] (whole peer ∷ []) }
 alone_of peer false = record { ahead = []; queued = inl refl; is = refl }
 
--- what a leg's step leaves of what goes out and waits
+-- the outbox, the queue and the accounts after a leg's step
 pub record IsSent (view : PeerView) (number : ℕ) (replies : List (List ℕ)) (outbox : OutboxView) (queue : List QueueEntry) (accounts : Accounts) : Type 0 where
   pub outbox_is : outbox ≡ (with_sent view number replies).outbox
   pub queue_is : queue ≡ (with_sent view number replies).queue
@@ -54,7 +54,7 @@ is_sent view number replies goes flushed outbox queue accounts goes_is flushed_i
   accounts_are = accounts_are ∙ ap (λ (b : Bool). accounts_after b view.queue view.accounts) goes_is;
 }
 
--- the same of the peer with its legs after the step
+-- the same for the peer with its legs after the step
 pub sent_peer : (view old : PeerView) (name : LegName) (number : ℕ) (legs : PeerLegs) (leg : LegState) (replies : List (List ℕ)) (outbox : OutboxView) (queue : List QueueEntry) (accounts : Accounts)
     → view ≡ old → number ≡ name.number → legs ≡ with_leg view.legs name leg → IsSent view number replies outbox queue accounts
     → record view { legs = legs; outbox = outbox; queue = queue; accounts = accounts } ≡ record (with_sent old name.number replies) { legs = with_leg old.legs name leg }
@@ -69,7 +69,7 @@ pub packs_legs : (wait : Option ℕ) (old : PeerView) (now octets : ℕ) (new : 
 packs_legs None old now octets new packs = ap (λ (p : PeerView). p.legs) packs.rest
 packs_legs (Some wait) old now octets new packs = ap (λ (p : PeerView). p.legs) packs.rest
 
--- the outbox has trunk frames more
+-- the outbox has further trunk frames
 pub record More (old new : OutboxView) : Type 0 where
   pub trunks : List (List ℕ)
   pub is : new ≡ extended old trunks
@@ -130,7 +130,7 @@ outbox_twice true timed since outbox (d ∷ first) (e ∷ then) [] = put_both ou
 outbox_twice true timed since outbox (d ∷ first) [] (q ∷ queue) = put_both (put outbox (trunk_spelling timed since (q ∷ queue) ∷ [])) (d ∷ first) []
 outbox_twice true timed since outbox (d ∷ first) (e ∷ then) (q ∷ queue) = put_both (put outbox (trunk_spelling timed since (q ∷ queue) ∷ [])) (d ∷ first) (e ∷ then)
 
--- ---- what is queued next
+-- ---- the next media
 
 second_false : (a b c d : Bool) → (a && (b || (c || d))) ≡ false → a ≡ true → c ≡ false
 second_false true true c d e is = cc
@@ -141,7 +141,7 @@ second_false false b c d e is = cc
 not_more : (n m : ℕ) → nat_lt n m ≡ false → m ≤ n
 not_more n m e = ltb-false n m e
 
--- so many octets fit in an empty frame
+-- this many octets fit in an empty frame
 alone_fits : (timed : Bool) (octets : ℕ) → octets ≤ 1380 → 8 + head_len timed + octets ≤ 1400
 alone_fits true octets short = omega (arith, short)
 alone_fits false octets short = omega (arith, short)

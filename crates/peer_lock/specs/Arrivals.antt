@@ -1,4 +1,4 @@
--- The steps of a peer in which a datagram comes ("Full Frames", "Mini Frames", "Meta Frames").
+-- The steps of a peer by which it handles a datagram ("Full Frames", "Mini Frames", "Meta Frames").
 use Rattle.std.specs.Prelude.{ℕ, ◌+◌, Bool, List, [], ◌∷◌, ◌++◌, ◌&&◌, true, false, Option, None, Some, length, map, if◌then◌else◌}
 use Rattle.call_book.specs.declared.leg_name.LegName.{LegName}
 use Rattle.call_signals.specs.FrameElements.{element_in}
@@ -21,10 +21,11 @@ use Rattle.call_signals.specs.declared.signal.MediaSpan.{MediaSpan}
 use Rattle.call_signals.specs.declared.signal.Signal.{Signal}
 use Rattle.call_signals.specs.declared.signal.Signal.TheVariants.{Media}
 use Rattle.peer_accounts.specs.Accounts.{stepped, with_accepted}
-use Rattle.peer_lock.specs.Delivery.{Delivery, Reaches, NeedsNumber, NoToken, Gets, NoCall, answer_octets, delivery, full_refused}
+use Rattle.peer_lock.specs.Delivery.{Delivery, Reaches, NeedsNumber, NoToken, Gets, Pongs, NoCall, answer_octets, delivery, full_refused}
 use Rattle.peer_legs.specs.Legs.{PeerLegs, NamedLeg, leg_of_remote}
 use Rattle.peer_accounts.specs.Grants.{granted}
 use Rattle.peer_lock.specs.Peer.{PeerView, PeerStep, handed_up, offer_with, leg_alone, no_leg, alone, with_datagram, with_step}
+use Rattle.peer_lock.specs.Pokes.{answered}
 use Rattle.peer_lock.specs.declared.errors.PeerError.{PeerError}
 use Rattle.peer_lock.specs.declared.errors.PeerError.TheVariants as errors
 use Rattle.peer_lock.specs.declared.steps.Rejection.{Rejection}
@@ -39,7 +40,7 @@ abbrev pub is_auth_req : Message → Bool
 is_auth_req AuthReq = true
 is_auth_req _ = false
 
--- an AUTHREQ that a leg took, whose challenge begins as those of this exchange do
+-- an AUTHREQ that a leg accepted, whose challenge begins as those of this exchange do
 abbrev pub reflection : PeerRules → FullFrame → Judged → Option Rejection
 reflection rules frame Taken =
     if is_auth_req (message_of frame.head) && is_own rules.challenge_prefix (element_in frame CHALLENGE)
@@ -59,7 +60,7 @@ reached_step first peer named frame now =
       octets = up.octets;
     }
 
--- a step without a leg, in which an answer goes out
+-- a step without a leg, in which an answer is sent
 abbrev pub answering : PeerView → Answer → PeerStep
 answering peer answer =
     record (alone (with_datagram peer (answer_octets answer))) { step = record no_leg { rejected = answer.rejected } }
@@ -69,11 +70,12 @@ delivered_step first peer (Reaches named) frame now = reached_step first peer na
 delivered_step first peer NeedsNumber frame now = alone peer
 delivered_step first peer NoToken frame now = alone peer
 delivered_step first peer (Gets answer) frame now = answering peer answer
+delivered_step first peer Pongs frame now = alone (record peer { pokes = answered peer.pokes now })
 delivered_step first peer NoCall frame now = alone peer
 
 -- ---- media
 
--- what is handed up of some media, and how many octets are accepted
+-- the signals that some media hands up, and the octets that are accepted
 pub record MediaTaken : Type 0 where
   pub signals : List (LegName × Signal)
   pub octets : ℕ
@@ -90,12 +92,12 @@ granted_at first accepted name counts span =
     }
     else no_media
 
--- media for the leg that has a remote number, where so many octets were accepted before
+-- media for the leg that has a remote number; accepted is the number of octets accepted before
 abbrev pub media_at : ℕ → ℕ → Option NamedLeg → MediaSpan → MediaTaken
 media_at first accepted None span = no_media
 media_at first accepted (Some named) span = granted_at first accepted named.name (accepts_media named.leg span) span
 
--- where the media of an entry lies, whose first octet has this place
+-- the place of an entry's media, if this is the place of its first octet
 abbrev pub entry_span : Bool → ℕ → ℕ × Option ℕ × List ℕ → MediaSpan
 entry_span timed at entry = record { start = at + head_len timed; end = at + head_len timed + length entry.2 }
 
@@ -122,7 +124,7 @@ media_step peer media = record {
   octets = media.octets;
 }
 
--- where media lies in a mini frame
+-- the place of media in a mini frame
 abbrev pub mini_span : MiniFrame → MediaSpan
 mini_span mini = record { start = 4; end = 4 + length mini.media }
 
@@ -136,7 +138,7 @@ trunk_media first peer trunk =
 
 -- ---- the datagram
 
--- why a datagram that is read is refused, memory aside
+-- the refusal of a datagram that was read, memory aside
 abbrev pub mini_refused : Option NamedLeg → Option PeerError
 mini_refused None = Some errors.NoCall
 mini_refused (Some named) = None

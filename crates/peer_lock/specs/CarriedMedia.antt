@@ -1,4 +1,4 @@
--- What media is handed up of a datagram: where it lies, and how many octets it takes ("Mini Frames", "Meta Frames").
+-- The media of a datagram that is handed up: its place, and its number of octets ("Mini Frames", "Meta Frames").
 use Rattle.std.specs.Prelude.{◌≡◌, ℕ, ◌+◌, ◌≤◌, true, List, [], ◌∷◌}
 use Rattle.std.specs.List.{AllByRecursion}
 use Rattle.call_book.specs.declared.leg_name.LegName.{LegName}
@@ -8,7 +8,7 @@ use Rattle.call_signals.specs.declared.signal.Signal.{Signal}
 use Rattle.call_signals.specs.declared.signal.Signal.TheVariants.{Media}
 use Rattle.peer_lock.specs.Peer.{PeerStep}
 
--- media lies within so many octets, and is 1 to 1,380 of them
+-- media is within a datagram of len octets, and has 1 to 1,380 of them
 abbrev pub LiesWithin : ℕ → LegName × Signal → Type 0
 LiesWithin len (name, Media span) = (span.start ≤ span.end) × (span.end ≤ len) × (is_media (span_len span) ≡ true)
 LiesWithin len (name, signal) = Unit {0}

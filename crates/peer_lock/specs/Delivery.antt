@@ -1,5 +1,5 @@
--- Where a full frame goes ("Full Frames", "INVAL", "NEW"), and what answers one that no leg has ("POKE", "REJECT", "REGREJ").
--- Call tokens are chan_iax2's; RFC 5456 has none.
+-- The delivery of a full frame ("Full Frames", "INVAL", "NEW"), and the answer to one that no leg has ("POKE", "REJECT",
+-- "REGREJ"). Call tokens are chan_iax2's; RFC 5456 has none.
 use Rattle.std.specs.Prelude.{◌≡◌, ℕ, ◌+◌, ◌/◌, ◌%◌, ◌==◌, ◌&&◌, ◌||◌, Bool, true, false, List, [], ◌∷◌, Option, None, Some, if◌then◌else◌}
 use Rattle.call_auth.specs.CallToken.{call_token, is_given}
 use Rattle.call_auth.specs.declared.call_token.CallTokens.{CallTokens}
@@ -18,6 +18,8 @@ use Rattle.info_elements.specs.Numbers.{CALLTOKEN}
 pub use Rattle.peer_legs.specs.Finding.{is_reached, can_reach, if_reached, found}
 use Rattle.peer_legs.specs.Legs.{NamedLeg}
 use Rattle.peer_lock.specs.Peer.{PeerView}
+use Rattle.peer_lock.specs.Pokes.{NO_CALL, answers_poke, is_own_pong}
+use Rattle.peer_lock.specs.declared.pokes.Pokes.{Pokes}
 use Rattle.peer_lock.specs.declared.errors.PeerError.{PeerError}
 use Rattle.peer_lock.specs.declared.errors.PeerError.TheVariants as errors
 use Rattle.peer_lock.specs.declared.steps.Rejection.TheVariants as rejections
@@ -31,11 +33,13 @@ pub data Delivery : Type 0 where
   NeedsNumber : Delivery
   -- a NEW that no leg has yet, without a call token of its endpoint
   NoToken : Delivery
-  -- no leg has it, and this answers it
+  -- no leg has it, and it gets this answer
   Gets : (answer : Answer) → Delivery
+  -- no leg has it: the PONG to the last POKE
+  Pongs : Delivery
   NoCall : Delivery
 
--- ---- what it is
+-- ---- kinds of frames
 
 abbrev pub is_new : Message → Bool
 is_new New = true
@@ -49,7 +53,7 @@ is_poke _ = false
 abbrev pub is_registration : FullHead → Bool
 is_registration head = (head.frame_type == FRAME_IAX) && ((head.subclass == IAX_REGREQ) || (head.subclass == IAX_REGREL))
 
--- ---- what answers it
+-- ---- answers
 
 -- the data of an answer: none, a cause ("Information Elements": CAUSE and CAUSECODE), or a call token
 abbrev pub answer_data : AnswerData → List ℕ
@@ -76,10 +80,6 @@ inval_for head = record {
   rejected = None;
   says = data_of.Nothing;
 }
-
--- the source of each answer that belongs to no call: no local number of a plan
-abbrev pub NO_CALL : ℕ
-NO_CALL = 0x7fff
 
 -- an answer to the source of a frame, with its timestamp, which acknowledges it
 abbrev pub answer_head : FullHead → ℕ → FullHead
@@ -122,7 +122,7 @@ token_for tokens head now =
       says = data_of.Token (call_token tokens (now / 5000));
     }
 
--- ---- where it goes
+-- ---- delivery
 
 -- a NEW that no leg has, by the element CALLTOKEN: without one it is refused, an empty one asks for a token
 abbrev pub by_token : CallTokens → FullHead → ℕ → Option (List ℕ) → Delivery
@@ -131,7 +131,7 @@ by_token tokens head now (Some []) = Gets (token_for tokens head now)
 by_token tokens head now (Some (digit ∷ digits)) =
     if is_given tokens now (digit ∷ digits) then NeedsNumber else NoToken
 
--- a NEW that no leg has, which needs a token where tokens are asked for
+-- a NEW that no leg has; it needs a token if its peer needs tokens
 abbrev pub welcome : Option CallTokens → FullFrame → ℕ → Delivery
 welcome None frame now = NeedsNumber
 welcome (Some tokens) frame now = by_token tokens frame.head now (element_in frame CALLTOKEN)
@@ -140,7 +140,7 @@ welcome (Some tokens) frame now = by_token tokens frame.head now (element_in fra
 abbrev pub newcomer : Bool → Option CallTokens → FullFrame → ℕ → Delivery
 newcomer drains tokens frame now = if drains then Gets (drained_for frame.head) else welcome tokens frame now
 
--- no leg is found, by whether the peer drains and by its rules
+-- no leg is found, and it is no PONG to a POKE: by whether the peer drains and by its rules
 abbrev pub unknown_call : Bool → PeerRules → FullFrame → ℕ → Delivery
 unknown_call drains rules frame now =
     if frame.head.destination == 0
@@ -149,12 +149,18 @@ unknown_call drains rules frame now =
     else if rules.is_hardened && is_registration frame.head then Gets (regrej_for frame.head) else NoCall)
     else (if is_numbered (message_of frame.head) then Gets (inval_for frame.head) else NoCall)
 
-abbrev pub delivered : Bool → PeerRules → Option NamedLeg → FullFrame → ℕ → Delivery
-delivered drains rules (Some named) frame now = Reaches named
-delivered drains rules None frame now = unknown_call drains rules frame now
+-- no leg is found
+abbrev pub legless : Bool → PeerRules → Pokes → FullFrame → ℕ → Delivery
+legless drains rules pokes frame now =
+    if is_own_pong rules frame.head then (if answers_poke pokes frame.head then Pongs else NoCall)
+    else unknown_call drains rules frame now
+
+abbrev pub delivered : Bool → PeerRules → Pokes → Option NamedLeg → FullFrame → ℕ → Delivery
+delivered drains rules pokes (Some named) frame now = Reaches named
+delivered drains rules pokes None frame now = legless drains rules pokes frame now
 
 abbrev pub delivery : PeerView → FullFrame → ℕ → Delivery
-delivery peer frame now = delivered peer.drains peer.rules (found peer.legs frame) frame now
+delivery peer frame now = delivered peer.drains peer.rules peer.pokes (found peer.legs frame) frame now
 
 -- ---- refusals
 
@@ -164,6 +170,7 @@ delivery_refused (Reaches named) = if is_record_full named.leg then Some errors.
 delivery_refused NeedsNumber = Some errors.NeedsNumber
 delivery_refused NoToken = Some errors.NoToken
 delivery_refused (Gets answer) = None
+delivery_refused Pongs = None
 delivery_refused NoCall = Some errors.NoCall
 
 abbrev pub full_refused : PeerView → FullFrame → ℕ → Option PeerError

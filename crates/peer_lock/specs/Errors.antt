@@ -1,4 +1,4 @@
--- How the refusals of the layers below are named here.
+-- The names that refusals of the lower layers have here.
 use Rattle.iax_frames.specs.declared.datagram.FrameError.{FrameError}
 use Rattle.iax_frames.specs.declared.datagram.FrameError.TheVariants as unread
 use Rattle.call_signals.specs.declared.order.OrderError.{OrderError as LegError}

@@ -8,6 +8,7 @@ pub mod Makes
 pub mod Openings
 pub mod Orders
 pub mod Peer
+pub mod Pokes
 pub mod ReadDatagram
 pub mod Seen
 pub mod Sides

@@ -1,5 +1,5 @@
--- What a call of a peer makes of a step, and what it leaves where it is refused.
-use Rattle.std.specs.Prelude.{◌≡◌, ◌+◌, Option, None, Some}
+-- The effect of a peer's call with a step, and of one that is refused.
+use Rattle.std.specs.Prelude.{◌≡◌, ◌+◌, [], Option, None, Some}
 use Rattle.peer_accounts.specs.Accounts.{Credit, with_accepted, with_step}
 use Rattle.peer_accounts.specs.HandedUp.{HandedUp}
 pub use Rattle.peer_accounts.specs.HandedUp.{IsNothing}
@@ -17,20 +17,29 @@ pub record Makes (s : PeerStep) (new : PeerView) (result : Step) (pass_old pass_
   pub offer : onwards.offer ≡ s.offer
   pub credit : pass_new ≡ with_step pass_old s.octets
 
--- the call took this media, and its step isn't counted yet
+-- the same of a step that hands nothing up and accepts no media
+pub record MakesAlone (s : PeerStep) (new : PeerView) (result : Step) (pass_old pass_new : Credit) : Type 0 where
+  pub peer : new ≡ s.peer
+  pub answer : result ≡ s.step
+  pub signals : s.signals ≡ []
+  pub offer : s.offer ≡ None
+  pub octets : s.octets ≡ 0
+  pub credit : pass_new ≡ with_step pass_old 0
+
+-- the call accepted this media, and its step isn't counted yet
 pub record Takes (media : MediaTaken) (old new : PeerView) (pass_old pass_new : Credit) (onwards : HandedUp) : Type 0 where
   pub peer : new ≡ record old { accounts = with_accepted old.accounts media.octets }
   pub signals : onwards.signals ≡ media.signals
   pub offer : onwards.offer ≡ None
   pub credit : pass_new ≡ record pass_old { octets = pass_old.octets + media.octets }
 
--- a refused call left all as it was
+-- a refused call left everything unchanged
 pub record IsUnchanged (old new : PeerView) (pass_old pass_new : Credit) (onwards : HandedUp) : Type 0 where
   pub peer : new ≡ old
   pub credit : pass_new ≡ pass_old
   pub nothing : IsNothing onwards
 
--- a refusal is the one that is due; where none is, memory was refused
+-- a refusal is the one that is due; if none is due, memory was refused
 abbrev pub IsDue : Option PeerError → PeerError → Type 0
 IsDue (Some due) e = e ≡ due
 IsDue None e = e ≡ Memory

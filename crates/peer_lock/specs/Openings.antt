@@ -1,4 +1,4 @@
--- The steps of a peer in which a leg is opened ("Call Setup"), and that in which none is, for want of a number ("REJECT").
+-- The step of a peer that opens a leg ("Call Setup"), and the one that rejects a NEW for want of a number ("REJECT").
 use Rattle.std.specs.Prelude.{◌≡◌, ℕ, ◌==◌, not, is_some, true, List, [], Option, None, Some, map, if◌then◌else◌}
 use Rattle.call_book.specs.declared.leg_name.LegName.{LegName}
 use Rattle.iax_frames.specs.FullFrame.{FullFrame, spelling}
@@ -41,7 +41,7 @@ open_out_refused peer credit name =
     else if not (is_free_name peer.legs name) then Some errors.NumberBusy
     else None
 
--- a refusal is the one that is due; where none is, memory was refused
+-- a refusal is the one that is due; if none is, memory was refused
 abbrev pub IsOpenRefusal : Option OpenError → OpenError → Type 0
 IsOpenRefusal (Some due) e = e ≡ due
 IsOpenRefusal None e = e ≡ errors.Memory
@@ -77,7 +77,7 @@ opens_in peer name frame now challenge =
       octets = 0;
     }
 
--- a call goes out
+-- a leg is opened by a call of this exchange
 abbrev pub opens_out : PeerView → LegName → List ℕ → List ℕ → Format → ℕ → PeerStep
 opens_out peer name called caller format now =
     let s = open_out_step peer.rules name.number called caller format now in
@@ -89,6 +89,6 @@ opens_out peer name called caller format now =
       octets = 0;
     }
 
--- a NEW is rejected, since no number is free
+-- a NEW is rejected because no number is free
 abbrev pub rejects_new : PeerView → FullFrame → PeerStep
 rejects_new peer frame = answering peer (reject_for frame.head)

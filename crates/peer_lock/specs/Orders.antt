@@ -1,4 +1,4 @@
--- The steps of a peer in which a leg obeys an order ("Call Setup", "Control Frames", "Mini Frames", "Meta Frames").
+-- The steps of a peer by which a leg obeys an order ("Call Setup", "Control Frames", "Mini Frames", "Meta Frames").
 use Rattle.std.specs.Prelude.{◌≡◌, ℕ, ◌==◌, List, [], ◌∷◌, ◌++◌, Option, None, Some, length, map}
 use Rattle.std.specs.Prelude.{if◌then◌else◌}
 use Rattle.call_book.specs.declared.leg_name.LegName.{LegName}
@@ -32,13 +32,13 @@ abbrev pub refused_at : Option NamedLeg → Order → ℕ → Option OrderError
 refused_at None order now = Some errors.Gone
 refused_at (Some named) order now = from_leg_due (order_refused named.leg order now)
 
--- why an order is refused, memory aside
+-- the refusal of an order, memory aside
 abbrev pub order_refused_by : PeerView → ℕ → LegName → Order → ℕ → Option OrderError
 order_refused_by peer credit name order now =
     if peer.accounts.steps == credit then Some errors.StepsSpent
     else refused_at (leg_named peer.legs name) order now
 
--- a refusal is the one that is due; where none is, memory was refused
+-- a refusal is the one that is due; if none is due, memory was refused
 abbrev pub IsOrderRefusal : Option OrderError → OrderError → Type 0
 IsOrderRefusal (Some due) e = e ≡ due
 IsOrderRefusal None e = e ≡ errors.Memory
@@ -67,7 +67,7 @@ queued_media peer entry now =
     then carried_media peer Dropped (length entry.media)
     else carried_media (with_entry peer entry now) Queued (length entry.media)
 
--- the queue goes out first if this begins the next frame
+-- the queue is sent first if this begins the next frame
 abbrev pub waiting_media : PeerView → QueueEntry → ℕ → PeerView
 waiting_media peer entry now =
     queued_media (flushed_if (begins_next peer.rules peer.queue entry.number (length entry.media)) peer) entry now
@@ -83,26 +83,26 @@ short_media peer number timestamp media now =
       media = media;
     }))) Packed (length media)
 
--- what is counted of media that goes out so
+-- the accounts of media that is sent in this way
 abbrev pub counted_media : MediaSent → PeerView → ℕ → List ℕ → ℕ → PeerView
 counted_media sent.Quelched peer number media now = carried_media peer Quelched (length media)
 counted_media sent.Voice peer number media now = carried_media peer Packed (length media)
 counted_media (sent.Mini timestamp) peer number media now = short_media peer number timestamp media now
 
--- the leg after media, and the full frame that it sends, if it does
+-- the leg after media, and the full frame that it sends, if it sends one
 abbrev pub with_media : MediaSent → PeerView → NamedLeg → List ℕ → ℕ → PeerView
 with_media sent peer named media now =
     let p = with_sent peer named.name.number (map spelling (media_frames sent named.leg media now)) in
     record p { legs = with_leg p.legs named.name (after_media sent named.leg media now) }
 
--- what becomes of media that goes out at a leg
+-- the peer after media that is sent at a leg
 abbrev pub carries_media : MediaSent → PeerView → NamedLeg → List ℕ → ℕ → PeerView
 carries_media sent peer named media now =
     counted_media sent (with_media sent peer named media now) named.name.number media now
 
 -- ---- the order
 
--- the leg after an order, and what it sends
+-- the leg after an order, and its frames
 abbrev pub with_order : PeerView → NamedLeg → OrderCarried → PeerView
 with_order peer named carried =
     let p = with_sent peer named.name.number carried.datagrams in record p {

@@ -1,4 +1,4 @@
--- A peer, and what its steps have in common.
+-- A peer, and the parts that its steps share.
 use Rattle.std.specs.Prelude.{ℕ, ◌+◌, ◌&&◌, Bool, List, [], ◌∷◌, length, Option, None, Some, if◌then◌else◌}
 use Rattle.call_book.specs.declared.leg_name.LegName.{LegName}
 use Rattle.leg_machine.specs.Leg.{LegState}
@@ -13,6 +13,7 @@ pub use Rattle.peer_accounts.specs.Grants.{Granted, granted_media, granted}
 use Rattle.peer_legs.specs.Legs.{PeerLegs, with_leg, with_place}
 use Rattle.outbox.specs.Outbox.{OutboxView, put}
 use Rattle.peer_accounts.specs.declared.onwards.Offer.{Offer}
+use Rattle.peer_lock.specs.declared.pokes.Pokes.{Pokes}
 use Rattle.peer_lock.specs.declared.steps.Step.{Step}
 use Rattle.peer_lock.specs.Trunks.{has_any, goes_ahead, outbox_after, queue_after, accounts_after}
 use Rattle.trunk_packer.specs.Queue.{QueueEntry}
@@ -21,7 +22,7 @@ pub record PeerView : Type 0 where
   pub rules : PeerRules
   -- the legs, by local number
   pub legs : PeerLegs
-  -- the datagrams that wait to be sent, and how many a full outbox lost
+  -- the datagrams that wait to be sent, and the number that a full outbox lost
   pub outbox : OutboxView
   -- the media that waits for a trunk frame
   pub queue : List QueueEntry
@@ -29,9 +30,11 @@ pub record PeerView : Type 0 where
   pub since : ℕ
   -- no NEW opens a leg any more
   pub drains : Bool
+  -- the state of the exchange's POKEs to the peer
+  pub pokes : Pokes
   pub accounts : Accounts
 
--- the peer after a step, what the step answers and hands up, and the media octets that it accepted
+-- the peer after a step, the step's answer, its signals, and the media octets that it accepted
 pub record PeerStep : Type 0 where
   pub peer : PeerView
   pub step : Step
@@ -46,13 +49,13 @@ no_leg = record { judged = Unnumbered; touched = None; rejected = None }
 abbrev pub leg_alone : LegName → Judged → Step
 leg_alone name judged = record { judged = judged; touched = Some name; rejected = None }
 
--- ---- what is handed up
+-- ---- signals handed up
 
 abbrev pub handed_up : LegName → Option Signal → List (LegName × Signal)
 handed_up name None = []
 handed_up name (Some signal) = (name, signal) ∷ []
 
--- what an offered call asks for
+-- the offer of an offered call
 abbrev pub offer_of : LegState → Offer
 offer_of leg = record { called = called_of leg; caller = caller_of leg; format = leg.format; formats = formats_of leg }
 
@@ -62,7 +65,7 @@ offer_with leg signal = None
 
 -- ---- sending
 
--- the whole queue goes out as one trunk frame, if it is to
+-- the whole queue is sent as one trunk frame, if it is to be
 abbrev pub flushed_if : Bool → PeerView → PeerView
 flushed_if goes peer = record peer {
   outbox = outbox_after goes peer.rules.trunk_timestamps peer.since peer.outbox peer.queue;
@@ -70,13 +73,13 @@ flushed_if goes peer = record peer {
   accounts = accounts_after goes peer.queue peer.accounts;
 }
 
--- The replies of the leg of a number go to the outbox, behind queued media of its call.
+-- The replies of the leg of a number are put into the outbox, behind queued media of its call.
 abbrev pub with_sent : PeerView → ℕ → List (List ℕ) → PeerView
 with_sent peer number datagrams =
     let p = flushed_if (has_any datagrams && goes_ahead peer.rules peer.queue number) peer in
     record p { outbox = put p.outbox datagrams }
 
--- the leg of a name is taken out, after queued media of its call went out
+-- the leg of a name is taken out, after queued media of its call was sent
 abbrev pub without_leg : PeerView → LegName → PeerView
 without_leg peer name =
     record (flushed_if (goes_ahead peer.rules peer.queue name.number) peer) { legs = with_place peer.legs name.number None }
@@ -87,7 +90,7 @@ to_send peer = length peer.outbox.waiting + (if has_any peer.queue then 1 else 0
 
 -- ---- one leg's step
 
--- The peer with another state of one leg, and with what that leg sends. The step is counted, and what it accepted.
+-- The peer with another state of one leg, and with that leg's frames. The step and the accepted octets are counted.
 abbrev pub with_step : PeerView → LegName → LegState → List (List ℕ) → ℕ → PeerView
 with_step peer name leg datagrams octets =
     let p = with_sent peer name.number datagrams in record p {
@@ -97,14 +100,14 @@ with_step peer name leg datagrams octets =
 
 -- ---- steps without a leg
 
--- the peer with one step more
+-- the peer with one more step
 abbrev pub counted : PeerView → PeerView
 counted peer = record peer { accounts = stepped peer.accounts }
 
--- the peer with one datagram more in its outbox
+-- the peer with one more datagram in its outbox
 abbrev pub with_datagram : PeerView → List ℕ → PeerView
 with_datagram peer datagram = record peer { outbox = put peer.outbox (datagram ∷ []) }
 
--- a step that leaves the peer so, and hands nothing up
+-- a step that leaves this peer, and hands nothing up
 abbrev pub alone : PeerView → PeerStep
 alone peer = record { peer = counted peer; step = no_leg; signals = []; offer = None; octets = 0 }

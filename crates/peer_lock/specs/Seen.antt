@@ -1,5 +1,5 @@
--- What callers at once see of a peer: of each leg its name, where it stands, whether it is doomed and whether it owes; and what a
--- step of the peer may do to that ("IAX Frames", "Call Setup").
+-- The part of a peer that callers at once see: of each leg the name, the stage, whether it is doomed and whether it owes.
+-- And the effect that a step of the peer may have on it ("IAX Frames", "Call Setup").
 use Rattle.std.specs.Prelude.{◌≡◌, ◌≢◌, ℕ, ◌&&◌, not, ◌⊎◌, Bool, true, false, List, [], ◌∷◌, ◌++◌, Option, None, Some, option_map}
 use Rattle.std.specs.Prelude.{is_some}
 use Rattle.call_book.specs.declared.leg_name.LegName.{LegName}
@@ -28,7 +28,7 @@ seen_named named = record { name = named.name; seen = seen named.leg }
 abbrev pub seen_at : PeerLegs → ℕ → Option SeenNamed
 seen_at legs number = option_map seen_named (leg_at legs number)
 
--- the leg of this number is seen so, or there is none; all others are seen as before
+-- afterwards the leg of this number is seen like this, or there is none; all others are seen as before
 pub record TurnsAt (old new : PeerLegs) (number : ℕ) (after : Option SeenNamed) : Type 0 where
   pub peer : new.peer ≡ old.peer
   pub there : seen_at new number ≡ after
@@ -36,7 +36,7 @@ pub record TurnsAt (old new : PeerLegs) (number : ℕ) (after : Option SeenNamed
 
 -- ---- datagrams
 
--- A full frame comes to a leg. Where there is no credit for its media, it is a frame that changes nothing.
+-- A full frame comes to a leg. Without credit for its media, it is a frame that changes nothing.
 pub record Brings (old : PeerLegs) (step : PeerStep) : Type 0 where
   pub named : SeenNamed
   pub at : seen_at old named.name.number ≡ Some named
@@ -86,7 +86,7 @@ pub record RejectsNew (old : PeerLegs) (step : PeerStep) : Type 0 where
   pub signals : step.signals ≡ []
   pub touched : step.step.touched ≡ None
 
--- a call goes out under a name whose number no leg has
+-- a call of this exchange opens a leg under a name whose number no leg has
 pub record OpensOut (old new : PeerLegs) (name : LegName) : Type 0 where
   pub peer : name.peer ≡ old.peer
   pub free : seen_at old name.number ≡ None
@@ -106,14 +106,14 @@ pub record Obeys (old new : PeerLegs) (name : LegName) (kind : OrderKind) : Type
 abbrev pub IsGone : PeerLegs → LegName → Type 0
 IsGone legs name = (before : SeenLeg) → seen_at legs name.number ≢ Some (record { name = name; seen = before })
 
--- what refuses an order of a leg that stands so, where its stage is a right one
+-- the refusals of an order by a leg in this state whose stage is a right one
 abbrev pub refuses_order : OrderKind → OrderError → Bool
 refuses_order (kinds.Doom cause) error = false
 refuses_order kinds.Paid error = false
 refuses_order kind errors.WindowFull = true
 refuses_order kind errors.RecordFull = true
 refuses_order kind errors.Memory = true
--- a doomed leg takes no digits
+-- a doomed leg accepts no digits
 refuses_order (kinds.Dtmf digit) errors.WrongStage = true
 refuses_order kind error = false
 
@@ -124,7 +124,7 @@ pub record Refuses (legs : PeerLegs) (name : LegName) (kind : OrderKind) (error 
   pub right : is_some (stage_after kind before.stage) ≡ is_right
   pub refuses : is_right ≡ true → refuses_order kind error ≡ true
 
--- why an order of a leg is refused, as it is seen
+-- the refusal of an order of a leg, as it is seen
 abbrev pub IsSeenRefusal : PeerLegs → LegName → OrderKind → OrderError → Type 0
 IsSeenRefusal legs name kind errors.StepsSpent = Unit {0}
 IsSeenRefusal legs name kind errors.Gone = IsGone legs name

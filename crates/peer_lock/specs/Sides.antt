@@ -1,5 +1,4 @@
--- What a step of a peer adds to the records of its legs, and what it sends of them, as sides of networks do ("Message
--- Transport").
+-- The records and the frames of a peer's legs after a step, as those of sides of networks ("Message Transport").
 use Rattle.std.specs.Prelude.{◌≡◌, ◌⊎◌, ℕ, false, List, [], ◌∷◌, ◌++◌, All, Option, None, Some, slice_get}
 use Rattle.call_auth.specs.declared.call_token.CallTokens.{CallTokens}
 use Rattle.call_book.specs.declared.leg_name.LegName.{LegName}
@@ -17,6 +16,7 @@ use Rattle.peer_legs.specs.Legs.{PeerLegs, NamedLeg, leg_at, with_leg, with_plac
 use Rattle.peer_lock.specs.Delivery.{drained_for, answer_octets, inval_for, pong_for, regrej_for, reject_for, token_for}
 use Rattle.outbox.specs.Outbox.{put, extended}
 use Rattle.peer_lock.specs.Peer.{PeerView}
+use Rattle.peer_lock.specs.Pokes.{poke_octets}
 use Rattle.peer_lock.specs.declared.unknown_calls.Answer.{Answer}
 use Rattle.trunk_packer.specs.Queue.{trunk_spelling}
 use Rattle.seq_window.specs.Network.{Action, SendNumbered, SendUnnumbered, Retransmit, JudgeAcknowledgement, JudgeNumber}
@@ -29,8 +29,8 @@ abbrev pub IsQueued : PeerView → List (List ℕ) → Type 0
 IsQueued old ahead =
     (ahead ≡ []) ⊎ (ahead ≡ trunk_spelling old.rules.trunk_timestamps old.since old.queue ∷ [])
 
--- One leg steps, and sends these datagrams, behind media that was queued; the first of all that go to the outbox, as many as it
--- has room for. The other legs stay.
+-- One leg steps, and sends these datagrams behind media that was queued. The first of them go into the outbox, as far as it
+-- has room. The other legs stay.
 pub record OneSteps (old new : PeerView) (named : NamedLeg) (leg : LegState) (datagrams : List (List ℕ)) : Type 0 where
   pub at : leg_at old.legs named.name.number ≡ Some named
   pub legs : new.legs ≡ with_leg old.legs named.name leg
@@ -40,7 +40,8 @@ pub record OneSteps (old new : PeerView) (named : NamedLeg) (leg : LegState) (da
 
 -- ---- datagrams
 
--- A full frame comes to a leg: its record grows by one turn of a side, and all that it sends is a sending from that record.
+-- A full frame comes to a leg. Its record grows by one turn of a side, and each frame that it sends is a sending from that
+-- record.
 pub record TakesTurnAtLeg (old : PeerView) (frame : FullFrame) (new : PeerView) : Type 0 where
   pub named : NamedLeg
   pub leg : LegState
@@ -53,20 +54,20 @@ pub record TakesTurnAtLeg (old : PeerView) (frame : FullFrame) (new : PeerView) 
 abbrev pub SendsAnswer : PeerView → Answer → PeerView → Type 0
 SendsAnswer old answer new = new.outbox ≡ put old.outbox (answer_octets answer ∷ [])
 
--- A full frame comes to no leg: none changes, and at most an INVAL goes out, the PONG for a POKE, the REGREJ for a registration,
--- or the REJECT or the CALLTOKEN for a NEW.
+-- A full frame comes to no leg: none changes. At most one answer is sent: an INVAL, the PONG for a POKE, the REGREJ for a
+-- registration, or the REJECT or the CALLTOKEN for a NEW.
 pub record ComesToNone (old : PeerView) (frame : FullFrame) (new : PeerView) : Type 0 where
   pub legs : new.legs ≡ old.legs
   pub outbox : (new.outbox ≡ old.outbox) ⊎ SendsAnswer old (inval_for frame.head) new ⊎ SendsAnswer old (pong_for frame.head) new
       ⊎ SendsAnswer old (regrej_for frame.head) new ⊎ SendsAnswer old (drained_for frame.head) new
       ⊎ ((tokens : CallTokens) × (now : ℕ) × SendsAnswer old (token_for tokens frame.head now) new)
 
--- a NEW finds no number: no leg changes, and a REJECT goes out
+-- a NEW finds no number: no leg changes, and a REJECT is sent
 pub record RejectsNew (old : PeerView) (frame : FullFrame) (new : PeerView) : Type 0 where
   pub legs : new.legs ≡ old.legs
   pub outbox : SendsAnswer old (reject_for frame.head) new
 
--- neither a leg changes, nor does anything go out
+-- no leg changes, and nothing is sent
 pub record SendsNothing (old new : PeerView) : Type 0 where
   pub legs : new.legs ≡ old.legs
   pub outbox : new.outbox ≡ old.outbox
@@ -79,8 +80,8 @@ TakesDatagram old (Trunk trunk) new = SendsNothing old new
 
 -- ---- orders and openings
 
--- The leg of a name obeys an order: its record grows by at most a sent frame, and all that it sends is a sending from that
--- record, or a mini frame.
+-- The leg of a name obeys an order. Its record grows by at most a sent frame, and each frame that it sends is a sending
+-- from that record, or a mini frame.
 pub record SendsAtLeg (old : PeerView) (name : LegName) (new : PeerView) : Type 0 where
   pub named : NamedLeg
   pub is : named.name ≡ name
@@ -90,7 +91,7 @@ pub record SendsAtLeg (old : PeerView) (name : LegName) (new : PeerView) : Type 
   pub tied : SendsAtMostOne named.leg leg
   pub sendings : All (IsSendingOrMini leg) datagrams
 
--- a leg is opened under a free name, and then stands there: all that it sends is a sending from its record
+-- a leg is opened under a free name, and is then found there: each frame that it sends is a sending from its record
 pub record OpensLeg (old : PeerView) (name : LegName) (leg : LegState) (new : PeerView) : Type 0 where
   pub free : leg_at old.legs name.number ≡ None
   pub legs : new.legs ≡ with_place old.legs name.number (Some (record { name = name; leg = leg }))
@@ -99,13 +100,13 @@ pub record OpensLeg (old : PeerView) (name : LegName) (leg : LegState) (new : Pe
   pub outbox : new.outbox ≡ put old.outbox datagrams
   pub sendings : All (IsSending leg) datagrams
 
--- by a NEW that came: its record begins with one turn of a side
+-- by a received NEW: its record begins with one turn of a side
 pub record TakesNew (old : PeerView) (name : LegName) (frame : FullFrame) (new : PeerView) : Type 0 where
   pub leg : LegState
   pub opens : OpensLeg old name leg new
   pub tied : TakesFirstTurn frame leg
 
--- by a NEW that goes out: its record begins with at most a sent frame
+-- by a NEW that is sent: its record begins with at most a sent frame
 pub record SendsNew (old : PeerView) (name : LegName) (new : PeerView) : Type 0 where
   pub leg : LegState
   pub opens : OpensLeg old name leg new
@@ -126,16 +127,22 @@ pub record IsSendingOfOne (legs : PeerLegs) (datagram : List ℕ) : Type 0 where
   pub at : leg_at legs number ≡ Some named
   pub sending : IsSending named.leg datagram
 
--- Each leg ticks by itself, and all that the legs send is a sending from the record of one of them, behind media that was
--- queued. Then come trunk frames.
+-- these datagrams are at most one POKE, which belongs to no call
+abbrev pub IsAtMostPoke : List (List ℕ) → Type 0
+IsAtMostPoke datagrams = (datagrams ≡ []) ⊎ ((now : ℕ) × (datagrams ≡ poke_octets now ∷ []))
+
+-- A POKE may come first. Each leg ticks separately, and each frame that the legs send is a sending from the record of one of
+-- them, behind media that was queued. Then come trunk frames.
 pub record EachSends (old new : PeerView) : Type 0 where
   pub each : (number : ℕ) → SendsAt (leg_at old.legs number) (leg_at new.legs number)
+  pub pokes : List (List ℕ)
+  pub poke : IsAtMostPoke pokes
   pub ahead : List (List ℕ)
   pub queued : IsQueued old ahead
   pub datagrams : List (List ℕ)
   pub sendings : All (IsSendingOfOne new.legs) datagrams
   pub trunks : List (List ℕ)
-  pub outbox : new.outbox ≡ extended (put old.outbox (ahead ++ datagrams)) trunks
+  pub outbox : new.outbox ≡ extended (put (put old.outbox pokes) (ahead ++ datagrams)) trunks
 
 -- ---- the network
 
@@ -145,7 +152,7 @@ pub record IsSideOf (rules : PeerRules) (leg : LegState) (own : Side) : Type 0 w
   pub limit : own.limit ≡ rules.record_limit
   pub history : own.history ≡ leg.window.history
 
--- a full frame bears the numbers of a datagram of the network, each in an octet, and its frame where that is numbered
+-- a full frame has the numbers of a datagram of the network, each in an octet, and its frame if that is numbered
 pub record Bears (frame : FullFrame) (datagram : Sending) : Type 0 where
   pub oseqno : frame.head.oseqno ≡ byte_of datagram.number
   pub iseqno : frame.head.iseqno ≡ byte_of datagram.acknowledgement
@@ -155,7 +162,7 @@ pub record Bears (frame : FullFrame) (datagram : Sending) : Type 0 where
 abbrev pub HasDatagram : Side → Sending → Type 0
 HasDatagram own datagram = (which : ℕ) × (slice_get own.datagrams which ≡ Some datagram)
 
--- A side has sent these octets: they spell a full frame that bears one of its datagrams, and that is no INVAL.
+-- A side has sent these octets: they spell a full frame with one of its datagrams, and it is no INVAL.
 pub record IsSentBy (own : Side) (octets : List ℕ) : Type 0 where
   pub frame : FullFrame
   pub spelt : octets ≡ spelling frame
@@ -172,7 +179,7 @@ IsSentByOrMini own octets = IsSentBy own octets ⊎ ((mini : MiniFrame) × Spell
 abbrev pub IsSentFrom : LegState → Sending → Type 0
 IsSentFrom leg datagram = (frame : FullFrame) × (sending : IsSendingOf leg.window.history frame) × (sending.datagram ≡ datagram)
 
--- an action that sends a held frame again, or what isn't numbered: the record stays
+-- an action that retransmits a held frame, or sends one that isn't numbered: the record stays
 abbrev pub SendsNothingNew : Action → Type 0
 SendsNothingNew SendUnnumbered = Unit {0}
 SendsNothingNew (Retransmit place) = Unit {0}

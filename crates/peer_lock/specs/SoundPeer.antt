@@ -1,4 +1,4 @@
--- What holds of a peer whenever its lock is free.
+-- The invariant of a peer's lock.
 use Rattle.std.specs.Prelude.{◌≡◌, ◌≤◌, true}
 use Rattle.call_signals.specs.PeerRules.{IsPeerRules}
 use Rattle.peer_legs.specs.Legs.{AreLegs, AreLegsOf}
@@ -6,8 +6,8 @@ use Rattle.peer_lock.specs.Peer.{PeerView}
 use Rattle.peer_lock.specs.Trunks.{waits}
 use Rattle.trunk_packer.specs.Queue.{media_octets, trunk_octets}
 
--- The rules are such as a plan lets them be, each leg goes by them, what is counted as queued is in the queue, and media that
--- waits for a frame to fill fits in one.
+-- The rules are those of a valid plan, and each leg has these rules. The octets counted as queued are in the queue. Media
+-- that waits for a frame to fill fits in one.
 pub record IsKept (peer : PeerView) : Type 0 where
   pub rules : IsPeerRules peer.rules
   pub ruled : AreLegsOf peer.rules peer.legs

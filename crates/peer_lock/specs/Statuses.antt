@@ -1,4 +1,4 @@
--- How a leg stands, as those see it who look.
+-- The status of a leg, as the exchange reports it.
 use Rattle.std.specs.Prelude.{ℕ, ◌≤◌, List, ◌&&◌, not, Bool, false, Option, None, Some, is_some}
 use Rattle.leg_machine.specs.Stage.{is_ended}
 use Rattle.seq_window.specs.Entry.{Entry}

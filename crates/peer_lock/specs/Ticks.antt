@@ -1,4 +1,4 @@
--- The steps of a peer in which time goes on ("Message Transport", "Meta Frames").
+-- The steps of a peer that are ticks ("Message Transport", "Meta Frames").
 use Rattle.std.specs.Prelude.{◌≡◌, ℕ, ◌+◌, ◌<◌, ◌≤◌, ◌==◌, ◌⊎◌, ◌&&◌, nat_lt, Bool, true, false, All, List, [], ◌∷◌, ◌++◌, Option, None, Some, length, map}
 use Rattle.iax_frames.specs.FullFrame.{spelling}
 use Rattle.leg_machine.specs.Ticks.{tick_step}
@@ -6,19 +6,20 @@ use Rattle.peer_legs.specs.Legs.{NamedLeg}
 use Rattle.peer_legs.specs.Rests.{is_resting}
 use Rattle.outbox.specs.Outbox.{put, extended}
 use Rattle.peer_lock.specs.Peer.{PeerView, counted, flushed_if}
+use Rattle.peer_lock.specs.Pokes.{is_poke_due, pokes_after, pokes_sent}
 use Rattle.peer_lock.specs.Trunks.{has_any, waits, is_due}
 use Rattle.peer_lock.specs.declared.steps.TickReport.{TickReport}
 use Rattle.trunk_packer.specs.Queue.{QueueEntry, media_octets, PacksFront}
 
 -- ---- the legs, by ascending number
 
--- what a tick leaves at a place, what it sends, and how many frames had no memory
+-- the leg at a place after a tick, the datagrams that it sends, and the number of frames without memory
 pub record PlaceTick : Type 0 where
   pub place : Option NamedLeg
   pub datagrams : List (List ℕ)
   pub skipped : ℕ
 
--- so many frames had no memory
+-- skipped is the number of frames without memory
 abbrev pub place_tick : ℕ → Option NamedLeg → ℕ → PlaceTick
 place_tick skipped None now = record { place = None; datagrams = []; skipped = 0 }
 place_tick skipped (Some named) now =
@@ -29,7 +30,7 @@ place_tick skipped (Some named) now =
       skipped = t.skipped;
     }
 
--- the same of all places
+-- the same for all places
 pub record LegsTick : Type 0 where
   pub places : List (Option NamedLeg)
   pub datagrams : List (List ℕ)
@@ -42,7 +43,7 @@ then_ticks first rest = record {
   skipped = first.skipped + rest.skipped;
 }
 
--- with how many frames at each place had no memory
+-- with the number of frames without memory at each place
 abbrev pub legs_tick : List ℕ → List (Option NamedLeg) → ℕ → LegsTick
 legs_tick skips [] now = record { places = []; datagrams = []; skipped = 0 }
 legs_tick [] (place ∷ places) now = then_ticks (place_tick 0 place now) (legs_tick [] places now)
@@ -69,7 +70,7 @@ with_packed peer datagrams queue octets = record peer {
   accounts = record peer.accounts { packed = peer.accounts.packed + octets; queued = media_octets queue };
 }
 
--- one trunk frame is packed, with so many octets of media
+-- one trunk frame is packed, with this many octets of media
 pub record PacksOne (old : PeerView) (now octets : ℕ) (new : PeerView) : Type 0 where
   pub datagram : List ℕ
   pub front : PacksFront old.rules.trunk_timestamps now old.queue new.queue datagram
@@ -77,7 +78,7 @@ pub record PacksOne (old : PeerView) (now octets : ℕ) (new : PeerView) : Type 
   pub shorter : length new.queue < length old.queue
   pub rest : new ≡ with_packed old (datagram ∷ []) new.queue octets
 
--- trunk frames are packed, with so many octets of media, until nothing is queued or the outbox is full
+-- trunk frames are packed, with this many octets of media, until nothing is queued or the outbox is full
 pub record PacksMedia (old : PeerView) (now octets : ℕ) (new : PeerView) : Type 0 where
   pub datagrams : List (List ℕ)
   pub fronts : PacksFronts old.rules.trunk_timestamps now old.queue datagrams new.queue
@@ -85,7 +86,7 @@ pub record PacksMedia (old : PeerView) (now octets : ℕ) (new : PeerView) : Typ
   pub rest : new ≡ with_packed old datagrams new.queue octets
   pub done : IsPacked new
 
--- the whole queue goes out as one frame, once its oldest entry has waited long enough and the outbox has room
+-- the whole queue is sent as one frame, once its oldest entry has waited long enough and the outbox has room
 pub record PacksDue (old : PeerView) (now octets : ℕ) (new : PeerView) : Type 0 where
   pub rest : new ≡ flushed_if (is_due old.rules.trunk_ms old.since now && nat_lt (length old.outbox.waiting) 256) old
   pub media : new.accounts.packed ≡ old.accounts.packed + octets
@@ -97,24 +98,32 @@ Packs (Some wait) old now octets new = PacksDue old now octets new
 
 -- ---- nothing to do
 
--- nothing that is queued is to go out at this moment
+-- no queued media is due at this moment
 abbrev pub QueueRests : PeerView → ℕ → Type 0
 QueueRests peer now =
     (peer.queue ≡ []) ⊎ (waits peer.rules ≡ true) × (is_due peer.rules.trunk_ms peer.since now ≡ false)
 
--- a tick at this moment has nothing to do: each leg rests, and so does the queue
+-- a tick at this moment has nothing to do: no POKE is due, each leg rests, and so does the queue
 pub record RestsAt (peer : PeerView) (now : ℕ) : Type 0 where
   pub legs : All (λ place. is_resting place now ≡ true) peer.legs.places
   pub queue : QueueRests peer now
+  pub pokes : is_poke_due peer.rules peer.pokes now ≡ false
   pub few : length peer.outbox.waiting ≤ 256
 
 -- ---- the tick
 
--- In plan format 4 the queue goes out ahead of the legs' datagrams, if there are any.
+-- a POKE goes out, if one is due
+abbrev pub asked : PeerView → ℕ → PeerView
+asked peer now = record peer {
+  outbox = put peer.outbox (pokes_sent peer.rules peer.pokes now);
+  pokes = pokes_after peer.rules peer.pokes now;
+}
+
+-- In plan version 4 the queue is sent ahead of the legs' datagrams, if there are any.
 abbrev pub flushed_ahead : PeerView → List (List ℕ) → PeerView
 flushed_ahead peer datagrams = flushed_if (has_any datagrams && waits peer.rules) peer
 
--- what the legs' ticks do to the peer, how many frames had no memory, and how many octets of media were packed ahead
+-- the effect of the legs' ticks on the peer, the number of frames without memory, and the octets of media packed ahead
 pub record TicksLegs (old : PeerView) (now skipped : ℕ) (new : PeerView) : Type 0 where
   pub skips : List ℕ
   pub count : skipped ≡ (legs_tick skips old.legs.places now).skipped
@@ -124,10 +133,10 @@ pub record TicksLegs (old : PeerView) (now skipped : ℕ) (new : PeerView) : Typ
         (legs_tick skips old.legs.places now).datagrams;
   }
 
--- the step is counted, then come each leg's tick in order, then the trunk queue
+-- the step is counted, then a POKE is sent if one is due, each leg is ticked in order, and the trunk queue is packed
 pub record Ticks (old : PeerView) (now : ℕ) (report : TickReport) (new : PeerView) : Type 0 where
   pub between : PeerView
-  pub legs : TicksLegs (counted old) now report.skipped between
+  pub legs : TicksLegs (asked (counted old) now) now report.skipped between
   pub octets : ℕ
   pub packs : Packs between.rules.trunk_ms between now octets new
   pub packed : new.accounts.packed ≡ old.accounts.packed + report.packed

@@ -11,37 +11,37 @@ abbrev pub has_any : {A : Type 0} → List A → Bool
 has_any [] = false
 has_any (x ∷ xs) = true
 
--- ---- when the queue goes out
+-- ---- when the queue is sent
 
 -- media waits for a frame to fill
 abbrev pub waits : PeerRules → Bool
 waits rules = is_some rules.trunk_ms
 
--- the trunk queue has no room for so many octets more
+-- the trunk queue has no room for this many further octets
 abbrev pub is_full_for : List QueueEntry → ℕ → Bool
 is_full_for queue octets = nat_le 256 (length queue) || nat_lt 16384 (media_octets queue + octets)
 
--- the frame of what is queued has no room for so many octets more
+-- the frame of the queued media has no room for this many further octets
 abbrev pub fills_frame : Bool → List QueueEntry → ℕ → Bool
 fills_frame timed queue octets = nat_lt 1400 (trunk_octets timed queue + head_len timed + octets)
 
--- So many octets of a call begin the next frame. Without timestamps a receiver would give two entries of a call one moment.
+-- Media of this length begins the next frame. Without timestamps a receiver would give two entries of a call one moment.
 abbrev pub begins_next : PeerRules → List QueueEntry → ℕ → ℕ → Bool
 begins_next rules queue number octets = waits rules && (is_full_for queue octets
     || (fills_frame rules.trunk_timestamps queue octets || (not rules.trunk_timestamps && has_call number queue)))
 
--- media of the call is queued, and goes out ahead of its full frames
+-- media of the call is queued, and is sent ahead of its full frames
 abbrev pub goes_ahead : PeerRules → List QueueEntry → ℕ → Bool
 goes_ahead rules queue number = waits rules && has_call number queue
 
--- an entry that was queued at one moment is so old at another
+-- an entry that was queued at one moment has waited this long at another
 abbrev pub is_due : Option ℕ → ℕ → ℕ → Bool
 is_due None since now = false
 is_due (Some wait) since now = nat_le wait (now - since)
 
--- ---- the queue goes out
+-- ---- the queue is sent
 
--- it goes out if it is to and isn't empty
+-- it is sent if it is to be and isn't empty
 abbrev pub flushes : Bool → List QueueEntry → Bool
 flushes goes queue = goes && has_any queue
 

@@ -1,4 +1,4 @@
--- What is looked at before a datagram is worked, and why it is refused then ("Full Frames", "Information Elements").
+-- The checks before a datagram is handled, and its refusal by them ("Full Frames", "Information Elements").
 use Rattle.std.specs.Prelude.{◌≡◌, ◌≢◌, ℕ, ◌+◌, ◌<◌, ◌≤◌, ◌⊎◌, List, length, map}
 use Rattle.call_signals.specs.Codes.{FRAME_IAX}
 use Rattle.iax_frames.specs.Datagram.{Spells, Refuses}
@@ -16,7 +16,7 @@ use Rattle.peer_lock.specs.declared.errors.PeerError.TheVariants as errors
 abbrev pub IsCutFrame : FullFrame → Type 0
 IsCutFrame frame = (frame.head.frame_type ≡ FRAME_IAX) × ((place : ℕ) × IsElementCutAt frame.payload place)
 
--- why a full frame goes to no leg, in this order: too much data, no source, elements that are cut
+-- the refusal of a full frame before it reaches a leg, in this order: too much data, no source, elements that are cut
 abbrev pub IsRefusedFull : FullFrame → PeerError → Type 0
 IsRefusedFull frame errors.TooLong = 1388 < length frame.payload
 IsRefusedFull frame errors.NoSource = (length frame.payload ≤ 1388) × (frame.head.source ≡ 0)
@@ -41,28 +41,29 @@ IsSound (Mini mini) = Unit {0}
 IsSound (Video video) = Unit {0}
 IsSound (Trunk trunk) = Unit {0}
 
--- why octets, at most 2,048 of them, spell nothing that is worked
+-- the refusal of octets, at most 2,048 of them, that spell nothing to be handled
 abbrev pub IsUnread : List ℕ → PeerError → Type 0
 IsUnread octets errors.Short = Refuses octets unread.Short
 IsUnread octets errors.MetaCommand = (command : ℕ) × Refuses octets (unread.MetaCommand command)
 IsUnread octets errors.EntryCut = (place : ℕ) × Refuses octets (unread.EntryCut place)
 IsUnread octets e = (d : Datagram) × Spells octets d × IsRefusedRead d e
 
--- Why a datagram isn't worked, in the order of the errors. The peer has made this many steps of those for which it has credit.
+-- The refusal of a datagram, in the order of the errors. The peer has made this many steps of those for which it has
+-- credit.
 abbrev pub IsUnworked : ℕ → ℕ → List ℕ → PeerError → Type 0
 IsUnworked credit made octets errors.StepsSpent = made ≡ credit
 IsUnworked credit made octets errors.TooLong =
     (made ≢ credit) × ((2048 < length octets) ⊎ (length octets ≤ 2048) × IsUnread octets errors.TooLong)
 IsUnworked credit made octets e = (made ≢ credit) × (length octets ≤ 2048) × IsUnread octets e
 
--- the octets spell this datagram, which is worked
+-- the octets spell this datagram, which is handled
 pub record IsWorked (credit made : ℕ) (octets : List ℕ) (d : Datagram) : Type 0 where
   pub steps : made ≢ credit
   pub short : length octets ≤ 2048
   pub spelled : Spells octets d
   pub sound : IsSound d
 
--- no longer than 2,048 octets spell it
+-- no more than 2,048 octets spell it
 abbrev pub IsShortDatagram : Datagram → Type 0
 IsShortDatagram (Full frame) = Unit {0}
 IsShortDatagram (Mini mini) = length mini.media ≤ 2048

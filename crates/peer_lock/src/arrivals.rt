@@ -1,4 +1,4 @@
-//! The steps of a peer in which a datagram comes ("Full Frames", "Mini Frames", "Meta Frames").
+//! The steps of a peer by which it handles a datagram ("Full Frames", "Mini Frames", "Meta Frames").
 ghost use Rattle.std.specs.Prelude.{◌≡◌, ◌≢◌, ◌+◌, ◌-◌, ◌<◌, ◌≤◌, ◌⊎◌, ◌↔◌, [], length, map, true, None, Some, Err, IsSome, IfOk};
 ghost use Rattle.std.specs.Prelude.{IfErr, OnOk, OnErr, IfSome, IsNone, IsTrue};
 ghost use Rattle.leg_machine.specs.Leg.{is_record_full};
@@ -33,7 +33,7 @@ use leg_machine::{ElementText, Heard, Judged, MediaSpan, Message, PeerRules, Sig
 use peer_accounts::{Naming, Offer, Onwards, Pass};
 use peer_legs::NamedLeg;
 
-// What the offered call of a leg asks for.
+// Returns the offer of a leg's offered call.
 fn offer_of(named: &NamedLeg) -> Offer
     ensures { result ≡ spec.offer_of named.now.leg }
 {
@@ -52,7 +52,7 @@ fn is_auth_req(message: &Message) -> bool
     matches!(message, Message::AuthReq)
 }
 
-// What is reported of a full frame that a leg judged: an AUTHREQ with a challenge of this exchange.
+// Returns the rejection of a full frame that a leg judged: an AUTHREQ with a challenge of this exchange.
 fn reflection(rules: &PeerRules, frame: &Full, judged: Judged) -> Option<Rejection>
     ensures { result ≡ spec_of.reflection rules.now frame.now judged }
 {
@@ -66,7 +66,7 @@ fn reflection(rules: &PeerRules, frame: &Full, judged: Judged) -> Option<Rejecti
     }
 }
 
-// Writes what a leg hands up to the lent list, which is empty and has room for it.
+// Writes the signals that a leg hands up to the lent list, which is empty and has room for them.
 pub(crate) fn hand_up(onwards: &mut Onwards, named: &NamedLeg, signal: Option<Signal>)
     requires room { 1 ≤ onwards.old.room }
     requires empty { onwards.old.signals ≡ [] }
@@ -84,7 +84,7 @@ pub(crate) fn hand_up(onwards: &mut Onwards, named: &NamedLeg, signal: Option<Si
 }
 
 impl<J: Naming> PeerState<J> {
-    // A full frame goes to the leg of a number, and what the leg sends to the outbox.
+    // Gives a full frame to the leg of a number, and puts the leg's frames into the outbox.
     fn hear(&mut self, number: u16, frame: &Full, now: u64) -> Result<Heard, StepError>
         requires short { length frame.now.payload ≤ 1388 }
         requires there { can_reach self.old.legs frame.now.head.source (leg_at self.old.legs number) ≡ true }
@@ -119,7 +119,7 @@ impl<J: Naming> PeerState<J> {
         Ok(heard)
     }
 
-    // What the leg of a number heard is counted and handed up.
+    // Counts and hands up the signal of a leg's frame.
     fn hand_on(
         &mut self,
         pass: &mut Pass<J>,
@@ -157,7 +157,7 @@ impl<J: Naming> PeerState<J> {
         }
     }
 
-    // A full frame goes to the leg of a number.
+    // Gives a full frame to the leg of a number.
     fn reach(
         &mut self,
         pass: &mut Pass<J>,
@@ -186,7 +186,7 @@ impl<J: Naming> PeerState<J> {
         Ok(self.hand_on(pass, number, frame, heard, onwards))
     }
 
-    // A full frame comes.
+    // Handles a full frame.
     fn full(
         &mut self,
         pass: &mut Pass<J>,
@@ -218,11 +218,11 @@ impl<J: Naming> PeerState<J> {
         }
         match self.legs.find(frame) {
             Some(number) => self.reach(pass, number, frame, now, onwards),
-            None => self.answer_unknown(pass, frame, now),
+            None => self.come_to_none(pass, frame, now),
         }
     }
 
-    // A datagram comes that was read.
+    // Handles a datagram that was read.
     fn arrive(
         &mut self,
         pass: &mut Pass<J>,
@@ -269,12 +269,12 @@ impl<J: Naming> PeerState<J> {
         })
     }
 
-    /// A datagram comes from the peer, at most 2,048 octets, at the moment `now`, in milliseconds: one step, at the leg that it
-    /// concerns, if any. What is handed up is written to the list, which is empty.
+    /// Handles a datagram of the peer, at most 2,048 octets, at the moment `now`, in milliseconds. It is one step, at the
+    /// leg that it concerns, if any. The signals handed up are written to the empty list.
     ///
-    /// Refusals are looked for in this order, as `PeerError` says them: `StepsSpent`, `TooLong`, `Short`, `MetaCommand`,
-    /// `EntryCut`, `NoSource`, `Cut`, `NeedsNumber`, `NoToken`, `NoCall`, `RecordFull`, `Memory`. `Memory` comes only where memory was
-    /// refused. Then nothing is changed.
+    /// Refusals are checked in this order, as `PeerError` describes them: `StepsSpent`, `TooLong`, `Short`, `MetaCommand`,
+    /// `EntryCut`, `NoSource`, `Cut`, `NeedsNumber`, `NoToken`, `NoCall`, `RecordFull`, `Memory`. `Memory` is returned only
+    /// if memory was refused. Then nothing is changed.
     pub fn datagram(
         &mut self,
         pass: &mut Pass<J>,
@@ -283,13 +283,13 @@ impl<J: Naming> PeerState<J> {
         onwards: &mut Onwards,
     ) -> Result<Step, PeerError>
         requires nothing { IsNothing onwards.old }
-        // What comes of a datagram that is worked.
+        // The result of a datagram that is handled.
         ensures made { IfOk result (λ step. (d : DatagramValue) → IsWorked J.first_steps self.old.accounts.steps octets.now d
             → Makes (datagram_step J.first_octets self.old d now) self.new step pass.old pass.new onwards.new) }
         ensures worked { OnOk result ((d : DatagramValue) × IsWorked J.first_steps self.old.accounts.steps octets.now d) }
         ensures unrefused { OnOk result ((d : DatagramValue) → IsWorked J.first_steps self.old.accounts.steps octets.now d →
             datagram_refused self.old d now ≡ None) }
-        // Each refusal comes where its cause is, and has it.
+        // Each refusal is returned if its cause holds.
         ensures unworked { (e : PeerErrorValue) → IsUnworked J.first_steps self.old.accounts.steps octets.now e → result ≡ Err e }
         ensures refused { IfErr result (λ e. IsUnworked J.first_steps self.old.accounts.steps octets.now e
             ⊎ ((d : DatagramValue) × IsWorked J.first_steps self.old.accounts.steps octets.now d ×
@@ -299,10 +299,10 @@ impl<J: Naming> PeerState<J> {
         self.datagram_read(pass, &ReadDatagram::of(octets), now, onwards)
     }
 
-    /// A datagram that was read comes from the peer, at the moment `now`, in milliseconds: `datagram` without the reading.
+    /// Handles a datagram of the peer that was read, at the moment `now`, in milliseconds: `datagram` without the reading.
     ///
-    /// Refusals are looked for in the order of `PeerError`, as by `datagram`. `Memory` comes only where memory was refused. Then
-    /// nothing is changed.
+    /// Refusals are checked in the order of `PeerError`, as by `datagram`. `Memory` is returned only if memory was refused.
+    /// Then nothing is changed.
     pub fn datagram_read(
         &mut self,
         pass: &mut Pass<J>,
@@ -311,13 +311,13 @@ impl<J: Naming> PeerState<J> {
         onwards: &mut Onwards,
     ) -> Result<Step, PeerError>
         requires nothing { IsNothing onwards.old }
-        // What comes of a datagram that is worked.
+        // The result of a datagram that is handled.
         ensures made { IfOk result (λ step. (d : DatagramValue) → IsWorked J.first_steps self.old.accounts.steps datagram.now d
             → Makes (datagram_step J.first_octets self.old d now) self.new step pass.old pass.new onwards.new) }
         ensures worked { OnOk result ((d : DatagramValue) × IsWorked J.first_steps self.old.accounts.steps datagram.now d) }
         ensures unrefused { OnOk result ((d : DatagramValue) → IsWorked J.first_steps self.old.accounts.steps datagram.now d
             → datagram_refused self.old d now ≡ None) }
-        // Each refusal comes where its cause is, and has it.
+        // Each refusal is returned if its cause holds.
         ensures unworked { (e : PeerErrorValue) → IsUnworked J.first_steps self.old.accounts.steps datagram.now e →
             result ≡ Err e }
         ensures refused { IfErr result (λ e. IsUnworked J.first_steps self.old.accounts.steps datagram.now e
@@ -338,7 +338,7 @@ impl<J: Naming> PeerState<J> {
     }
 }
 
-// Whether the last element of an IAX frame passes the end.
+// Returns whether the last element of an IAX frame passes the end.
 fn is_cut(frame: &Full) -> bool
     ensures { IsTrue result ↔ IsCutFrame frame.now }
 {

@@ -5,6 +5,7 @@ ghost use Rattle.peer_legs.specs.Legs.{leg_at};
 ghost use Rattle.peer_lock.specs.SoundPeer.{IsSoundPeer};
 ghost use Rattle.peer_lock.specs.Statuses.{status_of};
 
+use crate::pokes::Pokes;
 use crate::state::PeerState;
 use crate::steps::Status;
 use leg_machine::{PeerRules, Replies};
@@ -25,11 +26,12 @@ pub struct ClosedPeer<J: Naming> {
     pub(crate) queue: Packer,
     pub(crate) since: u64,
     pub(crate) drains: bool,
+    pub(crate) pokes: Pokes,
     pub(crate) account: ClosedAccount<J>,
     pub(crate) replies: Box<Replies>,
 }
 
-// (Written out, so that whoever owns one proves a call where it is dropped, and not the drop of each field.)
+// Written out, so that an owner proves one call at its drop, not the drop of each field.
 impl<J: Naming> Drop for ClosedPeer<J> {
     fn drop(self) {
         let ClosedPeer {
@@ -40,6 +42,7 @@ impl<J: Naming> Drop for ClosedPeer<J> {
             queue: _,
             since: _,
             drains: _,
+            pokes: _,
             account: _,
             replies: _,
         } = self;
@@ -52,21 +55,21 @@ impl<J: Naming> Model for ClosedPeer<J> {
 
     ghost Value = { PeerView };
 
-    ghost view = { λ s. record { rules = s.rules; legs = s.legs; outbox = s.outbox; queue = s.queue; since = s.since; drains = s.drains; accounts = s.account } };
+    ghost view = { λ s. record { rules = s.rules; legs = s.legs; outbox = s.outbox; queue = s.queue; since = s.since; drains = s.drains; pokes = s.pokes; accounts = s.account } };
 
     ghost invariant = { λ s.
-        IsKept (record { rules = s.rules; legs = s.legs; outbox = s.outbox; queue = s.queue; since = s.since; drains = s.drains; accounts = s.account }) };
+        IsKept (record { rules = s.rules; legs = s.legs; outbox = s.outbox; queue = s.queue; since = s.since; drains = s.drains; pokes = s.pokes; accounts = s.account }) };
 }
 
 impl<J: Naming> ClosedPeer<J> {
-    /// The peer's place in the plan, from 0 on.
+    /// Returns the peer's place in the plan, from 0 on.
     pub fn peer(&self) -> u16
         ensures { result ≡ self.now.legs.peer }
     {
         self.legs.peer()
     }
 
-    /// How the leg of a local number stands; `None` where there is none.
+    /// Returns the status of the leg of a local number, or `None` if there is none.
     pub fn look(&self, number: u16) -> Option<Status>
         ensures status { result ≡ option_map status_of (leg_at self.now.legs number) }
         ensures sound { IsSoundPeer self.now }
@@ -74,35 +77,35 @@ impl<J: Naming> ClosedPeer<J> {
         self.legs.get(number).map(|named| Status::of(named))
     }
 
-    /// The media octets that the peer brought and that were accepted.
+    /// Returns the media octets accepted from the peer.
     pub fn accepted(&self) -> u64
         ensures { result ≡ self.now.accounts.accepted }
     {
         self.account.sums().accepted
     }
 
-    /// The media octets for the peer that were written into frames.
+    /// Returns the media octets for the peer that were written into frames.
     pub fn packed(&self) -> u64
         ensures { result ≡ self.now.accounts.packed }
     {
         self.account.sums().packed
     }
 
-    /// The media octets for the peer that wait in the trunk queue.
+    /// Returns the media octets for the peer that wait in the trunk queue.
     pub fn queued(&self) -> u64
         ensures { result ≡ self.now.accounts.queued }
     {
         self.account.sums().queued
     }
 
-    /// The media octets for the peer that were dropped, the quelched ones among them.
+    /// Returns the media octets for the peer that were dropped, including quelched ones.
     pub fn dropped(&self) -> u64
         ensures { result ≡ self.now.accounts.dropped }
     {
         self.account.sums().dropped
     }
 
-    /// Of the dropped media octets, those that the other side wanted none of.
+    /// Returns the part of the dropped media octets that the other side had quelched.
     pub fn quelched(&self) -> u64
         ensures value { result ≡ self.now.accounts.quelched }
         ensures part { result ≤ self.now.accounts.dropped }
@@ -110,21 +113,21 @@ impl<J: Naming> ClosedPeer<J> {
         self.account.sums().quelched
     }
 
-    /// How many datagrams a full outbox lost.
+    /// Returns the number of datagrams that a full outbox lost.
     pub fn lost(&self) -> Losses
         ensures { result ≡ self.now.outbox.lost }
     {
         self.outbox.lost()
     }
 
-    /// How many steps the peer made.
+    /// Returns the number of steps that the peer made.
     pub fn steps(&self) -> u64
         ensures { result ≡ self.now.accounts.steps }
     {
         self.account.sums().steps
     }
 
-    /// The peer with its shares again, as `part` gave them.
+    /// Returns the peer with its shares again, as `part` gave them.
     pub fn whole(self, octets: Share<J::Octets>, steps: Share<J::Steps>) -> PeerState<J>
         requires octets { octets + self.accounts.accepted ≡ J.first_octets + carried self.accounts }
         requires steps { steps + self.accounts.steps ≡ J.first_steps }
@@ -138,6 +141,7 @@ impl<J: Naming> ClosedPeer<J> {
             queue,
             since,
             drains,
+            pokes,
             account,
             replies,
         } = self;
@@ -149,6 +153,7 @@ impl<J: Naming> ClosedPeer<J> {
             queue,
             since,
             drains,
+            pokes,
             account: account.whole(octets, steps),
             replies,
         }

@@ -1,9 +1,10 @@
-//! A leg and the accounts of a peer, for whoever looks at them from outside.
-ghost use Rattle.std.specs.Prelude.{◌≡◌, ◌≤◌, option_map};
+//! Read-only queries of a leg and of a peer's accounts.
+ghost use Rattle.std.specs.Prelude.{◌≡◌, ◌≤◌, IfSome, option_map};
 ghost use Rattle.peer_accounts.specs.Accounts.{shown};
 ghost use Rattle.peer_legs.specs.Legs.{leg_at};
-ghost use Rattle.peer_lock.specs.Descriptions.{description_of};
+ghost use Rattle.peer_lock.specs.Descriptions.{description_from, description_of};
 
+use crate::pokes::Pokes;
 use crate::state::PeerState;
 use crate::steps::Status;
 use iax_frames::CallNumber;
@@ -12,10 +13,10 @@ use outbox::Losses;
 use peer_accounts::{Naming, Sums};
 use peer_legs::NamedLeg;
 
-/// A leg, with what its call is about.
+/// A leg, with the values of its call.
 #[derive(Debug, Drop)]
 pub struct Description {
-    /// How it stands.
+    /// Its status.
     pub status: Status,
     /// The format of the call.
     pub format: Format,
@@ -23,13 +24,13 @@ pub struct Description {
     pub remote: Option<CallNumber>,
     /// The moment at which it was opened, in milliseconds.
     pub opened: u64,
-    /// The number that is called, as the call's NEW has it.
+    /// The called number of the call's NEW.
     pub called: Option<ElementText>,
-    /// The number that calls, as the call's NEW has it.
+    /// The calling number of the call's NEW.
     pub calling: Option<ElementText>,
 }
 
-// What there is to say of a leg.
+// Returns the description of a leg.
 fn description_of(named: &NamedLeg) -> Description
     ensures { result ≡ description_of named.now }
 {
@@ -46,14 +47,27 @@ fn description_of(named: &NamedLeg) -> Description
 }
 
 impl<J: Naming> PeerState<J> {
-    /// The leg of a local number, with what its call is about; `None` where there is none. That is no step.
+    /// Returns the leg of a local number, with the values of its call, or `None` if there is none. That is no step.
     pub fn describe(&self, number: u16) -> Option<Description>
         ensures { result ≡ option_map description_of (leg_at self.now.legs number) }
     {
         self.legs.get(number).map(|named| description_of(named))
     }
 
-    /// The sums of the accounts. That is no step.
+    /// The leg with the least local number that is at least this one, with what its call is about. The name in its status has its
+    /// number. `None` if no leg has such a number. That is no step.
+    pub fn describe_from(&self, number: u16) -> Option<Description>
+        ensures leg { result ≡ description_from self.now.legs number }
+        ensures from { IfSome result (λ leg. number ≤ leg.status.name.number) }
+        ensures there { IfSome result (λ leg. result ≡ option_map description_of (leg_at self.now.legs leg.status.name.number)) }
+    {
+        match self.legs.next_from(number) {
+            Some(named) => Some(description_of(named)),
+            None => None,
+        }
+    }
+
+    /// Returns the sums of the accounts. That is no step.
     pub fn sums(&self) -> Sums
         ensures sums { result ≡ shown self.now.accounts }
         ensures part { result.quelched ≤ result.dropped }
@@ -61,7 +75,14 @@ impl<J: Naming> PeerState<J> {
         self.account.sums()
     }
 
-    /// How many datagrams a full outbox lost. That is no step.
+    /// Returns the state of the exchange's POKEs to the peer. That is no step.
+    pub fn pokes(&self) -> Pokes
+        ensures { result ≡ self.now.pokes }
+    {
+        self.pokes
+    }
+
+    /// Returns the number of datagrams that a full outbox lost. That is no step.
     pub fn lost(&self) -> Losses
         ensures { result ≡ self.now.outbox.lost }
     {

@@ -1,4 +1,4 @@
-//! Why a peer refuses.
+//! The refusals of a peer.
 ghost use Rattle.std.specs.Prelude.{◌≡◌};
 ghost use Rattle.peer_lock.specs.Errors.{from_step, from_frame, from_leg};
 ghost use Rattle.peer_lock.specs.declared.errors.PeerError.TheVariants as errors;
@@ -11,7 +11,7 @@ use std::alloc::AllocError;
 #[derive(Clone, Copy, Debug, PartialEq, Eq)]
 pub struct StepsSpent;
 
-/// Why a datagram is refused, in the order in which causes are looked for. A refused datagram changed nothing.
+/// The reason why a datagram is refused, in the order in which reasons are checked. A refused datagram changes nothing.
 #[derive(Clone, Copy, Debug, PartialEq, Eq)]
 pub enum PeerError {
     /// The peer has no step credit left.
@@ -30,7 +30,7 @@ pub enum PeerError {
     Cut,
     /// A NEW that no leg has yet: it needs a number for its leg.
     NeedsNumber,
-    /// A NEW that no leg has yet, without a call token of its endpoint, from a peer that is asked for one.
+    /// A NEW that no leg has yet, without a call token of its endpoint, from a peer that needs one.
     NoToken,
     /// No leg has this call.
     NoCall,
@@ -40,7 +40,7 @@ pub enum PeerError {
     Memory,
 }
 
-/// Why no leg was opened, in the order in which causes are looked for.
+/// The reason why no leg was opened, in the order in which reasons are checked.
 #[derive(Clone, Copy, Debug, PartialEq, Eq)]
 pub enum OpenError {
     /// The peer has no step credit left.
@@ -53,7 +53,7 @@ pub enum OpenError {
     Memory,
 }
 
-/// Why a NEW that finds no free number isn't rejected, in the order in which causes are looked for.
+/// The reason why a NEW that finds no free number isn't rejected, in the order in which reasons are checked.
 #[derive(Clone, Copy, Debug, PartialEq, Eq)]
 pub enum RejectError {
     /// The peer's rules leave it unanswered.
@@ -64,7 +64,7 @@ pub enum RejectError {
     RemoteBusy,
 }
 
-/// Why an order is refused, in the order in which causes are looked for.
+/// The reason why an order is refused, in the order in which reasons are checked.
 #[derive(Clone, Copy, Debug, PartialEq, Eq)]
 pub enum OrderError {
     /// The peer has no step credit left.

@@ -1,4 +1,4 @@
-//! What holds of every step of a peer.
+//! Laws of every step of a peer.
 ghost use Rattle.std.specs.Prelude.{◌≡◌, ◌≢◌, ◌+◌, ◌≤◌, ◌⊎◌, ℕ, true, false, length, List, All, Option, None, Some, slice_get};
 ghost use Rattle.call_auth.specs.declared.call_token.CallTokens.{CallTokens};
 ghost use Rattle.call_book.specs.declared.leg_name.LegName.{LegName};
@@ -43,7 +43,7 @@ ghost use Rattle.peer_lock.specs.declared.errors.PeerError.TheVariants.{NeedsNum
 ghost use Rattle.peer_lock.specs.declared.steps.TickReport.{TickReport};
 ghost use Rattle.seq_window.specs.Network.{Datagram as Sending, Side};
 
-/// Media that a datagram's step hands up lies within the datagram, each piece of it 1 to 1,380 octets, and the step takes credit
+/// Media that a datagram's step hands up is part of the datagram, each piece 1 to 1,380 octets long. The step takes credit
 /// for exactly all of it.
 pub fn media_is_the_datagrams()
     ensures { (first : ℕ) (peer : PeerView) (octets : List ℕ) (datagram : Datagram) (now : ℕ) → Spells octets datagram →
@@ -52,14 +52,14 @@ pub fn media_is_the_datagrams()
     leg_machine::laws::media_is_the_frames();
 }
 
-/// A NEW needs a number, so that it opens a leg, only with a call token of its peer's endpoint, if the peer is asked for tokens.
+/// If a peer needs call tokens, only a NEW with a token of its endpoint needs a number, and so opens a leg.
 pub fn calls_bear_tokens()
     ensures { (peer : PeerView) (frame : FullFrame) (now : ℕ) (tokens : CallTokens) → peer.rules.call_tokens ≡ Some tokens →
         full_refused peer frame now ≡ Some NeedsNumber → BearsToken tokens now frame }
 {}
 
-/// While a peer drains, no NEW opens a leg. One that no leg has is answered by REJECT with cause 42, in every plan format, and takes
-/// no number; under no name does a NEW open one.
+/// While a peer drains, no NEW opens a leg. A NEW that belongs to no leg is answered by REJECT with cause 42, in every plan
+/// version, and gets no number; under no name does a NEW open a leg.
 pub fn draining_peers_open_none()
     ensures answered { (peer : PeerView) (frame : FullFrame) (now : ℕ) → peer.drains ≡ true → found peer.legs frame ≡ None →
         frame.head.destination ≡ 0 → frame.head.oseqno ≡ 0 → is_new (message_of frame.head) ≡ true →
@@ -68,8 +68,9 @@ pub fn draining_peers_open_none()
         open_in_refused peer credit name source ≢ None }
 {}
 
-/// Seen by the legs' names, their stages, whether they are doomed, whether they owe and what is handed up, each step of a peer,
-/// and each taking out of a leg, is one that callers at once reckon with. The steps are those of the calls' own clauses.
+/// Each step of a peer, and each removal of a leg, is one that callers at once allow for. They see the legs' names, their
+/// stages, whether they are doomed, whether they owe, and the signals handed up. The steps are those of the calls' own
+/// clauses.
 pub fn steps_are_seen()
     ensures datagrams { (first : ℕ) (peer : PeerView) (datagram : Datagram) (now : ℕ) → AreLegs peer.legs →
         IsSeenDatagram peer.legs (datagram_step first peer datagram now) }
@@ -96,9 +97,9 @@ pub fn steps_are_seen()
     leg_machine::laws::steps_are_seen();
 }
 
-/// Each step of a peer adds to the record of the leg concerned only what one turn of a side of a network adds, and what its legs
-/// send are sendings of such sides, from the records that the legs have after the step; the other records stay. The steps are
-/// those of the calls' own clauses.
+/// Each step of a peer adds to the record of the leg concerned only what one turn of a side of a network adds. Each frame
+/// that its legs send is a sending of such a side, from the record that the leg has after the step; the other records stay.
+/// The steps are those of the calls' own clauses.
 pub fn steps_are_of_sides()
     ensures datagrams { (first : ℕ) (peer : PeerView) (datagram : Datagram) (now : ℕ) → IsSoundPeer peer →
         TakesDatagram peer datagram (datagram_step first peer datagram now).peer }
@@ -116,11 +117,12 @@ pub fn steps_are_of_sides()
     leg_machine::laws::steps_send_as_sides();
 }
 
-/// What such a step adds to a leg's record, actions of a side of a network add, by which the side comes to the record that the
-/// leg has after the step: those of one turn that judges the very datagram that came, or the sending of at most one frame. By
-/// more actions, which send only what is held or isn't numbered, the side then has sent each datagram that the step sends.
+/// Actions of a side of a network add to a record all that such a step adds to a leg's. They lead to the record that the
+/// leg has after the step. They are those of one turn that judges the received datagram, or the sending of at most one
+/// frame. By further actions, which send only held frames or frames without numbers, the side has then sent each datagram
+/// that the step sends.
 pub fn steps_are_actions()
-    // Of a full frame that bears the numbers of a datagram which the other side sent.
+    // Of a full frame with the numbers of a datagram that the other side sent.
     ensures frames { (old new : PeerView) (frame : FullFrame) (turn : TakesTurnAtLeg old frame new) → IsSoundPeer new →
         (own other : Side) → IsSideOf new.rules turn.named.leg own →
         (which : ℕ) (sending : Sending) → slice_get other.datagrams which ≡ Some sending → Bears frame sending →
@@ -128,21 +130,21 @@ pub fn steps_are_actions()
     ensures orders { (old new : PeerView) (name : LegName) (sends : SendsAtLeg old name new) → IsSoundPeer new →
         (own other : Side) → IsSideOf new.rules sends.named.leg own →
         SendsInto IsSentByOrMini new.rules own other sends.leg sends.datagrams }
-    // Of a tick, whatever of its datagrams are sendings from this leg's record.
+    // Of a tick, for those of its datagrams that are sendings from this leg's record.
     ensures ticks { (old new : PeerView) → EachSends old new → IsSoundPeer new →
         (number : ℕ) (named after : NamedLeg) → leg_at old.legs number ≡ Some named → leg_at new.legs number ≡ Some after →
         (datagrams : List (List ℕ)) → All (IsSending after.leg) datagrams →
         (own other : Side) → IsSideOf new.rules named.leg own → SendsInto IsSentBy new.rules own other after.leg datagrams }
-    // An opened leg begins as a side that has done nothing: by a NEW that bears the numbers of a datagram which the other side
+    // An opened leg begins as a side that has done nothing: by a NEW with the numbers of a datagram that the other side
     // sent,
     ensures calls_in { (old new : PeerView) (name : LegName) (frame : FullFrame) (takes : TakesNew old name frame new) →
         IsSoundPeer new → is_new (message_of frame.head) ≡ true →
         (other : Side) (which : ℕ) (sending : Sending) → slice_get other.datagrams which ≡ Some sending → Bears frame sending →
         TurnsInto new.rules (unused_side new.rules) other which takes.leg takes.opens.datagrams }
-    // or by one that goes out.
+    // or by one that is sent.
     ensures calls_out { (old new : PeerView) (name : LegName) (sends : SendsNew old name new) → IsSoundPeer new →
         (other : Side) → SendsInto IsSentBy new.rules (unused_side new.rules) other sends.leg sends.opens.datagrams }
-    // And whatever such a leg sends from its record, with those very numbers, a side with that record sends.
+    // And a side with the record of such a leg can send each frame that the leg sends from it, with the same numbers.
     ensures sendings { (rules : PeerRules) (leg : LegState) → IsLegOf rules leg → (own other : Side) → IsSideOf rules leg own →
         (datagrams : List Sending) → All (IsSentFrom leg) datagrams → SendsAll Sending HasDatagram rules leg own other datagrams }
 {
@@ -158,8 +160,8 @@ pub fn ticks_leave_nothing_due()
     leg_machine::laws::ticks_finish_their_tries();
 }
 
-/// A tick that has nothing to do changes nothing but the count of steps, and sends nothing. So it can be left out. It has nothing
-/// to do if each leg rests and nothing that is queued is to go out.
+/// A tick without work changes nothing but the count of steps, and sends nothing. So it can be left out. A tick has no work
+/// if each leg rests and no queued media is due.
 pub fn resting_peers_stay()
     ensures { (old new : PeerView) (now : ℕ) (report : TickReport) → IsSoundPeer old → RestsAt old now →
         Ticks old now report new → new ≡ counted old }
@@ -167,17 +169,17 @@ pub fn resting_peers_stay()
     leg_machine::laws::idle_legs_stay();
 }
 
-/// In plan format 4 no order drops media for want of room in a trunk queue ("Meta Frames"): media of at most 1,380 octets goes out
-/// or waits, unless the other side wants none. Other orders drop no media.
+/// In plan version 4 no order drops media for want of room in a trunk queue ("Meta Frames"). Media of at most 1,380 octets
+/// is sent or waits, unless it is quelched. Other orders drop no media.
 pub fn full_trunk_queues_drop_nothing()
     ensures { (peer : PeerView) (name : LegName) (order : Order) (now : ℕ) (named : NamedLeg) → waits peer.rules ≡ true →
         order_octets order ≤ 1380 → leg_named peer.legs name ≡ Some named → media_sent named.leg now ≢ Quelched →
         (ordered_step peer name order now).accounts.dropped ≡ peer.accounts.dropped }
 {}
 
-/// Media that goes to a peer adds at most one datagram to those that are to be sent to it, where media that waits for a trunk frame
-/// counts as one, and nothing is lost in the outbox as long as there are at most 256. So 255 pieces of media lose nothing where the
-/// outbox was empty and one trunk frame's worth was queued; without that, 256.
+/// Media for a peer adds at most one datagram to those to be sent to it; media that waits for a trunk frame counts as one.
+/// Nothing is lost in the outbox as long as there are at most 256. So 255 pieces of media lose nothing if the outbox was
+/// empty and one trunk frame's worth was queued; without queued media, 256.
 pub fn media_adds_one_datagram()
     ensures most { (peer : PeerView) (name : LegName) (order : Order) (now : ℕ) → kind_of order ≡ Media →
         to_send (ordered_step peer name order now) ≤ to_send peer + 1 }
@@ -185,9 +187,8 @@ pub fn media_adds_one_datagram()
         to_send peer + 1 ≤ 256 → (ordered_step peer name order now).outbox.lost ≡ peer.outbox.lost }
 {}
 
-/// A step of a peer puts no more than its load into the outbox and the trunk queue, which is what its definition writes ("Meta
-/// Frames"). As long as both have room for it, nothing is lost, and only media that the other side wants none of is dropped. The
-/// steps are those of the calls' own clauses.
+/// A step of a peer puts no more than its load into the outbox and the trunk queue ("Meta Frames"). As long as both have
+/// room for it, nothing is lost, and only quelched media is dropped. The steps are those of the calls' own clauses.
 pub fn loads_that_fit_lose_nothing()
     ensures datagrams { (first : ℕ) (peer : PeerView) (datagram : Datagram) (now : ℕ) →
         Puts (datagram_load peer datagram now) peer (datagram_step first peer datagram now).peer }
@@ -202,14 +203,14 @@ pub fn loads_that_fit_lose_nothing()
     ensures ticks { (old : PeerView) (now : ℕ) (report : TickReport) (new : PeerView) (ticks : Ticks old now report new) →
         Puts (tick_load old now report new ticks) old new }
     ensures retiring { (peer : PeerView) (name : LegName) → Puts no_load peer (without_leg peer name) }
-    // One load after another is both together.
+    // Two loads one after another are both together.
     ensures none { (peer : PeerView) → Puts no_load peer peer }
     ensures together { (one other : Load) (old mid new : PeerView) → Puts one old mid → Puts other mid new →
         Puts (plus one other) old new }
 {}
 
-/// A full frame is answered by one frame at most, unless it is a VNAK. A VNAK brings no more frames than a window is wide, which is
-/// 127 at most.
+/// A full frame is answered by at most one frame, unless it is a VNAK. A VNAK brings at most as many frames as a window is
+/// wide, which is 127 at most.
 pub fn full_frames_bring_few_answers()
     ensures others { (peer : PeerView) (frame : FullFrame) (now : ℕ) → is_vnak (message_of frame.head) ≡ false →
         (datagram_load peer (Full frame) now).datagrams ≤ 1 }

@@ -1,4 +1,4 @@
-//! One peer: its legs, its outbox, its trunk queue and its accounts, as they lie behind one lock.
+//! One peer: its legs, its outbox, its trunk queue and its accounts, behind one lock.
 #![tactic(auto)]
 
 mod arrivals;
@@ -10,6 +10,7 @@ mod media_arrivals;
 mod openings;
 mod orders;
 mod outboxes;
+mod pokes;
 mod read_datagram;
 mod state;
 mod steps;
@@ -21,6 +22,7 @@ pub use descriptions::Description;
 pub use errors::{OpenError, OrderError, PeerError, RejectError, StepsSpent};
 pub use outbox::Losses;
 pub use peer_accounts::{Naming, Offer, Onwards, Pass, Service, Sums};
+pub use pokes::Pokes;
 pub use read_datagram::ReadDatagram;
 pub use state::PeerState;
 pub use steps::{EndedLeg, LegFacts, Rejection, Status, Step, TickReport};

@@ -1,4 +1,4 @@
-//! The steps of a peer in which media comes without a full frame ("Mini Frames", "Meta Frames").
+//! The steps of a peer in which media arrives without a full frame ("Mini Frames", "Meta Frames").
 ghost use Rattle.std.specs.Prelude.{◌≡◌, ◌≢◌, ◌+◌, ◌<◌, ◌≤◌, ◌++◌, [], length, map, IfErr, IsSome, OnOk, OnErr, None};
 ghost use Rattle.iax_frames.specs.TrunkFrame.{entry_item, is_timed};
 ghost use Rattle.peer_accounts.specs.Accounts.{with_accepted};
@@ -14,11 +14,11 @@ use leg_machine::{MediaIn, MediaSpan, Signal};
 use peer_accounts::{Naming, Onwards, Pass};
 use trunk_packer::entry_head_len;
 
-/// A datagram of 2,048 octets has fewer trunk entries.
+/// More trunk entries than a datagram of 2,048 octets can have.
 pub(crate) const ENTRIES: usize = 512;
 
 impl<J: Naming> PeerState<J> {
-    // Media for the leg of a number. Where it counts and there is credit for it, it is handed up.
+    // Takes media for the leg of a number. If it counts and there is credit for it, it is handed up.
     pub(crate) fn take_media(
         &mut self,
         pass: &mut Pass<J>,
@@ -51,7 +51,7 @@ impl<J: Naming> PeerState<J> {
         }
     }
 
-    // The media of the entries of a trunk frame, in one pass. There is room for all of it.
+    // Takes the media of the entries of a trunk frame, in one pass. There is room for all of it.
     pub(crate) fn take_entries(&mut self, pass: &mut Pass<J>, trunk: &Trunk, onwards: &mut Onwards)
         requires short { 8 + entries_len (is_timed trunk.now.command_data) (map entry_item trunk.now.entries) ≤ 2048 }
         requires room { length (map entry_item trunk.now.entries) ≤ onwards.old.room }

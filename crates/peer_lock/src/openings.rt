@@ -1,4 +1,4 @@
-//! The steps of a peer in which a leg is opened ("Call Setup"), and that in which none is, for want of a number ("REJECT").
+//! The step of a peer that opens a leg ("Call Setup"), and the one that rejects a NEW for want of a number ("REJECT").
 ghost use Rattle.std.specs.Prelude.{◌≡◌, ◌≢◌, ◌+◌, ◌<◌, ◌≤◌, [], length, map, None, Some, IsNone, IsTrue, ◌↔◌, true, IfOk, IfErr};
 ghost use Rattle.std.specs.Prelude.{OnOk, OnErr, ℕ};
 ghost use Rattle.iax_frames.specs.FullFrame.{spelling};
@@ -27,7 +27,7 @@ use peer_accounts::{Naming, Onwards, Pass};
 use std::alloc::AllocError;
 
 impl<J: Naming> PeerState<J> {
-    // A leg that was opened takes its place.
+    // Puts an opened leg into its place.
     fn seat(&mut self, pass: &mut Pass<J>, lease: Lease, leg: Leg)
         requires steps { self.old.accounts.steps ≢ J.first_steps }
         requires free { is_free_name self.old.legs lease ≡ true }
@@ -42,7 +42,7 @@ impl<J: Naming> PeerState<J> {
         self.legs.insert(lease, leg);
     }
 
-    // Why no leg can be opened under a name.
+    // Returns the reason why no leg can be opened under a name.
     fn opening_refused(&self, name: LegName) -> Option<OpenError>
         ensures { result ≡ open_out_refused self.now J.first_steps name }
     {
@@ -55,7 +55,7 @@ impl<J: Naming> PeerState<J> {
         None
     }
 
-    // Why a NEW opens no leg under a name.
+    // Returns the reason why a NEW opens no leg under a name.
     fn new_refused(&self, name: LegName, frame: &Full) -> Option<OpenError>
         ensures { result ≡ open_in_refused self.now J.first_steps name frame.now.head.source }
     {
@@ -71,7 +71,7 @@ impl<J: Naming> PeerState<J> {
         None
     }
 
-    // The call number of a free name.
+    // Returns the call number of a free name.
     fn free_number(&self, name: LegName) -> CallNumber
         requires { is_free_name self.now.legs name ≡ true }
         ensures number { result ≡ name.number }
@@ -81,12 +81,12 @@ impl<J: Naming> PeerState<J> {
         CallNumber::new(name.number)
     }
 
-    /// A NEW that came opens a leg, under the lease, at the moment `now`, in milliseconds: one step ("Call Setup"). It is one
-    /// that `datagram` answers by `NeedsNumber`. What is handed up is written to the list, which is empty.
+    /// Opens a leg by a received NEW, under the lease, at the moment `now`, in milliseconds: one step ("Call Setup"). It is
+    /// a NEW that `datagram` answers by `NeedsNumber`. The signals handed up are written to the empty list.
     ///
-    /// Refusals are looked for in this order: `StepsSpent`; `NumberBusy` if a leg has the lease's number, the lease isn't of this
-    /// peer, or the peer drains; `RemoteBusy` if a leg has the NEW's source; `Memory`, which comes only if memory was refused. The
-    /// lease comes back, and nothing is changed.
+    /// Refusals are checked in this order: `StepsSpent`; `NumberBusy` if a leg has the lease's number, the lease isn't of
+    /// this peer, or the peer drains; `RemoteBusy` if a leg has the NEW's source; `Memory`, which is returned only if
+    /// memory was refused. The lease comes back, and nothing is changed.
     pub fn open_in(
         &mut self,
         pass: &mut Pass<J>,
@@ -135,7 +135,7 @@ impl<J: Naming> PeerState<J> {
         }
     }
 
-    // A leg that was opened takes its place, and hands up what it heard.
+    // Puts an opened leg into its place, and hands up its signal.
     fn opened(
         &mut self,
         pass: &mut Pass<J>,
@@ -168,7 +168,7 @@ impl<J: Naming> PeerState<J> {
         }
     }
 
-    // Why a NEW isn't rejected.
+    // Returns the reason why a NEW isn't rejected.
     fn rejecting_refused(&self, frame: &Full) -> Option<RejectError>
         ensures { result ≡ reject_new_refused self.now J.first_steps frame.now.head.source }
     {
@@ -184,10 +184,10 @@ impl<J: Naming> PeerState<J> {
         None
     }
 
-    /// A NEW that came is rejected, since no number is free for its leg: one step without a leg ("REJECT"). It is one that
+    /// Rejects a received NEW because no number is free for its leg: one step without a leg ("REJECT"). It is a NEW that
     /// `datagram` answers by `NeedsNumber`.
     ///
-    /// Refusals are looked for in this order: `Unanswered` where the rules aren't hardened; `StepsSpent`; `RemoteBusy` where a leg
+    /// Refusals are checked in this order: `Unanswered` if the rules aren't hardened; `StepsSpent`; `RemoteBusy` if a leg
     /// has the NEW's source. Then nothing is changed.
     pub fn reject_new(&mut self, pass: &mut Pass<J>, frame: &Full) -> Result<Step, RejectError>
         requires { IsOpening frame.now }
@@ -204,7 +204,7 @@ impl<J: Naming> PeerState<J> {
         Ok(self.answer_alone(pass, &reject_for(frame)))
     }
 
-    // A leg is made for a name, to call a number of at most 255 octets, and what it sends goes to the outbox.
+    // Makes a leg for a name, to call a number of at most 255 octets, and puts its frames into the outbox.
     fn send_new(
         &mut self,
         name: LegName,
@@ -246,11 +246,11 @@ impl<J: Naming> PeerState<J> {
         Ok(leg)
     }
 
-    /// A call goes out under the lease, for a number of at most 255 octets, at the moment `now`, in milliseconds: one step ("Call
-    /// Setup").
+    /// Places a call under the lease, for a number of at most 255 octets, at the moment `now`, in milliseconds: one step
+    /// ("Call Setup").
     ///
-    /// Refusals are looked for in this order: `StepsSpent`; `NumberBusy` where a leg has the lease's number or the lease isn't of
-    /// this peer; `Memory`, which comes only where memory was refused. The lease comes back, and nothing is changed.
+    /// Refusals are checked in this order: `StepsSpent`; `NumberBusy` if a leg has the lease's number or the lease isn't of
+    /// this peer; `Memory`, which is returned only if memory was refused. The lease comes back, and nothing is changed.
     pub fn open_out(
         &mut self,
         pass: &mut Pass<J>,

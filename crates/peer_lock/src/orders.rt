@@ -1,4 +1,4 @@
-//! The steps of a peer in which a leg obeys an order ("Call Setup", "Control Frames", "Mini Frames", "Meta Frames").
+//! The steps of a peer by which a leg obeys an order ("Call Setup", "Control Frames", "Mini Frames", "Meta Frames").
 ghost use Rattle.std.specs.Prelude.{◌≡◌, ◌≢◌, ◌+◌, ◌-◌, ◌<◌, ◌≤◌, [], length, map, None, Some, Err, true, if◌then◌else◌, IsSome, IsTrue, ◌↔◌};
 ghost use Rattle.std.specs.Prelude.{IfOk, IfErr, OnOk, OnErr};
 ghost use Rattle.leg_machine.specs.OrderTable.{IsShortMedia, is_voice, wants_memory, media_refused, order_refused};
@@ -24,7 +24,7 @@ use leg_machine::{Judged, MediaSent, Order};
 use peer_accounts::{Carried, Naming, Pass};
 use trunk_packer::Packer;
 
-// The moment at which the oldest entry was queued, once there is one more.
+// Returns the moment at which the oldest entry was queued, once there is one more.
 fn oldest(queue: &Packer, since: u64, now: u64) -> u64
     ensures { result ≡ (if has_any queue.now then since else now) }
 {
@@ -32,7 +32,7 @@ fn oldest(queue: &Packer, since: u64, now: u64) -> u64
 }
 
 impl<J: Naming> PeerState<J> {
-    // Media is queued, to wait for a trunk frame, or dropped where the queue is full.
+    // Queues media to wait for a trunk frame, or drops it if the queue is full.
     fn queue_media(
         &mut self,
         pass: &mut Pass<J>,
@@ -61,7 +61,7 @@ impl<J: Naming> PeerState<J> {
         }
     }
 
-    // Media waits for a trunk frame. The queue goes out first if this begins the next frame.
+    // Queues media to wait for a trunk frame. The queue is sent first if this begins the next frame.
     fn wait_for_frame(
         &mut self,
         pass: &mut Pass<J>,
@@ -82,7 +82,8 @@ impl<J: Naming> PeerState<J> {
         self.queue_media(pass, number, timestamp, media, now);
     }
 
-    // Carries media on after its leg took it, and counts it. Without a full frame it waits for a trunk frame or is a mini frame.
+    // Sends media on after its leg accepted it, and counts it. Without a full frame it waits for a trunk frame or is sent
+    // in a mini frame.
     fn carry_media(
         &mut self,
         pass: &mut Pass<J>,
@@ -112,7 +113,7 @@ impl<J: Naming> PeerState<J> {
         }
     }
 
-    // Media goes out at the leg of a name, and is counted.
+    // Sends media at the leg of a name, and counts it.
     fn order_media(
         &mut self,
         pass: &mut Pass<J>,
@@ -148,7 +149,7 @@ impl<J: Naming> PeerState<J> {
         })
     }
 
-    // The leg of a name is given media, and the full frame that it sends, if it does, goes to the outbox.
+    // Gives media to the leg of a name, and puts the full frame that it sends, if it sends one, into the outbox.
     fn send_media(&mut self, name: LegName, media: &[u8], now: u64) -> Result<MediaSent, OrderError>
         requires there { IsSome (leg_at self.old.legs name.number) }
         requires short { length media.now ≤ 1380 }
@@ -181,7 +182,7 @@ impl<J: Naming> PeerState<J> {
         Ok(sent)
     }
 
-    // The leg of a name obeys another order, and what it sends goes to the outbox.
+    // Gives another order to the leg of a name, and puts its frames into the outbox.
     fn obey(&mut self, name: LegName, order: &Order, now: u64) -> Result<(), OrderError>
         requires there { IsSome (leg_at self.old.legs name.number) }
         requires media { IsShortMedia order.now }
@@ -212,11 +213,12 @@ impl<J: Naming> PeerState<J> {
         Ok(())
     }
 
-    /// The leg of a name obeys an order at the moment `now`, in milliseconds: one step. Media is 1 to 1,380 octets, for which the
-    /// pass has the credit; the credit comes back to the peer, which counts what became of the media.
+    /// Gives an order to the leg of a name at the moment `now`, in milliseconds: one step. Media is 1 to 1,380 octets, for
+    /// which the pass has the credit. The credit comes back to the peer, which counts whether the media was packed, queued
+    /// or dropped.
     ///
-    /// Refusals are looked for in this order: `StepsSpent`, `Gone` where no leg has the name, `WrongStage`, `WindowFull`,
-    /// `RecordFull`, `Memory`. `Memory` comes only where memory was refused. Then nothing is changed.
+    /// Refusals are checked in this order: `StepsSpent`, `Gone` if no leg has the name, `WrongStage`, `WindowFull`,
+    /// `RecordFull`, `Memory`. `Memory` is returned only if memory was refused. Then nothing is changed.
     pub fn order(
         &mut self,
         pass: &mut Pass<J>,

@@ -10,7 +10,7 @@ use outbox::Outbox;
 use peer_accounts::{Account, Naming};
 use trunk_packer::{Packer, entry_head_len};
 
-// The first of these datagrams that fit.
+// Puts the first of these datagrams into the outbox, as many as fit.
 #[tactic(auto, using(outbox::proofs::Puts::put_none, outbox::proofs::Puts::put_more))]
 pub(crate) fn put_all(outbox: &mut Outbox, replies: &Replies)
     ensures { outbox.new ≡ put outbox.old replies.now }
@@ -21,7 +21,7 @@ pub(crate) fn put_all(outbox: &mut Outbox, replies: &Replies)
     }
 }
 
-// Whether the queue goes out ahead of a leg's replies: it has media of the leg's call.
+// Returns whether the queue is sent ahead of a leg's replies, because it has media of the leg's call.
 pub(crate) fn is_ahead(
     rules: &PeerRules,
     queue: &Packer,
@@ -36,14 +36,14 @@ pub(crate) fn is_ahead(
     queue.has_call(number)
 }
 
-// Whether the queue goes out ahead of a leg's replies at a tick.
+// Returns whether the queue is sent ahead of a leg's replies at a tick.
 pub(crate) fn is_ahead_at_tick(rules: &PeerRules, replies: &Replies) -> bool
     ensures { result ≡ (has_any replies.now && waits rules.now) }
 {
     replies.len() > 0 && rules.trunk_ms.is_some()
 }
 
-// Whether media of a call begins the next trunk frame. `octets` is its length.
+// Returns whether media of a call begins the next trunk frame. `octets` is its length.
 pub(crate) fn is_next(rules: &PeerRules, queue: &Packer, number: CallNumber, octets: usize) -> bool
     requires short { octets ≤ 1380 }
     ensures { result ≡ begins_next rules.now queue.now number octets }
@@ -62,7 +62,7 @@ pub(crate) fn is_next(rules: &PeerRules, queue: &Packer, number: CallNumber, oct
     !timed && queue.has_call(number)
 }
 
-// The whole queue goes out as one trunk frame if `goes` is true. The frame bears `since`, the moment of the oldest entry.
+// Sends the whole queue as one trunk frame if `goes` is true. The frame has `since`, the moment of the oldest entry.
 pub(crate) fn flush_if<J: Naming>(
     goes: bool,
     timed: bool,

@@ -34,14 +34,14 @@ impl<'o> ReadDatagram<'o> {
         }
     }
 
-    /// The octets of the datagram.
+    /// Returns the octets of the datagram.
     pub fn octets(&self) -> &'o [u8]
         ensures { result.now ≡ self.now }
     {
         self.octets
     }
 
-    /// The full frame that the octets spell; `None` where they spell none.
+    /// Returns the full frame that the octets spell, or `None` if they spell none.
     pub fn full(&self) -> Option<&Full<'o>>
         ensures spelled { IfSome result (λ frame. SpellsFull self.now frame.now) }
         ensures only { (frame : FullFrame) → SpellsFull self.now frame → option_copied result ≡ Some frame }

@@ -1,4 +1,4 @@
-//! What lies under the lock of one peer.
+//! The state of one peer, under its lock.
 ghost use Rattle.std.specs.Prelude.{◌≡◌, ◌+◌, ◌^◌, ◌<◌, ◌≤◌, [], ◌∷◌, ◌↔◌, length, replicate, option_map, None, Some, false, true, count_by, is_some};
 ghost use Rattle.std.specs.Prelude.{IfOk, IfErr, IsErr, IsNone, IfNone, IfSome, OnSome, MatchOption};
 ghost use Rattle.std.specs.Bool.{OnTrue, OnFalse};
@@ -16,6 +16,7 @@ ghost use Rattle.trunk_packer.specs.Queue.{media_octets};
 
 use crate::closed::ClosedPeer;
 use crate::outboxes::flush_if;
+use crate::pokes::Pokes;
 use crate::steps::{EndedLeg, LegFacts, Status};
 use call_book::{Lease, LegName};
 use iax_frames::Out;
@@ -30,10 +31,11 @@ use trunk_packer::Packer;
 
 /// One peer: its legs, its outbox, its trunk queue and its accounts.
 ///
-/// Events come by `datagram`, `datagram_read` and `tick`, openings by `open_in` and `open_out`, a rejected NEW by `reject_new`,
-/// orders by `order`; each is one step, which takes one step credit and gives it to the pass. `take_into` and `take_out` empty the outbox, `retire` gives up a
-/// leg that is over, `part` gives up the shares, and `look`, `describe` and `sums` only look. All room but that of the legs'
-/// records is made by `new`. No call waits or looks at a clock.
+/// Events come by `datagram`, `datagram_read` and `tick`, openings by `open_in` and `open_out`, a rejected NEW by
+/// `reject_new`, and orders by `order`. Each of these is one step, which takes one step credit and gives it to the pass.
+/// `take_into` and `take_out` empty the outbox, `retire` gives up a leg that is over, and `part` gives up the shares.
+/// `look`, `describe` and `sums` are read-only. `new` makes all room except that of the legs' records. No call waits or
+/// reads a clock.
 pub struct PeerState<J: Naming> {
     pub(crate) alloc: Global,
     pub(crate) rules: PeerRules,
@@ -44,12 +46,13 @@ pub struct PeerState<J: Naming> {
     pub(crate) since: u64,
     // Whether no NEW opens a leg any more.
     pub(crate) drains: bool,
+    pub(crate) pokes: Pokes,
     pub(crate) account: Account<J>,
-    // What the step of a leg sends, on its way to the outbox.
+    // The frames of a leg's step, on their way to the outbox.
     pub(crate) replies: Box<Replies>,
 }
 
-// (Written out, so that whoever owns one proves a call where it is dropped, and not the drop of each field.)
+// Written out, so that an owner proves one call at its drop, not the drop of each field.
 impl<J: Naming> Drop for PeerState<J> {
     fn drop(self) {
         let PeerState {
@@ -60,6 +63,7 @@ impl<J: Naming> Drop for PeerState<J> {
             queue: _,
             since: _,
             drains: _,
+            pokes: _,
             account: _,
             replies: _,
         } = self;
@@ -72,13 +76,13 @@ impl<J: Naming> Model for PeerState<J> {
 
     ghost Value = { PeerView };
 
-    ghost view = { λ s. record { rules = s.rules; legs = s.legs; outbox = s.outbox; queue = s.queue; since = s.since; drains = s.drains; accounts = s.account } };
+    ghost view = { λ s. record { rules = s.rules; legs = s.legs; outbox = s.outbox; queue = s.queue; since = s.since; drains = s.drains; pokes = s.pokes; accounts = s.account } };
 
     ghost invariant = { λ s.
-        IsKept (record { rules = s.rules; legs = s.legs; outbox = s.outbox; queue = s.queue; since = s.since; drains = s.drains; accounts = s.account }) };
+        IsKept (record { rules = s.rules; legs = s.legs; outbox = s.outbox; queue = s.queue; since = s.since; drains = s.drains; pokes = s.pokes; accounts = s.account }) };
 }
 
-// What a peer needs memory for.
+// Reserves the memory of a peer.
 fn rooms(
     alloc: Global,
     peer: u16,
@@ -105,8 +109,9 @@ fn rooms(
 }
 
 impl<J: Naming> PeerState<J> {
-    /// A peer without a leg, at this place of the plan. Its local numbers are so many, 1 ..= 512, from the first on, all of them
-    /// 1 ..= 32,767. The shares are the first ones of a peer. `Err` comes only where memory was refused; the shares come back.
+    /// Returns a peer without a leg, at this place of the plan. It has `count` local numbers, 1 ..= 512, from the first on,
+    /// all of them 1 ..= 32,767. The shares are the first ones of a peer. Returns `Err` only if memory was refused; the
+    /// shares come back.
     pub fn new(
         alloc: Global,
         peer: u16,
@@ -140,6 +145,7 @@ impl<J: Naming> PeerState<J> {
                 queue,
                 since: 0,
                 drains: false,
+                pokes: Pokes::none(),
                 account: Account::new(octets, steps),
                 replies,
             }),
@@ -147,22 +153,22 @@ impl<J: Naming> PeerState<J> {
         }
     }
 
-    /// Sets whether the peer drains: while it does, a NEW that no leg has is answered by REJECT with cause 42, in every plan
-    /// format, and opens no leg. Legs that are there go on. It is no step.
+    /// Sets whether the peer drains. While it does, a NEW that belongs to no leg opens none and is answered by REJECT with
+    /// cause 42, in every plan version. Current legs continue. It is no step.
     pub fn set_draining(&mut self, drains: bool)
         ensures { self.new ≡ record self.old { drains = drains } }
     {
         self.drains = drains;
     }
 
-    /// How many legs the peer has, 0 ..= 512.
+    /// Returns the number of the peer's legs, 0 ..= 512.
     pub fn leg_count(&self) -> usize
         ensures count { result ≡ count_by is_some self.now.legs.places }
     {
         self.legs.leg_count()
     }
 
-    // The whole queue goes out as one trunk frame if `goes` is true.
+    // Sends the whole queue as one trunk frame if `goes` is true.
     pub(crate) fn flush(&mut self, goes: bool)
         requires { goes ≡ true → waits self.old.rules ≡ true }
         ensures { self.new ≡ flushed_if goes self.old }
@@ -177,7 +183,8 @@ impl<J: Naming> PeerState<J> {
         );
     }
 
-    /// Takes the oldest datagram of the outbox, and writes it over this one; false, and nothing is changed, where none waits.
+    /// Takes the oldest datagram of the outbox, and writes it over this one. If none waits, returns false and changes
+    /// nothing.
     pub fn take_into(&mut self, out: &mut Out) -> bool
         ensures taken { OnTrue result ((self.old.outbox.waiting ≡ out.new ∷ self.new.outbox.waiting)
             × (self.new ≡ record self.old { outbox = with_waiting self.old.outbox self.new.outbox.waiting })) }
@@ -187,7 +194,7 @@ impl<J: Naming> PeerState<J> {
         self.outbox.take_into(out)
     }
 
-    /// Takes the oldest datagram of the outbox; `None` where none waits.
+    /// Takes the oldest datagram of the outbox, or returns `None` if none waits.
     pub fn take_out(&mut self) -> Option<Out>
         ensures { MatchOption result ((self.old.outbox.waiting ≡ []) × (self.new ≡ self.old))
             (λ out. (self.old.outbox.waiting ≡ out ∷ self.new.outbox.waiting)
@@ -196,7 +203,7 @@ impl<J: Naming> PeerState<J> {
         self.outbox.take_out()
     }
 
-    /// How the leg of a local number stands; `None` where there is none.
+    /// Returns the status of the leg of a local number, or `None` if there is none.
     pub fn look(&self, number: u16) -> Option<Status>
         ensures status { result ≡ option_map status_of (leg_at self.now.legs number) }
         ensures sound { IsSoundPeer self.now }
@@ -204,10 +211,10 @@ impl<J: Naming> PeerState<J> {
         self.legs.get(number).map(|named| Status::of(named))
     }
 
-    /// Gives up the leg of a name that has ended and owes nothing: its lease, its record and what it tells beside that. Queued
-    /// media of its call goes out before, in plan format 4. That is no step.
+    /// Gives up the leg of a name that has ended and owes nothing: its lease, its record and its other facts. Queued media
+    /// of its call is sent before, in plan version 4. That is no step.
     ///
-    /// `None` exactly where no such leg has that name.
+    /// Returns `None` if and only if no such leg has that name.
     pub fn retire(&mut self, name: LegName) -> Option<(Lease, EndedLeg)>
         ensures none { IsNone result ↔ (is_done (leg_named self.old.legs name) ≡ false) }
         ensures lease { IfSome result (λ retired. retired.0 ≡ name) }
@@ -244,7 +251,7 @@ impl<J: Naming> PeerState<J> {
         Some((lease, EndedLeg { facts, history }))
     }
 
-    /// Gives the shares up: the peer without them, the share of octets and that of steps.
+    /// Gives the shares up: returns the peer without them, the share of octets and that of steps.
     pub fn part(self) -> (ClosedPeer<J>, Share<J::Octets>, Share<J::Steps>)
         ensures same { result.0 ≡ self }
         ensures octets { result.1 + self.accounts.accepted ≡ J.first_octets + carried self.accounts }
@@ -259,6 +266,7 @@ impl<J: Naming> PeerState<J> {
             queue,
             since,
             drains,
+            pokes,
             account,
             replies,
         } = self;
@@ -271,6 +279,7 @@ impl<J: Naming> PeerState<J> {
             queue,
             since,
             drains,
+            pokes,
             account,
             replies,
         };

@@ -1,4 +1,4 @@
-//! What the calls of a peer answer.
+//! The answers of a peer's calls.
 ghost use Rattle.std.specs.Prelude.{◌≡◌};
 ghost use Rattle.peer_lock.specs.Statuses.{status_of};
 
@@ -8,53 +8,53 @@ use leg_machine::{Cause, Failure, Format, Judged, Moments, Stage};
 use peer_legs::NamedLeg;
 use seq_window::Record;
 
-/// What a step reports of a datagram that came to be turned away.
+/// A rejection by a step's answer, or an AUTHREQ with a challenge of this exchange.
 #[derive(Clone, Copy, Debug, PartialEq, Eq)]
 pub enum Rejection {
-    /// A NEW that finds no free number, by REJECT ("REJECT"), in plan format 4.
+    /// A NEW that finds no free number, by REJECT ("REJECT"), in plan version 4.
     NoNumber,
     /// A NEW at a peer that drains, by REJECT ("REJECT").
     Draining,
-    /// A REGREQ or a REGREL, by REGREJ ("REGREJ"), in plan format 4.
+    /// A REGREQ or a REGREL, by REGREJ ("REGREJ"), in plan version 4.
     Registration,
-    /// A NEW that asks for a call token, by CALLTOKEN (chan_iax2's; RFC 5456 has none). Its sender is to send it again, with the
-    /// token.
+    /// A NEW that asks for a call token, by CALLTOKEN (chan_iax2's; RFC 5456 has none). Its sender has to send it again
+    /// with the token.
     CallToken,
-    /// An AUTHREQ whose challenge begins as this exchange's own do ("AUTHREQ"). A leg hangs up in plan format 4, and answers in the
-    /// formats before it.
+    /// An AUTHREQ whose challenge begins as this exchange's own do ("AUTHREQ"). A leg hangs up in plan version 4, and
+    /// answers it in older versions.
     Reflection,
 }
 
-/// How a step went, beside what it handed up.
+/// The result of a step, except for the signals handed up.
 #[derive(Clone, Copy, Debug, PartialEq, Eq)]
 pub struct Step {
-    /// How a full frame was judged; `Unnumbered` where there was none, or where the answer belongs to no call.
+    /// The judgement of a full frame; `Unnumbered` if there was none, or if the answer belongs to no call.
     pub judged: Judged,
-    /// The leg concerned; none of a mini, video or trunk frame, and none where the answer belongs to no call.
+    /// The leg concerned; none for a mini, video or trunk frame, and none if the answer belongs to no call.
     pub touched: Option<LegName>,
-    /// What it reports beside that, if anything.
+    /// Its rejection, if there is one.
     pub rejected: Option<Rejection>,
 }
 
-/// How a leg stands.
+/// The status of a leg.
 #[derive(Clone, Copy, Debug, PartialEq, Eq)]
 pub struct Status {
     /// Its name.
     pub name: LegName,
-    /// The stage in which it is.
+    /// Its stage.
     pub stage: Stage,
     /// Whether the layer above isn't done with the end of the call.
     pub owes: bool,
-    /// Why it ends; normal clearing until it is known.
+    /// The cause of its end; normal clearing until the cause is known.
     pub cause: Cause,
-    /// How many full frames are held, to be sent again.
+    /// The number of full frames that are held for retransmission.
     pub held: usize,
-    /// How many entries the leg's record has.
+    /// The number of entries of the leg's record.
     pub entries: usize,
 }
 
 impl Status {
-    // How the leg stands.
+    // Returns the status of a leg.
     pub(crate) fn of(named: &NamedLeg) -> Status
         ensures { result ≡ status_of named.now }
     {
@@ -70,7 +70,7 @@ impl Status {
     }
 }
 
-/// What a leg tells beside its record.
+/// The facts of a leg that its record doesn't have.
 #[derive(Clone, Copy, Debug, PartialEq, Eq)]
 pub struct LegFacts {
     /// The moment at which it was opened, in milliseconds.
@@ -79,11 +79,11 @@ pub struct LegFacts {
     pub format: Format,
     /// The other side's call number, once it is known.
     pub remote: Option<CallNumber>,
-    /// Why it ended, where no HANGUP or REJECT did that.
+    /// The failure that ended it, if no HANGUP or REJECT did.
     pub failure: Option<Failure>,
-    /// How many full frames went out again, modulo 2^64 ("Message Transport": retransmission).
+    /// The number of retransmitted full frames, modulo 2^64 ("Message Transport").
     pub resent: u64,
-    /// When its call was first offered, accepted, answered and over, in milliseconds.
+    /// The moments at which its call was first offered, accepted, answered and over, in milliseconds.
     pub moments: Moments,
     /// Whether its peer was challenged ("AUTHREQ").
     pub challenged: bool,
@@ -94,19 +94,19 @@ pub struct LegFacts {
 /// A leg that was given up.
 #[derive(Drop)]
 pub struct EndedLeg {
-    /// What it tells beside its record.
+    /// Its facts other than its record.
     pub facts: LegFacts,
-    /// Its record, whole.
+    /// Its whole record.
     pub history: Record,
 }
 
-/// What a tick of a peer did.
+/// The report of a tick of a peer.
 #[derive(Clone, Copy, Debug, PartialEq, Eq)]
 pub struct TickReport {
-    /// How many frames were due and had no memory. They stay due.
+    /// The number of frames that were due and had no memory. They stay due.
     pub skipped: u32,
-    /// How many octets of media were packed into trunk frames.
+    /// The octets of media packed into trunk frames.
     pub packed: u64,
-    /// Whether no leg has ended and none owes, so that there is nothing to be finished.
+    /// Whether no leg has ended and none owes, so that no leg is to be finished.
     pub is_quiet: bool,
 }

@@ -1,22 +1,40 @@
-//! The steps of a peer in which time goes on ("Message Transport", "Meta Frames").
+//! The ticks of a peer ("Message Transport", "Meta Frames").
 ghost use Rattle.std.specs.Prelude.{◌≡◌, ◌≢◌, ◌+◌, ◌^◌, ◌<◌, ◌≤◌, ◌↔◌, ◌⊎◌, [], length, true, Option, Some, slice_get, slice_set};
 ghost use Rattle.std.specs.Prelude.{All, IsErr, IsTrue, IfSome, IfNone, IfOk, OnOk, OnErr};
 ghost use Rattle.peer_accounts.specs.Accounts.{with_step as with_credit};
 ghost use Rattle.peer_legs.specs.Legs.{NamedLeg as NamedLegValue};
 ghost use Rattle.outbox.specs.Outbox.{put};
 ghost use Rattle.peer_legs.specs.Rests.{is_quiet};
-ghost use Rattle.peer_lock.specs.Ticks.{place_tick, flushed_ahead, TicksLegs, PacksOne, IsPacked, PacksMedia, PacksDue};
+ghost use Rattle.peer_lock.specs.Ticks.{asked, place_tick, flushed_ahead, TicksLegs, PacksOne, IsPacked, PacksMedia, PacksDue};
 ghost use Rattle.peer_lock.specs.Ticks.{Packs, Ticks};
 ghost use Rattle.trunk_packer.specs.Queue.{media_octets};
 
 use crate::errors::StepsSpent;
 use crate::outboxes::{flush_if, is_ahead_at_tick, put_all};
+use crate::pokes::poke_head;
 use crate::state::PeerState;
 use crate::steps::TickReport;
+use iax_frames::write_full;
 use peer_accounts::{Naming, Pass};
 
 impl<J: Naming> PeerState<J> {
-    // Time goes on for the leg at a place, if there is one. Tells how many frames had no memory.
+    // Sends a POKE, if one is due.
+    #[tactic(auto, using(outbox::proofs::Puts::put_none))]
+    fn poke_if_due(&mut self, now: u64)
+        ensures { self.new ≡ asked self.old now }
+    {
+        let _ = self.outbox.is_full();
+        if !self.pokes.is_due(&self.rules, now) {
+            return;
+        }
+        match write_full(&poke_head(now), &[]) {
+            Ok(out) => self.outbox.put(&out),
+            Err(_) => unreachable!(),
+        }
+        self.pokes = self.pokes.poked(&self.rules, now);
+    }
+
+    // Ticks the leg at a place, if there is one. Returns the number of frames without memory.
     #[tactic(auto, using(crate::proofs::Ticking::place_same, outbox::proofs::Puts::put_none))]
     fn tick_place(&mut self, index: usize, now: u64) -> u32
         requires { index < length self.old.legs.places }
@@ -46,7 +64,7 @@ impl<J: Naming> PeerState<J> {
         skipped
     }
 
-    // How many places for legs there are.
+    // Returns the number of places for legs.
     fn place_count(&self) -> usize
         ensures count { result ≡ length self.now.legs.places }
         ensures few { result ≤ 2 ^ 15 }
@@ -56,7 +74,7 @@ impl<J: Naming> PeerState<J> {
         self.legs.count()
     }
 
-    // Time goes on for the legs, by ascending number. Tells how many frames had no memory.
+    // Ticks the legs, by ascending number. Returns the number of frames without memory.
     fn tick_legs(&mut self, now: u64) -> u32
         ensures { TicksLegs self.old now result self.new }
     {
@@ -73,7 +91,7 @@ impl<J: Naming> PeerState<J> {
         skipped
     }
 
-    // One trunk frame goes out, where something is queued and the outbox has room. Tells the octets of media.
+    // Sends one trunk frame if something is queued and the outbox has room. Returns its octets of media.
     fn pack_one(&mut self, now: u64) -> Option<u64>
         ensures some { IfSome result (λ octets. PacksOne self.old now octets self.new) }
         ensures none { IfNone result (IsPacked self.old) }
@@ -88,7 +106,7 @@ impl<J: Naming> PeerState<J> {
         Some(octets)
     }
 
-    // The octets of media that wait for a trunk frame.
+    // Returns the octets of media that wait for a trunk frame.
     fn waiting(&self) -> u64
         ensures octets { result ≡ media_octets self.now.queue }
         ensures queued { self.now.accounts.queued ≡ media_octets self.now.queue }
@@ -98,7 +116,7 @@ impl<J: Naming> PeerState<J> {
         self.queue.queued().1
     }
 
-    // The trunk queue is packed while the outbox has room. Tells the octets of media.
+    // Packs the trunk queue while the outbox has room. Returns the octets of media.
     fn pack(&mut self, now: u64) -> u64
         ensures { PacksMedia self.old now result self.new }
     {
@@ -110,7 +128,7 @@ impl<J: Naming> PeerState<J> {
         packed
     }
 
-    // The whole queue goes out if its oldest entry is `wait` milliseconds old and the outbox has room. Returns the octets of
+    // Sends the whole queue if its oldest entry is `wait` milliseconds old and the outbox has room. Returns the octets of
     // media.
     fn pack_due(&mut self, now: u64, wait: u64) -> u64
         requires { self.old.rules.trunk_ms ≡ Some wait }
@@ -134,18 +152,18 @@ impl<J: Naming> PeerState<J> {
         }
     }
 
-    // The octets of media that were written into frames.
+    // Returns the octets of media that were written into frames.
     fn packed(&self) -> u64
         ensures { result ≡ self.now.accounts.packed }
     {
         self.account.sums().packed
     }
 
-    /// Time goes on, up to the moment `now`, in milliseconds: one step. Each leg's tick by ascending number, then the trunk queue
-    /// is packed: all of it while the outbox has room, or, in plan format 4, once its oldest entry is `trunk_ms` old.
-    /// Tells, too, whether a leg is to be finished then.
+    /// Ticks the peer at the moment `now`, in milliseconds: one step. A POKE is sent if one is due. Then each leg is ticked by
+    /// ascending number. Then the trunk queue is packed: all of it while the outbox has room, or, in plan version 4, once its
+    /// oldest entry is `trunk_ms` old. Also returns whether a leg is to be finished then.
     ///
-    /// `StepsSpent` comes exactly where the peer has no step credit left; then nothing is changed.
+    /// Returns `StepsSpent` if and only if the peer has no step credit left; then nothing is changed.
     pub fn tick(&mut self, pass: &mut Pass<J>, now: u64) -> Result<TickReport, StepsSpent>
         ensures spent { IsErr result ↔ (self.old.accounts.steps ≡ J.first_steps) }
         ensures ticked { IfOk result (λ report. Ticks self.old now report self.new) }
@@ -159,6 +177,7 @@ impl<J: Naming> PeerState<J> {
         }
         let packed_before = self.packed();
         self.account.count_step(pass);
+        self.poke_if_due(now);
         let skipped = self.tick_legs(now);
         self.pack_at_tick(now);
         Ok(TickReport {

@@ -1,12 +1,18 @@
-//! What answers a full frame that belongs to no call ("IAX Frames": INVAL; "POKE", "REJECT", "REGREJ"; CALLTOKEN of chan_iax2).
-ghost use Rattle.std.specs.Prelude.{◌≡◌, ◌≢◌, Some, IfOk, IfErr, OnOk, OnErr};
+//! The answers to full frames that belong to no call ("IAX Frames": INVAL; "POKE", "REJECT", "REGREJ"; CALLTOKEN of
+//! chan_iax2).
+ghost use Rattle.std.specs.Prelude.{◌≡◌, ◌≢◌, true, false, None, Some, IfOk, IfErr, OnOk, OnErr};
 ghost use Rattle.peer_accounts.specs.Accounts.{with_step as with_credit};
-ghost use Rattle.peer_lock.specs.Arrivals.{answering};
-ghost use Rattle.peer_lock.specs.Delivery.{answer_data, delivery_refused, newcomer, unknown_call, Gets};
+ghost use Rattle.peer_lock.specs.Arrivals.{answering, delivered_step};
+ghost use Rattle.peer_lock.specs.Delivery.{answer_data, delivery_refused, legless, newcomer, unknown_call, Gets, Pongs};
 ghost use Rattle.peer_lock.specs.Delivery as answers;
+ghost use Rattle.peer_lock.specs.Makes.{MakesAlone};
+ghost use Rattle.peer_lock.specs.Peer.{no_leg};
+ghost use Rattle.peer_lock.specs.Pokes.{answers_poke};
+ghost use Rattle.peer_lock.specs.declared.errors.PeerError.TheVariants as errors;
 ghost use Rattle.peer_lock.specs.declared.unknown_calls.Answer.{Answer as AnswerValue};
 
 use crate::errors::PeerError;
+use crate::pokes::{NO_CALL, is_own_pong};
 use crate::state::PeerState;
 use crate::steps::{Rejection, Step};
 use call_auth::CallTokens;
@@ -19,7 +25,7 @@ use info_elements::{CALLTOKEN, append_to, last_in};
 use leg_machine::{Cause, Judged, Message, PeerRules};
 use peer_accounts::{Naming, Pass};
 
-/// What the data of an answer says.
+/// The data of an answer.
 #[derive(Clone, Copy)]
 pub(crate) enum AnswerData {
     Nothing,
@@ -27,7 +33,7 @@ pub(crate) enum AnswerData {
     Token([u8; 32]),
 }
 
-/// What answers a frame that belongs to no call, and what it turns away by that.
+/// The answer to a frame that belongs to no call, and the rejection in it.
 #[derive(Clone, Copy)]
 pub(crate) struct Answer {
     pub(crate) head: FullHead,
@@ -47,7 +53,7 @@ fn is_poke(message: &Message) -> bool
     matches!(message, Message::Poke)
 }
 
-// Whether a frame is REGREQ or REGREL.
+// Returns whether a frame is REGREQ or REGREL.
 fn is_registration(frame: &Full) -> bool
     ensures { result ≡ answers.is_registration frame.now.head }
 {
@@ -55,7 +61,7 @@ fn is_registration(frame: &Full) -> bool
         && (frame.subclass() == IAX_REGREQ || frame.subclass() == IAX_REGREL)
 }
 
-// INVAL from the number that a frame names, to its source.
+// Returns INVAL from the number that a frame names, to its source.
 fn inval_for(frame: &Full) -> Answer
     ensures { result ≡ answers.inval_for frame.now.head }
 {
@@ -76,12 +82,12 @@ fn inval_for(frame: &Full) -> Answer
     }
 }
 
-// The head of an IAX frame to the source of another, from a number that is none of a plan.
+// Returns the head of an IAX frame to the source of another, from a number that no plan has.
 fn answer_head(frame: &Full, subclass: u8) -> FullHead
     ensures { result ≡ answers.answer_head frame.now.head subclass }
 {
     FullHead {
-        source: CallNumber::new(0x7fff),
+        source: CallNumber::new(NO_CALL),
         retransmitted: false,
         destination: frame.source(),
         timestamp: frame.timestamp(),
@@ -92,7 +98,7 @@ fn answer_head(frame: &Full, subclass: u8) -> FullHead
     }
 }
 
-// PONG to a POKE.
+// Returns PONG for a POKE.
 fn pong_for(frame: &Full) -> Answer
     ensures { result ≡ answers.pong_for frame.now.head }
 {
@@ -103,7 +109,7 @@ fn pong_for(frame: &Full) -> Answer
     }
 }
 
-// REJECT to a NEW for which no number is free.
+// Returns REJECT for a NEW without a free number.
 pub(crate) fn reject_for(frame: &Full) -> Answer
     ensures { result ≡ answers.reject_for frame.now.head }
 {
@@ -114,7 +120,7 @@ pub(crate) fn reject_for(frame: &Full) -> Answer
     }
 }
 
-// REJECT to a NEW at a peer that drains.
+// Returns REJECT for a NEW at a peer that drains.
 fn drained_for(frame: &Full) -> Answer
     ensures { result ≡ answers.drained_for frame.now.head }
 {
@@ -125,19 +131,19 @@ fn drained_for(frame: &Full) -> Answer
     }
 }
 
-// REGREJ to a REGREQ or a REGREL.
+// Returns REGREJ for a REGREQ or a REGREL.
 fn regrej_for(frame: &Full) -> Answer
     ensures { result ≡ answers.regrej_for frame.now.head }
 {
     Answer {
         head: answer_head(frame, IAX_REGREJ),
         rejected: Some(Rejection::Registration),
-        // Facility rejected, by Q.850.
+        // The cause of Q.850 is "facility rejected".
         says: AnswerData::Why(Cause::Other(29)),
     }
 }
 
-// CALLTOKEN to a NEW that asks for a call token.
+// Returns CALLTOKEN for a NEW that asks for a call token.
 fn token_for(frame: &Full, tokens: &CallTokens, now: u64) -> Answer
     ensures { result ≡ answers.token_for tokens.now frame.now.head now }
 {
@@ -149,7 +155,7 @@ fn token_for(frame: &Full, tokens: &CallTokens, now: u64) -> Answer
     }
 }
 
-// What becomes of a NEW that no leg has, by whether the peer drains and by its call token.
+// Returns the answer to a NEW that belongs to no leg, by whether the peer drains and by the NEW's call token.
 fn answer_to_new(
     frame: &Full,
     drains: bool,
@@ -178,7 +184,7 @@ fn answer_to_new(
     }
 }
 
-// What answers a frame that no leg has, by whether the peer drains and by its rules.
+// Returns the answer to a frame that belongs to no leg, by whether the peer drains and by its rules.
 fn answer_to(frame: &Full, drains: bool, rules: &PeerRules, now: u64) -> Result<Answer, PeerError>
     ensures answer { IfOk result (λ answer. unknown_call drains rules.now frame.now now ≡ Gets answer) }
     ensures refused { IfErr result (λ e. Some e ≡ delivery_refused (unknown_call drains rules.now frame.now now)) }
@@ -202,7 +208,7 @@ fn answer_to(frame: &Full, drains: bool, rules: &PeerRules, now: u64) -> Result<
     Ok(inval_for(frame))
 }
 
-// The data of an answer.
+// Returns the data of an answer.
 fn answer_data(says: AnswerData) -> Payload
     ensures { result ≡ answer_data says }
 {
@@ -216,7 +222,7 @@ fn answer_data(says: AnswerData) -> Payload
 }
 
 impl<J: Naming> PeerState<J> {
-    // A step without a leg, in which this answer is sent.
+    // Sends this answer in a step without a leg.
     pub(crate) fn answer_alone(&mut self, pass: &mut Pass<J>, answer: &Answer) -> Step
         requires { self.old.accounts.steps ≢ J.first_steps }
         ensures peer { self.new ≡ (answering self.old answer.now).peer }
@@ -236,7 +242,7 @@ impl<J: Naming> PeerState<J> {
         }
     }
 
-    // A full frame that no leg has.
+    // Answers a full frame that belongs to no leg.
     pub(crate) fn answer_unknown(
         &mut self,
         pass: &mut Pass<J>,
@@ -255,5 +261,49 @@ impl<J: Naming> PeerState<J> {
     {
         let answer = answer_to(frame, self.drains, &self.rules, now)?;
         Ok(self.answer_alone(pass, &answer))
+    }
+    // A PONG to the call number that POKEs have: it counts if it answers the last POKE.
+    fn take_pong(&mut self, pass: &mut Pass<J>, frame: &Full, now: u64) -> Result<Step, PeerError>
+        requires { self.old.accounts.steps ≢ J.first_steps }
+        ensures counts { OnOk result (answers_poke self.old.pokes frame.now.head ≡ true) }
+        ensures peer { OnOk result (self.new ≡ (delivered_step J.first_octets self.old Pongs frame.now now).peer) }
+        ensures step { IfOk result (λ step. step ≡ no_leg) }
+        ensures credit { OnOk result (pass.new ≡ with_credit pass.old 0) }
+        ensures refused { IfErr result (λ e. (e ≡ errors.NoCall) × (answers_poke self.old.pokes frame.now.head ≡ false)) }
+        ensures err { OnErr result ((self.new ≡ self.old) × (pass.new ≡ pass.old)) }
+    {
+        if !self.pokes.is_answer(frame) {
+            return Err(PeerError::NoCall);
+        }
+        self.pokes = self.pokes.answered(now);
+        self.account.count_step(pass);
+        Ok(Step {
+            judged: Judged::Unnumbered,
+            touched: None,
+            rejected: None,
+        })
+    }
+
+    // A full frame for which no leg is found.
+    pub(crate) fn come_to_none(
+        &mut self,
+        pass: &mut Pass<J>,
+        frame: &Full,
+        now: u64,
+    ) -> Result<Step, PeerError>
+        requires { self.old.accounts.steps ≢ J.first_steps }
+        ensures made { IfOk result (λ step. MakesAlone (delivered_step J.first_octets self.old
+            (legless self.old.drains self.old.rules self.old.pokes frame.now now) frame.now now) self.new step pass.old pass.new) }
+        ensures unrefused { OnOk result (delivery_refused
+            (legless self.old.drains self.old.rules self.old.pokes frame.now now) ≡ None) }
+        ensures refused { IfErr result (λ e. Some e ≡ delivery_refused
+            (legless self.old.drains self.old.rules self.old.pokes frame.now now)) }
+        ensures err { OnErr result ((self.new ≡ self.old) × (pass.new ≡ pass.old)) }
+    {
+        if is_own_pong(&self.rules, frame) {
+            self.take_pong(pass, frame, now)
+        } else {
+            self.answer_unknown(pass, frame, now)
+        }
     }
 }

@@ -44,6 +44,7 @@ drawn_peer drawn workers peer is = record {
     record_octets = is.rules.record_octets;
     window = is.rules.window;
     vnak_ms = is.rules.vnak_ms;
+    qualify_ms = is.rules.qualify_ms;
   };
   numbers = is.numbers;
 }

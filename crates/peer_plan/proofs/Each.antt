@@ -29,7 +29,7 @@ pub each_fails : {A : Type 0} (e : PlanError) (k : Key) (read : List A → Membe
 each_fails error.Memory k read before vs i d ms total lt is_table h so_far = tt
 each_fails e k read before vs i d ms total lt is_table h so_far = sym so_far ∙ one_fails e k read before vs i d ms lt is_table h
 
--- what as_table says of a value
+-- the meaning of as_table
 pub table_from_as_table : (d : Data) (ms : Members) → as_table d ≡ Some ms → d ≡ table ms
 table_from_as_table (table ns) ms h = ap table (cc)
 table_from_as_table _ ms h = cc

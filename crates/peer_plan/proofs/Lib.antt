@@ -3,7 +3,9 @@ mod Each
 mod KeyNames
 mod Ranges
 mod FormatLaws
+mod IndexLaws
 mod RouteLaws
+mod RoutesRead
 mod ReadingLaws
 mod PlanLaws
 pub mod EndpointLaws

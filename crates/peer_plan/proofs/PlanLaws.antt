@@ -1,4 +1,4 @@
--- What is so of every plan that is read.
+-- Properties of every plan that is read.
 use Rattle.std.proofs.Common.{◌≡◌, ◌≢◌, ℕ, zero, suc, ◌-◌, ◌<◌, ◌≤◌, Bool, true, false, cond, List, [], ◌∷◌, ◌++◌, length, get_or, Option, Some, None, Result, Ok, Err, IsSome, refl, sym, ap, subst, ◌∙◌, arith, nat_le, nat_lt, ◌&&◌, ◌||◌, ◌==◌, is_some}
 use Rattle.std.specs.Prelude.{All, IfSome, option_map, position, ok_or, nat_eq}
 use Rattle.std.specs.Option.{option_eq}
@@ -26,7 +26,7 @@ use Rattle.peer_plan.specs.declared.route.Route.{Route}
 use Rattle.peer_plan.specs.Keys.{key_name}
 use Rattle.peer_plan.specs.Fields.{◌>>=◌, number_of, text_of, value, value_at, each, list_in}
 use Rattle.peer_plan.specs.Plan.{IsPlan, IsPeer, IsRoute, AreApart, is_name, is_prefix, counts_of}
-use Rattle.peer_plan.specs.Reading.{default_record_limit, record_octets_in, vnak_ms_in, trunk_ms_in, challenge_ms_in, limits_in, address_in, endpoint_in, workers_in, passes_in, is_credential, credential_in, has_secret, outbound_secret_in, credentials_in, formats_in, media_in, window_in, poke_in, call_tokens_in, rules_from, peer_in, has_double, is_named, is_endpoint, has_same_name, has_same_endpoint, told_apart, peers_in, peer_named, source_at, source_in, has_way, new_route, route_in, routes_in}
+use Rattle.peer_plan.specs.Reading.{default_record_limit, record_octets_in, vnak_ms_in, trunk_ms_in, challenge_ms_in, limits_in, address_in, endpoint_in, workers_in, passes_in, is_credential, credential_in, has_secret, outbound_secret_in, credentials_in, formats_in, media_in, window_in, poke_in, call_tokens_in, qualify_ms_in, rules_from, peer_in, has_double, is_named, is_endpoint, has_same_name, has_same_endpoint, told_apart, peers_in, peer_named, source_at, source_in, has_way, new_route, route_in, routes_in}
 use Rattle.call_book.proofs.RangeLaws.{ranges_apart, total_within}
 use Rattle.peer_plan.proofs.FormatLaws.{formats_some}
 use Rattle.peer_plan.proofs.ReadingLaws.{bound, found_in, value_is, number_within, text_fits, default_within, missing, each_keeps, each_len, list_within}
@@ -65,7 +65,14 @@ vnak_within format n ms h = go (format == 4) h
     go true is = number_is ms key.VnakMs 0 60000 0 n (omega arith) (omega arith) is
     go false is = default_within 0 60000 n 0 (omega arith) (omega arith) is
 
--- a number that is read in one case alone
+qualify_within : (format n : ℕ) (ms : Members) → qualify_ms_in format ms ≡ Ok n → IsWithin 0 600000 n
+qualify_within format n ms h = go (format == 4) h
+  where
+    go : (b : Bool) → cond b (value ms key.QualifyMs (Ok 60000) (number_of 0 600000)) (Ok 0) ≡ Ok n → IsWithin 0 600000 n
+    go true is = number_is ms key.QualifyMs 0 600000 60000 n (omega arith) (omega arith) is
+    go false is = default_within 0 600000 n 0 (omega arith) (omega arith) is
+
+-- a number that is read only in one case
 within_if_read : (P : ℕ → Type 0) (is_read : Bool) (ms : Members) (k : Key) (low high fallback : ℕ) (found : Option ℕ) → low ≤ fallback → fallback ≤ high → ((n : ℕ) → IsWithin low high n → P n)
     → cond is_read (value ms k (Ok fallback) (number_of low high) >>= λ n. Ok (Some n)) (Ok None) ≡ Ok found → IfSome found P
 within_if_read P true ms k low high fallback found least most so is =
@@ -149,7 +156,7 @@ user_some false None user u need = absurd (true≢false (sym need))
 none_is_some : {P : Type 0} (o : Option (List ℕ)) → None ≡ o → IsSome o → P
 none_is_some o none some = absurd (true≢false (sym some ∙ ap is_some (sym none)))
 
--- a secret that is there stands at its key
+-- a secret that was read is at its key
 secret_given : (format : ℕ) (ms : Members) (secret : Option (List ℕ)) → value ms key.Secret (Ok None) credential_in ≡ Ok secret → IsSome secret → has_secret format ms ≡ true
 secret_given format ms secret s some = go (get_member (key_name key.Secret) ms) s
   where
@@ -157,7 +164,7 @@ secret_given format ms secret s some = go (get_member (key_name key.Secret) ms) 
     go (Some d) s = refl
     go None s = none_is_some secret (cc) some
 
--- that of the other way stands at its own key, or is the same
+-- the secret of the other direction is at its own key, or is the same
 outbound_given : (format : ℕ) (ms : Members) (secret outbound : Option (List ℕ)) → value ms key.Secret (Ok None) credential_in ≡ Ok secret → outbound_secret_in format secret ms ≡ Ok outbound → IsSome outbound
     → has_secret format ms ≡ true
 outbound_given format ms secret outbound s o some = go (format == 4) (get_member (key_name key.Secret) ms) (get_member (key_name key.OutboundSecret) ms) s o
@@ -169,7 +176,7 @@ outbound_given format ms secret outbound s o some = go (format == 4) (get_member
     go true None None s o = none_is_some outbound (cc) some
     go false None other s o = none_is_some outbound (cc) some
 
--- a secret, of either way, has a user
+-- a secret, of either direction, has a user
 record HaveUser (credentials : Credentials) : Type 0 where
   secret : IsSome credentials.secret → IsSome credentials.user
   outbound_secret : IsSome credentials.outbound_secret → IsSome credentials.user
@@ -205,6 +212,12 @@ window_within format n ms h = go (nat_le 2 format) h
     go true is = number_is ms key.Window 1 127 64 n (omega arith) (omega arith) is
     go false is = default_within 1 127 n 64 (omega arith) (omega arith) is
 
+place_below : (place workers : ℕ) → place ≤ workers - 1 → 1 ≤ workers → place < workers
+place_below place workers last some = omega arith
+
+numbers_within : (ms : Members) (n : ℕ) → value ms key.Numbers (Ok 64) (number_of 1 512) ≡ Ok n → IsWithin 1 512 n
+numbers_within ms n h = number_is ms key.Numbers 1 512 64 n (omega arith) (omega arith) h
+
 peer_sound : (format workers : ℕ) (limits : Limits) (ms : Members) (peer : Peer) → 1 ≤ workers → IsLimits limits → peer_in format limits workers ms ≡ Ok peer → IsPeer workers peer
 unfolding peer_in
 peer_sound format workers limits ms peer some limited h =
@@ -217,13 +230,14 @@ peer_sound format workers limits ms peer some limited h =
     let g = bound (window_in format ms) _ peer f.2 in
     let i = bound (poke_in format ms) _ peer g.2 in
     let j = bound (call_tokens_in format b.0 ms) _ peer i.2 in
-    let is : record { name = a.0; endpoint = b.0; worker = c.0; rules = rules_from format limits d.0 e.0 g.0 i.0 j.0; numbers = f.0 } ≡ peer = ap (value_or peer) j.2 in
+    let k = bound (qualify_ms_in format ms) _ peer j.2 in
+    let is : record { name = a.0; endpoint = b.0; worker = c.0; rules = rules_from format limits d.0 e.0 g.0 i.0 j.0 k.0; numbers = f.0 } ≡ peer = ap (value_or peer) k.2 in
     let place = number_there ms key.Worker 0 (workers - 1) c.0 c.1 in
     let secrets = secrets_of_user format ms d.0 d.1 in
     subst (IsPeer workers) is (record {
       name = value_is (λ t. is_name t ≡ true) key.Name (Err (error.Missing key.Name)) (text_of is_name) (get_member (key_name key.Name) ms) a.0 (text_fits is_name a.0) (missing (error.Missing key.Name) a.0) a.1;
       port = endpoint_port ms b.0 b.1;
-      worker = omega (arith, place.1, some);
+      worker = place_below c.0 workers place.1 some;
       rules = record {
         secret_of_user = secrets.secret;
         outbound_secret_of_user = secrets.outbound_secret;
@@ -237,8 +251,9 @@ peer_sound format workers limits ms peer some limited h =
         record_octets = limited.record_octets;
         window = window_within format g.0 ms g.1;
         vnak_ms = limited.vnak_ms.1;
+        qualify_ms = (qualify_within format k.0 ms k.1).1;
       };
-      numbers = number_is ms key.Numbers 1 512 64 f.0 (omega arith) (omega arith) f.1;
+      numbers = numbers_within ms f.0 f.1;
     })
 
 none_here : {A : Type 0} (p : A → Bool) (x : A) (xs : List A) → list_any p (x ∷ xs) ≡ false → (p x ≡ false) × (list_any p xs ≡ false)
@@ -346,7 +361,7 @@ source_within format peers ms source h = go (format == 4) h
     go true is = source_at_within peers (get_member (key_name key.Source) ms) source is
     go false is = let same : None ≡ source = cc in subst (λ s. IfSome s (λ i. i < length peers)) same tt
 
--- a way that isn't there is apart from those that are
+-- an absent source differs from each that is present
 sources_same : (a b : Option ℕ) → a ≡ b → option_eq nat_eq a b ≡ true
 sources_same None b h = let same : None ≡ b = h in subst (λ o. option_eq nat_eq None o ≡ true) same refl
 sources_same (Some n) b h = let same : Some n ≡ b = h in subst (λ o. option_eq nat_eq (Some n) o ≡ true) same (grind (arith, nat_tests))

@@ -1,4 +1,4 @@
--- Where the range of a peer begins, by what the peers before it have.
+-- The first number of a peer's range, by the numbers of the peers before it.
 use Rattle.std.proofs.Common.{◌≡◌, ℕ, zero, suc, ◌+◌, ◌*◌, ◌<◌, ◌≤◌, List, [], ◌∷◌, get_or, length, take, drop, refl, sym, ap, ◌∙◌, arith}
 use Rattle.std.proofs.lemmas.List.{take_more, get_or-drop, length-map}
 use Rattle.call_book.proofs.RangeLaws.{total-push}
@@ -19,7 +19,7 @@ first-total [] (suc p) le = absurd (omega arith)
 first-total (c ∷ cs) zero le = refl
 first-total (c ∷ cs) (suc p) le = let rest = first-total cs p (omega arith) in omega (arith, rest)
 
--- what the counts before a peer and from it on say of its range
+-- the counts before a peer and from it on, and the peer's range
 pub record IsSplit (counts front rest : List ℕ) (peer : ℕ) : Type 0 where
   pub first : 1 + total_of front ≡ first_number counts peer
   pub count : get_or rest 0 0 ≡ get_or counts peer 0
@@ -37,7 +37,7 @@ split_is counts all front rest peer i same is_front is_rest at lt limit =
       most = omega (arith, ap total_of before, count, total-at counts peer lt, limit);
     }
 
--- the same of a plan, whose counts stand in a list
+-- the same for a plan, whose counts are a list
 pub plan_split : (plan : PlanView) (all front rest : List ℕ) (peer i : ℕ) → all ≡ counts_of plan.peers → IsPlan plan → front ≡ take i all → rest ≡ drop i all → i ≡ peer → peer < length plan.peers
     → IsSplit (counts_of plan.peers) front rest peer
 plan_split plan all front rest peer i same is is_front is_rest at lt =

@@ -1,4 +1,4 @@
--- What is so of each value that is read, and of the lists of tables.
+-- Properties of each value that is read, and of the lists of tables.
 use Rattle.std.proofs.Common.{◌≡◌, ℕ, pos, negsuc, ◌+◌, ◌≤◌, Bool, true, false, cond, List, [], ◌∷◌, ◌++◌, length, Option, Some, None, Result, Ok, Err, refl, ap, subst, arith, nat_le, nat_lt, ◌&&◌, ◌==◌}
 use Rattle.std.specs.Prelude.{ok_or}
 use Rattle.std.proofs.lemmas.Bool.Decides.{nat_tests}
@@ -20,7 +20,7 @@ pub found_in : {A : Type 0} (o : Option A) (e : PlanError) (x : A) → ok_or o e
 found_in None e x h = absurd (cc)
 found_in (Some y) e x h = let same : y ≡ x = cc in ap Some same
 
--- what a value is, if it is so of each that is read, and of the fallback
+-- a property of each value that is read, and of the fallback, holds for the result
 pub value_is : {A : Type 0} (P : A → Type 0) (k : Key) (fallback : Result A PlanError) (read : Data → Option A) (o : Option Data) (x : A)
     → ((d : Data) → read d ≡ Some x → P x) → (fallback ≡ Ok x → P x) → value_at k fallback read o ≡ Ok x → P x
 value_is P k fallback read None x each_read else_is h = else_is h

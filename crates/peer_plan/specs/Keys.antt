@@ -34,6 +34,7 @@ key_name key.Numbers = codes "numbers"
 key_name key.Window = codes "window"
 key_name key.Poke = codes "poke"
 key_name key.CallToken = codes "call_token"
+key_name key.QualifyMs = codes "qualify_ms"
 key_name key.Route = codes "route"
 key_name key.Prefix = codes "prefix"
 key_name key.Source = codes "source"
@@ -53,6 +54,6 @@ is_known section.Peer format name =
     is_one_of (key.Name ∷ key.Address ∷ key.Port ∷ key.Worker ∷ key.User ∷ key.Secret ∷ key.Formats ∷ key.Trunk
     ∷ key.TrunkTimestamps ∷ key.Numbers ∷ []) name
     || (nat_le 2 format && bytes_eq (key_name key.Window) name)
-    || (format == 4 && is_one_of (key.OutboundSecret ∷ key.Poke ∷ key.CallToken ∷ []) name)
+    || (format == 4 && is_one_of (key.OutboundSecret ∷ key.Poke ∷ key.CallToken ∷ key.QualifyMs ∷ []) name)
 is_known section.Route format name =
     is_one_of (key.Prefix ∷ key.Peer ∷ []) name || (format == 4 && bytes_eq (key_name key.Source) name)

@@ -6,4 +6,6 @@ pub mod Fields
 pub mod FormatNames
 pub mod UnknownKeys
 pub mod Reading
+pub mod ReadRoutes
+pub mod RouteIndex
 pub mod PlanFields

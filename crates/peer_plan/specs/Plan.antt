@@ -1,6 +1,6 @@
--- What a plan is: workers, passes, peers with their numbers, and routes.
+-- A plan: workers, passes, peers with their numbers, and routes.
 use Rattle.std.specs.Prelude.{◌≡◌, ◌≢◌, ◌≤◌, ◌<◌, ℕ, ◌+◌, ◌*◌, List, length, map, Bool, true, ◌&&◌, ◌||◌}
-use Rattle.std.specs.Prelude.{nat_le, nat_lt, nat_eq, Option, Some, None, is_some, if◌then◌else◌, ◌==◌, slice_index, All}
+use Rattle.std.specs.Prelude.{nat_le, nat_eq, Option, Some, None, is_some, if◌then◌else◌, ◌==◌, slice_index, All}
 use Rattle.std.specs.Prelude.{Contains, IfSome, option_map}
 use Rattle.std.specs.Char.{is_ascii_alphanumeric}
 use Rattle.std.specs.List.{list_all, starts_with, AllPairs}
@@ -40,7 +40,7 @@ is_prefix text = nat_le (length text) 32 && list_all is_visible text
 abbrev pub with_key : List ℕ → CallTokens → CallTokens
 with_key key tokens = record tokens { key = key }
 
--- the peer of an exchange that drew these when it was opened
+-- the peer of an exchange that drew these values when it was opened
 abbrev pub with_drawn : Drawn → Peer → Peer
 with_drawn drawn peer =
     record peer {
@@ -52,7 +52,7 @@ with_drawn drawn peer =
 
 -- ---- numbers
 
--- how many numbers each peer has
+-- the count of each peer's numbers
 abbrev pub counts_of : List Peer → List ℕ
 counts_of peers = map (λ peer. peer.numbers) peers
 
@@ -87,14 +87,9 @@ pub record IsLongest (routes : List Route) (text : List ℕ) (route : Route) : T
   pub starts : begins text route ≡ true
   pub longest : All (λ other. begins text other ≡ true → length other.prefix ≤ length route.prefix) routes
 
--- how near a route is: one with a longer prefix is nearer, and of two of one length one with a source
+-- the nearness of a route: one with a longer prefix is nearer, and of two of one length one with a source
 abbrev pub nearness : Route → ℕ
 nearness route = 2 * length route.prefix + (if is_some route.source then 1 else 0)
-
--- a route is nearer than another, if there is one
-abbrev pub is_nearer : Route → Option Route → Bool
-is_nearer route None = true
-is_nearer route (Some other) = nat_lt (nearness other) (nearness route)
 
 -- of the routes that a call fits, this is the nearest
 pub record IsNearest (routes : List Route) (caller : ℕ) (text : List ℕ) (route : Route) : Type 0 where
@@ -102,7 +97,7 @@ pub record IsNearest (routes : List Route) (caller : ℕ) (text : List ℕ) (rou
   pub fitting : fits caller text route ≡ true
   pub nearest : All (λ other. fits caller text other ≡ true → nearness other ≤ nearness route) routes
 
--- ---- what is so of every plan
+-- ---- properties of every plan
 
 pub record IsPeer (workers : ℕ) (peer : Peer) : Type 0 where
   pub name : is_name peer.name ≡ true
@@ -130,7 +125,7 @@ pub record IsPlan (plan : PlanView) : Type 0 where
   pub names : AllPairs (λ peer other. peer.name ≢ other.name) plan.peers
   pub endpoints : AllPairs (λ peer other. peer.endpoint ≢ other.endpoint) plan.peers
   pub ways : AllPairs AreApart plan.routes
-  -- the ranges lie apart, within 1 ..= 16,384
+  -- the ranges are disjoint, and within 1 ..= 16,384
   pub apart : (peer other number : ℕ) → peer ≢ other → IsInRange (range_of (counts_of plan.peers) peer) number →
       IsInRange (range_of (counts_of plan.peers) other) number → ⊥
   pub total : total_of (counts_of plan.peers) ≤ 32 * 512

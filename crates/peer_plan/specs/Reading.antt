@@ -1,4 +1,4 @@
--- How a plan is read from a document: the keys in their order, with the first fault.
+-- The reading of a plan from a document: the keys in their order, with the first fault.
 use Rattle.std.specs.Prelude.{ℕ, ◌-◌, List, [], ◌∷◌, length, Option, Some, None, Result, Ok, Err, Bool, true, false, is_some}
 use Rattle.std.specs.Prelude.{pos, nat_le, nat_eq, ◌==◌, ◌&&◌, ◌||◌, if◌then◌else◌, ok_or, option_map, option_and_then, position, replicate}
 use Rattle.std.specs.List.{list_all, list_any}
@@ -35,24 +35,24 @@ abbrev pub plan_format : Data → Option ℕ
 plan_format (integer (pos number)) = if is_format number then Some number else None
 plan_format _ = None
 
--- how many entries a record has at most, where `record_limit` is absent
+-- the greatest number of entries of a record, if `record_limit` is absent
 abbrev pub default_record_limit : ℕ → ℕ
 default_record_limit format = if format == 4 then 65536 else 4096
 
--- `record_octets`, in format 4 alone: the formats before it don't limit the data of a record
+-- `record_octets`, only in plan version 4: older versions don't limit the data of a record
 abbrev pub record_octets_in : ℕ → Members → Result (Option ℕ) PlanError
 record_octets_in format ms =
     if format == 4 then (value ms key.RecordOctets (Ok 1048576) (number_of 65536 268435456) >>= λ most. Ok (Some most)) else Ok None
 
--- `vnak_ms`, in format 4 alone
+-- `vnak_ms`, only in plan version 4
 abbrev pub vnak_ms_in : ℕ → Members → Result ℕ PlanError
 vnak_ms_in format ms = if format == 4 then value ms key.VnakMs (Ok 0) (number_of 0 60000) else Ok 0
 
--- `trunk_ms`, in format 4 alone: the formats before it don't say how long media waits for a trunk frame to fill
+-- `trunk_ms`, only in plan version 4: older versions set no time for which media waits for a trunk frame to fill
 abbrev pub trunk_ms_in : ℕ → Members → Result (Option ℕ) PlanError
 trunk_ms_in format ms = if format == 4 then (value ms key.TrunkMs (Ok 20) (number_of 0 60) >>= λ wait. Ok (Some wait)) else Ok None
 
--- `challenge_ms`, in format 4 alone: the formats before it set no end to the wait for the answer to a challenge
+-- `challenge_ms`, only in plan version 4: older versions don't limit the wait for the answer to a challenge
 abbrev pub challenge_ms_in : ℕ → Members → Result (Option ℕ) PlanError
 challenge_ms_in format ms =
     if format == 4 then (value ms key.ChallengeMs (Ok 10000) (number_of 1000 60000) >>= λ wait. Ok (Some wait)) else Ok None
@@ -97,23 +97,23 @@ workers_in ms = list_in ms key.Worker 8 >>= each key.Worker (λ _. endpoint_in) 
 abbrev pub passes_in : ℕ → Members → Result ℕ PlanError
 passes_in workers ms = value ms key.Passes (Ok workers) (number_of workers 64)
 
--- `user`, `secret`, `outbound_secret`: a secret of either way needs a user
+-- `user`, `secret`, `outbound_secret`: a secret of either direction needs a user
 abbrev pub is_credential : List ℕ → Bool
 is_credential text = (nat_le 1 (length text) && nat_le (length text) 64) && list_all is_printable text
 
 abbrev pub credential_in : Data → Option (Option (List ℕ))
 credential_in d = option_map Some (text_of is_credential d)
 
--- whether a table has a secret; that of the other way is a key of format 4 alone
+-- whether a table has a secret; that of the other direction is a key only of plan version 4
 abbrev pub has_secret : ℕ → Members → Bool
 has_secret format ms =
     is_some (get_member (key_name key.Secret) ms) || (format == 4 && is_some (get_member (key_name key.OutboundSecret) ms))
 
--- what stands for a user that is absent
+-- the user if it is absent
 abbrev pub absent_user : ℕ → Members → Result (Option (List ℕ)) PlanError
 absent_user format ms = if has_secret format ms then Err (error.Missing key.User) else Ok None
 
--- `outbound_secret`, in format 4 alone: unless the plan says it, one secret serves both ways
+-- `outbound_secret`, only in plan version 4: without it, one secret serves both directions
 abbrev pub outbound_secret_in : ℕ → Option (List ℕ) → Members → Result (Option (List ℕ)) PlanError
 outbound_secret_in format secret ms = if format == 4 then value ms key.OutboundSecret (Ok secret) credential_in else Ok secret
 
@@ -157,28 +157,32 @@ media_in ms = do
   trunk_timestamps ← value ms key.TrunkTimestamps (Ok false) as_bool
   Ok (record { formats = formats; trunk = trunk; trunk_timestamps = trunk_timestamps })
 
--- `window`, from format 2 on
+-- `window`, from plan version 2 on
 abbrev pub window_in : ℕ → Members → Result ℕ PlanError
 window_in format ms = if nat_le 2 format then value ms key.Window (Ok 64) (number_of 1 127) else Ok 64
 
--- `poke`, in format 4 alone
+-- `poke`, only in plan version 4
 abbrev pub poke_in : ℕ → Members → Result Bool PlanError
 poke_in format ms = if format == 4 then value ms key.Poke (Ok true) as_bool else Ok false
 
--- what the call tokens of an endpoint are made of, where they are asked for
+-- the source of an endpoint's call tokens, if they are required
 abbrev pub tokens_if : Bool → Endpoint → Option CallTokens
 tokens_if true endpoint = Some (record { key = replicate 32 0; address = endpoint.address; port = endpoint.port })
 tokens_if false endpoint = None
 
--- `call_token`, in format 4 alone. The key isn't a plan's to say: it is drawn when the exchange is opened.
+-- `call_token`, only in plan version 4. The key isn't in the plan: it is drawn when the exchange is opened.
 abbrev pub call_tokens_in : ℕ → Endpoint → Members → Result (Option CallTokens) PlanError
 call_tokens_in format endpoint ms =
     if format == 4 then (value ms key.CallToken (Ok false) as_bool >>= λ asked. Ok (tokens_if asked endpoint)) else Ok None
 
--- In format 4 alone who calls and why a call ended are carried on, a call's format is chosen as it is routed, and legs are
--- hardened. What challenges begin with isn't a plan's to say: it is drawn when the exchange is opened.
-abbrev pub rules_from : ℕ → Limits → Credentials → Media → ℕ → Bool → Option CallTokens → PeerRules
-rules_from format limits credentials media window poke call_tokens =
+-- `qualify_ms`, in format 4 alone: in the formats before it no peer is asked whether it is there
+abbrev pub qualify_ms_in : ℕ → Members → Result ℕ PlanError
+qualify_ms_in format ms = if format == 4 then value ms key.QualifyMs (Ok 60000) (number_of 0 600000) else Ok 0
+
+-- Only in plan version 4 the caller and the cause of a call's end are carried on. Only there a call's format is chosen when
+-- it is routed, and legs are hardened. The prefix of challenges isn't in the plan: it is drawn when the exchange is opened.
+abbrev pub rules_from : ℕ → Limits → Credentials → Media → ℕ → Bool → Option CallTokens → ℕ → PeerRules
+rules_from format limits credentials media window poke call_tokens qualify_ms =
     record {
       user = credentials.user;
       secret = credentials.secret;
@@ -198,6 +202,7 @@ rules_from format limits credentials media window poke call_tokens =
       window = window;
       vnak_ms = limits.vnak_ms;
       poke = poke;
+      qualify_ms = qualify_ms;
       carries_caller = format == 4;
       carries_cause = format == 4;
       routes_format = format == 4;
@@ -215,11 +220,12 @@ peer_in format limits workers ms = do
   window ← window_in format ms
   poke ← poke_in format ms
   call_tokens ← call_tokens_in format endpoint ms
+  qualify_ms ← qualify_ms_in format ms
   Ok (record {
     name = name;
     endpoint = endpoint;
     worker = worker;
-    rules = rules_from format limits credentials media window poke call_tokens;
+    rules = rules_from format limits credentials media window poke call_tokens qualify_ms;
     numbers = numbers;
   })
 
@@ -257,7 +263,7 @@ peers_in format limits workers ms = do
 abbrev pub peer_named : List Peer → List ℕ → Result ℕ PlanError
 peer_named peers name = ok_or (position (is_named name) peers) error.UnknownPeer
 
--- `source`, in format 4 alone
+-- `source`, only in plan version 4
 unfoldable pub source_at : List Peer → Option Data → Result (Option ℕ) PlanError
 source_at peers None = Ok None
 source_at peers (Some d) = do
@@ -269,8 +275,15 @@ abbrev pub source_in : ℕ → List Peer → Members → Result (Option ℕ) Pla
 source_in format peers ms = if format == 4 then source_at peers (get_member (key_name key.Source) ms) else Ok None
 
 -- whether a route has this prefix and this source
+abbrev pub is_way : List ℕ → Option ℕ → Route → Bool
+is_way prefix source route = bytes_eq route.prefix prefix && option_eq nat_eq route.source source
+
 abbrev pub has_way : List ℕ → Option ℕ → List Route → Bool
-has_way prefix source routes = list_any (λ route. bytes_eq route.prefix prefix && option_eq nat_eq route.source source) routes
+has_way prefix source routes = list_any (is_way prefix source) routes
+
+-- whether two routes have one prefix and one source
+abbrev pub has_same_way : List Route → Bool
+has_same_way routes = has_double (λ other route. is_way other.prefix other.source route) routes
 
 abbrev pub new_route : List Route → List ℕ → Option ℕ → ℕ → Result Route PlanError
 new_route before prefix source peer =
@@ -300,7 +313,7 @@ plan_in ms = do
   known ← known_in format ms
   Ok (record { workers = workers; passes = passes; peers = peers; routes = routes })
 
--- the table that toml reads from the text, where it reads one
+-- the table that toml reads from the text, if it reads one
 abbrev pub document_of : List ℕ → Option Members
 document_of text = if is_utf8 text then parse_document text else None
 

@@ -1,5 +1,5 @@
--- Which key of a document is the first that a plan of format 4 doesn't have: its own keys come first, then those of its workers,
--- peers and routes, table by table, and those of a table in the order of their names.
+-- The first key of a document that plan version 4 doesn't have. The plan's own keys come first, then those of its workers,
+-- peers and routes, table by table. The keys of one table come in the order of their names.
 use Rattle.std.specs.Prelude.{ℕ, List, map, take, Option, Some, None, Result, Ok, Err, option_and_then, ◌==◌, if◌then◌else◌}
 use Rattle.toml.specs.Data.{Data, Items, no_items, item, Members, no_members, member, get_member, as_array, as_table}
 use Rattle.call_signals.specs.Credential.{is_printable}
@@ -27,7 +27,7 @@ unknown_key section format (member k d ms) = if is_known section format k then
 abbrev pub unknown_in_item : Section → ℕ → Data → Option (List ℕ)
 unknown_in_item section format d = option_and_then (unknown_key section format) (as_table d)
 
--- the one, or else the other
+-- the first, or otherwise the second
 abbrev pub or_else : {A : Type 0} → Option A → Option A → Option A
 or_else None other = other
 or_else (Some x) other = Some x
@@ -48,7 +48,7 @@ unknown_in format ms =
     (or_else (unknown_in_list section.Peer format (get_member (key_name key.Peer) ms))
     (unknown_in_list section.Route format (get_member (key_name key.Route) ms))))
 
--- a plan of format 4 has no other key; in formats 1 and 2 such keys are skipped
+-- plan version 4 has no other key; in versions 1 and 2 such keys are skipped
 abbrev pub refused_as : Option (List ℕ) → Result (Unit {0}) PlanError
 refused_as None = Ok tt
 refused_as (Some name) = Err (error.Unknown name)

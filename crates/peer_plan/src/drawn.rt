@@ -1,19 +1,19 @@
-//! What an exchange draws when it is opened.
+//! The values that an exchange draws when it is opened.
 ghost use Rattle.std.specs.Prelude.{◌≡◌, replicate, None};
 
 use call_auth::Challenge;
 
-/// What an exchange draws when it is opened, beside its plan.
+/// The values that an exchange draws when it is opened, in addition to its plan.
 #[derive(Drop)]
 pub struct Drawn {
-    /// What its challenges begin with, if they begin alike.
+    /// The prefix of its challenges, if they have one.
     pub challenge_prefix: Option<Challenge>,
-    /// What its call tokens are made with. Whoever knows it can make them.
+    /// The key of its call tokens. It must stay secret, because it suffices to make them.
     pub token_key: [u8; 32],
 }
 
 impl Drawn {
-    /// Nothing was drawn: challenges don't begin alike, and the key is 32 zero octets.
+    /// Returns the values of an exchange that draws none: challenges have no prefix, and the key is 32 zero octets.
     pub fn nothing() -> Drawn
         ensures prefix { result.challenge_prefix ≡ None }
         ensures key { result.token_key ≡ replicate 32 0 }
@@ -24,7 +24,7 @@ impl Drawn {
         }
     }
 
-    // The prefix once more.
+    // Returns a copy of the prefix.
     pub(crate) fn prefix(&self) -> Option<Challenge>
         ensures { result ≡ self.now.challenge_prefix }
     {

@@ -1,4 +1,4 @@
-//! Where a worker or a peer is reached.
+//! The endpoint of a worker or a peer.
 
 /// An IPv4 address and a UDP port.
 #[derive(Clone, Copy, Debug, PartialEq, Eq)]

@@ -1,4 +1,4 @@
-//! Why a text is no plan.
+//! The reasons why a text is no plan.
 ghost use Rattle.std.specs.Prelude.{◌≡◌};
 ghost use Rattle.peer_plan.specs.declared.error.PlanError.TheVariants.{Memory};
 
@@ -24,8 +24,8 @@ pub enum PlanError {
     UnknownPeer,
     /// Two routes have one prefix and one source, or none.
     SameRoute,
-    /// A key that a plan of format 4 doesn't have: looked for after all other faults, in the plan itself, then in its workers,
-    /// peers and routes, table by table, and in a table by the order of the names.
+    /// A key that plan version 4 doesn't have. It is checked after all other faults: first the plan itself, then its
+    /// workers, peers and routes, table by table. The keys of one table come in the order of their names.
     Unknown(KeyName),
     /// Memory ran out.
     Memory,

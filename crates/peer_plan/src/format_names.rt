@@ -4,7 +4,7 @@ ghost use Rattle.peer_plan.specs.FormatNames.{format_name};
 
 use call_signals::Format;
 
-/// A format as a plan names it: `gsm`, `ulaw` or `alaw`.
+/// Returns the name of a format in a plan: `gsm`, `ulaw` or `alaw`.
 pub fn format_name(format: Format) -> &'static str
     ensures { result.now ≡ format_name format }
 {

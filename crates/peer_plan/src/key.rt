@@ -43,6 +43,7 @@ pub enum Key {
     Window,
     Poke,
     CallToken,
+    QualifyMs,
     /// The list of routes.
     Route,
     Prefix,
@@ -52,7 +53,7 @@ pub enum Key {
 impl Key {
     ghost use Rattle.peer_plan.specs.Keys.{key_name};
 
-    /// The name as the text of a plan has it: ASCII letters in lower case and `_`.
+    /// Returns the key's name in a plan: lower-case ASCII letters and `_`.
     pub fn name(self) -> &'static str
         ensures { result.now ≡ key_name self }
     {
@@ -82,6 +83,7 @@ impl Key {
             Key::Window => "window",
             Key::Poke => "poke",
             Key::CallToken => "call_token",
+            Key::QualifyMs => "qualify_ms",
             Key::Route => "route",
             Key::Prefix => "prefix",
             Key::Source => "source",
@@ -101,7 +103,7 @@ const PLAN_KEYS: [Key; 9] = [
     Key::Route,
 ];
 
-// Those that format 4 adds.
+// Those that plan version 4 adds.
 const PLAN_KEYS_OF_FORMAT_4: [Key; 4] = [
     Key::RecordOctets,
     Key::VnakMs,
@@ -124,7 +126,12 @@ const PEER_KEYS: [Key; 10] = [
     Key::Numbers,
 ];
 
-const PEER_KEYS_OF_FORMAT_4: [Key; 3] = [Key::OutboundSecret, Key::Poke, Key::CallToken];
+const PEER_KEYS_OF_FORMAT_4: [Key; 4] = [
+    Key::OutboundSecret,
+    Key::Poke,
+    Key::CallToken,
+    Key::QualifyMs,
+];
 
 const ROUTE_KEYS: [Key; 2] = [Key::Prefix, Key::Peer];
 
@@ -134,7 +141,7 @@ fn is_one_of(keys: &[Key], name: &str) -> bool
     keys.iter().any(|key| key.name() == name)
 }
 
-/// Whether a table of a plan of format 1, 2 or 4 is read at the key of this name. At any other the table is not looked at.
+/// Returns whether a plan of version 1, 2 or 4 reads the key of this name in such a table. No other key's value is read.
 pub fn is_known(section: Section, format: u64, name: &str) -> bool
     ensures { result ≡ is_known section format name.now }
 {

@@ -46,7 +46,7 @@ impl KeyName {
         KeyName { text }
     }
 
-    /// The name, at most 64 octets 0x20 ..= 0x7e.
+    /// Returns the name, at most 64 octets 0x20 ..= 0x7e.
     pub fn as_str(&self) -> &str
         ensures { result.now ≡ self.now }
     {

@@ -6,7 +6,7 @@ ghost use Rattle.peer_plan.specs.Reading.{source_in};
 ghost use Rattle.peer_plan.specs.declared.peer.Peer.{Peer};
 ghost use Rattle.peer_plan.specs.declared.route.Route.{Route};
 
-/// Whoever calls, the longest prefix leads where no route has a source; so it is in each plan of format 1 or 2. A law about
+/// If no route has a source, the longest prefix leads for each caller; so in each plan of version 1 or 2. A law about
 /// definitions, for provers; the call does nothing.
 pub fn longest_prefixes_lead()
     ensures somewhere { (routes : List Route) (caller : ℕ) (text : List ℕ) (route : Route) →

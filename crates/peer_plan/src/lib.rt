@@ -10,11 +10,12 @@ mod key;
 mod key_name;
 mod laws;
 mod number_range;
+mod owners;
 mod peer;
 mod plan;
 mod reading;
 mod route;
-mod routing;
+mod routes;
 mod short_text;
 
 pub use drawn::Drawn;

@@ -8,7 +8,7 @@ use crate::short_text::ShortText;
 use call_auth::CallTokens;
 use call_signals::{Credential, Formats, PeerRules};
 
-// What a plan says of one peer.
+// The values of one peer in a plan.
 #[derive(Drop)]
 pub(crate) struct Peer {
     pub(crate) name: ShortText,
@@ -16,11 +16,11 @@ pub(crate) struct Peer {
     // The place of the worker that serves it.
     pub(crate) worker: u16,
     pub(crate) rules: PeerRules,
-    // How many call numbers it has: 1 ..= 512.
+    // The count of its call numbers: 1 ..= 512.
     pub(crate) numbers: u16,
 }
 
-// The same tokens, of this key.
+// Returns the same tokens, with this key.
 fn with_key(key: &[u8; 32], tokens: Option<CallTokens>) -> Option<CallTokens>
     ensures { result ≡ option_map (with_key key.now) tokens }
 {
@@ -38,7 +38,7 @@ fn with_key(key: &[u8; 32], tokens: Option<CallTokens>) -> Option<CallTokens>
 }
 
 impl Peer {
-    // Takes what the exchange drew.
+    // Takes the values that the exchange drew.
     pub(crate) fn take_drawn(&mut self, drawn: &Drawn)
         ensures { self.new ≡ with_drawn drawn.now self.old }
     {
@@ -47,7 +47,7 @@ impl Peer {
     }
 }
 
-// What the legs of all peers go by.
+// The limits of the legs of all peers.
 #[derive(Clone, Copy)]
 pub(crate) struct Limits {
     pub(crate) retry_ms: u64,
@@ -68,7 +68,7 @@ pub(crate) struct Credentials {
     pub(crate) outbound_secret: Option<Credential>,
 }
 
-// How media goes to a peer.
+// The way in which media is sent to a peer.
 #[derive(Clone, Copy)]
 pub(crate) struct Media {
     pub(crate) formats: Formats,

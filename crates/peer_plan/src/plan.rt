@@ -5,7 +5,7 @@ ghost use Rattle.call_signals.specs.PeerRules.{IsPeerRules, IsWithin};
 ghost use Rattle.toml.specs.View.{table_view};
 ghost use Rattle.peer_plan.specs.Fields.{Gives};
 ghost use Rattle.peer_plan.specs.Plan.{IsPlan, IsNearest, fits, range_of, counts_of, total_of, with_drawn};
-ghost use Rattle.peer_plan.specs.Reading.{is_endpoint, plan_in, plan_of};
+ghost use Rattle.peer_plan.specs.Reading.{has_way, is_endpoint, plan_in, plan_of};
 
 use crate::drawn::Drawn;
 use crate::endpoint::Endpoint;
@@ -13,8 +13,7 @@ use crate::error::PlanError;
 use crate::number_range::NumberRange;
 use crate::peer::Peer;
 use crate::reading;
-use crate::route::Route;
-use crate::routing::nearest;
+use crate::routes::Routes;
 use call_auth::{CallTokens, Challenge};
 use call_signals::PeerRules;
 use std::alloc::{AllocError, Global};
@@ -29,13 +28,13 @@ pub struct Plan {
     workers: Vec<Endpoint>,
     passes: u16,
     peers: Vec<Peer>,
-    // By peer, side by side for the look through them.
+    // By peer, in arrays of their own, so that a search reads little memory.
     endpoints: Vec<Endpoint>,
     counts: Vec<u16>,
-    routes: Vec<Route>,
+    routes: Routes,
 }
 
-// (Written out, so that whoever owns one proves a call where it is dropped, and not the drop of each field.)
+// Written out, so that an owner proves one call at its drop, not the drop of each field.
 impl Drop for Plan {
     fn drop(self) {
         let Plan {
@@ -64,14 +63,14 @@ impl Model for Plan {
 impl Plan {
     ghost use Rattle.peer_plan.specs.declared.route.Route.{Route};
 
-    /// The plan of a text in TOML, of format 1, 2 or 4, or its first fault.
+    /// Reads the plan of a text in TOML, of version 1, 2 or 4, or returns its first fault.
     ///
-    /// Any octets may come. The keys are judged in the order of `Key`, lists in their order, and in format 4 last whether there
-    /// are others.
+    /// The text may have any octets. The keys are checked in the order of `Key`, and lists in their order. In version 4,
+    /// unknown keys are checked last.
     ///
-    /// `NotToml` comes before all others but `Memory`, which may come at any time. `Missing` and `Range` come key by key;
-    /// `SameName`, then `SameEndpoint`, once all peers are read; at each route `UnknownPeer`, of its target and then of its
-    /// source, then `SameRoute`; `Unknown` last.
+    /// Returns `NotToml` before any other fault except `Memory`, which may come at any time. `Missing` and `Range` come key
+    /// by key. `SameName`, then `SameEndpoint`, come once all peers are read. For each route `UnknownPeer` comes, for its
+    /// target and then for its source, then `SameRoute`. `Unknown` comes last.
     pub fn read(alloc: Global, text: &[u8]) -> Result<Plan, PlanError>
         ensures plan { Gives (λ plan. plan) result (plan_of text.now) }
         ensures sound { IfOk result IsPlan }
@@ -80,7 +79,7 @@ impl Plan {
         plan_in(alloc, &table)
     }
 
-    /// The endpoints of the workers, 1 to 8.
+    /// Returns the endpoints of the workers, 1 to 8.
     pub fn workers(&self) -> &[Endpoint]
         ensures value { result.now ≡ self.now.workers }
         ensures sound { IsPlan self.now }
@@ -88,7 +87,7 @@ impl Plan {
         &self.workers
     }
 
-    /// How many passes there are: at least as many as workers, at most 64.
+    /// Returns the number of passes: at least that of the workers, at most 64.
     pub fn passes(&self) -> u16
         ensures value { result ≡ self.now.passes }
         ensures sound { IsPlan self.now }
@@ -96,7 +95,7 @@ impl Plan {
         self.passes
     }
 
-    /// The same plan with so many passes: at least as many as workers, at most 64.
+    /// Returns the same plan with `passes` passes: at least as many as workers, at most 64.
     pub fn with_passes(self, passes: u16) -> Plan
         requires { IsWithin (length self.workers) 64 passes }
         ensures { result ≡ record self { passes = passes } }
@@ -119,8 +118,8 @@ impl Plan {
         }
     }
 
-    /// The same plan, of an exchange that drew these when it was opened. A hardened leg doesn't answer a challenge that begins with
-    /// the prefix. A peer that is asked for call tokens is given those of the key.
+    /// Returns the same plan, of an exchange that drew these values when it was opened. A hardened leg doesn't answer a
+    /// challenge that begins with the prefix. A peer that is asked for call tokens gets those of the key.
     pub fn with_drawn(self, drawn: &Drawn) -> Plan
         ensures { result ≡ record self { peers = map (with_drawn drawn.now) self.peers } }
     {
@@ -145,7 +144,7 @@ impl Plan {
         }
     }
 
-    /// What the challenges of the exchange begin with, if they begin alike.
+    /// Returns the prefix of the exchange's challenges, if they have one.
     pub fn challenge_prefix(&self) -> Option<&Challenge>
         ensures { option_map (λ prefix. prefix.now) result ≡
             option_and_then (λ peer. peer.rules.challenge_prefix) (slice_get self.now.peers 0) }
@@ -156,7 +155,7 @@ impl Plan {
         }
     }
 
-    /// What the call tokens of a peer are made of, if it is asked for them.
+    /// Returns the source of a peer's call tokens, if it needs them.
     pub fn call_tokens(&self, peer: u16) -> Option<CallTokens>
         requires { peer < length self.now.peers }
         ensures { option_map (λ peer. peer.rules.call_tokens) (slice_get self.now.peers peer) ≡ Some result }
@@ -164,7 +163,7 @@ impl Plan {
         self.peers[usize::from(peer)].rules.call_tokens
     }
 
-    /// How many peers there are, 1 to 32.
+    /// Returns the number of peers, 1 to 32.
     pub fn peer_count(&self) -> u16
         ensures value { result ≡ length self.now.peers }
         ensures sound { IsPlan self.now }
@@ -172,40 +171,48 @@ impl Plan {
         self.peers.len() as u16
     }
 
-    /// How many routes there are, 0 or more.
+    /// Returns the number of routes, 0 or more.
     pub fn route_count(&self) -> usize
         ensures { result ≡ length self.now.routes }
     {
         self.routes.len()
     }
 
-    /// The prefix of a route, in the order of the plan: at most 32 octets 0x21 ..= 0x7e.
+    /// Returns the prefix of a route, in the order of the plan: at most 32 octets 0x21 ..= 0x7e.
     pub fn prefix(&self, route: usize) -> &str
         requires { route < length self.now.routes }
         ensures { option_map (λ route. route.prefix) (slice_get self.now.routes route) ≡ Some result.now }
     {
-        self.routes[route].prefix.as_str()
+        self.routes.get(route).prefix.as_str()
     }
 
-    /// The place of the peer whose calls alone a route is for; none where it is for those of all.
+    /// Returns the place of the peer for whose calls a route is, or `None` if it is for all.
     pub fn source(&self, route: usize) -> Option<u16>
         requires { route < length self.now.routes }
         ensures value { option_map (λ route. route.source) (slice_get self.now.routes route) ≡ Some result }
         ensures place { IfSome result (λ source. source < length self.now.peers) }
     {
-        self.routes[route].source
+        self.routes.get(route).source
     }
 
-    /// The place of the peer that a route leads to.
+    /// Whether a route has this prefix, and this peer as its source; with none, whether a route for the calls of all has it.
+    /// Takes the time of a binary search of the routes.
+    pub fn has_route(&self, prefix: &str, source: Option<u16>) -> bool
+        ensures { result ≡ has_way prefix.now source self.now.routes }
+    {
+        self.routes.has(prefix.as_bytes(), source)
+    }
+
+    /// Returns the place of the peer to which a route leads.
     pub fn target(&self, route: usize) -> u16
         requires { route < length self.now.routes }
         ensures value { option_map (λ route. route.peer) (slice_get self.now.routes route) ≡ Some result }
         ensures place { result < length self.now.peers }
     {
-        self.routes[route].peer
+        self.routes.get(route).peer
     }
 
-    /// How many numbers each peer has, 1 to 512, in the order of the plan.
+    /// Returns the count of each peer's numbers, 1 to 512, in the order of the plan.
     pub fn counts(&self) -> &[u16]
         ensures value { result.now ≡ counts_of self.now.peers }
         ensures counts { All (IsWithin 1 512) result.now }
@@ -214,14 +221,14 @@ impl Plan {
         &self.counts
     }
 
-    /// How many numbers all peers have, at most 16,384. Takes the time of a look at each peer.
+    /// Returns the count of all peers' numbers, at most 16,384. Reads each peer.
     pub fn number_count(&self) -> u16
         ensures { result ≡ total_of (counts_of self.now.peers) }
     {
         total(&self.counts)
     }
 
-    /// The numbers of a peer, which follow those of the peers before it. Takes the time of a look at each of these.
+    /// Returns the numbers of a peer, which follow those of the peers before it. Reads each of these.
     pub fn range(&self, peer: u16) -> NumberRange
         requires { peer < length self.now.peers }
         ensures value { result ≡ range_of (counts_of self.now.peers) peer }
@@ -235,7 +242,7 @@ impl Plan {
         }
     }
 
-    /// The name of a peer: 1 to 32 ASCII letters, digits and dashes.
+    /// Returns the name of a peer: 1 to 32 ASCII letters, digits and dashes.
     pub fn name(&self, peer: u16) -> &str
         requires { peer < length self.now.peers }
         ensures { option_map (λ peer. peer.name) (slice_get self.now.peers peer) ≡ Some result.now }
@@ -243,7 +250,7 @@ impl Plan {
         self.peers[usize::from(peer)].name.as_str()
     }
 
-    /// The IPv4 address and the UDP port of a peer.
+    /// Returns the IPv4 address and the UDP port of a peer.
     pub fn endpoint(&self, peer: u16) -> Endpoint
         requires { peer < length self.now.peers }
         ensures { option_map (λ peer. peer.endpoint) (slice_get self.now.peers peer) ≡ Some result }
@@ -251,7 +258,7 @@ impl Plan {
         self.peers[usize::from(peer)].endpoint
     }
 
-    /// The place of the worker that serves a peer, from 0 on.
+    /// Returns the place of the worker that serves a peer, from 0 on.
     pub fn worker(&self, peer: u16) -> u16
         requires { peer < length self.now.peers }
         ensures value { option_map (λ peer. peer.worker) (slice_get self.now.peers peer) ≡ Some result }
@@ -260,7 +267,7 @@ impl Plan {
         self.peers[usize::from(peer)].worker
     }
 
-    /// What the legs of a peer go by: the rules that the plan gives it.
+    /// Returns the rules that the plan gives the legs of a peer.
     pub fn rules(&self, peer: u16) -> &PeerRules
         requires { peer < length self.now.peers }
         ensures value { option_map (λ peer. peer.rules) (slice_get self.now.peers peer) ≡ Some result.now }
@@ -269,7 +276,7 @@ impl Plan {
         &self.peers[usize::from(peer)].rules
     }
 
-    /// The place of the peer at an endpoint; none where no peer has it. Takes the time of a look at the endpoint of each peer.
+    /// Returns the place of the peer at an endpoint, or `None` if no peer has it. Reads the endpoint of each peer.
     pub fn peer_of(&self, endpoint: Endpoint) -> Option<u16>
         ensures found { IfSome result (λ peer. option_map (λ peer. peer.endpoint) (slice_get self.now.peers peer) ≡
             Some endpoint) }
@@ -280,21 +287,21 @@ impl Plan {
         Some(place as u16)
     }
 
-    /// Where a call of a peer leads: to the peer of the longest prefix that begins the called number, among the routes for all
-    /// and those for this caller; of two of one length the latter's. None where no prefix of these begins it. Takes the time of
-    /// a comparison with each prefix.
+    /// Returns the peer to which a call of a peer is routed. The longest prefix of the called number decides, among the
+    /// routes for all and those for this caller. Of two prefixes of one length the caller's own leads. Returns `None` if no
+    /// such route has a prefix of the number. Makes two binary searches for each length of a prefix, and takes no memory.
     pub fn route(&self, caller: u16, number: &[u8]) -> Option<u16>
         ensures found { IfSome result (λ peer. (route : Route) × IsNearest self.now.routes caller number.now route ×
             (route.peer ≡ peer)) }
         ensures none { IfNone result (All (λ route. fits caller number.now route ≡ false) self.now.routes) }
         ensures place { IfSome result (λ peer. peer < length self.now.peers) }
     {
-        let route = nearest(&self.routes, caller, number)?;
+        let route = self.routes.nearest(caller, number)?;
         Some(route.peer)
     }
 }
 
-// The plan of a document.
+// Returns the plan of a document.
 #[tactic(auto, unfolding(crate::specs::Reading::plan_in))]
 fn plan_in(alloc: Global, table: &Table) -> Result<Plan, PlanError>
     ensures plan { Gives (λ plan. plan) result (plan_in (table_view table.now)) }

@@ -24,7 +24,7 @@ use toml::{Table, Value};
 pub(crate) use unknown_keys::known;
 pub(crate) use workers::workers;
 
-// The document of a text.
+// Returns the document of a text.
 pub(crate) fn document(alloc: Global, text: &[u8]) -> Result<Table, PlanError>
     ensures { Gives (λ table. table_view table) result (ok_or (document_of text.now) PlanError.NotToml) }
 {
@@ -40,7 +40,7 @@ pub(crate) fn document(alloc: Global, text: &[u8]) -> Result<Table, PlanError>
     }
 }
 
-// A number that a format has: there is no format 3.
+// Returns the number of a plan version that exists: there is no version 3.
 fn plan_format(found: &Value) -> Option<u64>
     ensures { result ≡ plan_format (view found.now) }
 {
@@ -52,7 +52,7 @@ fn plan_format(found: &Value) -> Option<u64>
     }
 }
 
-// The number of the plan's format.
+// Returns the plan version.
 pub(crate) fn format(table: &Table) -> Result<u64, PlanError>
     ensures { result ≡ value (table_view table.now) Key.Format (Err (PlanError.Missing Key.Format)) plan_format }
 {
@@ -62,7 +62,7 @@ pub(crate) fn format(table: &Table) -> Result<u64, PlanError>
     }
 }
 
-// How many entries a leg's record has at most, where the plan doesn't say it.
+// Returns the greatest number of entries of a leg's record, if the plan doesn't set it.
 fn default_record_limit(format: u64) -> u64
     ensures value { result ≡ default_record_limit format }
     ensures most { result ≤ 65536 }
@@ -70,7 +70,7 @@ fn default_record_limit(format: u64) -> u64
     if format == 4 { 65_536 } else { 4096 }
 }
 
-// How many octets of data the frames of a leg's record have at most, where the plan says it.
+// Returns the greatest number of octets of data in a leg's record, if the plan sets it.
 fn record_octets(table: &Table, format: u64) -> Result<Option<u32>, PlanError>
     ensures { result ≡ record_octets_in format (table_view table.now) }
 {
@@ -82,7 +82,7 @@ fn record_octets(table: &Table, format: u64) -> Result<Option<u32>, PlanError>
     }
 }
 
-// How long a leg waits before it asks for the same frame again, in milliseconds.
+// Returns the time after which a leg asks for the same frame again, in milliseconds.
 fn vnak_ms(table: &Table, format: u64) -> Result<u64, PlanError>
     ensures { result ≡ vnak_ms_in format (table_view table.now) }
 {
@@ -93,7 +93,7 @@ fn vnak_ms(table: &Table, format: u64) -> Result<u64, PlanError>
     }
 }
 
-// How long media waits for a trunk frame to fill, in milliseconds, where the plan says it.
+// Returns the time for which media waits for a trunk frame to fill, in milliseconds, if the plan sets it.
 fn trunk_ms(table: &Table, format: u64) -> Result<Option<u64>, PlanError>
     ensures { result ≡ trunk_ms_in format (table_view table.now) }
 {
@@ -104,7 +104,7 @@ fn trunk_ms(table: &Table, format: u64) -> Result<Option<u64>, PlanError>
     }
 }
 
-// How long a leg waits for the answer to its challenge, in milliseconds, where the plan says it.
+// Returns the time for which a leg waits for the answer to its challenge, in milliseconds, if the plan sets it.
 fn challenge_ms(table: &Table, format: u64) -> Result<Option<u64>, PlanError>
     ensures { result ≡ challenge_ms_in format (table_view table.now) }
 {
@@ -115,7 +115,7 @@ fn challenge_ms(table: &Table, format: u64) -> Result<Option<u64>, PlanError>
     }
 }
 
-// What the legs of all peers go by.
+// Returns the limits of the legs of all peers.
 #[tactic(auto, unfolding(crate::specs::Reading::limits_in))]
 pub(crate) fn limits(table: &Table, format: u64) -> Result<Limits, PlanError>
     ensures { Gives (λ limits. limits) result (limits_in format (table_view table.now)) }
@@ -141,7 +141,7 @@ pub(crate) fn limits(table: &Table, format: u64) -> Result<Limits, PlanError>
     })
 }
 
-// How many passes there are, with so many workers.
+// Returns the number of passes, with `workers` workers.
 pub(crate) fn passes(table: &Table, workers: u64) -> Result<u64, PlanError>
     ensures { result ≡ passes_in workers (table_view table.now) }
 {

@@ -7,7 +7,7 @@ use crate::short_text::ShortText;
 pub(crate) struct Route {
     // At most 32 octets 0x21 ..= 0x7e.
     pub(crate) prefix: ShortText,
-    // The place of the peer whose calls alone it is for, if it isn't for those of all.
+    // The place of the only peer whose calls it is for. `None` makes it a route for all calls.
     pub(crate) source: Option<u16>,
     // The place of the peer.
     pub(crate) peer: u16,

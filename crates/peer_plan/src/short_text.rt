@@ -4,7 +4,7 @@ ghost use Rattle.std.specs.Prelude.{◌≡◌, ◌≤◌, length};
 use arrayvec::ArrayString;
 use std::marker::Model;
 
-// A text of at most 32 octets, which lie in the value itself. Contracts see its octets.
+// A text of at most 32 octets, stored in the value itself. Contracts see its octets.
 #[derive(Drop)]
 pub(crate) struct ShortText {
     text: ArrayString<32>,

@@ -2,6 +2,6 @@
 use Rattle.std.specs.Prelude.{ℕ, ◌+◌, Option, Some, None, if◌then◌else◌, is_some, length}
 use Rattle.plan_faults.specs.declared.findings.Findings.{Findings}
 
--- how many: the first, the others that are kept, and those beyond them
+-- their number: the first, the others that are kept, and those beyond them
 abbrev pub found : Findings → ℕ
 found findings = ((if is_some findings.first then 1 else 0) + length findings.others.items) + findings.more

@@ -5,7 +5,7 @@ use Rattle.std.specs.List.{list_all}
 use Rattle.plan_faults.specs.declared.report.Counts.{Counts}
 use Rattle.text_buffer.specs.declared.text_buffer.TextBuffer.{TextBuffer}
 
--- how many lines end in a text
+-- the number of lines that end in a text
 abbrev pub line_ends : List ℕ → ℕ
 line_ends text = count_by (λ octet. octet == 10) text
 
@@ -21,13 +21,13 @@ is_shown octet = nat_le 32 octet && nat_le octet 126
 abbrev pub is_reported : ℕ → Bool
 is_reported octet = is_shown octet || octet == 10
 
--- a report has so many lines more, and nothing but printable ASCII in them, unless memory ran out
+-- a report has count more lines, and nothing but printable ASCII in them, unless memory ran out
 abbrev pub Adds : ℕ → TextBuffer → TextBuffer → Type 0
 Adds count before after = after.is_cut ≡ false →
     (before.is_cut ≡ false) ×
     (line_ends after.octets.items ≡ line_ends before.octets.items + count) ×
     (list_all is_reported before.octets.items ≡ true → list_all is_reported after.octets.items ≡ true)
 
--- the lines of so many faults or warnings, and one if there are more
+-- the lines of these faults or warnings, and one more if there are others
 abbrev pub lines_of : Counts → ℕ
 lines_of counts = counts.written + (if nat_lt 0 counts.more then 1 else 0)

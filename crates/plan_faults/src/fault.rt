@@ -62,8 +62,8 @@ fn has_brace(value: &[u8]) -> bool
     value.iter().any(|octet| *octet == b'{')
 }
 
-/// Returns the part of a value that may be shown: nothing of a secret, nor of a value with braces, since one of its keys may be a
-/// secret.
+/// Returns the part of a value that may be shown. It shows nothing of a secret, nor of a value with braces: one of its keys
+/// may be a secret.
 pub(crate) fn shown(form: Form, value: &[u8]) -> &[u8]
     ensures secret { form ≡ Form.Secret → result.now ≡ [] }
     ensures braces { is_text value.now ≡ false → has_brace value.now ≡ true → result.now ≡ [] }

@@ -68,7 +68,7 @@ fn write_others(
     }
 }
 
-/// Writes how many faults or warnings there are beyond those that are written.
+/// Writes the number of faults or warnings beyond those that are written.
 pub(crate) fn write_more(alloc: Global, path: &str, more: u64, what: &str, report: &mut TextBuffer)
     ensures { Adds 1 report.old report.new }
 {
@@ -79,7 +79,7 @@ pub(crate) fn write_more(alloc: Global, path: &str, more: u64, what: &str, repor
     push_line(&line, report);
 }
 
-// Writes the first fault, the others that are kept, and how many there are beyond them.
+// Writes the first fault, the others that are kept, and the number of those beyond them.
 fn write_findings(
     source: Source<'_>,
     path: &str,
@@ -111,8 +111,9 @@ fn write_findings(
     }
 }
 
-/// Writes the faults of a plan that `Plan::read` refuses, a line each. The first is the one that `Plan::read` names. The others
-/// follow in the order of the text, 20 in all, and then how many there are beyond these. No value of a secret is written.
+/// Writes the faults of a plan that `Plan::read` refuses, a line each. The first is the one that `Plan::read` names. The
+/// others follow in the order of the text, 20 in all, and then the number of those beyond these. No value of a secret is
+/// written.
 ///
 /// Each line begins with the path and the number of the line, from 1. A text that isn't TOML has one fault. If memory runs out,
 /// fewer names are offered as the ones that were meant.

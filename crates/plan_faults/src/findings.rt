@@ -5,7 +5,7 @@ ghost use Rattle.plan_faults.specs.Found.{found};
 use crate::fault::{Fault, is_before};
 use std::alloc::Global;
 
-/// The most faults that are kept beside the first.
+/// The greatest number of faults that are kept after the first.
 pub(crate) const MOST_OTHERS: usize = 19;
 
 /// Faults: the one that `Plan::read` meets first, and the first 19 of the others in the order of the text.
@@ -13,10 +13,10 @@ pub(crate) const MOST_OTHERS: usize = 19;
 pub(crate) struct Findings<'a> {
     alloc: Global,
     pub(crate) first: Option<Fault<'a>>,
-    // How many of the others come before it in the text.
+    // The number of the others that come before it in the text.
     before_first: usize,
     others: Vec<Fault<'a>>,
-    /// How many faults were found beyond these.
+    /// The number of faults found beyond these.
     pub(crate) more: u64,
 }
 
@@ -34,7 +34,7 @@ impl<'a> Findings<'a> {
         }
     }
 
-    /// Returns the faults that are kept beside the first, in the order of the text.
+    /// Returns the faults that are kept after the first, in the order of the text.
     pub(crate) fn others(&self) -> &[Fault<'a>]
         ensures most { length result.now ≤ 19 }
     {

@@ -15,10 +15,10 @@ use std::alloc::Global;
 use text_buffer::TextBuffer;
 use toml::Table;
 
-/// What is right in a plan, and probably not meant.
+/// Settings of a plan that are valid, and probably not intended.
 #[derive(Clone, Copy)]
 pub(crate) enum Hint {
-    /// The record's limit ends a call after so many minutes, within a day.
+    /// The record's limit ends a call after this number of minutes, within a day.
     EndsCalls(u64),
     /// A worker's port is below 1,024.
     LowPort(u16),
@@ -168,7 +168,7 @@ fn write_of(
     }
 }
 
-// Writes that others may read the file, if they may. Returns how many lines that was.
+// Writes that others may read the file, if they may. Returns the number of lines that it wrote.
 fn write_open_to_others(alloc: Global, path: &str, is_open: bool, report: &mut TextBuffer) -> u64
     ensures most { result ≤ 1 }
     ensures lines { Adds result report.old report.new }
@@ -183,10 +183,10 @@ fn write_open_to_others(alloc: Global, path: &str, is_open: bool, report: &mut T
     1
 }
 
-/// Writes the warnings of a right plan, a line each in the order of the text: 20, and how many there are beyond these. It writes
-/// nothing for a plan that `Plan::read` refuses, or if memory runs out. No value of a secret is written.
+/// Writes the warnings of a right plan, a line each in the order of the text: 20, and the number of those beyond these. It
+/// writes nothing for a plan that `Plan::read` refuses, or if memory runs out. No value of a secret is written.
 ///
-/// The caller says whether every user of the machine may read the file. That warning comes first, beside the 20.
+/// The caller says whether every user of the machine may read the file. That warning comes first, in addition to the 20.
 pub fn write_warnings(
     alloc: Global,
     path: &str,

@@ -15,7 +15,7 @@ use toml::{Table, Value};
 pub(crate) struct Judge<'t> {
     pub(crate) root: &'t Table,
     pub(crate) version: u64,
-    /// How many workers there are, at least 1.
+    /// The number of workers, at least 1.
     pub(crate) workers: u64,
     /// The routes, as `ways_of` returns them.
     pub(crate) ways: &'t [Way<'t>],
@@ -79,7 +79,7 @@ impl<'t> Judge<'t> {
         findings.push(fault_of(entry, rank, What::Missing(row.key)));
     }
 
-    // A secret of either way needs a user.
+    // Checks that a peer with a secret, of either direction, has a user.
     fn judge_user<'a>(&self, entry: Entry<'a>, table: &Table, findings: &mut Findings<'a>) {
         let has_secret = table.get(Key::Secret.name()).is_some()
             || self.version == 4 && table.get(Key::OutboundSecret.name()).is_some();

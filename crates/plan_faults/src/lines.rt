@@ -12,14 +12,14 @@ use toml::Table;
 // The most octets of a text that are shown.
 const MOST_SHOWN: usize = 64;
 
-// Returns how many lines end in a text.
+// Returns the number of lines that end in a text.
 fn line_ends(text: &[u8]) -> usize
     ensures { result ≡ line_ends text.now }
 {
     text.iter().filter(|octet| **octet == b'\n').count()
 }
 
-/// Returns the number of the line, from 1, that has the octet at a place; that of the last line if the text is shorter.
+/// Returns the number, from 1, of the line with the octet at a place, or that of the last line if the text is shorter.
 pub(crate) fn line_at(text: &[u8], at: usize) -> u64
     ensures { result ≡ line_at text.now at }
 {

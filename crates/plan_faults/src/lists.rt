@@ -3,7 +3,7 @@ use crate::tables::{items_of, text_at};
 use peer_plan::{Key, Section};
 use toml::{Table, Value};
 
-/// Returns the place of the first table of a list, among so many, that has this text at a key.
+/// Returns the place of the first table of a list that has this text at a key. Only `count` tables are compared.
 pub(crate) fn place_of_text(
     root: &Table,
     section: Section,
@@ -41,7 +41,7 @@ fn have_same_endpoint(table: &Table, other: &Table) -> bool {
         && address == text_at(other, Key::Address)
 }
 
-/// Returns the place of the first peer, among so many, that has a peer's address and port.
+/// Returns the place of the first of `count` peers that has a peer's address and port.
 pub(crate) fn same_endpoint(root: &Table, peer: &Table, count: usize) -> Option<usize> {
     for (place, item) in items_of(root, Section::Peer).iter().enumerate() {
         if place >= count {

@@ -17,7 +17,7 @@ fn most_edits(len: usize) -> usize {
     }
 }
 
-// Returns how many edits lead from one name to another, if they are few.
+// Returns the number of edits from one name to another, if it is small.
 fn edits(alloc: Global, name: &[u8], other: &str) -> Option<usize> {
     if name.len() > 64 {
         return None;

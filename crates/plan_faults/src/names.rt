@@ -1,12 +1,12 @@
 //! The names of keys as they are written.
 //!
-//! A name is the octets that it stands for. One that is empty, has escapes or begins with a quote keeps its quotes and its
-//! escapes, unless it is a key of a plan.
+//! A name is stored as the octets that it spells. An empty name, or one that has escapes or begins with a quote, keeps its
+//! quotes and escapes, unless it is a key of a plan.
 use crate::rows::row_anywhere;
 use std::alloc::Global;
 use toml_parser::{Key, dotted_key};
 
-/// Returns the text that a name stands for. None: memory ran out.
+/// Returns the text that a name denotes. None: memory ran out.
 pub(crate) fn text_of(alloc: Global, name: &[u8]) -> Option<String> {
     let text = std::str::from_utf8(name).ok()?;
     if !is_quoted(name) {
@@ -16,7 +16,7 @@ pub(crate) fn text_of(alloc: Global, name: &[u8]) -> Option<String> {
     Some(last)
 }
 
-// Returns the name of the plan's key that a name in quotes stands for.
+// Returns the name of the plan's key that a name in quotes denotes.
 fn known_name(alloc: Global, name: &[u8]) -> Option<&'static str> {
     let text = text_of(alloc, name)?;
     Some(row_anywhere(text.as_bytes())?.key.name())
@@ -83,7 +83,7 @@ pub(crate) fn first_part(alloc: Global, key: &[u8]) -> (&[u8], &[u8]) {
     }
 }
 
-/// Returns whether a name comes before another by the order of the octets that they stand for.
+/// Returns whether a name comes before another by the order of the octets that they denote.
 pub(crate) fn is_name_before(alloc: Global, name: &[u8], other: &[u8]) -> bool {
     if !is_quoted(name) && !is_quoted(other) {
         return name < other;

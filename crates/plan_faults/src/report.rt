@@ -4,7 +4,7 @@ ghost use Rattle.plan_faults.specs.Lines.{Adds, is_shown};
 
 use text_buffer::TextBuffer;
 
-/// How many faults or warnings a report has, a line each, and how many more were counted.
+/// The number of faults or warnings in a report, a line each, and the number of those that were only counted.
 #[derive(Clone, Copy, PartialEq, Eq)]
 pub struct Counts {
     pub written: u64,

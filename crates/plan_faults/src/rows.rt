@@ -23,7 +23,7 @@ pub(crate) enum Form {
     Formats,
     Prefix,
     PeerName,
-    /// A list of tables, at most so many if there is a most. One with a most isn't empty.
+    /// A list of tables, with the greatest number of these if there is one. A list with such a limit may not be empty.
     Tables(Option<usize>),
 }
 
@@ -112,6 +112,13 @@ static ROWS: [Row; KEY_COUNT] = [
     (Section::Peer, Key::Window, 2, false, Form::Number(1, 127)),
     (Section::Peer, Key::Poke, 4, false, Form::Flag),
     (Section::Peer, Key::CallToken, 4, false, Form::Flag),
+    (
+        Section::Peer,
+        Key::QualifyMs,
+        4,
+        false,
+        Form::Number(0, 600_000),
+    ),
     (Section::Plan, Key::Route, 1, false, Form::Tables(None)),
     (Section::Route, Key::Prefix, 1, true, Form::Prefix),
     (Section::Route, Key::Peer, 1, true, Form::PeerName),
@@ -153,8 +160,8 @@ pub(crate) fn row_of(key: Key) -> KeyRow {
     row_at(0, &ROWS[0])
 }
 
-/// How many keys all tables have.
-pub(crate) const KEY_COUNT: usize = 32;
+/// The number of keys of all tables.
+pub(crate) const KEY_COUNT: usize = 33;
 
 /// Returns the key at a place in the order, if a plan of this version has it in such a table.
 pub(crate) fn row_in(place: usize, section: Section, version: u64) -> Option<KeyRow> {

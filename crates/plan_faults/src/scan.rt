@@ -13,7 +13,7 @@ enum Mode {
     LongText(u8),
 }
 
-// The state of a scan: the surroundings of the next octet, the open brackets, and how many octets are skipped.
+// The state of a scan: the surroundings of the next octet, the open brackets, and the number of skipped octets.
 #[derive(Clone, Copy)]
 struct Scan {
     mode: Mode,
@@ -43,7 +43,7 @@ fn is_stop(stop: Stop, octet: u8) -> bool {
     }
 }
 
-// Returns the scan in another mode, which skips so many octets.
+// Returns the scan in another mode, which skips `skip` octets.
 fn with_mode(scan: Scan, mode: Mode, skip: u8) -> Scan {
     Scan { mode, skip, ..scan }
 }

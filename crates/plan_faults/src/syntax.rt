@@ -97,7 +97,7 @@ fn write_value(alloc: Global, text: &[u8], at: usize, words: &str, report: &mut 
     let equals = stop_at(text, begin, Stop::Equals);
     let (name, _) = first_part(alloc, trimmed(text, begin, equals));
     let end = stop_at(text, equals, Stop::LineEnd);
-    // (brackets that stay open go on to other keys)
+    // An unclosed bracket extends over later keys, so only the first line is shown.
     let value = first_line(trimmed(text, equals.saturating_add(1), end));
     let Some(row) = row_anywhere(name) else {
         return report.text(words);

@@ -49,9 +49,10 @@ static LIMITS: [(Key, &str); 4] = [
 ];
 
 const POKE: &str =
-    "poke = false # as before; without this line POKE is answered, so that qualify=yes works\n";
+    "poke = false # as before; without this line POKE is answered, so that qualify=yes works\n\
+qualify_ms = 0 # as before; without this line the peer is asked every minute whether it is there\n";
 
-// A plan that is written anew, and how far its text is copied.
+// A plan as it is rewritten, and the end of the part already copied.
 #[derive(Drop)]
 struct Copying<'t, 'o> {
     alloc: Global,
@@ -126,11 +127,11 @@ impl Copying<'_, '_> {
         self.copied = entry.end;
     }
 
-    // Writes that a peer's POKE isn't answered, as in the older versions.
+    // Writes that a peer's POKE isn't answered and that it gets none, as in the older versions.
     fn write_poke(&mut self, entry: Entry<'_>) {
         if entry.name.is_empty() {
             self.copy_to(entry.end);
-            self.out.text(" poke = false,");
+            self.out.text(" poke = false, qualify_ms = 0,");
         } else {
             self.copy_line(entry.end);
             self.out.text(POKE);

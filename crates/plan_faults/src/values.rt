@@ -133,7 +133,7 @@ fn is_text(form: Form, text: &[u8]) -> bool {
     }
 }
 
-/// Returns whether a value is of a form, in a plan with so many workers.
+/// Returns whether a value has a form, in a plan with `workers` workers.
 pub(crate) fn is_right(form: Form, value: &Value, workers: u64) -> bool {
     match form {
         Form::Version => is_version(value),

@@ -34,7 +34,7 @@ pub(crate) struct Entry<'a> {
     pub(crate) value: &'a [u8],
 }
 
-// A list in brackets, and how far it is walked.
+// A list in brackets, and the progress of the walk in it.
 #[derive(Clone, Copy)]
 struct Brackets {
     section: Section,
@@ -44,7 +44,7 @@ struct Brackets {
     is_inside: bool,
 }
 
-// How many tables of each list have begun.
+// The number of tables of each list that have begun.
 #[derive(Clone, Copy)]
 struct Counts {
     workers: usize,
@@ -157,7 +157,7 @@ impl<'a> Walk<'a> {
         }
     }
 
-    // Returns a key with its value that has a line of its own.
+    // Returns a key with its value that ends with the line.
     fn pair_of_line(&mut self, at: usize) -> Entry<'a> {
         let place = self.last_place(self.section);
         let entry = self.pair(at, Stop::LineEnd, self.section, place);

@@ -18,7 +18,7 @@ const DAY: u64 = 1440;
 /// The most warnings that are kept.
 pub(crate) const MOST_KEPT: usize = 20;
 
-/// The warnings of a plan in the order of its text: the first 20, and how many there are beyond them.
+/// The warnings of a plan in the order of its text: the first 20, and the number of those beyond them.
 #[derive(Drop)]
 pub(crate) struct Warnings<'t> {
     plan: &'t Plan,
@@ -71,7 +71,7 @@ fn is_led_to(plan: &Plan, peer: u16) -> bool {
     false
 }
 
-// Returns whether no caller takes a route for all: each peer has a route of its own with the same prefix.
+// Returns whether no caller takes a route for all: each peer has a route with the same prefix for its own calls.
 fn is_unused(plan: &Plan, ways: &[Way<'_>], route: usize) -> bool
     requires { route < length plan.now.routes }
 {

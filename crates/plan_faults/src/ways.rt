@@ -77,7 +77,7 @@ pub(crate) fn first_way(ways: &[Way<'_>], prefix: &[u8], source: Option<&[u8]>) 
     }
 }
 
-/// Returns how many routes have a prefix.
+/// Returns the number of routes with a prefix.
 pub(crate) fn prefix_count(ways: &[Way<'_>], prefix: &[u8]) -> usize {
     let from = ways.partition_point(|way| way.prefix < prefix);
     let to = ways.partition_point(|way| way.prefix <= prefix);

@@ -14,7 +14,7 @@ use toml::Table;
 pub(crate) struct Source<'t> {
     pub(crate) alloc: Global,
     pub(crate) root: &'t Table,
-    /// How many workers there are.
+    /// The number of workers.
     pub(crate) workers: u64,
 }
 

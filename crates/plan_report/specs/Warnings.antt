@@ -1,4 +1,4 @@
--- What a plan says, and may not mean.
+-- Settings of a plan that may not be intended.
 use Rattle.std.specs.Prelude.{Bool, ◌&&◌, not}
 use Rattle.call_signals.specs.Format.{has_format}
 use Rattle.call_signals.specs.declared.format.Format.{Format}

@@ -1,4 +1,4 @@
-//! What follows from the values of a plan.
+//! Estimates that follow from the values of a plan.
 ghost use Rattle.std.specs.Prelude.{◌≡◌, ◌≤◌, ◌<◌, ◌^◌};
 ghost use Rattle.call_signals.specs.PeerRules.{IsPeerRules};
 ghost use Rattle.plan_report.specs.Estimates as estimate;
@@ -8,7 +8,7 @@ use call_signals::PeerRules;
 use peer_plan::{Key, Plan};
 use text_buffer::TextBuffer;
 
-// How long a frame is sent again before its call ends, in milliseconds.
+// Returns the time for which a frame is retransmitted before its call ends, in milliseconds.
 fn silence_ms(retry_ms: u64, max_retries: u32) -> u64
     requires retry_ms { retry_ms ≤ 60000 }
     requires max_retries { max_retries ≤ 20 }
@@ -17,7 +17,7 @@ fn silence_ms(retry_ms: u64, max_retries: u32) -> u64
     retry_ms * (u64::from(max_retries) + 1)
 }
 
-// How many entries an hour adds to the record of a leg that talks beside an Asterisk.
+// Returns the number of entries that an hour adds to the record of a leg that talks to an Asterisk.
 fn entries_an_hour(ping_ms: u64) -> u64
     ensures value { result ≡ estimate.entries_an_hour ping_ms }
     ensures some { 1 ≤ result }
@@ -29,7 +29,7 @@ fn entries_an_hour(ping_ms: u64) -> u64
     }
 }
 
-// How many entries such a leg can have.
+// Returns the greatest number of entries of such a leg.
 fn entries_of_talk(record_limit: u32, record_octets: Option<u32>) -> u32
     requires { 64 ≤ record_limit }
     ensures { result ≡ estimate.entries_of_talk record_limit record_octets }
@@ -40,7 +40,7 @@ fn entries_of_talk(record_limit: u32, record_octets: Option<u32>) -> u32
     }
 }
 
-// After how many minutes such a leg ends.
+// Returns the minutes after which such a leg ends.
 fn minutes(record_limit: u32, record_octets: Option<u32>, ping_ms: u64) -> u64
     requires { 64 ≤ record_limit }
     ensures { result ≡ estimate.minutes record_limit record_octets ping_ms }
@@ -48,13 +48,13 @@ fn minutes(record_limit: u32, record_octets: Option<u32>, ping_ms: u64) -> u64
     u64::from(entries_of_talk(record_limit, record_octets)) * 60 / entries_an_hour(ping_ms)
 }
 
-/// After how many minutes the record of a leg that only talks ends its call.
+/// Returns the minutes after which the record of a leg that only talks ends its call.
 pub fn minutes_of_talk(plan: &Plan) -> u64 {
     let rules = limits_of(plan);
     minutes(rules.record_limit, rules.record_octets, rules.ping_ms)
 }
 
-// How many octets of data a full record has when each of its frames has so many, unless it may have fewer.
+// Returns the octets of data in a full record whose frames have `octets` octets each, up to its limit.
 fn data_octets(record_limit: u32, record_octets: Option<u32>, octets: u16) -> u64
     requires { record_limit ≤ 65536 }
     ensures value { result ≡ estimate.data_octets record_limit record_octets octets }
@@ -67,7 +67,7 @@ fn data_octets(record_limit: u32, record_octets: Option<u32>, octets: u16) -> u6
     }
 }
 
-// What so many such records take, in megabytes.
+// Returns the memory of `legs` such records, in megabytes.
 fn megabytes(legs: u16, record_limit: u32, record_octets: Option<u32>, octets: u16) -> u64
     requires { record_limit ≤ 65536 }
     ensures { result ≡ estimate.megabytes legs record_limit record_octets octets }
@@ -76,7 +76,7 @@ fn megabytes(legs: u16, record_limit: u32, record_octets: Option<u32>, octets: u
     u64::from(legs) * (u64::from(record_limit) * 16 + data) / 1_000_000 + 1
 }
 
-// After how long a call that only talks ends, and by which limit of its record.
+// Writes when a call that only talks ends, and by which limit of its record.
 fn write_end_of_talk(rules: &PeerRules, report: &mut TextBuffer)
     requires { IsPeerRules rules.now }
 {
@@ -93,7 +93,7 @@ fn write_end_of_talk(rules: &PeerRules, report: &mut TextBuffer)
     report.counted(minutes % 60, " min\n");
 }
 
-// How much memory the records of all legs take, as calls go and at worst.
+// Writes the memory of the records of all legs, for usual calls and at worst.
 fn write_memory(legs: u16, rules: &PeerRules, report: &mut TextBuffer)
     requires { IsPeerRules rules.now }
 {
@@ -109,7 +109,7 @@ fn write_memory(legs: u16, rules: &PeerRules, report: &mut TextBuffer)
     report.counted(megabytes(legs, limit, octets, 1388), worst);
 }
 
-/// Writes what follows from the values of a plan.
+/// Writes the estimates that follow from the values of a plan.
 pub(crate) fn write_estimates(plan: &Plan, report: &mut TextBuffer) {
     let rules = limits_of(plan);
     report.text("a frame that nobody acknowledges ends its call after ");

@@ -1,4 +1,4 @@
-//! A plan is explained.
+//! Explains a plan.
 use crate::estimates::write_estimates;
 use crate::unknown_keys::warn_of_unknown_keys;
 use crate::values::write_values;
@@ -8,10 +8,10 @@ use std::alloc::{AllocError, Global};
 use std::io::Write;
 use text_buffer::TextBuffer;
 
-// What is told of a plan, which was read from this text.
+// Returns the report of a plan that was read from this text.
 fn report_of(alloc: Global, plan: &Plan, text: &[u8]) -> Result<Vec<u8>, AllocError> {
     let Ok(table) = toml::table_from_slice(alloc, text) else {
-        // (the text was read a moment ago, so it was memory)
+        // The text was just parsed without a fault, so this one is a want of memory.
         return Err(AllocError);
     };
     let mut report = TextBuffer::new(alloc);
@@ -22,9 +22,9 @@ fn report_of(alloc: Global, plan: &Plan, text: &[u8]) -> Result<Vec<u8>, AllocEr
     report.into_octets()
 }
 
-/// Writes what a plan means: each value, whether it was given or stands by default, what follows from it, and a line that begins
-/// with `warning:` for what may not be meant. Status 0; a fault is written as `check` writes it, status 1. A fault of the writer
-/// is status 1. No secret is written.
+/// Writes the meaning of a plan: each value, whether it was given or is a default, and the estimates. A line that begins
+/// with `warning:` names each setting that may not be intended. Returns the status 0. A fault is written as `check` writes
+/// it, and the status is 1; it is 1 too if the output can't be written. No secret is written.
 pub fn explain<W: Write>(alloc: Global, text: &[u8], writer: &mut W) -> u8 {
     let plan = match Plan::read(alloc, text) {
         Ok(plan) => plan,

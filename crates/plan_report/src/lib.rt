@@ -1,4 +1,4 @@
-//! What a plan means, for people: its values with their defaults, what follows from them, and what may not be meant.
+//! A plan explained for people: its values with their defaults, the estimates that follow, and warnings.
 #![tactic(auto)]
 
 mod estimates;

@@ -1,10 +1,10 @@
-//! The keys of a plan that are skipped, since none has that name.
+//! The keys of a plan that are skipped because no known key has that name.
 use crate::values::{format_of, tables_of};
 use peer_plan::{Key, Section, is_known};
 use text_buffer::TextBuffer;
 use toml::Table;
 
-// The unknown keys of the plan itself.
+// Warns of unknown keys of the plan itself.
 fn warn_of_plan(table: &Table, format: u64, report: &mut TextBuffer) {
     for (key, _) in table.iter() {
         if !is_known(Section::Plan, format, key.as_str()) {
@@ -15,7 +15,7 @@ fn warn_of_plan(table: &Table, format: u64, report: &mut TextBuffer) {
     }
 }
 
-// Those of one table of a list.
+// Warns of unknown keys of one table of a list.
 fn warn_of_table(
     table: &Table,
     section: Section,
@@ -37,7 +37,7 @@ fn warn_of_table(
     }
 }
 
-// Those of the tables of a list, which are counted from 0 on.
+// Warns of unknown keys of the tables of a list, which are counted from 0 on.
 fn warn_of_list(table: &Table, section: Section, list: Key, format: u64, report: &mut TextBuffer) {
     for (place, item) in tables_of(table, list).iter().enumerate() {
         if let Some(table) = item.as_table() {

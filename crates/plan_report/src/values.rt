@@ -1,4 +1,4 @@
-//! The values of a plan, each with its key, and whether it was given.
+//! Writes the values of a plan, each with its key, and whether it was given.
 ghost use Rattle.std.specs.Prelude.{◌<◌, length};
 ghost use Rattle.call_signals.specs.PeerRules.{IsPeerRules};
 
@@ -7,7 +7,7 @@ use peer_plan::{Endpoint, Key, Plan, format_name};
 use text_buffer::TextBuffer;
 use toml::{Table, Value};
 
-// What stands behind a value that wasn't given.
+// Returns the note behind a value that is a default.
 fn by_default(table: &Table, key: Key) -> &'static str {
     match table.get(key.name()) {
         Some(_) => "",
@@ -15,7 +15,7 @@ fn by_default(table: &Table, key: Key) -> &'static str {
     }
 }
 
-/// The plan's format.
+/// Returns the plan version.
 pub(crate) fn format_of(table: &Table) -> u64 {
     match table.get(Key::Format.name()) {
         Some(Value::Integer(2)) => 2,
@@ -24,7 +24,7 @@ pub(crate) fn format_of(table: &Table) -> u64 {
     }
 }
 
-/// The values of a list, as the tables of the peers; none where it isn't there.
+/// Returns the values of a list, such as the tables of the peers, or none if the list is absent.
 pub(crate) fn tables_of(table: &Table, list: Key) -> &[Value] {
     match table.get(list.name()) {
         Some(Value::Array(values)) => values,
@@ -51,7 +51,7 @@ fn write_flag(table: &Table, key: Key, value: bool, report: &mut TextBuffer) {
     report.text("\n");
 }
 
-// An address and a port, and what stands behind them.
+// Writes an address and a port, and the text behind them.
 fn write_endpoint(endpoint: Endpoint, rest: &str, report: &mut TextBuffer) {
     let [a, b, c, d] = endpoint.address;
     report.counted(u64::from(a), ".");
@@ -61,17 +61,17 @@ fn write_endpoint(endpoint: Endpoint, rest: &str, report: &mut TextBuffer) {
     report.counted(u64::from(endpoint.port), rest);
 }
 
-/// What the legs of all peers go by, as those of the first.
+/// Returns the rules of the first peer, which have the limits of all.
 pub(crate) fn limits_of(plan: &Plan) -> &PeerRules
     ensures { IsPeerRules result.now }
 {
-    // (for the prover: a plan has a peer)
+    // For the prover: a plan has a peer.
     let _count = plan.peer_count();
     plan.rules(0)
 }
 
-// The limits that all peers have, and how many passes there are. Only format 4 has keys for the data of a record, and for how long
-// a VNAK, a trunk frame and a challenge wait.
+// Writes the limits that all peers have, and the number of passes. Only plan version 4 has keys for the data of a record,
+// and for the times that a VNAK, a trunk frame and a challenge wait.
 fn write_limits(plan: &Plan, table: &Table, format: u64, report: &mut TextBuffer) {
     let rules = limits_of(plan);
     let vnak_ms = if format == 4 {
@@ -101,7 +101,7 @@ fn write_limits(plan: &Plan, table: &Table, format: u64, report: &mut TextBuffer
     }
 }
 
-// Whether more than one worker has this endpoint.
+// Returns whether more than one worker has this endpoint.
 fn is_shared(workers: &[Endpoint], at: Endpoint) -> bool {
     let mut count: u32 = 0;
     for other in workers {
@@ -125,7 +125,7 @@ fn write_workers(plan: &Plan, report: &mut TextBuffer) {
     }
 }
 
-// A peer's user, and whether it has a secret. Only format 4 has a key for that of the other way.
+// Writes a peer's user, and whether it has a secret. Only plan version 4 has a key for the secret of the other direction.
 fn write_credentials(rules: &PeerRules, table: &Table, format: u64, report: &mut TextBuffer) {
     let Some(user) = &rules.user else {
         return report.text("  no user, no secret\n");
@@ -141,7 +141,7 @@ fn write_credentials(rules: &PeerRules, table: &Table, format: u64, report: &mut
     });
 }
 
-// How many frames a leg holds, for which format 1 has no key.
+// Writes the number of frames that a leg holds, for which plan version 1 has no key.
 fn write_window(window: u8, table: &Table, format: u64, report: &mut TextBuffer) {
     let by_default = if format == 1 {
         " (default)"
@@ -153,11 +153,11 @@ fn write_window(window: u8, table: &Table, format: u64, report: &mut TextBuffer)
     report.text("\n");
 }
 
-// How media goes to a peer.
+// Writes how media is sent to a peer.
 fn write_media(rules: &PeerRules, table: &Table, report: &mut TextBuffer) {
     report.text("  ");
     report.text(Key::Formats.name());
-    // (those of lower bits first)
+    // Lower bits come first.
     for format in [Format::Gsm, Format::Ulaw, Format::Alaw] {
         if rules.formats.contains(format) {
             report.text(" ");
@@ -180,7 +180,7 @@ fn write_numbers(plan: &Plan, peer: u16, table: &Table, report: &mut TextBuffer)
     report.counted(u64::from(range.first + range.count - 1), "\n");
 }
 
-// Where a worker's peers send to. The address 0.0.0.0 stands for each one of the machine.
+// Writes the address to which a worker's peers send. The address 0.0.0.0 means each address of the machine.
 fn write_target(endpoint: Endpoint, report: &mut TextBuffer) {
     if endpoint.address == [0, 0, 0, 0] {
         report.labelled(
@@ -210,6 +210,7 @@ fn write_peer(plan: &Plan, peer: u16, table: &Table, format: u64, report: &mut T
     if format == 4 {
         write_flag(table, Key::Poke, rules.poke, report);
         write_flag(table, Key::CallToken, rules.call_tokens.is_some(), report);
+        write_number(table, Key::QualifyMs, rules.qualify_ms, report);
     }
     write_numbers(plan, peer, table, report);
 }

@@ -1,4 +1,4 @@
-//! What a plan says, and may not mean.
+//! Warnings of settings that may not be intended.
 ghost use Rattle.std.specs.Prelude.{◌≡◌, ◌<◌, length};
 ghost use Rattle.call_signals.specs.Format.{has_format};
 ghost use Rattle.plan_report.specs.Warnings.{lacks};
@@ -7,7 +7,7 @@ use call_signals::{Format, Formats};
 use peer_plan::{Plan, format_name};
 use text_buffer::TextBuffer;
 
-// Whether calls of one peer in a format are rejected by another.
+// Returns whether calls of one peer in a format are rejected by another.
 fn lacks(caller: Formats, target: Formats, format: Format) -> bool
     ensures { result ≡ lacks caller target format }
 {
@@ -33,17 +33,7 @@ fn warn_of_credentials(plan: &Plan, peer: u16, report: &mut TextBuffer)
     }
 }
 
-// Whether calls of a peer may take a route: it is for all, or for this peer's.
-fn is_open_to(plan: &Plan, route: usize, caller: u16) -> bool
-    requires { route < length plan.now.routes }
-{
-    match plan.source(route) {
-        Some(source) => source == caller,
-        None => true,
-    }
-}
-
-// A route whose source is the peer that it leads to: that peer reaches itself.
+// Warns of a route that leads a peer's calls back to the peer.
 fn warn_of_return(plan: &Plan, route: usize, report: &mut TextBuffer)
     requires { route < length plan.now.routes }
 {
@@ -61,14 +51,39 @@ fn warn_of_return(plan: &Plan, route: usize, report: &mut TextBuffer)
     report.text("\n");
 }
 
-// Whether a route leads calls of a peer to another, or back to it.
-fn reaches(plan: &Plan, caller: u16, target: u16) -> bool {
+// Which peers the routes lead to, each by its place. A plan has at most 32 peers.
+#[derive(Drop)]
+struct Targets {
+    for_all: [bool; 32],
+    // By the target, and then by the source.
+    for_one: [[bool; 32]; 32],
+}
+
+// Looks at each route once.
+fn targets_of(plan: &Plan) -> Targets {
+    let mut targets = Targets {
+        for_all: [false; 32],
+        for_one: [[false; 32]; 32],
+    };
+    // (for the prover: a plan has at most 32 peers)
+    let _count = plan.peer_count();
     for route in 0..plan.route_count() {
-        if plan.target(route) == target && is_open_to(plan, route, caller) {
-            return true;
+        let target = usize::from(plan.target(route));
+        match plan.source(route) {
+            Some(source) => targets.for_one[target][usize::from(source)] = true,
+            None => targets.for_all[target] = true,
         }
     }
-    false
+    targets
+}
+
+// Whether a route leads calls of a peer to another, or back to it.
+fn reaches(targets: &Targets, caller: u16, target: u16) -> bool
+    requires caller { caller < 32 }
+    requires target { target < 32 }
+{
+    let target = usize::from(target);
+    targets.for_all[target] || targets.for_one[target][usize::from(caller)]
 }
 
 fn warn_of_formats(plan: &Plan, caller: u16, target: u16, report: &mut TextBuffer)
@@ -76,7 +91,7 @@ fn warn_of_formats(plan: &Plan, caller: u16, target: u16, report: &mut TextBuffe
     requires target { target < length plan.now.peers }
 {
     let (rules, others) = (plan.rules(caller), plan.rules(target));
-    // Where a call has other formats too, one of them may do.
+    // A call with other formats may still find a common one.
     let alone = if rules.routes_format { " alone" } else { "" };
     for format in [Format::Gsm, Format::Ulaw, Format::Alaw] {
         if lacks(rules.formats, others.formats, format) {
@@ -92,7 +107,7 @@ fn warn_of_formats(plan: &Plan, caller: u16, target: u16, report: &mut TextBuffe
     }
 }
 
-/// Writes a warning for each thing of a plan that may not be meant.
+/// Writes a warning for each setting that may not be intended.
 pub(crate) fn write_warnings(plan: &Plan, report: &mut TextBuffer) {
     for peer in 0..plan.peer_count() {
         warn_of_credentials(plan, peer, report);
@@ -100,9 +115,10 @@ pub(crate) fn write_warnings(plan: &Plan, report: &mut TextBuffer) {
     for route in 0..plan.route_count() {
         warn_of_return(plan, route, report);
     }
+    let targets = targets_of(plan);
     for target in 0..plan.peer_count() {
         for caller in 0..plan.peer_count() {
-            if reaches(plan, caller, target) {
+            if reaches(&targets, caller, target) {
                 warn_of_formats(plan, caller, target, report);
             }
         }

@@ -6,7 +6,7 @@ ghost use Rattle.printable_text.specs.Printable.{digit_of, printable_octet};
 
 use std::alloc::{AllocError, Global};
 
-// A digit of a number in base 16.
+// Returns a digit of a number in base 16.
 fn digit(value: u8) -> u8
     requires { value < 16 }
     ensures { result ≡ digit_of value }
@@ -43,7 +43,7 @@ pub fn push_printable(text: &mut Vec<u8>, octets: &[u8]) -> Result<(), AllocErro
     Ok(())
 }
 
-/// The text of octets as `push_printable` adds them.
+/// Returns the text of octets as `push_printable` adds them.
 ///
 /// `AllocError`: a request for memory was refused.
 pub fn printable(alloc: Global, octets: &[u8]) -> Result<String, AllocError>

@@ -1,5 +1,5 @@
-//! Texts of any octets as a terminal, a table or a file of lines may show them: none of them moves a cursor, ends a line or hides
-//! what is before it.
+//! Texts of any octets, made printable for a terminal, a table or a file of lines. No octet moves a cursor, ends a line or
+//! hides text before it.
 #![tactic(auto)]
 
 mod escaping;

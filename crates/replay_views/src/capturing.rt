@@ -1,4 +1,4 @@
-//! A replay as a capture.
+//! Writes a replay as a capture.
 ghost use Rattle.std.specs.Prelude.{◌≡◌};
 ghost use Rattle.std.specs.Int.{w32, from_be_bytes};
 
@@ -12,16 +12,16 @@ use std::alloc::Global;
 use std::io::Write;
 use std::sync::Wait;
 
-// Puts the datagrams of a replay into a capture.
+// Adds the datagrams of a replay to a capture.
 #[derive(Drop)]
 struct CaptureViewer {
     alloc: Global,
     capture: Capture,
-    // How many datagrams UDP can't carry.
+    // The number of datagrams that UDP can't carry.
     left_out: u64,
 }
 
-// An endpoint as it stands in packets.
+// Converts an endpoint to the form of packets.
 fn udp_endpoint(endpoint: Endpoint) -> UdpEndpoint
     ensures address { result.address ≡ from_be_bytes w32 endpoint.address }
     ensures port { result.port ≡ endpoint.port }
@@ -33,7 +33,7 @@ fn udp_endpoint(endpoint: Endpoint) -> UdpEndpoint
 }
 
 impl CaptureViewer {
-    // A datagram, from one endpoint to another.
+    // Adds a datagram from one endpoint to another.
     fn push(
         &mut self,
         moment: u64,
@@ -74,7 +74,7 @@ impl Viewer for CaptureViewer {
     }
 }
 
-// The capture of a replay.
+// Returns the capture of a replay.
 fn captured<R: Wait>(
     rt: &R,
     alloc: Global,
@@ -89,12 +89,13 @@ fn captured<R: Wait>(
     Ok(viewer)
 }
 
-/// Replays a script on an exchange of its plan, and writes a capture of all datagrams, in both directions, in the order in
-/// which the exchange took and gave them. Answers the status: 0, or 1 after a refusal or where the writer can't write.
+/// Replays a script on an exchange of its plan, and writes a capture of all datagrams. Both directions are in it, in the
+/// order in which the exchange received and sent them. Returns the status: 0, or 1 after a refusal or if the output can't
+/// be written.
 ///
-/// Moments of the script are counted from the beginning of 1970 on. A datagram of more than 65,507 octets, which a script can
-/// have but UDP can't carry, is left out, and how many were is said on standard error. A plan or a script that is refused is
-/// told as `replay` tells it, and nothing else is written.
+/// Moments of the script are counted from the beginning of 1970. A script can have a datagram of more than 65,507 octets,
+/// which UDP can't carry: it is left out, and standard error has the number of these. A refused plan or script is printed
+/// as `replay` prints it, and nothing else is written.
 pub fn write_capture<R: Wait + Eprint, W: Write>(
     rt: &R,
     alloc: Global,

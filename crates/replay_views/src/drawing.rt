@@ -1,4 +1,4 @@
-//! A replay as a ladder.
+//! Writes a replay as a ladder.
 ghost use Rattle.std.specs.Prelude.{◌≡◌, ◌<◌, length};
 
 use crate::outcomes::{kept, write_view};
@@ -15,7 +15,7 @@ use std::io;
 use std::io::Write;
 use std::sync::Wait;
 
-/// How a ladder is written.
+/// The form of a ladder.
 #[derive(Clone, Copy)]
 pub enum LadderForm {
     /// A picture, in SVG.
@@ -24,7 +24,7 @@ pub enum LadderForm {
     Text,
 }
 
-// Tells a ladder what the replay tells.
+// Passes the events of a replay to a ladder.
 #[derive(Drop)]
 struct LadderViewer {
     alloc: Global,
@@ -32,7 +32,7 @@ struct LadderViewer {
 }
 
 impl LadderViewer {
-    // The peers of a plan.
+    // Adds the peers of a plan.
     fn peers(&mut self, plan: &Plan) -> io::Result<()> {
         for place in 0..plan.peer_count() {
             let range = plan.range(place);
@@ -42,7 +42,7 @@ impl LadderViewer {
         Ok(())
     }
 
-    // An order that the script gives.
+    // Adds an order of the script.
     fn order(&mut self, moment: u64, line: &Line<'_>) -> io::Result<()> {
         let mut text = Vec::new(self.alloc);
         match line {
@@ -115,7 +115,7 @@ impl Viewer for LadderViewer {
     }
 }
 
-// The ladder of a replay.
+// Returns the ladder of a replay.
 fn draw<R: Wait>(rt: &R, alloc: Global, files: ReplayFiles<'_>) -> Result<Ladder, ReplayError> {
     let mut viewer = LadderViewer {
         alloc,
@@ -125,10 +125,10 @@ fn draw<R: Wait>(rt: &R, alloc: Global, files: ReplayFiles<'_>) -> Result<Ladder
     Ok(viewer.ladder)
 }
 
-/// Replays a script on an exchange of its plan, and writes its ladder: of all, or of the leg of one local number. Answers the
-/// status: 0, or 1 after a refusal or where the writer can't write.
+/// Replays a script on an exchange of its plan, and writes its ladder: of all legs, or of the leg of one local number.
+/// Returns the status: 0, or 1 after a refusal or if the output can't be written.
 ///
-/// A plan or a script that is refused is told as `replay` tells it, and nothing else is written.
+/// A refused plan or script is printed as `replay` prints it, and nothing else is written.
 pub fn write_ladder<R: Wait, W: Write>(
     rt: &R,
     alloc: Global,

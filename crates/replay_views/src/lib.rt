@@ -1,5 +1,4 @@
-//! A script is replayed, and shown otherwise than by its lines: as a ladder of the calls, as a capture of all datagrams, or as
-//! the records of its call legs.
+//! Views of a script's replay: a ladder of the calls, a capture of all datagrams, and the records of its call legs.
 #![tactic(auto)]
 
 mod capturing;

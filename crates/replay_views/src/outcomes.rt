@@ -1,9 +1,9 @@
-//! What comes of a view.
+//! The results of a view.
 use exchange_commands::{ReplayError, Stop, tell_outcome};
 use std::io;
 use std::io::Write;
 
-/// What a view keeps in memory was kept.
+/// Converts a failure to keep a view in memory to the viewer's error.
 pub(crate) fn kept(outcome: io::Result<()>) -> Result<(), Stop> {
     match outcome {
         Ok(()) => Ok(()),
@@ -11,7 +11,7 @@ pub(crate) fn kept(outcome: io::Result<()>) -> Result<(), Stop> {
     }
 }
 
-/// Writes a view that is done, and answers the status: 0, or 1 where the writer can't write.
+/// Writes a finished view, and returns the status: 0, or 1 if the output can't be written.
 pub(crate) fn write_view<W: Write>(octets: &[u8], writer: &mut W) -> u8 {
     match writer.write_all(octets) {
         Ok(()) => 0,

@@ -1,4 +1,4 @@
-//! A replay as the records of its call legs.
+//! Writes a replay as the records of its call legs.
 use crate::outcomes::write_view;
 use call_records::{CallNumbering, RowTexts, push_header, push_row};
 use exchange_commands::{ReplayError, ReplayFiles, Stop, Viewer, replay_with, tell_outcome};
@@ -20,7 +20,7 @@ struct RecordViewer {
 }
 
 impl RecordViewer {
-    // No row.
+    // Returns a viewer without rows.
     fn new(alloc: Global) -> Result<RecordViewer, AllocError> {
         Ok(RecordViewer {
             alloc,
@@ -30,7 +30,7 @@ impl RecordViewer {
         })
     }
 
-    // The row of a leg. Its moments are those of the script.
+    // Adds the row of a leg. Its moments are those of the script.
     fn push(&mut self, leg: &Retired) -> Result<(), AllocError> {
         let call = self.calls.number_of(leg.name, leg.partner);
         let opened = format!(in self.alloc; "{}", leg.facts.opened)?;
@@ -65,7 +65,7 @@ impl Viewer for RecordViewer {
     }
 }
 
-// The rows of a replay.
+// Returns the rows of a replay.
 fn recorded<R: Wait>(
     rt: &R,
     alloc: Global,
@@ -76,11 +76,12 @@ fn recorded<R: Wait>(
     Ok(viewer)
 }
 
-/// Replays a script on an exchange of its plan, and writes the record of each leg that was taken out, a row of CSV each, behind
-/// a line with the names of the columns. Answers the status: 0, or 1 after a refusal or where the writer can't write.
+/// Replays a script on an exchange of its plan, and writes the record of each leg that was taken out. Each is a row of CSV,
+/// below a line with the names of the columns. Returns the status: 0, or 1 after a refusal or if the output can't be
+/// written.
 ///
-/// The moments `opened` and `ended` are the script's, in milliseconds. A plan or a script that is refused is told as `replay`
-/// tells it, and nothing else is written.
+/// The moments `opened` and `ended` are the script's, in milliseconds. A refused plan or script is printed as `replay`
+/// prints it, and nothing else is written.
 pub fn write_records<R: Wait, W: Write>(
     rt: &R,
     alloc: Global,

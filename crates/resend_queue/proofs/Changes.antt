@@ -1,4 +1,4 @@
--- What a write at one place of a queue does.
+-- The effect of a write at one place of a queue.
 use Rattle.std.proofs.Common.{◌≡◌, ℕ, zero, suc, ◌+◌, ◌<◌, List, [], ◌∷◌, ◌++◌, length, map, take, drop, Some, slice_get, slice_set, refl, ap, ◌∙◌, arith}
 use Rattle.resend_queue.specs.declared.held_frame.Held.{Held}
 use Rattle.resend_queue.specs.Queue.{Queue}
@@ -11,7 +11,7 @@ module _ {F : Type 0} where
   changed_set change zero (h ∷ hs) one noted at is = let same : one ≡ h = cc in ap (λ x. x ∷ hs) (is ∙ ap change same)
   changed_set change (suc place) (h ∷ hs) one noted at is = ap (λ xs. h ∷ xs) (changed_set change place hs one noted at is)
 
-  -- a queue whose frame at a place is written over by what it is changed to
+  -- a queue whose frame at a place is replaced by the changed one
   pub noted : (change : Held F → Held F) (place : ℕ) (hs : List (Held F)) (width : ℕ) (old : Queue F) (one new : Held F)
       → (let q : Queue F = record { held = hs; width = width } in q ≡ old) → slice_get hs place ≡ Some one → new ≡ change one
       → let q : Queue F = record { held = slice_set hs place new; width = width } in

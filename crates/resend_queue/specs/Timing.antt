@@ -3,7 +3,7 @@ use Rattle.std.specs.Prelude.{ℕ, zero, suc, ◌+◌, ◌-◌, ◌^◌, ◌&&�
 use Rattle.resend_queue.specs.declared.held_frame.Held.{Held}
 
 module _ {F : Type 0} where
-  -- it was last sent so long ago
+  -- it was last sent this long ago
   abbrev pub is_due : ℕ → ℕ → Held F → Bool
   is_due now retry_ms held = nat_le held.last now && nat_le retry_ms (now - held.last)
 

@@ -10,14 +10,14 @@ use iax_frames::Frame;
 use std::alloc::{AllocError, Global};
 use std::marker::Model;
 
-/// The queue holds as many frames as its width.
+/// The queue already holds as many frames as its width.
 #[derive(Clone, Copy, Debug, PartialEq, Eq)]
 pub struct NoPlace;
 
-/// Frames that wait for their acknowledgement, in the order of their sequence numbers: whole ones, or the places at which who holds
-/// them finds them.
+/// Frames that wait for their acknowledgement, in the order of their sequence numbers: whole ones, or the places at which
+/// their owner finds them.
 ///
-/// Contracts see them as a list, the oldest first, and how many there may be. Only `new` takes memory.
+/// Contracts see them as a list, the oldest first, and the greatest number of frames. Only `new` takes memory.
 #[derive(Drop)]
 pub struct Resend<F = Frame> {
     ring: HeapCircularBuffer<Held<F>>,
@@ -32,7 +32,7 @@ impl<F> Model for Resend<F> {
 }
 
 impl<F: Drop> Resend<F> {
-    /// A queue without a frame, with room for `width` of them, 1 ..= 127. `Err` comes only where memory was refused.
+    /// Returns an empty queue with room for `width` frames, 1 ..= 127. Returns `Err` only if memory was refused.
     pub fn new(alloc: Global, width: u8) -> Result<Self, AllocError>
         requires some { 1 ≤ width }
         requires most { width ≤ 127 }
@@ -42,7 +42,7 @@ impl<F: Drop> Resend<F> {
         Ok(Resend { ring })
     }
 
-    /// How many frames wait, 0 ..= the queue's width.
+    /// Returns the number of waiting frames, 0 ..= the queue's width.
     pub fn len(&self) -> usize
         ensures len { result ≡ length self.now.held }
         ensures within { result ≤ self.now.width }
@@ -50,7 +50,7 @@ impl<F: Drop> Resend<F> {
         self.ring.len()
     }
 
-    /// Whether no frame waits.
+    /// Returns whether no frame waits.
     pub fn is_empty(&self) -> bool
         ensures { result ≡ (length self.now.held == 0) }
     {
@@ -59,7 +59,8 @@ impl<F: Drop> Resend<F> {
 
     /// Adds a frame as the youngest.
     ///
-    /// `NoPlace` comes exactly where as many frames wait as the queue's width; the frame comes back, and nothing is changed.
+    /// Returns `NoPlace` if and only if the number of waiting frames is the queue's width; the frame comes back, and
+    /// nothing is changed.
     pub fn push(&mut self, held: Held<F>) -> Result<(), (Held<F>, NoPlace)>
         ensures variant { IsOk result ↔ (length self.old.held < self.old.width) }
         ensures ok { OnOk result (self.new ≡ record { held = self.old.held ++ held ∷ []; width = self.old.width }) }
@@ -71,7 +72,7 @@ impl<F: Drop> Resend<F> {
         }
     }
 
-    /// Drops the `count` oldest frames; so many have to be there.
+    /// Drops the `count` oldest frames. The queue has to hold at least that number.
     pub fn drop_front(&mut self, count: usize)
         requires { count ≤ length self.old.held }
         ensures { self.new ≡ record { held = drop count self.old.held; width = self.old.width } }
@@ -80,8 +81,8 @@ impl<F: Drop> Resend<F> {
         self.ring.truncate_front(len - count);
     }
 
-    /// The place, 0 for the oldest, of the first frame that was last sent `retry_ms` milliseconds before `now`, or earlier;
-    /// `None` where no frame is due ("Message Transport": retransmission).
+    /// Returns the place, 0 for the oldest, of the first frame that was last sent at least `retry_ms` milliseconds before
+    /// `now`. Returns `None` if no frame is due ("Message Transport": retransmission).
     pub fn due(&self, now: u64, retry_ms: u64) -> Option<usize>
         ensures first { result ≡ position (is_due now retry_ms) self.now.held }
         ensures place { IfSome result (λ place. place < length self.now.held) }
@@ -91,15 +92,15 @@ impl<F: Drop> Resend<F> {
             .position(|held| now >= held.last && now - held.last >= retry_ms)
     }
 
-    /// The frame at a place, 0 for the oldest; `None` where there is none.
+    /// Returns the frame at a place, 0 for the oldest, or `None` if there is none.
     pub fn get(&self, place: usize) -> Option<&Held<F>>
         ensures { option_copied result ≡ slice_get self.now.held place }
     {
         self.ring.get(place)
     }
 
-    /// The frame at a place, 0 for the oldest, is sent again at the moment `now`, in milliseconds. That counts as a try, up to
-    /// 2^32 - 1 tries.
+    /// Marks the frame at a place, 0 for the oldest, as retransmitted at the moment `now`, in milliseconds. That counts as
+    /// a try, up to 2^32 - 1 tries.
     pub fn mark(&mut self, place: usize, now: u64)
         requires { place < length self.old.held }
         ensures { self.new ≡ record { held = changed_at (marked now) place self.old.held; width = self.old.width } }
@@ -109,7 +110,7 @@ impl<F: Drop> Resend<F> {
         held.tries = held.tries.saturating_add(1);
     }
 
-    /// The frame at a place, 0 for the oldest, is sent again at the moment `now`, in milliseconds, which is no try.
+    /// Marks the frame at a place, 0 for the oldest, as retransmitted at the moment `now`, in milliseconds. That is no try.
     pub fn touch(&mut self, place: usize, now: u64)
         requires { place < length self.old.held }
         ensures { self.new ≡ record { held = changed_at (touched now) place self.old.held; width = self.old.width } }
@@ -117,7 +118,7 @@ impl<F: Drop> Resend<F> {
         self.ring.get_mut(place).unwrap().last = now;
     }
 
-    /// Each frame is sent again at the moment `now`, in milliseconds, which is no try.
+    /// Marks each frame as retransmitted at the moment `now`, in milliseconds. That is no try.
     pub fn touch_all(&mut self, now: u64)
         ensures { self.new ≡ record { held = map (touched now) self.old.held; width = self.old.width } }
     {

@@ -1,4 +1,4 @@
-//! The lines of a script for `replay`: what each asks for.
+//! The lines of a script for `replay`, and their parser.
 #![tactic(auto)]
 
 mod line;

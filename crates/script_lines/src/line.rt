@@ -3,48 +3,51 @@ ghost use Rattle.std.specs.List.{starts_with};
 ghost use Rattle.std.specs.Prelude.{◌≡◌, ◌∷◌, [], length, nat_eq, Some};
 ghost use Rattle.script_lines.specs.declared.line.Line.TheVariants.{Nothing};
 
-/// What a line asks for.
+/// A parsed line.
 #[derive(Clone, Copy)]
 pub enum Line<'a> {
     /// An empty line or a comment.
     Nothing,
-    /// `at <ms>`: the moment, in milliseconds. It goes on.
+    /// `at <ms>`: the moment, in milliseconds. It may not be earlier than the last.
     At(u64),
-    /// `back <ms>`: the moment goes back, to that of a caller whose clock was read earlier.
+    /// `back <ms>`: an earlier moment, of a caller that read its clock before another.
     Back(u64),
     /// `challenge <text>`: the challenge for callers from now on.
     Challenge(&'a [u8]),
-    /// `prefix <text>`: what the challenges of this exchange begin with. Only empty lines and comments are before it.
+    /// `prefix <text>`: the prefix of this exchange's challenges. Only empty lines and comments may come before it.
     Prefix(&'a [u8]),
-    /// `key <hex>`: what call tokens of this exchange are made with. Only empty lines, comments and `prefix` are before it.
+    /// `key <hex>`: the key of this exchange's call tokens. Only empty lines, comments and `prefix` may come before it.
     Key(&'a [u8]),
-    /// `rx <peer> <hex>`: a datagram comes from a peer.
+    /// `serial <n>`: the serial of the next leg. Only empty lines, comments, `prefix`, `key` and `free` are before it.
+    Serial(u64),
+    /// `rx <peer> <hex>`: a datagram from a peer.
     Rx(&'a [u8], &'a [u8]),
-    /// `stranger <address:port> <hex>`: a datagram comes from an endpoint that no peer has.
+    /// `stranger <address:port> <hex>`: a datagram from an endpoint that no peer has.
     Stranger(&'a [u8], &'a [u8]),
-    /// `call <peer> <number>`: a call goes out to a peer.
+    /// `call <peer> <number>`: a call to a peer.
     Call(&'a [u8], &'a [u8]),
-    /// `hangup <number>`: the leg of a local number hangs up.
+    /// `hangup <number>`: hangs up the leg of a local number.
     HangUp(u64),
-    /// `tick`: time goes on at all peers.
+    /// `tick`: ticks all peers.
     Tick,
-    /// `tick <peer>`: time goes on at one peer.
+    /// `tick <peer>`: ticks one peer.
     TickOf(&'a [u8]),
-    /// `hold`: from here on what goes out waits in the outboxes, until `send`.
+    /// `hold`: keeps datagrams in the outboxes from here on, until `send`.
     Hold,
-    /// `send`: what waits in all outboxes goes out.
+    /// `send`: sends the datagrams in all outboxes.
     Send,
-    /// `send <peer>`: what waits in the outbox of a peer goes out.
+    /// `send <peer>`: sends the datagrams in the outbox of a peer.
     SendTo(&'a [u8]),
-    /// `free <peer> <numbers>`: the order in which the numbers of a peer that has no leg are given out, as `5-7,1,2-4`.
+    /// `free <peer> <numbers>`: the order in which the numbers of a peer without legs are given out, as `5-7,1,2-4`.
     Free(&'a [u8], &'a [u8]),
-    /// `drain`: all peers drain, and a NEW that would open a leg is rejected; `drain off`: no peer does.
+    /// `drain`: all peers drain, and a NEW that would open a leg is rejected. `drain off`: no peer drains.
     Drain(bool),
-    /// `settle`: the accounts are closed. No line follows it.
+    /// `settle`: closes the accounts. No line follows it.
     Settle,
 }
 
-/// The number that decimal digits say. None where there is no octet, where one is no digit, or where it doesn't fit 64 bits.
+/// Returns the value of decimal digits, or `None` if there are none, if an octet isn't a digit, or if the value doesn't fit
+/// 64 bits.
 pub fn decimal(digits: &[u8]) -> Option<u64> {
     if digits.is_empty() {
         return None;
@@ -61,13 +64,13 @@ pub fn decimal(digits: &[u8]) -> Option<u64> {
     Some(number)
 }
 
-// The words of a line, parted by one space: at most four, since no line has more.
+// Returns the words of a line, separated by one space: at most four, because no line has more.
 fn words(line: &[u8]) -> [Option<&[u8]>; 4] {
     let mut parts = line.split(|octet| *octet == b' ');
     [parts.next(), parts.next(), parts.next(), parts.next()]
 }
 
-// The first word of a line that asks for something.
+// The first word of a line that is neither empty nor a comment.
 #[derive(Clone, Copy)]
 enum Command {
     At,
@@ -75,6 +78,7 @@ enum Command {
     Challenge,
     Prefix,
     Key,
+    Serial,
     Rx,
     Stranger,
     Call,
@@ -87,12 +91,13 @@ enum Command {
     Settle,
 }
 
-const COMMANDS: [(&[u8], Command); 15] = [
+const COMMANDS: [(&[u8], Command); 16] = [
     (b"at", Command::At),
     (b"back", Command::Back),
     (b"challenge", Command::Challenge),
     (b"prefix", Command::Prefix),
     (b"key", Command::Key),
+    (b"serial", Command::Serial),
     (b"rx", Command::Rx),
     (b"stranger", Command::Stranger),
     (b"call", Command::Call),
@@ -114,7 +119,7 @@ fn command_of(word: &[u8]) -> Option<Command> {
     None
 }
 
-// What a line of a command alone says.
+// Parses a line of a command alone.
 fn said_by_one<'a>(command: Command) -> Option<Line<'a>> {
     match command {
         Command::Tick => Some(Line::Tick),
@@ -126,7 +131,7 @@ fn said_by_one<'a>(command: Command) -> Option<Line<'a>> {
     }
 }
 
-// What a line of a command and one word more says.
+// Parses a line of a command and one more word.
 fn said_by_two<'a>(command: Command, word: &'a [u8]) -> Option<Line<'a>> {
     match command {
         Command::Challenge => return Some(Line::Challenge(word)),
@@ -141,12 +146,13 @@ fn said_by_two<'a>(command: Command, word: &'a [u8]) -> Option<Line<'a>> {
     match command {
         Command::At => Some(Line::At(number)),
         Command::Back => Some(Line::Back(number)),
+        Command::Serial => Some(Line::Serial(number)),
         Command::HangUp => Some(Line::HangUp(number)),
         _ => None,
     }
 }
 
-// What a line of a command, a peer and one word more says.
+// Parses a line of a command, a peer and one more word.
 fn said_by_three<'a>(command: Command, peer: &'a [u8], word: &'a [u8]) -> Option<Line<'a>> {
     match command {
         _ if word.is_empty() => None,
@@ -158,7 +164,7 @@ fn said_by_three<'a>(command: Command, peer: &'a [u8], word: &'a [u8]) -> Option
     }
 }
 
-// What a line that asks for something says.
+// Parses a line that is neither empty nor a comment.
 fn said_by(line: &[u8]) -> Option<Line<'_>> {
     let [first, second, third, fourth] = words(line);
     let command = command_of(first?)?;
@@ -170,16 +176,16 @@ fn said_by(line: &[u8]) -> Option<Line<'_>> {
     }
 }
 
-/// Whether the script ends before this line, since it begins with the octet 0. So a file can be written over from its beginning:
-/// what stands behind the last line that was written isn't looked at.
+/// Returns whether the script ends before this line, because the line begins with the octet 0. So a file can be overwritten
+/// from its beginning: the old octets behind the last new line are ignored.
 pub fn ends_script(line: &[u8]) -> bool
     ensures { result ≡ starts_with nat_eq line.now (0 ∷ []) }
 {
     line.starts_with(&[0])
 }
 
-/// What a line says, without its line feed: words with one space between each two. None where it isn't of these forms, or has a
-/// number that doesn't fit 64 bits. Of names, digits and lists nothing is judged here.
+/// Parses a line without its line feed: words with one space between each two. Returns `None` if it has none of these
+/// forms, or a number that doesn't fit 64 bits. Names, digits and lists aren't checked here.
 pub fn line_of(line: &[u8]) -> Option<Line<'_>>
     ensures empty { length line.now ≡ 0 → result ≡ Some Nothing }
 {

@@ -20,7 +20,7 @@ use Rattle.seq_window.proofs.Places.{slice_get-push}
 use Rattle.seq_window.proofs.Records.{legal_now, legal_empty, held_sent, taken_count-append, sent-append}
 use Rattle.seq_window.proofs.InStep.{IsOwn, IsSound, IsInStep, in_step_turned, with_entry, with_datagram, prefix_length, sent_in_step, acked_in_step, taken_in_step, datagram_in_step}
 
--- what a record is after more entries, where they fit
+-- a property of a record stays after further entries, if they fit
 extended_keeps : (P : List Entry → Type 0) (limit : ℕ) (entries more : List Entry) → P entries → (length entries + length more ≤ limit → P (entries ++ more)) → P (extended limit entries more)
 extended_keeps P limit entries more unchanged grown =
     cond_both (nat_le (length entries + length more) limit) (entries ++ more) entries P
@@ -118,7 +118,7 @@ module _ (own other : Side) where
           let is_fresh : taken_count own.history ≤ datagram.number + 128 = subst (λ o. OnSome o (taken_count own.history ≤ datagram.number + 128)) is (fresh datagram refl) in
           judged_so frame is (judged_number own.history (byte_of datagram.number)) (number_is which datagram frame s at is is_fresh)
 
-  -- whatever fresh action comes
+  -- for each fresh action
   pub action_keeps : (action : Action) → IsFreshAction action own other → IsInStep own other → IsInStep (after action own other) other
   action_keeps (SendNumbered frame) fresh s = send_keeps frame s
   action_keeps SendUnnumbered fresh s =
@@ -150,7 +150,7 @@ empty_sound size width = record {
   datagrams = λ which datagram at. cc;
 }
 
--- whatever fresh events come
+-- for all fresh events
 pub in_step : (first second : Size) → first.width ≤ 127 → second.width ≤ 127 → (events : List Event) → IsFresh events (start first second)
     → IsInStep (run events (start first second)).first (run events (start first second)).second
 in_step first second first_width second_width events fresh =

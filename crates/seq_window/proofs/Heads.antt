@@ -13,7 +13,7 @@ use Rattle.seq_window.specs.History.{sent_count, acked_count, taken_count, data_
 use Rattle.seq_window.specs.Record.{RecordState}
 use Rattle.seq_window.specs.RecordFields.{frame_at, entry_at, entries_in, EndsBelow, counted_by, head_len}
 
--- what the heads count is what the entries do
+-- the heads have the counts of the entries
 module _ (octets : List ℕ) where
   pub sent_count-heads : (heads : List Head) → sum_by (counted_by counts.Sent) heads ≡ sent_count (entries_in octets heads)
   sent_count-heads [] = refl
@@ -57,7 +57,7 @@ data_octets-heads octets (h ∷ heads) within =
       sum_by-cons data_len (entry_at octets h) (entries_in octets heads),
     )
 
--- a frame stays where it lies, whatever comes after
+-- a frame stays at its place when further frames follow
 frame_at-more : (octets more : List ℕ) (h : FrameHead) → h.start + h.len ≤ length octets → frame_at (octets ++ more) h ≡ frame_at octets h
 frame_at-more octets more h within =
     let skipped : drop h.start (octets ++ more) ≡ drop h.start octets ++ more = drop-append-le h.start octets more (omega arith) in
@@ -105,7 +105,7 @@ pub pushed_len : (octets more grown_octets : List ℕ) (heads grown_heads : List
 pushed_len octets more grown_octets heads grown_heads h whole octets_is heads_is len =
     rw (octets_is, heads_is) (omega (arith, whole, len, length-append octets more, sum_by_push head_len heads h))
 
--- the octets of a head lie below any later end
+-- the octets of a head are below any later end
 ends_later : (least most : ℕ) (h : Head) → least ≤ most → EndsBelow least h → EndsBelow most h
 ends_later least most (head.Sent h) later ends = (omega (arith, ends.0), ends.1)
 ends_later least most (head.Acked count) later ends = tt

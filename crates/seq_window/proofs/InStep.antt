@@ -1,4 +1,4 @@
--- What stays so in a network, whatever fresh action comes next.
+-- The invariant of a network under fresh actions.
 use Rattle.std.proofs.Common.{◌≡◌, ℕ, zero, suc, ◌+◌, ◌<◌, ◌≤◌, List, [], ◌∷◌, ◌++◌, length, Some, slice_get, ap, sym, ◌∙◌, subst, arith, append-nil, append_assoc, length-append}
 use Rattle.iax_frames.specs.declared.stored_frame.Frame.{Frame}
 use Rattle.seq_window.specs.Entry.{Entry, Sent, Acked as EntryAcked, Taken as EntryTaken}
@@ -17,7 +17,8 @@ pub record IsSound (own : Side) : Type 0 where
   pub legal : IsLegal own.width own.limit own.history
   pub datagrams : (which : ℕ) (datagram : Datagram) → slice_get own.datagrams which ≡ Some datagram → IsOwn own.history datagram
 
--- one of two sides that are in step: it is sound, and the other takes what it sent, in order, and had what counts as acknowledged
+-- one of two sides that are in step: it is sound, the other takes its frames in order, and had each frame that counts as
+-- acknowledged
 pub record IsFollowed (own other : Side) : Type 0 where
   pub sound : IsSound own
   pub takes : TakesInOrder own other
@@ -76,7 +77,7 @@ prefix_more frames all frame (rest, is) at =
 pub prefix_length : (frames all : List Frame) → IsPrefixOf frames all → length frames ≤ length all
 prefix_length frames all (rest, is) = omega (arith, length-append frames rest, ap length is)
 
--- what a side's own new entry leaves of what was sent, taken and acknowledged
+-- the sent, taken and acknowledged frames after a side's own new entry
 module _ (own other : Side) where
   -- the side sends a frame
   pub sent_in_step : (frame : Frame) → IsInStep own other → length (held own.history) < own.width → length own.history < own.limit
@@ -122,7 +123,7 @@ module _ (own other : Side) where
         back = record { sound = s.back.sound; takes = rw (taken-append own.history (EntryTaken frame ∷ [])) (prefix_more (taken own.history) (sent other.history) frame s.back.takes next); acks = omega (arith, s.back.acks, taken_count-append own.history (EntryTaken frame ∷ [])) };
       }
 
-  -- the side sends a datagram of its own
+  -- the side sends a datagram
   pub datagram_in_step : (sent : Datagram) → IsInStep own other → IsOwn own.history sent → IsInStep (with_datagram own sent) other
   datagram_in_step sent s is_own = record {
     forth = record {

@@ -40,7 +40,7 @@ module _ (entries : List Entry) where
       let e : first + suc count ≡ first + 1 + count = omega arith in
       rw e (kept-drop (first + 1) count hs fs are.2 (omega arith))
 
-  -- what is kept stays where it lies, whatever entries come after
+  -- the kept frames stay at their places when further entries follow
   kept-more : (more : List Entry) (first : ℕ) (hs : List (Held ℕ)) (fs : List Frame) → AreHeld entries first hs fs → AreHeld (entries ++ more) first hs fs
   kept-more more first [] [] are = tt
   kept-more more first [] (f ∷ fs) are = absurd are
@@ -73,7 +73,7 @@ touched_keeps now = record { number = λ h. refl; frame = λ h. refl }
 pub marked_keeps : (now : ℕ) → Keeps (queue.marked now)
 marked_keeps now = record { number = λ h. refl; frame = λ h. refl }
 
--- ---- a held frame where it lies
+-- ---- a held frame at its place
 
 -- a held frame as a contract sees it
 abbrev pub lies_as : Held ℕ → Frame → Held Frame
@@ -84,7 +84,7 @@ pub record LiesAt (entries : List Entry) (all : List (Held Frame)) (place : ℕ)
   pub entry : slice_get entries h.frame ≡ Some (Sent frame)
   pub held : slice_get all place ≡ Some (lies_as h frame)
 
--- what is kept at a place is the held frame there
+-- the frame kept at a place is the held frame there
 pub kept-lies : (entries : List Entry) (first : ℕ) (hs : List (Held ℕ)) (fs : List Frame) (place : ℕ) (h : Held ℕ) → AreHeld entries first hs fs
     → slice_get hs place ≡ Some h → LiesAt entries (numbered_from first fs (map sending_of hs)) place h
 kept-lies entries first [] fs place h are at = cc
@@ -97,7 +97,7 @@ kept-lies entries first (k ∷ hs) (f ∷ fs) (suc place) h are at =
     let lies : LiesAt entries (numbered_from (first + 1) fs (map sending_of hs)) place h = kept-lies entries (first + 1) hs fs place h are.2 at in
     record { frame = lies.frame; entry = lies.entry; held = lies.held }
 
--- as many held frames as are kept
+-- as many frames are held as are kept
 pub length-numbered : (entries : List Entry) (first : ℕ) (hs : List (Held ℕ)) (fs : List Frame) → AreHeld entries first hs fs
     → length (numbered_from first fs (map sending_of hs)) ≡ length hs
 length-numbered entries first [] [] are = refl
@@ -130,9 +130,9 @@ kept-taken history hs frame are =
     rw (sent-append history (Taken frame ∷ []), acked_count-append history (Taken frame ∷ []), append-nil, add-zero)
     (kept-more history (Taken frame ∷ []) (acked_count history) hs (held history) are)
 
--- ---- the sendings of what is kept
+-- ---- the sendings of the kept frames
 
--- a change of what is kept that is this change of its sending
+-- a change of the kept frames that is this change of its sending
 module _ (change : Held ℕ → Held ℕ) (noted : Sending → Sending) (same : (h : Held ℕ) → sending_of (change h) ≡ noted (sending_of h)) where
   pub sendings-changed : (place : ℕ) (hs : List (Held ℕ)) → map sending_of (changed_at change place hs) ≡ change_at noted place (map sending_of hs)
   sendings-changed place [] = refl

@@ -1,4 +1,4 @@
--- A byte is read as the number that it was made of, where that lies near enough.
+-- A byte is read as the number that it was made of, if that number is near enough.
 use Rattle.std.proofs.Common.{refl, Bool, true, false, cond, ◌&&◌, ◌≡◌, ℕ, ◌+◌, ◌-◌, ◌<◌, ◌≤◌, ◌%◌, ℤ, pos, negsuc, ◌+ℤ◌, ◌-ℤ◌, ltb, ◌⊎◌, inl, inr, sym, subst, ap, ◌∙◌, arith}
 use Rattle.std.proofs.lemmas.Bool.{cond_both, cond-true, and_from, and_right, leb-true, le-leb, lt-leb, ltb-true, ltb-false, cond-false, le-ltb, cases_lt}
 use Rattle.std.proofs.lemmas.Bool.Decides.{nat_tests}
@@ -87,7 +87,7 @@ from_is number byte small reading is =
 pub from_reads : (number byte : ℕ) → byte < 256 → IsReadingFrom number byte (reading_from number byte)
 from_reads number byte small = record { from_number = omega arith; to_above = omega arith; written = omega arith }
 
--- a number that counts as an acknowledgement lies in the window
+-- a number that counts as an acknowledgement is in the window
 pub acknowledged_within : (acked sent number count : ℕ) → acknowledgement_judged acked sent number ≡ Acked count → (acked + count ≡ number) × (number ≤ sent)
 acknowledged_within acked sent number count is = go (nat_le acked number) (nat_le number sent) refl refl is
   where

@@ -17,7 +17,7 @@ slice_get-drop (suc n) (x ∷ xs) i =
     let e : suc n + i ≡ suc (n + i) = omega arith in
     slice_get-drop n xs i ∙ sym (ap (slice_get (x ∷ xs)) e)
 
--- what comes next in a list after its beginning
+-- the element after the beginning of a list
 pub next_after : {X : Type 0} (front rest : List X) (x : X) → slice_get (front ++ rest) (length front) ≡ Some x
     → (more : List X) × (rest ≡ x ∷ more)
 next_after [] [] x at = cc

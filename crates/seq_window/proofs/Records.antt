@@ -1,4 +1,4 @@
--- What one more entry does to a record.
+-- The effect of one more entry on a record.
 use Rattle.std.proofs.Common.{◌≡◌, ℕ, ◌+◌, ◌-◌, ◌<◌, ◌≤◌, List, [], ◌∷◌, ◌++◌, length, take, Some, slice_get, refl, ap, sym, ◌∙◌, subst, ◌⊎◌, inl, inr, arith, zero-add, length-append, length-drop}
 use Rattle.std.proofs.lemmas.Bool.{cases_lt}
 use Rattle.std.proofs.lemmas.List.{take-append-le, take_all, length_push}
@@ -58,7 +58,7 @@ legal_push width limit entries entry legal some within room = record {
     at moment (inl past) = rw (take_all moment (entries ++ entry ∷ []) (omega (arith, length_push entries entry))) within
     at moment (inr before) = rw (take-append-le moment entries (entry ∷ []) before) (legal.at_each_moment moment)
 
--- how many frames are held
+-- the number of held frames
 pub length-held : (entries : List Entry) → length (held entries) ≡ sent_count entries - acked_count entries
 length-held entries = simp length-drop
 

@@ -18,19 +18,19 @@ use Rattle.seq_window.proofs.Numbers.{number_byte_is, acknowledgement_byte_is}
 use Rattle.seq_window.proofs.Records.{taken-append, sent_count-append, taken_count-append, acked_count-append, length-held}
 use Rattle.seq_window.proofs.InStep.{with_entry, with_datagram}
 
--- the events are fresh, and this is so after them
+-- the events are fresh, and this holds after them
 record Leads (events : List Event) (network : Network) (Holds : Network → Type 0) : Type 0 where
   fresh : IsFresh events network
   holds : Holds (run events network)
 
--- one event more, before
+-- one more event, before
 first_event : (event : Event) (events : List Event) (network next : Network) (Holds : Network → Type 0)
     → IsFreshEvent event network → happens event network ≡ next → Leads events next Holds → Leads (event ∷ events) network Holds
 first_event event events network next Holds fresh is leads =
     let there : Leads events (happens event network) Holds = subst (λ n. Leads events n Holds) (sym is) leads in
     record { fresh = (fresh, there.fresh); holds = there.holds }
 
--- the second side has taken what the first has sent, the first knows it, and so much is still to come
+-- the second side has taken the first's sent frames, the first knows it, and left frames are still to come
 record IsRested (network : Network) (done : List Frame) (left : ℕ) : Type 0 where
   taken_is : taken network.second.history ≡ done
   sent_is : sent_count network.first.history ≡ length done
@@ -39,7 +39,7 @@ record IsRested (network : Network) (done : List Frame) (left : ℕ) : Type 0 wh
   first_room : length network.first.history + 2 * left ≤ network.first.limit
   second_room : length network.second.history + left ≤ network.second.limit
 
--- where the entries fit
+-- if the entries fit
 pub extended_fits : (limit : ℕ) (entries more : List Entry) → length entries + length more ≤ limit → extended limit entries more ≡ entries ++ more
 extended_fits limit entries more fits = cond-true (nat_le (length entries + length more) limit) (entries ++ more) entries (le-leb (length entries + length more) limit fits)
 
@@ -125,7 +125,7 @@ module _ (network : Network) (done : List Frame) (left : ℕ) (frame : Frame) (r
     second_room = omega (arith, rested.second_room, length_push network.second.history (EntryTaken frame));
   }
 
--- all frames have come
+-- all frames have arrived
 record HaveCome (frames : List Frame) (network : Network) : Type 0 where
   all_taken : taken network.second.history ≡ frames
   all_acked : acked_count network.first.history ≡ length frames

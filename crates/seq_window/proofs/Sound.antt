@@ -34,12 +34,12 @@ module _ (w : Inside) (sound : IsSound w) where
       let within : IsWithinWindow w.width w.history.entries = legal_now w.width w.limit w.history.entries sound.legal in
       omega (arith, within.held, held_is)
 
-  -- what is kept at a place is the held frame there
+  -- the frame kept at a place is the held frame there
   pub lies_at : (place : ℕ) (h : Held ℕ) → slice_get w.held.held place ≡ Some h
       → LiesAt w.history.entries (held_frames (window_of w).state) place h
   lies_at place h at = kept-lies w.history.entries (acked_count w.history.entries) w.held.held (held w.history.entries) place h sound.kept at
 
-  -- as many held frames as are kept
+  -- as many frames are held as are kept
   pub held_frames_count : length (held_frames (window_of w).state) ≡ length w.held.held
   held_frames_count = length-numbered w.history.entries (acked_count w.history.entries) w.held.held (held w.history.entries) sound.kept
 
@@ -60,7 +60,7 @@ module _ (w : Inside) (sound : IsSound w) where
       let is : distance (acked_count w.history.entries) byte ≡ (byte + (256 - w.oldest)) % 256 = distance_is byte in
       sym (acknowledged_far (acked_count w.history.entries) (sent_count w.history.entries) byte (omega (arith, held_is)))
 
-  -- what counts takes off held frames
+  -- an acknowledgement that counts removes held frames
   pub count_held : (byte count : ℕ) → Counted count ≡ judged_acknowledgement w.history.entries byte → count ≤ length w.held.held
   count_held byte count is =
       let (number, known) = acknowledged_within (acked_count w.history.entries) (sent_count w.history.entries) (reading_from (acked_count w.history.entries) byte) count (sym is) in
@@ -109,7 +109,7 @@ module _ (w : Inside) (sound : IsSound w) where
     room = capacity ∙ sound.room;
   }
 
-  -- the held frames stay, whatever is noted beside them
+  -- the held frames stay when their sendings change
   noted_sound : (kept : Queue ℕ) → AreHeld w.history.entries (acked_count w.history.entries) kept.held (held w.history.entries) → kept.width ≡ w.held.width
       → IsSound (record w { held = kept })
   noted_sound kept are capacity = record {
@@ -145,7 +145,7 @@ module _ (w : Inside) (sound : IsSound w) where
   pub not_full_is : nat_le w.width (length (map sending_of w.held.held)) ≡ false → length w.held.held < w.width
   not_full_is room = omega (arith, leb-false w.width (length (map sending_of w.held.held)) room, sendings_count)
 
--- an acknowledgement that takes something off
+-- an acknowledgement that removes frames
 pub counted : (w : WindowState) (byte count : ℕ) → Counted count ≡ judged_acknowledgement w.history byte → 1 ≤ count
     → let new : WindowState = record { history = w.history ++ Acked count ∷ []; width = w.width; limit = w.limit; sendings = drop count w.sendings } in
     new ≡ after_acknowledgement w byte

@@ -1,4 +1,4 @@
--- What a datagram adds to a record in one turn, as actions of the network.
+-- The entries that a datagram adds to a record in one turn, as actions of the network.
 use Rattle.std.proofs.Common.{◌≡◌, ℕ, ◌+◌, ◌<◌, ◌≤◌, Bool, true, false, cond, ◌&&◌, List, [], ◌∷◌, ◌++◌, length, take, add-zero, Option, Some, None, slice_get, refl, ap, sym, ◌∙◌, subst, arith, append-nil, append_assoc, length-append}
 use Rattle.std.specs.Prelude.{nat_lt, nat_eq}
 use Rattle.std.proofs.lemmas.Bool.{cond_both, cond-true, and_from, lt-ltb}
@@ -21,7 +21,7 @@ after_all-append : (first second : List Action) (own other : Side) → after_all
 after_all-append [] second own other = refl
 after_all-append (action ∷ first) second own other = after_all-append first second (after action own other) other
 
--- an acknowledgement leaves what was taken
+-- an acknowledgement leaves the taken frames
 taken_count-acknowledged : (entries : List Entry) (judged : Acknowledged) → taken_count (entries ++ entries_for_count (count_of judged)) ≡ taken_count entries
 taken_count-acknowledged entries Ignored = ap taken_count (append-nil entries)
 taken_count-acknowledged entries (Acked count) =
@@ -33,7 +33,7 @@ taken_count-part : (entries : List Entry) (byte : ℕ) (acts : Bool) → taken_c
 taken_count-part entries byte true = taken_count-acknowledged entries (judged_acknowledgement entries byte)
 taken_count-part entries byte false = ap taken_count (append-nil entries)
 
--- what is legal was within the window at each moment before
+-- a legal record was within the window at each earlier moment
 legal_before : (width limit : ℕ) (entries more : List Entry) → IsLegal width limit (entries ++ more) → IsWithinWindow width entries
 legal_before width limit entries more legal =
     let moment : IsWithinWindow width (take (length entries) (entries ++ more)) = legal.at_each_moment (length entries) in

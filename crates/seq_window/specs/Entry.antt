@@ -1,11 +1,11 @@
--- What one entry of a record says.
+-- One entry of a record.
 use Rattle.std.specs.Prelude.{ℕ}
 use Rattle.iax_frames.specs.declared.stored_frame.Frame.{Frame}
 
 pub data Entry : Type 0 where
   -- this frame was sent with the next sequence number
   Sent : (frame : Frame) → Entry
-  -- so many of the held frames were acknowledged
+  -- this number of held frames was acknowledged
   Acked : (count : ℕ) → Entry
   -- this frame of the other side was taken
   Taken : (frame : Frame) → Entry

@@ -1,4 +1,4 @@
--- What a contract sees of a held frame that is looked at where the record has it.
+-- A held frame that is borrowed from the record, as a contract sees it.
 use Rattle.iax_frames.specs.declared.stored_frame.Frame.{Frame}
 use Rattle.resend_queue.specs.declared.held_frame.Held.{Held}
 use Rattle.seq_window.specs.declared.history.FrameView.{FrameView}

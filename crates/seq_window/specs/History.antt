@@ -1,4 +1,4 @@
--- What the record of a leg says was sent, acknowledged and taken ("Message Transport").
+-- The frames that were sent, acknowledged and taken, by the record of a leg ("Message Transport").
 use Rattle.std.specs.Prelude.{ℕ, ◌+◌, ◌≤◌, List, [], ◌∷◌, length, take, drop, All, sum_by}
 use Rattle.iax_frames.specs.declared.stored_frame.Frame.{Frame}
 use Rattle.seq_window.specs.Entry.{Entry, Sent, Acked, Taken}
@@ -23,7 +23,7 @@ sent_count history = length (sent history)
 abbrev pub taken_count : List Entry → ℕ
 taken_count history = length (taken history)
 
--- how many of the sent frames were acknowledged
+-- the number of sent frames that were acknowledged
 abbrev pub acked_count : List Entry → ℕ
 acked_count [] = 0
 acked_count (Sent frame ∷ entries) = acked_count entries
@@ -44,7 +44,7 @@ data_octets history = sum_by data_len history
 abbrev pub held : List Entry → List Frame
 held history = drop (acked_count history) (sent history)
 
--- an entry for an acknowledgement takes something off
+-- an entry for an acknowledgement removes a frame
 abbrev pub AcksSome : Entry → Type 0
 AcksSome (Sent frame) = Unit {0}
 AcksSome (Acked count) = 1 ≤ count

@@ -9,13 +9,13 @@ use Rattle.seq_window.specs.Sequence.{byte_of, number_judged, acknowledgement_ju
 use Rattle.seq_window.specs.Window.{judged_acknowledgement, judged_number, count_of, entries_for_count, entries_for_number}
 use Rattle.seq_window.specs.Turn.{Turn, entries_in_turn, extended}
 
--- A datagram with its numbers, which have no bound: octets are made of them where they are judged.
+-- A datagram with its numbers, which have no bound: they are reduced to octets when they are judged.
 pub record Datagram : Type 0 where
   -- the sequence number of its frame; without a frame, the next that will be used
   pub number : ℕ
   -- the next sequence number that its sender expected then
   pub acknowledgement : ℕ
-  -- the frame, where it is numbered
+  -- the frame, if it is numbered
   pub frame : Option Frame
 
 -- one side: its window, its record, and every datagram that it ever sent, the latest first
@@ -25,12 +25,12 @@ pub record Side : Type 0 where
   pub history : List Entry
   pub datagrams : List Datagram
 
--- what a side may do. The datagrams that it judges are any that the other side ever sent; a loss is a datagram that is never
+-- the actions of a side. The datagrams that it judges are any that the other side ever sent; a lost datagram is never
 -- judged
 pub data Action : Type 0 where
   SendNumbered : (frame : Frame) → Action
   SendUnnumbered : Action
-  -- the held frame at this place goes out again
+  -- the held frame at this place is retransmitted
   Retransmit : (place : ℕ) → Action
   JudgeAcknowledgement : (which : ℕ) → Action
   JudgeNumber : (which : ℕ) → Action
@@ -75,7 +75,7 @@ abbrev pub after_reception : Side → Option Datagram → Side
 after_reception own None = own
 after_reception own (Some datagram) = after_number own datagram.number datagram.frame
 
--- a side after it acts, where the other side is as given
+-- a side after its action, given the other side
 abbrev pub after : Action → Side → Side → Side
 after (SendNumbered frame) own other = after_send own frame
 after SendUnnumbered own other =
@@ -102,7 +102,7 @@ abbrev pub run : List Event → Network → Network
 run [] network = network
 run (event ∷ events) network = run events (happens event network)
 
--- Freshness: what a side judges lies at most 128 behind it.
+-- Freshness: a datagram is at most 128 numbers behind the side that judges it.
 abbrev pub IsFreshAcknowledgement : Side → Datagram → Type 0
 IsFreshAcknowledgement own datagram = acked_count own.history ≤ datagram.acknowledgement + 128
 
@@ -138,31 +138,31 @@ empty_side size = record { width = size.width; limit = size.limit; history = [];
 abbrev pub start : Size → Size → Network
 start first second = record { first = empty_side first; second = empty_side second }
 
--- this is so in whatever network fresh events lead to, where each window is at most 127 wide
+-- this holds in each network that fresh events lead to, if each window is at most 127 wide
 abbrev pub InEveryFreshRun : (Network → Type 0) → Type 0
 InEveryFreshRun Holds =
     (first second : Size) → first.width ≤ 127 → second.width ≤ 127
     → (events : List Event) → IsFresh events (start first second) → Holds (run events (start first second))
 
--- so for each of the two sides as the sender, the other as the receiver
+-- for each of the two sides as the sender, with the other as the receiver
 abbrev pub EachWay : (Side → Side → Type 0) → Network → Type 0
 EachWay Holds network = Holds network.first network.second × Holds network.second network.first
 
 abbrev pub IsPrefixOf : List Frame → List Frame → Type 0
 IsPrefixOf frames all = (rest : List Frame) × (frames ++ rest ≡ all)
 
--- what the receiver took is the beginning of what the sender sent: each frame once, in order
+-- the receiver's taken frames are the first of the sender's sent frames: each once, in order
 abbrev pub TakesInOrder : Side → Side → Type 0
 TakesInOrder sender receiver = IsPrefixOf (taken receiver.history) (sent sender.history)
 
--- what counts as acknowledged was taken
+-- each frame that counts as acknowledged was taken
 abbrev pub AcksTaken : Side → Side → Type 0
 AcksTaken sender receiver = acked_count sender.history ≤ taken_count receiver.history
 
 abbrev pub HasLegalRecord : Side → Side → Type 0
 HasLegalRecord own other = IsLegal own.width own.limit own.history
 
--- whatever datagram of the other side is judged next, its octets say what its numbers say
+-- the octets of each datagram of the other side that is judged next are read as its numbers
 pub record BytesSayNumbers (own other : Side) : Type 0 where
   pub acknowledgement : (which : ℕ) (datagram : Datagram)
       → slice_get other.datagrams which ≡ Some datagram → IsFreshAcknowledgement own datagram
@@ -184,7 +184,7 @@ pub record GetThrough (frames : List Frame) (network : Network) : Type 0 where
   pub all_taken : taken (run (flat_map round_of frames) network).second.history ≡ frames
   pub all_acked : acked_count (run (flat_map round_of frames) network).first.history ≡ length frames
 
--- a side after it acts so, one action after the other
+-- a side after these actions, one after the other
 abbrev pub after_all : List Action → Side → Side → Side
 after_all [] own other = own
 after_all (action ∷ actions) own other = after_all actions (after action own other) other
@@ -205,8 +205,8 @@ abbrev pub added_in_turn : Side → Datagram → Turn → List Entry
 added_in_turn own datagram turn =
     entries_in_turn own.history (byte_of datagram.acknowledgement) (byte_of datagram.number) datagram.frame turn
 
--- the datagram of a numbered reply: its number is the next of the record before the turn, and it acknowledges what is taken after
--- it
+-- the datagram of a numbered reply: its number is the next of the record before the turn, and it acknowledges the frames
+-- taken after the turn
 abbrev pub datagrams_of_reply : List Entry → List Entry → Option Frame → List Datagram
 datagrams_of_reply before history None = []
 datagrams_of_reply before history (Some frame) =

@@ -1,4 +1,4 @@
--- How a record lies in memory.
+-- A record's layout in memory.
 use Rattle.std.specs.Prelude.{◌≡◌, ℕ, ◌+◌, ◌*◌, ◌≤◌, List, length, map, All, slice_range, sum_by}
 use Rattle.std.specs.Vec.{vec_capacity}
 use Rattle.iax_frames.specs.declared.stored_frame.Frame.{Frame}
@@ -24,7 +24,7 @@ entry_at octets (head.Taken h) = Taken (frame_at octets h)
 abbrev pub entries_in : List ℕ → List Head → List Entry
 entries_in octets heads = map (entry_at octets) heads
 
--- what a head counts as sent, as acknowledged or as taken
+-- the number that a head adds to the count of sent, acknowledged or taken frames
 abbrev pub counted_by : Count → Head → ℕ
 counted_by counts.Sent (head.Sent h) = 1
 counted_by counts.Acked (head.Acked count) = count
@@ -40,7 +40,7 @@ head_len (head.Taken h) = h.len
 abbrev pub record_of : Inside → RecordState
 record_of r = record { entries = entries_in r.octets.items r.heads.items; spare = r.spare }
 
--- the octets of a head lie below this, and are no more than a frame carries
+-- the octets of a head are below this, and are no more than a frame carries
 abbrev pub EndsBelow : ℕ → Head → Type 0
 EndsBelow len (head.Sent h) = (h.start + h.len ≤ len) × (h.len ≤ 1388)
 EndsBelow len (head.Acked count) = Unit {0}

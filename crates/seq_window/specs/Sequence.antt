@@ -11,30 +11,30 @@ use Rattle.seq_window.specs.declared.judgements.Received.TheVariants.{Taken, Rep
 abbrev pub byte_of : ℕ → ℕ
 byte_of number = number % 256
 
--- how many steps lead from a number on to one that is written as this octet: 0..=255
+-- the number of steps from a number to the next one that is written as this octet: 0..=255
 abbrev pub distance : ℕ → ℕ → ℕ
 distance number byte = (byte + (256 - number % 256)) % 256
 
--- The number that an octet stands for near another: from 128 below it to 127 above it. It may be negative.
+-- The number that an octet denotes near another: from 128 below it to 127 above it. It may be negative.
 abbrev pub reading_near : ℕ → ℕ → ℤ
 reading_near number byte =
     if nat_lt (distance number byte) 128
     then pos (number + distance number byte)
     else pos (number + distance number byte) -ℤ pos 256
 
--- the number that an octet stands for from another upwards: up to 255 above it
+-- the number that an octet denotes from another upwards: up to 255 above it
 abbrev pub reading_from : ℕ → ℕ → ℕ
 reading_from number byte = number + distance number byte
 
--- What a sequence number is to the side that expects another: the next, a later one, or one that came before.
+-- The judgement of a sequence number by the side that expects another: the next, a later one, or an earlier one.
 abbrev pub number_judged : ℕ → ℤ → Received
 number_judged expected number = match_ordering (int_cmp number (pos expected)) Repeat Taken Gap
 
 abbrev pub number_byte_judged : ℕ → ℕ → Received
 number_byte_judged expected byte = number_judged expected (reading_near expected byte)
 
--- What an acknowledgement, the next number that the other side expects, does where so many frames are acknowledged and so many
--- sent.
+-- The effect of an acknowledgement, the next number that the other side expects, given the numbers of acknowledged and of
+-- sent frames.
 abbrev pub acknowledgement_judged : ℕ → ℕ → ℕ → Acknowledged
 acknowledgement_judged acked sent number =
     if nat_le acked number && nat_le number sent then Acked (number - acked) else Ignored
@@ -42,7 +42,7 @@ acknowledgement_judged acked sent number =
 abbrev pub acknowledgement_byte_judged : ℕ → ℕ → ℕ → Acknowledged
 acknowledgement_byte_judged acked sent byte = acknowledgement_judged acked sent (reading_from acked byte)
 
--- what a reading is, in one sentence each
+-- the properties of a reading, in one sentence each
 pub record IsReadingNear (number byte : ℕ) (reading : ℤ) : Type 0 where
   pub from_below : (pos number -ℤ pos 128) ≤ℤ reading
   pub to_above : reading ≤ℤ (pos number +ℤ pos 127)

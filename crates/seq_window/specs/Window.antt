@@ -1,4 +1,4 @@
--- What a window is, and what its calls do ("Message Transport").
+-- A window, and the effect of its calls ("Message Transport").
 use Rattle.std.specs.Prelude.{ℕ, zero, suc, ◌+◌, ◌-◌, ◌<◌, ◌^◌, ◌&&◌, Bool, Option, None, Some, slice_get, map, position, min}
 use Rattle.std.specs.Prelude.{List, [], ◌∷◌, ◌++◌, length, drop, nat_eq, nat_le, if◌then◌else◌}
 use Rattle.iax_frames.specs.declared.stored_frame.Frame.{Frame}
@@ -13,19 +13,19 @@ use Rattle.seq_window.specs.declared.judgements.Resent.TheVariants as resents
 use Rattle.seq_window.specs.History.{sent_count, taken_count, acked_count, held}
 use Rattle.seq_window.specs.Sequence.{byte_of, acknowledgement_byte_judged, number_byte_judged}
 
--- when a held frame was last sent, and how often it was sent again because it was due
+-- the moment at which a held frame was last sent, and the number of times that it was retransmitted because it was due
 pub record Sending : Type 0 where
   pub last : ℕ
   pub tries : ℕ
 
--- The record, its limits, and when each held frame was sent. Which frames are held, and under which numbers, the record says.
+-- The record, its limits, and the sending of each held frame. The held frames and their numbers follow from the record.
 pub record WindowState : Type 0 where
   pub history : List Entry
   pub width : ℕ
   pub limit : ℕ
   pub sendings : List Sending
 
--- and how many more entries the record takes without asking for memory
+-- and the number of entries that the record takes without further memory
 pub record Window : Type 0 where
   pub state : WindowState
   pub spare : ℕ
@@ -50,16 +50,16 @@ after_sending w frame now = record w {
 
 -- ---- acknowledgement
 
--- what an octet says that the other side expects next
+-- the next number that the other side expects, by an octet
 abbrev pub judged_acknowledgement : List Entry → ℕ → Acknowledged
 judged_acknowledgement history byte = acknowledgement_byte_judged (acked_count history) (sent_count history) byte
 
--- how many frames it takes off
+-- the number of frames that it removes
 abbrev pub count_of : Acknowledged → ℕ
 count_of (acknowledged.Acked count) = count
 count_of acknowledged.Ignored = 0
 
--- the entry for it: none where it takes nothing off
+-- the entry for it: none if it removes no frame
 abbrev pub entries_for_count : ℕ → List Entry
 entries_for_count count = if nat_eq count 0 then [] else Acked count ∷ []
 
@@ -71,7 +71,7 @@ after_acknowledgement w byte = after_count w (count_of (judged_acknowledgement w
 
 -- ---- taking
 
--- what a numbered frame is whose number is written so
+-- the judgement of a numbered frame with this octet of its number
 abbrev pub judged_number : List Entry → ℕ → Received
 judged_number history byte = number_byte_judged (taken_count history) byte
 
@@ -84,7 +84,7 @@ entries_for_number received.Gap frame = []
 abbrev pub after_receiving : WindowState → ℕ → Frame → WindowState
 after_receiving w byte frame = record w { history = w.history ++ entries_for_number (judged_number w.history byte) frame }
 
--- ---- sending again
+-- ---- retransmission
 
 -- frames with their sendings, each under the octet of its number
 abbrev pub numbered_from : ℕ → List Frame → List Sending → List (Held Frame)
@@ -100,7 +100,7 @@ held_frames w = numbered_from (acked_count w.history) (held w.history) w.sending
 abbrev pub held_at : WindowState → ℕ → Option (Held Frame)
 held_at w place = slice_get (held_frames w) place
 
--- sent again, which is no try
+-- retransmitted, which is no try
 abbrev pub touched : ℕ → Sending → Sending
 touched now s = record { last = now; tries = s.tries }
 
@@ -118,7 +118,7 @@ after_touching_all w now = record w { sendings = map (touched now) w.sendings }
 
 -- ---- tries
 
--- it was last sent so long ago
+-- it was last sent at least this long ago
 abbrev pub is_due : ℕ → ℕ → Sending → Bool
 is_due now retry_ms s = nat_le s.last now && nat_le retry_ms (now - s.last)
 
@@ -130,7 +130,7 @@ tries_at place [] = 0
 tries_at zero (s ∷ sendings) = s.tries
 tries_at (suc place) (s ∷ sendings) = tries_at place sendings
 
--- sent again as one more try, of at most 2 ^ 32 - 1
+-- retransmitted as one more try, of at most 2 ^ 32 - 1
 abbrev pub marked : ℕ → Sending → Sending
 marked now s = record { last = now; tries = min (s.tries + 1) (2 ^ 32 - 1) }
 
@@ -140,7 +140,7 @@ mark_at place now sendings = change_at (marked now) place sendings
 abbrev pub after_marking : WindowState → ℕ → ℕ → WindowState
 after_marking w place now = record w { sendings = mark_at place now w.sendings }
 
--- the first due frame goes out again, where it has tries left
+-- the first due frame is retransmitted, if it has tries left
 abbrev pub resent_if : Option ℕ → WindowState → ℕ → Resent
 resent_if None w max_retries = resents.Nothing
 resent_if (Some place) w max_retries = if nat_le max_retries (tries_at place w.sendings) then

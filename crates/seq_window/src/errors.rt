@@ -1,6 +1,6 @@
-//! Why a call of a window is refused.
+//! The refusals of a window's calls.
 
-/// Why a frame was not sent, in the order in which causes are looked for.
+/// The reason why a frame was not sent, in the order in which reasons are checked.
 #[derive(Clone, Copy, Debug, PartialEq, Eq)]
 pub enum SendError {
     /// As many frames are held as the window is wide.
@@ -11,7 +11,7 @@ pub enum SendError {
     Memory,
 }
 
-/// Why what came was not recorded, in the order in which causes are looked for.
+/// The reason why a received frame was not recorded, in the order in which reasons are checked.
 #[derive(Clone, Copy, Debug, PartialEq, Eq)]
 pub enum RecordError {
     /// The record has as many entries as it may.

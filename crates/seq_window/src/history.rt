@@ -1,4 +1,4 @@
-//! The record of a leg: what it sent, what was acknowledged and what it took.
+//! The record of a leg: the frames that it sent, the acknowledgements, and the frames that it took.
 
 ghost use Rattle.std.specs.Prelude.{◌≡◌, ◌+◌, ◌-◌, ◌*◌, ◌<◌, ◌≤◌, ◌==◌, [], ◌∷◌, ◌++◌, length, slice_get, Some, IsOk, OnOk, OnErr, max};
 ghost use Rattle.std.specs.Prelude.{sum_by};
@@ -12,18 +12,18 @@ ghost use Rattle.std.specs.Vec.{vec_capacity};
 use std::alloc::{AllocError, Global};
 use std::marker::Model;
 
-/// One entry of a record, looked at where it lies.
+/// One entry of a record, borrowed from it.
 #[derive(Clone, Copy, Debug)]
 pub enum EntryView<'a> {
     /// This frame was sent with the next sequence number.
     Sent(FrameView<'a>),
-    /// So many of the held frames were acknowledged.
+    /// This number of held frames was acknowledged.
     Acked(u32),
     /// This frame of the other side was taken.
     Taken(FrameView<'a>),
 }
 
-/// A full frame of a record, looked at where it lies.
+/// A full frame of a record, borrowed from it.
 #[derive(Clone, Copy, Debug)]
 pub struct FrameView<'a> {
     /// In milliseconds from the opening of the call.
@@ -49,12 +49,12 @@ struct FrameHead {
     ts: u32,
     kind: u8,
     subclass: u8,
-    // Where its octets lie among those of the record.
+    // The place of its octets among those of the record.
     start: u32,
     len: u16,
 }
 
-// What the entries of a record count.
+// The counts of a record's entries.
 #[derive(Clone, Copy)]
 enum Count {
     Sent,
@@ -63,7 +63,7 @@ enum Count {
 }
 
 impl Head {
-    // The frames that the entry counts so.
+    // Returns the number of frames that the entry adds to this count.
     fn counts(&self, count: Count) -> u32
         ensures { result ≡ counted_by count self.now }
     {
@@ -76,20 +76,20 @@ impl Head {
     }
 }
 
-/// What a leg sent, what was acknowledged and what it took, in order.
+/// The frames that a leg sent, the acknowledgements, and the frames that it took, in order.
 ///
-/// Frames are stored at their own length. Contracts see a list of entries, and how many more it takes without asking for
-/// memory.
+/// Frames are stored at their own length. Contracts see a list of entries, and the number of entries that it takes without
+/// further memory.
 #[derive(Drop)]
 pub struct Record {
     heads: Vec<Head>,
     // The octets of all frames, one after another.
     octets: Vec<u8>,
-    // For so many more entries there is room.
+    // The number of entries for which there is still room.
     spare: usize,
 }
 
-// The most octets that a frame carries.
+// The greatest number of octets that a frame carries.
 const MAX_PAYLOAD: usize = 1388;
 
 impl Model for Record {
@@ -105,7 +105,7 @@ impl Model for Record {
 }
 
 impl Record {
-    /// An empty record.
+    /// Returns an empty record.
     pub(crate) fn new(alloc: Global) -> Self
         ensures { result ≡ record { entries = []; spare = 0 } }
     {
@@ -116,7 +116,7 @@ impl Record {
         }
     }
 
-    /// How many entries there are, at most 65,536.
+    /// Returns the number of entries, at most 65,536.
     pub fn len(&self) -> usize
         ensures len { result ≡ length self.now.entries }
         ensures most { result ≤ 65536 }
@@ -124,14 +124,14 @@ impl Record {
         self.heads.len()
     }
 
-    /// Whether there is no entry.
+    /// Returns whether there is no entry.
     pub fn is_empty(&self) -> bool
         ensures { result ≡ (length self.now.entries == 0) }
     {
         self.heads.is_empty()
     }
 
-    /// How many more entries it takes without asking for memory.
+    /// Returns the number of entries that it takes without further memory.
     pub(crate) fn spare(&self) -> usize
         ensures { result ≡ self.now.spare }
     {
@@ -154,7 +154,7 @@ impl Record {
         Ok(())
     }
 
-    /// Adds an entry, whose frame has at most 1,388 octets. Only where nothing is spare it may ask for memory.
+    /// Adds an entry, whose frame has at most 1,388 octets. It may ask for memory only if no entry is spare.
     pub(crate) fn push(&mut self, added: EntryView<'_>) -> Result<(), AllocError>
         requires few { length self.old.entries < 65536 }
         requires short { length (octets_of added) ≤ 1388 }
@@ -170,7 +170,7 @@ impl Record {
         Ok(())
     }
 
-    /// The entry at a place, 0 for the first; `None` where there is none.
+    /// Returns the entry at a place, 0 for the first, or `None` if there is none.
     pub fn entry(&self, place: usize) -> Option<EntryView<'_>>
         ensures { option_map entry_of result ≡ slice_get self.now.entries place }
     {
@@ -181,7 +181,7 @@ impl Record {
         }
     }
 
-    /// The frame of the entry at a place, which is one of a frame that was sent.
+    /// Returns the frame of the entry at a place, which is one of a sent frame.
     pub(crate) fn sent_frame(&self, place: usize) -> FrameView<'_>
         requires { IsSent (slice_get self.now.entries place) }
         ensures entry { slice_get self.now.entries place ≡ Some (EntrySent (frame_of result)) }
@@ -193,28 +193,28 @@ impl Record {
         }
     }
 
-    /// How many frames were sent with a number.
+    /// Returns the number of frames that were sent with a number.
     pub fn sent_count(&self) -> usize
         ensures { result ≡ sent_count self.now.entries }
     {
         count_in(self.heads.as_slice(), Count::Sent)
     }
 
-    /// How many of the sent frames were acknowledged: the sum over the entries.
+    /// Returns the number of sent frames that were acknowledged: the sum over the entries.
     pub fn acked_count(&self) -> usize
         ensures { result ≡ acked_count self.now.entries }
     {
         count_in(self.heads.as_slice(), Count::Acked)
     }
 
-    /// How many frames of the other side were taken.
+    /// Returns the number of frames taken from the other side.
     pub fn taken_count(&self) -> usize
         ensures { result ≡ taken_count self.now.entries }
     {
         count_in(self.heads.as_slice(), Count::Taken)
     }
 
-    /// The octets of data of all frames, sent and taken.
+    /// Returns the octets of data of all frames, sent and taken.
     pub fn data_octets(&self) -> usize
         ensures octets { result ≡ data_octets self.now.entries }
         ensures most { result ≤ 1388 * 65536 }
@@ -223,8 +223,8 @@ impl Record {
     }
 }
 
-// Makes room for the octets of `count` more frames. Where memory is asked for, it is for one frame more: short frames, as most are,
-// then find room for as many again without another request, which would move all octets.
+// Makes room for the octets of `count` more frames. A request for memory also asks for room for one more frame of the
+// greatest length. Most frames are short, so many of them fit without another request, which would move all octets.
 fn reserve_octets(octets: &mut Vec<u8>, count: usize) -> Result<(), AllocError>
     ensures octets { octets.new.items ≡ octets.old.items }
     ensures room { OnOk result (length octets.new.items + 1388 * count ≤ vec_capacity octets.new) }
@@ -239,7 +239,7 @@ fn reserve_octets(octets: &mut Vec<u8>, count: usize) -> Result<(), AllocError>
     Ok(())
 }
 
-// The frames that entries count so, together.
+// Returns the sum of this count over entries.
 fn count_in(heads: &[Head], counted: Count) -> usize
     requires { length heads.now ≤ 65536 }
     ensures { result ≡ sum_by (counted_by counted) heads.now }
@@ -251,7 +251,7 @@ fn count_in(heads: &[Head], counted: Count) -> usize
     count
 }
 
-// The frame of a head among the octets of a record.
+// Returns the frame of a head among the octets of a record.
 fn frame_in(octets: &[u8], head: FrameHead) -> FrameView<'_>
     requires { head.start + head.len ≤ length octets.now }
     ensures frame { frame_of result ≡ frame_at octets.now head }
@@ -266,7 +266,7 @@ fn frame_in(octets: &[u8], head: FrameHead) -> FrameView<'_>
     }
 }
 
-// The head of an entry, the octets of whose frame, at most 1,388, are appended. There is room for them.
+// Appends the octets of an entry's frame, at most 1,388, and returns the entry's head. There is room for them.
 fn push_head(octets: &mut Vec<u8>, added: EntryView<'_>) -> Head
     requires room { length octets.old.items + 1388 ≤ vec_capacity octets.old }
     requires few { length octets.old.items ≤ 1388 * 65536 }

@@ -1,15 +1,15 @@
-//! What a sequence number or an acknowledgement is to the side that judges it, and what a window does about frames that are due.
+//! The judgements of sequence numbers and acknowledgements, and the result of a search for due frames.
 
-/// How an acknowledgement, the octet ISeqno, was judged.
+/// The judgement of an acknowledgement, the octet ISeqno.
 #[derive(Clone, Copy, Debug, PartialEq, Eq)]
 pub enum Acknowledged {
-    /// It counts, and takes this many frames off the held ones.
+    /// It counts, and removes this number of held frames.
     Acked(u32),
     /// It has no effect.
     Ignored,
 }
 
-/// How a sequence number, the octet OSeqno, was judged.
+/// The judgement of a sequence number, the octet OSeqno.
 #[derive(Clone, Copy, Debug, PartialEq, Eq)]
 pub enum Received {
     /// It is the next number.
@@ -20,12 +20,12 @@ pub enum Received {
     Gap,
 }
 
-/// What a window does about the held frames that are due.
+/// The result of a search for a held frame that is due.
 #[derive(Clone, Copy, Debug, PartialEq, Eq)]
 pub enum Resent {
     /// None is due.
     Nothing,
-    /// The frame at this place goes out again.
+    /// The frame at this place is retransmitted.
     Again(usize),
     /// The first frame that is due has had all its tries.
     Spent,

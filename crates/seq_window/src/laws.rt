@@ -12,26 +12,26 @@ ghost use Rattle.seq_window.specs.Turn.{Turn};
 
 use crate::judgements::{Acknowledged, Received};
 
-/// Whatever the network loses, repeats, delays or reorders, as long as nothing that is judged lies
-/// more than 128 behind: two windows stay in step, of any widths up to 127, across every wrap.
+/// Two windows of any widths up to 127 stay in step, across every wrap. That holds whatever the network loses, repeats,
+/// delays or reorders, as long as no datagram that is judged is more than 128 behind.
 pub fn network_is_safe()
     // Each numbered frame is taken at most once, and in order.
     ensures prefix { InEveryFreshRun (EachWay TakesInOrder) }
-    // Nothing counts as acknowledged that was not taken.
+    // A frame counts as acknowledged only if it was taken.
     ensures acked { InEveryFreshRun (EachWay AcksTaken) }
     ensures legal { InEveryFreshRun (EachWay HasLegalRecord) }
-    // Each byte is judged as the number that it stands for.
+    // Each byte is judged as the number that it denotes.
     ensures bytes { InEveryFreshRun (EachWay BytesSayNumbers) }
 {}
 
-/// Where nothing is lost, any number of frames gets through, however narrow the window is.
+/// If nothing is lost, any number of frames gets through, however narrow the window is.
 pub fn frames_get_through()
     ensures { (frames : List Frame) (first second : Size) →
         1 ≤ first.width → 2 * length frames ≤ first.limit → length frames ≤ second.limit →
         GetThrough frames (start first second) }
 {}
 
-/// A byte stands for one number near another, and for one from another upwards.
+/// A byte denotes one number near another, and one from another upwards.
 pub fn bytes_have_one_reading()
     ensures near { (number byte : ℕ) → byte < 256 → (reading : ℤ) →
         IsReadingNear number byte reading ↔ (reading ≡ reading_near number byte) }
@@ -39,8 +39,8 @@ pub fn bytes_have_one_reading()
         IsReadingFrom number byte reading ↔ (reading ≡ reading_from number byte) }
 {}
 
-/// A step that adds to a record what one datagram calls for, as far as the record stays legal, is made of events of the
-/// network, and a numbered reply goes out as one of its datagrams: with the next number, and acknowledging what is taken
+/// A step that adds to a record the entries for one datagram, as far as the record stays legal, consists of events of the
+/// network. A numbered reply is sent as one of its datagrams: with the next number, and acknowledging the frames taken
 /// after the step.
 pub fn steps_are_events()
     ensures history { (own other : Side) (which : ℕ) (datagram : Datagram) (turn : Turn) →
@@ -54,8 +54,8 @@ pub fn steps_are_events()
         ≡ datagrams_of_reply own.history (own.history ++ added_in_turn own datagram turn) turn.reply ++ own.datagrams }
 {}
 
-/// The bounds are the widest: 129 behind is read as ahead, 256 behind would be taken again, and a window of 128
-/// would count an acknowledgement that is 128 behind.
+/// The bounds are the widest. 129 behind is read as ahead, and 256 behind would be taken again. A window of 128 would count
+/// an acknowledgement that is 128 behind.
 pub fn bounds_are_sharp()
     ensures ahead { number_byte_judged 129 (byte_of 0) ≡ Received.Gap }
     ensures again { number_byte_judged 256 (byte_of 0) ≡ Received.Taken }

@@ -1,5 +1,5 @@
 //! The sequence numbers of one call leg (RFC 5456, "Message Transport"): a window of sent frames over counters of eight
-//! bits, and the record of what the leg sent, what was acknowledged and what it took.
+//! bits. The record of what the leg sent, what was acknowledged and what it took.
 #![tactic(auto)]
 
 mod errors;

@@ -18,20 +18,20 @@ use resend_queue::{Held, Resend};
 use std::alloc::{AllocError, Global};
 use std::marker::Model;
 
-/// The window of one leg: the frames that it holds to send them again, and its record.
+/// The window of one leg: the frames that it holds for retransmission, and its record.
 ///
-/// Contracts see the record, and of each held frame when it was sent. Which frames are held, under which numbers, follows
-/// from the record: those that were sent and not yet acknowledged. There they lie, and nowhere else.
+/// Contracts see the record, and the sending of each held frame. The held frames and their numbers follow from the record:
+/// they are those that were sent and not yet acknowledged. Only the record stores them.
 #[derive(Drop)]
 pub struct Window {
     history: Record,
-    // Of each held frame, the place of its entry in the record.
+    // For each held frame, the place of its entry in the record.
     held: Resend<u32>,
     width: u8,
     limit: u32,
     // The octet of the next number that is sent.
     next: u8,
-    // The octet of the oldest held frame's number, or of the next where nothing is held.
+    // The octet of the oldest held frame's number, or of the next number if no frame is held.
     oldest: u8,
     // The octet of the next number that is expected.
     expected: u8,
@@ -52,8 +52,8 @@ impl Model for Window {
 impl Window {
     ghost use Rattle.seq_window.specs.declared.judgements.Received.TheVariants as received;
 
-    /// A window that holds at most `width` frames, 1 ..= 127, and records at most `record_limit` entries, 64 ..= 65,536. `Err`
-    /// comes only where memory was refused.
+    /// Returns a window that holds at most `width` frames, 1 ..= 127, and records at most `record_limit` entries, 64 ..=
+    /// 65,536. Returns `Err` only if memory was refused.
     pub fn new(alloc: Global, width: u8, record_limit: u32) -> Result<Window, AllocError>
         requires some { 1 ≤ width }
         requires narrow { width ≤ 127 }
@@ -74,11 +74,11 @@ impl Window {
     }
 
     /// Records a frame, of at most 1,388 octets, as sent at the moment `now`, in milliseconds, and holds it ("Message
-    /// Transport"). The answer is the octet of its number, OSeqno.
+    /// Transport"). Returns the octet of its number, OSeqno.
     ///
-    /// Refusals are looked for in this order: `WindowFull` where as many frames are held as the width, `RecordFull` where the
-    /// record has as many entries as its limit, `Memory` where memory was refused, which never comes with a reserved entry. Then
-    /// nothing is changed.
+    /// Refusals are checked in this order. `WindowFull`: the number of held frames is the width. `RecordFull`: the record
+    /// has reached its limit. `Memory`: memory was refused, which never happens with a reserved entry. Then nothing is
+    /// changed.
     pub fn send(&mut self, frame: FrameView<'_>, now: u64) -> Result<u8, SendError>
         requires short { length frame.payload.now ≤ 1388 }
         ensures ok { IfOk result (λ number. number ≡ byte_of (sent_count self.old.state.history)) }
@@ -117,11 +117,11 @@ impl Window {
         Ok(number)
     }
 
-    /// Takes the frames off that the other side says by ISeqno that it has, where the octet can be such a number ("Message
-    /// Transport"). What takes nothing off has no entry and isn't refused.
+    /// Removes the held frames that the other side acknowledges by ISeqno, if the octet can be such a number ("Message
+    /// Transport"). An acknowledgement that removes nothing has no entry and isn't refused.
     ///
-    /// Refusals are looked for in this order: `RecordFull` where the record has as many entries as its limit, `Memory` where
-    /// memory was refused, which never comes with a reserved entry. Then nothing is changed.
+    /// Refusals are checked in this order: `RecordFull` if the record has reached its limit, `Memory` if memory was
+    /// refused, which never happens with a reserved entry. Then nothing is changed.
     pub fn acknowledge(&mut self, iseq: u8) -> Result<Acknowledged, RecordError>
         ensures ok { IfOk result (λ answer. answer ≡ judged_acknowledgement self.old.state.history iseq) }
         ensures state { OnOk result (self.new.state ≡ after_acknowledgement self.old.state iseq) }
@@ -154,7 +154,8 @@ impl Window {
         Ok(judged)
     }
 
-    // The steps from the oldest held number on to the acknowledged one count, up to the number of held frames.
+    // Judges an acknowledgement. The steps from the oldest held number to the acknowledged one count, up to the number of held
+    // frames.
     fn judged(&self, iseq: u8) -> Acknowledged
         ensures { result ≡ judged_acknowledgement self.now.state.history iseq }
     {
@@ -166,8 +167,8 @@ impl Window {
         }
     }
 
-    /// What a numbered frame is whose OSeqno is this octet ("Message Transport"). The octet stands for the number nearest to the
-    /// one that is expected, 128 below it up to 127 above it.
+    /// Judges a numbered frame by its OSeqno ("Message Transport"). The octet denotes the number nearest to the expected
+    /// one, from 128 below it to 127 above it.
     pub fn judge(&self, oseq: u8) -> Received
         ensures { result ≡ judged_number self.now.state.history oseq }
     {
@@ -178,11 +179,11 @@ impl Window {
         }
     }
 
-    /// Judges a numbered frame, of at most 1,388 octets, by its OSeqno, and records it where it is the next one ("Message
-    /// Transport"). A frame that isn't isn't refused.
+    /// Judges a numbered frame, of at most 1,388 octets, by its OSeqno, and records it if it is the next one ("Message
+    /// Transport"). An out-of-order frame returns `Gap` or `Repeat`, not an error.
     ///
-    /// Refusals are looked for in this order: `RecordFull` where the record has as many entries as its limit, `Memory` where
-    /// memory was refused, which never comes with a reserved entry. Then nothing is changed.
+    /// Refusals are checked in this order: `RecordFull` if the record has reached its limit, `Memory` if memory was
+    /// refused, which never happens with a reserved entry. Then nothing is changed.
     pub fn receive(&mut self, oseq: u8, frame: FrameView<'_>) -> Result<Received, RecordError>
         requires short { length frame.payload.now ≤ 1388 }
         ensures ok { IfOk result (λ received. received ≡ judged_number self.old.state.history oseq) }
@@ -211,8 +212,8 @@ impl Window {
         Ok(Received::Taken)
     }
 
-    /// The first held frame that was last sent `retry_ms` milliseconds before `now`, or earlier, goes out again, where it was
-    /// sent again less than `max_retries` times ("Message Transport": retransmission).
+    /// Retransmits the first held frame that was last sent at least `retry_ms` milliseconds before `now`, if it was
+    /// retransmitted fewer than `max_retries` times ("Message Transport").
     pub fn resend(&mut self, now: u64, retry_ms: u64, max_retries: u32) -> Resent
         ensures resent { result ≡ resent self.old.state now retry_ms max_retries }
         ensures state { self.new.state ≡ after_resent (resent self.old.state now retry_ms max_retries) self.old.state now }
@@ -232,7 +233,7 @@ impl Window {
         }
     }
 
-    // The first place that is due.
+    // Returns the first place that is due.
     fn first_due(&self, now: u64, retry_ms: u64) -> Option<usize>
         ensures value { result ≡ first_due now retry_ms self.now.state.sendings }
         ensures place { IfSome result (λ place. place < held_count self.now.state) }
@@ -240,7 +241,7 @@ impl Window {
         self.held.due(now, retry_ms)
     }
 
-    // How often a held frame was sent again because it was due.
+    // Returns the number of times that a held frame was retransmitted because it was due.
     fn tries(&self, place: usize) -> u32
         requires { place < held_count self.now.state }
         ensures { result ≡ tries_at place self.now.state.sendings }
@@ -248,7 +249,7 @@ impl Window {
         self.held_frame(place).tries
     }
 
-    // The frame at a place is sent again at this moment, as one more try.
+    // Marks the frame at a place as retransmitted at this moment, as one more try.
     fn mark(&mut self, place: usize, now: u64)
         requires { place < held_count self.old.state }
         ensures state { self.new.state ≡ after_marking self.old.state place now }
@@ -258,7 +259,8 @@ impl Window {
         self.held.mark(place, now);
     }
 
-    /// The held frame at a place, 0 for the oldest, is sent again at the moment `now`, in milliseconds, which is no try.
+    /// Marks the held frame at a place, 0 for the oldest, as retransmitted at the moment `now`, in milliseconds. That is no
+    /// try.
     pub fn touch(&mut self, place: usize, now: u64)
         requires { place < held_count self.old.state }
         ensures state { self.new.state ≡ after_touching self.old.state place now }
@@ -267,7 +269,7 @@ impl Window {
         self.held.touch(place, now);
     }
 
-    /// Each held frame is sent again at the moment `now`, in milliseconds, which is no try.
+    /// Marks each held frame as retransmitted at the moment `now`, in milliseconds. That is no try.
     pub fn touch_all(&mut self, now: u64)
         ensures state { self.new.state ≡ after_touching_all self.old.state now }
         ensures spare { self.new.spare ≡ self.old.spare }
@@ -275,8 +277,9 @@ impl Window {
         self.held.touch_all(now);
     }
 
-    /// Room for `count` more entries: so many calls of `send`, `acknowledge` and `receive` aren't refused for memory. `Err` comes
-    /// only where memory was refused, never where there is that room already; then nothing is changed.
+    /// Reserves room for `count` more entries: this number of calls of `send`, `acknowledge` and `receive` isn't refused
+    /// for memory. Returns `Err` only if memory was refused, and never if there is that room already; then nothing is
+    /// changed.
     pub fn reserve(&mut self, count: usize) -> Result<(), AllocError>
         ensures state { self.new.state ≡ self.old.state }
         ensures ok { OnOk result (count ≤ self.new.spare) }
@@ -287,7 +290,7 @@ impl Window {
         self.history.reserve(count)
     }
 
-    /// The held frame at a place, 0 for the oldest, looked at where the record has it; `None` where there is none.
+    /// Returns the held frame at a place, 0 for the oldest, borrowed from the record, or `None` if there is none.
     pub fn held(&self, place: usize) -> Option<Held<FrameView<'_>>>
         ensures { option_map held_of result ≡ held_at self.now.state place }
     {
@@ -298,8 +301,8 @@ impl Window {
         }
     }
 
-    /// The held frame at a place, 0 for the oldest, which is below `held_len`, looked at where the record has it: at most 1,388
-    /// octets.
+    /// Returns the held frame at a place, 0 for the oldest, which is below `held_len`, borrowed from the record: at most
+    /// 1,388 octets.
     pub fn held_frame(&self, place: usize) -> Held<FrameView<'_>>
         requires { place < held_count self.now.state }
         ensures held { held_at self.now.state place ≡ Some (held_of result) }
@@ -314,7 +317,7 @@ impl Window {
         }
     }
 
-    /// How many frames are held, 0 ..= the window's width.
+    /// Returns the number of held frames, 0 ..= the window's width.
     pub fn held_len(&self) -> usize
         ensures value { result ≡ held_count self.now.state }
         // They are those that the record has as sent and not acknowledged.
@@ -325,21 +328,21 @@ impl Window {
         self.held.len()
     }
 
-    /// Whether as many frames are held as the window's width.
+    /// Returns whether the number of held frames is the window's width.
     pub fn is_full(&self) -> bool
         ensures { result ≡ is_full self.now.state }
     {
         self.width as usize <= self.held_len()
     }
 
-    /// How many entries the record may still have, 0 ..= its limit.
+    /// Returns the number of entries that the record may still have, 0 ..= its limit.
     pub fn free_entries(&self) -> usize
         ensures { result + entry_count self.now.state ≡ self.now.state.limit }
     {
         self.limit as usize - self.history.len()
     }
 
-    /// The octets of data of all frames of the record, 0 ..= 90,963,968.
+    /// Returns the octets of data of all frames of the record, 0 ..= 90,963,968.
     pub fn data_octets(&self) -> usize
         ensures octets { result ≡ data_octets self.now.state.history }
         ensures most { result ≤ 1388 * 65536 }
@@ -347,28 +350,28 @@ impl Window {
         self.history.data_octets()
     }
 
-    /// How many more entries the record takes without asking for memory.
+    /// Returns the number of entries that the record takes without further memory.
     pub fn spare(&self) -> usize
         ensures { result ≡ self.now.spare }
     {
         self.history.spare()
     }
 
-    /// The octet of the next number, OSeqno of a frame that is sent now.
+    /// Returns the octet of the next number, the OSeqno of a frame that is sent now.
     pub fn next(&self) -> u8
         ensures { result ≡ byte_of (sent_count self.now.state.history) }
     {
         self.next
     }
 
-    /// The octet of the next number that is expected, ISeqno of a frame that is sent now.
+    /// Returns the octet of the next expected number, the ISeqno of a frame that is sent now.
     pub fn expected(&self) -> u8
         ensures { result ≡ byte_of (taken_count self.now.state.history) }
     {
         self.expected
     }
 
-    /// How many frames may be held, 1 ..= 127.
+    /// Returns the greatest number of held frames, 1 ..= 127.
     pub fn width(&self) -> u8
         ensures width { result ≡ self.now.state.width }
         ensures some { 1 ≤ result }
@@ -377,7 +380,7 @@ impl Window {
         self.width
     }
 
-    /// The record: what was sent, what was acknowledged and what was taken.
+    /// Returns the record: the sent frames, the acknowledgements, and the taken frames.
     pub fn record(&self) -> &Record
         ensures entries { result.now.entries ≡ self.now.state.history }
         ensures legal { IsLegal self.now.state.width self.now.state.limit self.now.state.history }
@@ -385,7 +388,7 @@ impl Window {
         &self.history
     }
 
-    /// The record, whole, where the window is given up.
+    /// Returns the whole record, when the window is given up.
     pub fn into_record(self) -> Record
         ensures entries { result.entries ≡ self.state.history }
         ensures legal { IsLegal self.state.width self.state.limit self.state.history }

@@ -52,7 +52,7 @@ fn push_count<'x>(
     Ok(())
 }
 
-/// The datagrams of all peers that were refused.
+/// Adds the refused datagrams of all peers.
 pub(crate) fn push_refusals(
     alloc: Global,
     metrics: &mut Metrics,
@@ -70,12 +70,13 @@ pub(crate) fn push_refusals(
     push_family(alloc, metrics, &REFUSED, &samples)
 }
 
-// Whether it is counted in plan formats 1 and 2, too: a challenge that was sent back, and a call that came during a drain.
+// Returns whether it is counted in plan versions 1 and 2, too: a challenge that was sent back, and a call that came during a
+// drain.
 fn is_of_all_formats(rejection: Rejection) -> bool {
     matches!(rejection, Rejection::Reflection | Rejection::Draining)
 }
 
-/// The datagrams of all peers that came to be turned away.
+/// Adds the rejected datagrams of all peers.
 pub(crate) fn push_rejections(
     alloc: Global,
     metrics: &mut Metrics,
@@ -96,7 +97,7 @@ pub(crate) fn push_rejections(
     push_family(alloc, metrics, &REJECTED, &samples)
 }
 
-/// The calls of all peers that failed to authenticate.
+/// Adds the calls of all peers that failed to authenticate.
 pub(crate) fn push_failures(
     alloc: Global,
     metrics: &mut Metrics,
@@ -114,7 +115,7 @@ pub(crate) fn push_failures(
     push_family(alloc, metrics, &FAILED, &samples)
 }
 
-/// The calls of all peers that failed.
+/// Adds the failed calls of all peers.
 pub(crate) fn push_failed_calls(
     alloc: Global,
     metrics: &mut Metrics,

@@ -1,7 +1,7 @@
-//! What clients ask of the exchange, and its answers.
+//! The requests of clients to the exchange, and the answers.
 ghost use Rattle.std.specs.Prelude.{◌≡◌, ◌<◌, IfOk, length, string_bytes};
 
-use crate::legs::{find_leg, is_at_rest};
+use crate::legs::{find_leg, serial_at_rest};
 use crate::showing::{ShownLeg, push_calls};
 use call_book::LegName;
 use control_requests::{
@@ -10,31 +10,32 @@ use control_requests::{
 };
 use exchange_core::{CallError, Exchange, NoGate, Pass};
 use exchange_report::{PeerLosses, call_error_name, count_legs, losses_of, peer_named};
-use peer_lock::Naming;
+use peer_lock::{Naming, Pokes};
 use peer_plan::{Endpoint, Plan};
+use service_report::reach_of;
 use service_watch::{AUTH_FAILURES, ServiceWatch};
 use std::alloc::{AllocError, Global};
 use std::sync::Wait;
 use trace_writer::TraceLane;
 
-// What there is to ask, for whoever asks for `/`.
+// The answer to `GET /`: the list of commands.
 const TABLE: &str =
     "{\"commands\":[\"GET /\",\"GET /peers\",\"GET /calls\",\"GET /calls/<number>\",\"GET /accounts\",\"POST /calls\",\
     \"DELETE /calls/<number>\",\"POST /drain\",\"DELETE /drain\",\"POST /stop\",\"POST /stop/graceful\"]}";
 
-/// The exchange with a pass of its own, and what its workers tell.
+/// The exchange with a pass for clients, and the watch that its workers report to.
 #[derive(Drop)]
 pub struct Desk<'x, J: Naming> {
     pub exchange: &'x Exchange<NoGate, J>,
     pub pass: Pass<J>,
     pub watch: &'x ServiceWatch,
-    /// Where its orders are noted, if that is wanted.
+    /// The lane of the trace that notes the desk's orders, if a trace is written.
     pub lane: Option<TraceLane<'x>>,
 }
 
 impl<'x, J: Naming> Desk<'x, J> {
-    /// Hangs up all legs that are still up, at a moment in milliseconds since the exchange was opened ("Call Tear Down"). Gives
-    /// how many legs there are, those that end already among them.
+    /// Hangs up all legs that are still up ("Call Tear Down"). `now` is in milliseconds since the exchange was opened.
+    /// Returns the number of legs, including those that are already ending.
     pub fn hang_up_all<R: Wait>(&mut self, rt: &R, now: u64) -> u32 {
         let mut legs: u32 = 0;
         for peer in 0..self.exchange.plan().peer_count() {
@@ -43,21 +44,20 @@ impl<'x, J: Naming> Desk<'x, J> {
         legs
     }
 
-    /// Where the trace would begin a new file: looks whether any leg is up, at a moment in milliseconds since the exchange was
-    /// opened.
+    /// Lets the trace begin a new file if no leg is up. `now` is in milliseconds since the exchange was opened.
     pub fn look_for_rest<R: Wait>(&mut self, rt: &R, alloc: Global, now: u64) {
         if let Some(lane) = &mut self.lane {
             if lane.begin_look() {
-                let is_at_rest = is_at_rest(rt, self.exchange, &mut self.pass);
-                lane.end_look(rt, alloc, now, self.exchange.plan(), is_at_rest);
+                let rest = serial_at_rest(rt, self.exchange, &mut self.pass);
+                lane.end_look(rt, alloc, now, self.exchange.plan(), rest);
             }
         }
     }
 
-    /// Does what a request asks, at a moment in milliseconds since the exchange was opened, and answers it. What is refused is
-    /// an answer too, with its name.
+    /// Handles a request and returns its answer. A refusal is an answer too, with its name. `now` is in milliseconds since
+    /// the exchange was opened.
     ///
-    /// `AllocError`: a request for memory was refused. What was asked may have been done.
+    /// Returns `AllocError` if a request for memory was refused; the request may have taken effect by then.
     pub fn answer<R: Wait>(
         &mut self,
         rt: &R,
@@ -103,7 +103,7 @@ impl<'x, J: Naming> Desk<'x, J> {
         }
     }
 
-    // Has all peers drain, or no peer.
+    // Sets whether the peers drain: all of them, or none.
     fn set_draining<R: Wait>(&mut self, rt: &R, drains: bool, now: u64) {
         if let Some(lane) = &mut self.lane {
             lane.begin_drain(rt, now, drains);
@@ -117,7 +117,7 @@ impl<'x, J: Naming> Desk<'x, J> {
         }
     }
 
-    // How many legs there are.
+    // Returns the number of legs.
     pub(crate) fn leg_count<R: Wait>(&mut self, rt: &R) -> u32 {
         let exchange = self.exchange;
         let mut legs: u32 = 0;
@@ -128,7 +128,7 @@ impl<'x, J: Naming> Desk<'x, J> {
         legs
     }
 
-    // The answer to a request that has calls run out: how many legs are left.
+    // Answers a request to drain with the number of legs that are left.
     fn drained<R: Wait>(&mut self, alloc: Global, rt: &R) -> Result<Answer, AllocError> {
         let legs = self.leg_count(rt);
         let body = format!(in alloc; "{{\"legs\":{}}}", legs)?;
@@ -159,7 +159,7 @@ impl<'x, J: Naming> Desk<'x, J> {
         shown(rows.into_peers(alloc))
     }
 
-    // The peers as they are shown.
+    // Adds a row for each peer.
     fn push_peers<R: Wait>(
         &mut self,
         rt: &R,
@@ -172,6 +172,7 @@ impl<'x, J: Naming> Desk<'x, J> {
             let counted = Counted {
                 legs: count_legs(rt, exchange, &mut self.pass, peer),
                 losses: losses_of(rt, exchange, &mut self.pass, peer),
+                pokes: exchange.pokes(rt, &mut self.pass, peer),
             };
             push_peer(alloc, rows, exchange.plan(), watch, peer, counted, now)?;
         }
@@ -197,16 +198,16 @@ impl<'x, J: Naming> Desk<'x, J> {
         now: u64,
     ) -> Result<Answer, AllocError> {
         let exchange = self.exchange;
-        let Some((peer, _)) = find_leg(rt, exchange, &mut self.pass, number) else {
+        let Some(peer) = exchange.plan().owner_of(number) else {
             return Answer::error(alloc, Status::NotFound, "NoLeg");
         };
-        match ShownLeg::of(rt, alloc, exchange, &mut self.pass, peer, number)? {
+        match ShownLeg::at(rt, alloc, exchange, &mut self.pass, peer, number)? {
             Some(leg) => shown(call_body(alloc, leg.row(exchange.plan(), peer, now))),
             None => Answer::error(alloc, Status::NotFound, "NoLeg"),
         }
     }
 
-    // `GET /accounts`: the sums over all peers, modulo 2^64. They are read one peer after another, while calls go on.
+    // `GET /accounts`: the sums over all peers, modulo 2^64. Peers are read one after another while calls continue.
     fn accounts<R: Wait>(&mut self, rt: &R, alloc: Global) -> Result<Answer, AllocError> {
         let mut row = AccountsRow {
             accepted: 0,
@@ -259,7 +260,7 @@ impl<'x, J: Naming> Desk<'x, J> {
         }
     }
 
-    // A call goes out, but while the service drains.
+    // Places a call, unless the service drains.
     fn place_call<R: Wait>(
         &mut self,
         rt: &R,
@@ -293,7 +294,7 @@ impl<'x, J: Naming> Desk<'x, J> {
     }
 }
 
-// The answer that shows what was asked for, where there was memory for its body.
+// Returns the answer with this body, if there was memory for it.
 fn shown(body: Result<String, AllocError>) -> Result<Answer, AllocError> {
     match body {
         Ok(body) => Ok(Answer {
@@ -304,7 +305,7 @@ fn shown(body: Result<String, AllocError>) -> Result<Answer, AllocError> {
     }
 }
 
-// An answer with this body.
+// Returns an answer with this body.
 fn answered(alloc: Global, status: Status, body: &str) -> Result<Answer, AllocError>
     ensures { IfOk result (λ answer. (answer.status ≡ status) × (string_bytes answer.body ≡ body.now)) }
 {
@@ -314,7 +315,7 @@ fn answered(alloc: Global, status: Status, body: &str) -> Result<Answer, AllocEr
     })
 }
 
-// An answer that names a leg.
+// Returns an answer that names a leg.
 fn named(alloc: Global, status: Status, name: LegName) -> Result<Answer, AllocError>
     ensures { IfOk result (λ answer. answer.status ≡ status) }
 {
@@ -322,7 +323,7 @@ fn named(alloc: Global, status: Status, name: LegName) -> Result<Answer, AllocEr
     Ok(Answer { status, body })
 }
 
-// Why a body places no call.
+// Returns the name of the reason why a body places no call.
 fn fault_name(fault: PlaceFault) -> &'static str {
     match fault {
         PlaceFault::NotJson => "NotJson",
@@ -333,14 +334,15 @@ fn fault_name(fault: PlaceFault) -> &'static str {
     }
 }
 
-// What is counted of a peer under its lock.
+// Counts of a peer that are read under its lock.
 #[derive(Clone, Copy)]
 struct Counted {
     legs: u16,
     losses: PeerLosses,
+    pokes: Pokes,
 }
 
-// How many calls of a peer failed to authenticate, modulo 2^64.
+// Returns the number of the peer's calls that failed to authenticate, modulo 2^64.
 fn unauthenticated(watch: &ServiceWatch, peer: u16) -> u64 {
     let mut count: u64 = 0;
     for failure in &AUTH_FAILURES {
@@ -349,7 +351,7 @@ fn unauthenticated(watch: &ServiceWatch, peer: u16) -> u64 {
     count
 }
 
-// A peer as it is shown, behind the others.
+// Adds the row of a peer behind the others.
 fn push_peer(
     alloc: Global,
     rows: &mut Rows,
@@ -365,6 +367,8 @@ fn push_peer(
     let [a, b, c, d] = address;
     let endpoint = format!(in alloc; "{a}.{b}.{c}.{d}:{port}")?;
     let marks = watch.marks(peer);
+    let unanswered_since = counted.pokes.unanswered_since(plan.rules(peer), now);
+    let reach = reach_of(marks.heard, unanswered_since);
     rows.push_peer(
         alloc,
         PeerRow {
@@ -381,6 +385,9 @@ fn push_peer(
             outbox_lost: counted.losses.frames(),
             queue_dropped: counted.losses.queue,
             auth_failed: unauthenticated(watch, peer),
+            reach: reach.name(),
+            round_trip_ms: counted.pokes.round_trip,
+            unreachable_ms: reach.unreachable_ms(now),
         },
     )
 }

@@ -1,20 +1,20 @@
-//! The end of a service: calls run out or are hung up, and the workers end once no leg is left, or after so many milliseconds.
+//! The end of a service: calls run out or are hung up. The workers end once no leg is left, or when the time is over.
 use crate::desk::Desk;
 use peer_lock::Naming;
 use std::sync::Wait;
 
-/// How far a drain is.
+/// The progress of a drain.
 #[derive(Clone, Copy)]
 pub struct Drain {
-    /// How long it lasts at most, in milliseconds.
+    /// The longest duration, in milliseconds.
     limit: u64,
-    // When legs began to be hung up.
+    // The moment at which legs began to be hung up.
     since: Option<u64>,
-    // When calls began to run out.
+    // The moment at which calls began to run out.
     running_out_since: Option<u64>,
 }
 
-// How long it is since a moment, which is this one if there was none.
+// Returns the time since a moment, which is set to `now` if there was none.
 fn age(since: &mut Option<u64>, now: u64) -> u64 {
     let first = since.unwrap_or(now);
     *since = Some(first);
@@ -22,7 +22,7 @@ fn age(since: &mut Option<u64>, now: u64) -> u64 {
 }
 
 impl Drain {
-    /// A drain that hasn't begun, and lasts at most so many milliseconds.
+    /// Returns a drain that hasn't begun and lasts at most `limit` milliseconds.
     pub fn new(limit: u64) -> Drain {
         Drain {
             limit,
@@ -31,7 +31,7 @@ impl Drain {
         }
     }
 
-    // While calls run out: ends the workers once no leg is left, and has calls hung up once the time is over.
+    // While calls run out, ends the workers once no leg is left, and has calls hung up once the time is over.
     fn wait_for_calls<R: Wait, J: Naming>(&mut self, rt: &R, desk: &mut Desk<'_, J>, now: u64) {
         let age = age(&mut self.running_out_since, now);
         if desk.leg_count(rt) == 0 {
@@ -41,9 +41,10 @@ impl Drain {
         }
     }
 
-    /// Moves the end of the service on, at a moment in milliseconds. While calls are hung up: hangs up what is still up, and ends the
-    /// workers once no leg is left or the time is over. While they run out after a graceful stop: ends the workers once no leg is
-    /// left, and has calls hung up once the time is over. The first such call begins the time of each.
+    /// Continues the end of the service at a moment in milliseconds. While calls are hung up, it hangs up the legs that are
+    /// still up, and ends the workers once no leg is left or the time is over. While calls run out after a graceful stop,
+    /// it ends the workers once no leg is left, and has calls hung up once the time is over. Each of these times begins
+    /// with the first such call.
     pub fn go_on<R: Wait, J: Naming>(&mut self, rt: &R, desk: &mut Desk<'_, J>, now: u64) {
         let lifecycle = desk.watch.lifecycle();
         if lifecycle.has_ended() {

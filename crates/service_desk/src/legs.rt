@@ -6,12 +6,12 @@ use call_book::LegName;
 use exchange_core::{Exchange, NoGate, Pass, Retired};
 use exchange_report::{count_legs, order_error_name};
 use leg_machine::Stage;
-use peer_lock::Naming;
+use peer_lock::{Naming, Status};
 use service_watch::ServiceWatch;
 use std::sync::Wait;
 use worker_watch::{Event, Watch};
 
-// Whether a leg of this stage has still to be hung up.
+// Returns whether a leg in this stage still has to be hung up.
 fn is_open(stage: Stage) -> bool {
     match stage {
         Stage::Closing | Stage::Ended => false,
@@ -19,7 +19,7 @@ fn is_open(stage: Stage) -> bool {
     }
 }
 
-// The legs that an order took out, by whoever stands behind the workers.
+// Reports the legs that an order of a client took out. Its place in the trace is behind the workers.
 fn tell_retired(watch: &ServiceWatch, workers: usize, legs: &[Retired]) {
     let place = u16::try_from(workers).unwrap_or(u16::MAX);
     for leg in legs {
@@ -30,8 +30,24 @@ fn tell_retired(watch: &ServiceWatch, workers: usize, legs: &[Retired]) {
     }
 }
 
+// The status of the leg of a peer with the least local number that is at least this one.
+fn status_from<J: Naming, R: Wait>(
+    rt: &R,
+    exchange: &Exchange<NoGate, J>,
+    pass: &mut Pass<J>,
+    peer: u16,
+    number: u16,
+) -> Option<Status>
+    requires { peer < length exchange.now.peers }
+{
+    match exchange.describe_from(rt, pass, peer, number) {
+        Some(leg) => Some(leg.status),
+        None => None,
+    }
+}
+
 impl<'x, J: Naming> Desk<'x, J> {
-    /// Hangs up a leg; its caller wakes the workers. `Err` is the name of what refuses it.
+    /// Hangs up a leg. The caller wakes the workers. `Err` is the name of the refusal.
     pub(crate) fn hang_up<R: Wait>(
         &mut self,
         rt: &R,
@@ -58,7 +74,7 @@ impl<'x, J: Naming> Desk<'x, J> {
         }
     }
 
-    /// Hangs up the legs of the peer at this place of the plan that are still up. Gives how many legs it has.
+    /// Hangs up the legs of the peer at this place of the plan that are still up. Returns the number of its legs.
     pub(crate) fn hang_up_peer<R: Wait>(&mut self, rt: &R, peer: u16, now: u64) -> u32 {
         let exchange = self.exchange;
         if peer >= exchange.plan().peer_count() {
@@ -66,13 +82,16 @@ impl<'x, J: Naming> Desk<'x, J> {
         }
         let range = exchange.plan().range(peer);
         let mut legs: u32 = 0;
-        for place in 0..range.count {
-            if let Some(leg) = exchange.status(rt, &mut self.pass, peer, range.first + place) {
-                legs = legs.saturating_add(1);
-                if is_open(leg.stage) {
-                    let _ = self.hang_up(rt, leg.name, now);
-                }
+        let mut next = range.first;
+        for _ in 0..range.count {
+            let Some(status) = status_from(rt, exchange, &mut self.pass, peer, next) else {
+                break;
+            };
+            legs = legs.saturating_add(1);
+            if is_open(status.stage) {
+                let _ = self.hang_up(rt, status.name, now);
             }
+            next = status.name.number.saturating_add(1);
         }
         if legs > 0 {
             self.watch.wake_all();
@@ -81,8 +100,8 @@ impl<'x, J: Naming> Desk<'x, J> {
     }
 }
 
-/// Whether no peer has a leg, and no media waits for a trunk frame.
-pub(crate) fn is_at_rest<J: Naming, R: Wait>(
+// Returns whether no peer has a leg, and no media waits for a trunk frame.
+fn is_at_rest<J: Naming, R: Wait>(
     rt: &R,
     exchange: &Exchange<NoGate, J>,
     pass: &mut Pass<J>,
@@ -95,7 +114,21 @@ pub(crate) fn is_at_rest<J: Naming, R: Wait>(
     true
 }
 
-/// The leg of a local number, at whatever peer, and the place of that peer in the plan.
+/// Returns the serial of the next leg if no peer has a leg and no media waits for a trunk frame.
+pub(crate) fn serial_at_rest<J: Naming, R: Wait>(
+    rt: &R,
+    exchange: &Exchange<NoGate, J>,
+    pass: &mut Pass<J>,
+) -> Option<u64> {
+    if is_at_rest(rt, exchange, pass) {
+        Some(exchange.next_serial(rt, pass))
+    } else {
+        None
+    }
+}
+
+/// Returns the leg with a local number, and the place in the plan of the peer that has the number. Takes that peer's lock
+/// once.
 pub(crate) fn find_leg<J: Naming, R: Wait>(
     rt: &R,
     exchange: &Exchange<NoGate, J>,
@@ -104,10 +137,7 @@ pub(crate) fn find_leg<J: Naming, R: Wait>(
 ) -> Option<(u16, LegName)>
     ensures { IfSome result (λ found. found.0 < length exchange.now.peers) }
 {
-    for peer in 0..exchange.plan().peer_count() {
-        if let Some(leg) = exchange.status(rt, pass, peer, number) {
-            return Some((peer, leg.name));
-        }
-    }
-    None
+    let peer = exchange.plan().owner_of(number)?;
+    let leg = exchange.status(rt, pass, peer, number)?;
+    Some((peer, leg.name))
 }

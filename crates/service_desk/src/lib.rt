@@ -1,4 +1,4 @@
-//! What clients ask of a service: the exchange with a pass of its own, its legs, peers and accounts, and the metrics.
+//! Answers to the clients of a service: its calls, peers and accounts, and the metrics.
 #![tactic(auto)]
 
 mod by_name;

@@ -13,7 +13,7 @@ const OUTBOX_LOST: Told = Told {
     help: "Frames to the peer that were lost because 256 others waited to be sent.",
 };
 
-// The frames that the outbox of a peer lost, by kind.
+// Adds the frames that the outbox of a peer lost, by kind.
 fn push_losses_of<'x>(
     samples: &mut Vec<Sample<'x>>,
     losses: PeerLosses,
@@ -35,7 +35,7 @@ fn push_losses_of<'x>(
     Ok(())
 }
 
-// The frames that outboxes lost.
+// Adds the frames that outboxes lost.
 pub(crate) fn push_losses<J: Naming, R: Wait>(
     rt: &R,
     alloc: Global,

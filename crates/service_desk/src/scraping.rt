@@ -1,4 +1,4 @@
-//! The metrics of a service, as they are now.
+//! The current metrics of a service.
 ghost use Rattle.std.specs.Prelude.{◌<◌, length};
 
 use crate::by_name::{push_failed_calls, push_failures, push_refusals, push_rejections};
@@ -10,37 +10,21 @@ use exchange_report::count_legs;
 use peer_lock::Naming;
 use peer_plan::Plan;
 use service_report::{
-    Family, Figure, Kind, Label, Labels, Metrics, PeerFigures, Sample, Scrape, scrape_of,
+    Family, Kind, Label, Labels, Metrics, PeerFigures, Sample, Scrape, reach_of, scrape_of,
 };
 use service_watch::{DropCount, ServiceWatch, SocketTable, drop_counts};
 use std::alloc::{AllocError, Global};
 use std::iter;
 use std::sync::Wait;
 
-const FIGURES: [Figure; 13] = [
-    Figure::Received,
-    Figure::TurnedAway,
-    Figure::Sent,
-    Figure::Lost,
-    Figure::Legs,
-    Figure::Numbers,
-    Figure::LegsEnded,
-    Figure::Silence,
-    Figure::Accepted,
-    Figure::Packed,
-    Figure::Queued,
-    Figure::Dropped,
-    Figure::Quelched,
-];
-
-// The method that the address of the metrics has.
+// The methods that the address of the metrics allows.
 const GET: Methods = Methods {
     get: true,
     post: false,
     delete: false,
 };
 
-// What is told of a family.
+// The description of a metric family.
 pub(crate) struct Told {
     pub(crate) kind: Kind,
     pub(crate) name: &'static str,
@@ -66,7 +50,7 @@ const DROPPED: Told = Told {
     help: "Datagrams that the system dropped at the worker's socket.",
 };
 
-// Of the file of call records.
+// The metrics of the file of call records.
 const OF_CALLS: [Told; 3] = [
     Told {
         kind: Kind::Counter,
@@ -103,7 +87,7 @@ const OF_TRACE: [Told; 3] = [
     },
 ];
 
-// What is known of a peer now.
+// Reads the current figures of a peer.
 fn figures_of<'x, J: Naming, R: Wait>(
     rt: &R,
     exchange: &'x Exchange<NoGate, J>,
@@ -118,12 +102,18 @@ fn figures_of<'x, J: Naming, R: Wait>(
     let sums = exchange.sums(rt, pass, peer);
     let marks = watch.marks(peer);
     let plan = exchange.plan();
+    let pokes = exchange.pokes(rt, pass, peer);
+    let unanswered_since = pokes.unanswered_since(plan.rules(peer), now);
+    let reach = reach_of(marks.heard, unanswered_since);
     PeerFigures {
         name: plan.name(peer),
         legs,
         numbers: plan.range(peer).count,
         legs_ended: marks.legs_ended,
         silent_ms: marks.heard.map(|heard| now.saturating_sub(heard)),
+        reach,
+        unreachable_ms: reach.unreachable_ms(now),
+        round_trip_ms: pokes.round_trip,
         received: marks.received,
         turned_away: marks.turned_away,
         sent: marks.sent,
@@ -136,7 +126,7 @@ fn figures_of<'x, J: Naming, R: Wait>(
     }
 }
 
-// A family of which this is told.
+// Adds a family with this description.
 pub(crate) fn push_family(
     alloc: Global,
     metrics: &mut Metrics,
@@ -152,39 +142,7 @@ pub(crate) fn push_family(
     metrics.push(alloc, &family)
 }
 
-// A figure of each peer that has it.
-fn push_figure(
-    alloc: Global,
-    metrics: &mut Metrics,
-    peers: &[PeerFigures<'_>],
-    figure: Figure,
-) -> Result<(), AllocError> {
-    let mut samples = Vec::new(alloc);
-    for peer in peers {
-        if let Some(value) = figure.value(peer) {
-            let labels = Labels::One(Label {
-                name: "peer",
-                value: peer.name,
-            });
-            samples.push(Sample { labels, value })?;
-        }
-    }
-    metrics.push(alloc, &figure.family(&samples))
-}
-
-// The figures of all peers.
-fn push_figures(
-    alloc: Global,
-    metrics: &mut Metrics,
-    peers: &[PeerFigures<'_>],
-) -> Result<(), AllocError> {
-    for figure in &FIGURES {
-        push_figure(alloc, metrics, peers, *figure)?;
-    }
-    Ok(())
-}
-
-// What is known of each peer now.
+// Adds the current figures of all peers.
 fn push_peers<J: Naming, R: Wait>(
     rt: &R,
     alloc: Global,
@@ -198,10 +156,10 @@ fn push_peers<J: Naming, R: Wait>(
     for peer in 0..exchange.plan().peer_count() {
         peers.push(figures_of(rt, exchange, pass, watch, peer, now))?;
     }
-    push_figures(alloc, metrics, &peers)
+    metrics.push_figures(alloc, &peers)
 }
 
-// The drops at the sockets of these workers, where they are known.
+// Adds the drops at the workers' sockets that are known.
 fn push_counts(
     alloc: Global,
     metrics: &mut Metrics,
@@ -220,7 +178,7 @@ fn push_counts(
     push_family(alloc, metrics, &DROPPED, &samples)
 }
 
-// What the system dropped at the sockets of the workers, as far as it tells.
+// Adds the datagrams that the system dropped at the workers' sockets, as far as the system reports them.
 fn push_drops(
     table: &mut SocketTable,
     alloc: Global,
@@ -231,7 +189,7 @@ fn push_drops(
     push_counts(alloc, metrics, &counts)
 }
 
-// Values of the whole service, one for each of these.
+// Adds one value of the whole service for each family.
 fn push_totals(
     alloc: Global,
     metrics: &mut Metrics,
@@ -248,7 +206,7 @@ fn push_totals(
     Ok(())
 }
 
-// What is counted of the whole service, of the file of call records and of the trace.
+// Adds the totals of the service, of the file of call records, and of the trace.
 fn push_all_totals(
     alloc: Global,
     metrics: &mut Metrics,
@@ -270,7 +228,7 @@ fn push_all_totals(
     Ok(())
 }
 
-// All that is known now.
+// Adds all current metrics.
 fn push_all<J: Naming, R: Wait>(
     rt: &R,
     alloc: Global,
@@ -290,7 +248,7 @@ fn push_all<J: Naming, R: Wait>(
     push_drops(table, alloc, metrics, exchange.plan())
 }
 
-// The answer to `GET /metrics`.
+// Returns the answer to `GET /metrics`.
 fn metrics_answer<J: Naming, R: Wait>(
     rt: &R,
     alloc: Global,
@@ -303,15 +261,15 @@ fn metrics_answer<J: Naming, R: Wait>(
     metrics.into_answer(alloc)
 }
 
-// An answer that names what is wrong.
+// Returns an answer that names the refusal.
 fn refusal(alloc: Global, status: Status, why: &str) -> Result<Vec<u8>, AllocError> {
     Answer::error(alloc, status, why)?.octets(alloc)
 }
 
-/// Answers a request to the address of the metrics, at a moment in milliseconds since the exchange was opened: `GET /metrics`,
-/// and nothing else. Gives the octets that go to the client; what is refused is an answer too, 404 or 405.
+/// Answers a request to the metrics' address, which serves `GET /metrics` alone. Returns the octets for the client. A
+/// refusal is an answer too: 404 or 405. `now` is in milliseconds since the exchange was opened.
 ///
-/// `AllocError`: a request for memory was refused.
+/// Returns `AllocError` if a request for memory was refused.
 pub fn answer_scrape<J: Naming, R: Wait>(
     rt: &R,
     alloc: Global,

@@ -1,4 +1,4 @@
-//! The legs of an exchange, as they are shown.
+//! The legs of an exchange as rows for clients.
 ghost use Rattle.std.specs.Prelude.{◌<◌, length};
 
 use control_requests::{CallRow, Rows};
@@ -10,7 +10,7 @@ use peer_plan::{Plan, format_name};
 use std::alloc::{AllocError, Global};
 use std::sync::Wait;
 
-// A number as a call's NEW has it, in any octets, as a text.
+// Converts a number of a NEW, which may have any octets, to text.
 fn number_text(alloc: Global, number: Option<&ElementText>) -> Result<Option<String>, AllocError> {
     match number {
         Some(number) => Ok(Some(String::from_utf8_lossy(alloc, number.as_slice())?)),
@@ -26,7 +26,7 @@ struct Numbers {
 }
 
 impl Numbers {
-    // Those that a leg speaks of.
+    // Returns the numbers of a leg.
     fn of(alloc: Global, leg: &Description) -> Result<Numbers, AllocError> {
         let called = number_text(alloc, leg.called.as_ref())?;
         let calling = number_text(alloc, leg.calling.as_ref())?;
@@ -34,7 +34,7 @@ impl Numbers {
     }
 }
 
-/// A leg as it is shown: the numbers that it speaks of are texts, and it has a partner or none.
+/// A leg with its numbers as text, and its partner if it has one.
 #[derive(Drop)]
 pub(crate) struct ShownLeg {
     leg: Description,
@@ -43,8 +43,27 @@ pub(crate) struct ShownLeg {
 }
 
 impl ShownLeg {
-    /// The leg of a local number of a peer, where there is one.
-    pub(crate) fn of<J: Naming, R: Wait>(
+    // A leg that was looked at. Its partner is looked up, under the lock of the book.
+    fn of<J: Naming, R: Wait>(
+        rt: &R,
+        alloc: Global,
+        exchange: &Exchange<NoGate, J>,
+        pass: &mut Pass<J>,
+        leg: Description,
+    ) -> Result<ShownLeg, AllocError> {
+        let partner = exchange.partner_of(rt, pass, leg.status.name);
+        match Numbers::of(alloc, &leg) {
+            Ok(numbers) => Ok(ShownLeg {
+                leg,
+                numbers,
+                partner: partner.map(|name| u64::from(name.number)),
+            }),
+            Err(error) => Err(error),
+        }
+    }
+
+    /// Returns the leg with a local number of a peer, or `None` if there is none.
+    pub(crate) fn at<J: Naming, R: Wait>(
         rt: &R,
         alloc: Global,
         exchange: &Exchange<NoGate, J>,
@@ -54,19 +73,16 @@ impl ShownLeg {
     ) -> Result<Option<ShownLeg>, AllocError>
         requires { peer < length exchange.now.peers }
     {
-        let Some(leg) = exchange.describe(rt, pass, peer, number) else {
-            return Ok(None);
-        };
-        let partner = exchange.partner_of(rt, pass, leg.status.name);
-        let numbers = Numbers::of(alloc, &leg)?;
-        Ok(Some(ShownLeg {
-            leg,
-            numbers,
-            partner: partner.map(|name| u64::from(name.number)),
-        }))
+        match exchange.describe(rt, pass, peer, number) {
+            Some(leg) => match ShownLeg::of(rt, alloc, exchange, pass, leg) {
+                Ok(leg) => Ok(Some(leg)),
+                Err(error) => Err(error),
+            },
+            None => Ok(None),
+        }
     }
 
-    /// Its row.
+    /// Returns the leg's row.
     pub(crate) fn row<'a>(&'a self, plan: &'a Plan, peer: u16, now: u64) -> CallRow<'a>
         requires { peer < length plan.now.peers }
     {
@@ -95,7 +111,27 @@ impl ShownLeg {
     }
 }
 
-/// The legs of a peer as they are shown, behind the others.
+// Adds a leg of a peer behind the others.
+fn push_call<J: Naming, R: Wait>(
+    rt: &R,
+    alloc: Global,
+    exchange: &Exchange<NoGate, J>,
+    pass: &mut Pass<J>,
+    rows: &mut Rows,
+    peer: u16,
+    leg: Description,
+    now: u64,
+) -> Result<(), AllocError>
+    requires { peer < length exchange.now.peers }
+{
+    match ShownLeg::of(rt, alloc, exchange, pass, leg) {
+        Ok(leg) => rows.push_call(alloc, leg.row(exchange.plan(), peer, now)),
+        Err(error) => Err(error),
+    }
+}
+
+/// Adds the rows of a peer's legs behind the others, by ascending number. Each row takes the peer's lock once, and the book's for
+/// its partner.
 pub(crate) fn push_calls<J: Naming, R: Wait>(
     rt: &R,
     alloc: Global,
@@ -108,11 +144,13 @@ pub(crate) fn push_calls<J: Naming, R: Wait>(
     requires { peer < length exchange.now.peers }
 {
     let range = exchange.plan().range(peer);
-    for place in 0..range.count {
-        let number = range.first + place;
-        if let Some(leg) = ShownLeg::of(rt, alloc, exchange, pass, peer, number)? {
-            rows.push_call(alloc, leg.row(exchange.plan(), peer, now))?;
-        }
+    let mut next = range.first;
+    for _ in 0..range.count {
+        let Some(leg) = exchange.describe_from(rt, pass, peer, next) else {
+            break;
+        };
+        next = leg.status.name.number.saturating_add(1);
+        push_call(rt, alloc, exchange, pass, rows, peer, leg, now)?;
     }
     Ok(())
 }

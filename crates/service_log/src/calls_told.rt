@@ -1,4 +1,4 @@
-//! What the log tells of the file of call records.
+//! Log lines about the file of call records.
 use crate::lines::tell;
 use crate::writer_told::WriterTold;
 use call_files::{Fault, Trouble};
@@ -7,7 +7,7 @@ use log::{Level, Log};
 use std::io;
 use std::io::ErrorKind;
 
-/// The error of the system that a fault is.
+/// Returns the system's error for a fault.
 pub(crate) fn error_of(fault: Fault) -> io::Error {
     match fault.code {
         Some(code) => io::Error::from_raw_os_error(code),
@@ -15,13 +15,13 @@ pub(crate) fn error_of(fault: Fault) -> io::Error {
     }
 }
 
-// What is wrong with the file of this name.
+// Warns of a fault of the file of call records.
 fn tell_fault<L: Log>(log: &L, path: &str, what: &str, fault: Fault) {
     let error = error_of(fault);
     tell(log, Level::Warn, &format_args!("{path} {what}: {error}"));
 }
 
-// That something is wrong with the file of this name, or nothing any more.
+// Logs trouble with the file of call records, or that the trouble is over.
 fn tell_trouble<L: Log>(log: &L, path: &str, trouble: Option<Trouble>) {
     let (what, fault) = match trouble {
         None => {
@@ -40,7 +40,7 @@ fn tell_trouble<L: Log>(log: &L, path: &str, trouble: Option<Trouble>) {
 }
 
 impl WriterTold<Trouble> {
-    /// Tells what is wrong with the file of this name, once for as long as it lasts.
+    /// Logs trouble with the file at `path` once, when it begins, and its end.
     pub(crate) fn look<L: Log>(&mut self, log: &L, path: &str, state: FileState) {
         if state.trouble != self.wrong {
             self.wrong = state.trouble;
@@ -49,7 +49,7 @@ impl WriterTold<Trouble> {
     }
 }
 
-/// Warns, at the end, of how many rows couldn't be written to the file of this name; tells nothing where there are none.
+/// Warns, at the end, of the number of rows that couldn't be written to `path`. Logs nothing if there are none.
 pub fn tell_end<L: Log>(log: &L, path: &str, state: FileState) {
     if state.waiting > 0 {
         let waiting = state.waiting;

@@ -1,4 +1,4 @@
-//! What the log says of a leg that has ended.
+//! Log lines about ended legs.
 ghost use Rattle.std.specs.Prelude.{◌<◌, length};
 
 use crate::lines::tell;
@@ -10,13 +10,13 @@ use printable_text::printable;
 use service_watch::Wanted;
 use std::alloc::{AllocError, Global};
 
-// How many octets of a number are shown where its last ones are.
+// The number of octets that `LastFour` shows.
 const LAST: usize = 4;
 
-/// How lines show the numbers of calls.
+/// How log lines show the numbers of calls.
 #[derive(Clone, Copy, Debug, PartialEq, Eq)]
 pub enum ShownNumbers {
-    /// As they are.
+    /// In full.
     Full,
     /// The last four octets.
     LastFour,
@@ -24,16 +24,17 @@ pub enum ShownNumbers {
     No,
 }
 
-/// How the log tells of calls.
+/// How calls are logged.
 #[derive(Clone, Copy)]
 pub struct CallLines {
-    /// Whether each leg that ends has a line of the level `Info`; else of `Debug`, without numbers.
+    /// Whether each ended leg is logged at `Info`. Otherwise it is logged at `Debug`, without numbers.
     pub are_told: bool,
     pub numbers: ShownNumbers,
 }
 
 impl CallLines {
-    /// What a log wants to be told one by one: refusals where it has the level `Debug`, ended legs there, or where each has a line.
+    /// Returns the events that this log needs one by one. Refusals are needed at `Debug`. Ended legs are needed at `Debug`,
+    /// or at `Info` if each has a line.
     pub fn wanted<L: Log>(self, log: &L) -> Wanted {
         let is_debug = log_enabled!(log; Level::Debug);
         Wanted {
@@ -43,7 +44,7 @@ impl CallLines {
     }
 }
 
-// What is shown of a number: `-` where there is none.
+// Formats a number as `shown` asks, or `-` if there is none.
 fn number_text(
     alloc: Global,
     number: Option<&ElementText>,
@@ -61,7 +62,7 @@ fn number_text(
     printable(alloc, octets.get(from..).unwrap_or(b""))
 }
 
-// Who called whom, where that is shown.
+// Formats the caller and the called number, or nothing if numbers aren't shown.
 fn parties(alloc: Global, leg: &CallRow, shown: ShownNumbers) -> Result<String, AllocError> {
     if shown == ShownNumbers::No {
         return Ok(String::new(alloc));
@@ -71,7 +72,7 @@ fn parties(alloc: Global, leg: &CallRow, shown: ShownNumbers) -> Result<String, 
     format!(in alloc; ", calling {calling}, called {called}")
 }
 
-// Why it ended.
+// Formats the cause of the end.
 fn ending(alloc: Global, leg: &CallRow) -> Result<String, AllocError> {
     let how = ending_name(leg.leg.end, leg.failure);
     match leg.leg.end {
@@ -83,7 +84,7 @@ fn ending(alloc: Global, leg: &CallRow) -> Result<String, AllocError> {
     }
 }
 
-// The line of a leg of a peer of this name.
+// Formats the line of a leg of the peer with this name.
 fn line_of(
     alloc: Global,
     leg: &CallRow,
@@ -103,8 +104,8 @@ fn line_of(
     )
 }
 
-/// Tells of a leg of the plan that has ended, at a level, with the numbers of its call as they are shown. Without memory for the
-/// line nothing is told.
+/// Logs an ended leg of the plan at `level`, with the numbers of its call formatted as `shown`. Logs nothing if there is no
+/// memory for the line.
 pub(crate) fn tell_leg<L: Log>(
     log: &L,
     alloc: Global,

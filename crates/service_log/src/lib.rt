@@ -1,7 +1,8 @@
-//! What a service tells of itself in its log, line by line.
+//! The log of a service, line by line.
 #![tactic(auto)]
 
 mod calls_told;
+mod drops_told;
 mod ends_told;
 mod lines;
 mod news;

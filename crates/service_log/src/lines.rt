@@ -1,16 +1,16 @@
-//! Lines of the log, and the counts that they tell round by round.
+//! Log lines, and counts that are logged once a round.
 use log::{Level, Log, log};
 use peer_plan::Endpoint;
 use service_report::counted_since;
 use std::fmt::Display;
 use std::net::{Ipv4Addr, SocketAddrV4};
 
-/// Writes a line, where its level is logged.
+/// Writes a line if its level is logged.
 pub(crate) fn tell<L: Log, D: Display>(log: &L, level: Level, line: &D) {
     log!(log; level, "{line}");
 }
 
-/// Writes how many there were of something in a round of so many seconds, where there were any.
+/// Logs a count of events in a round of `seconds` seconds, unless it is 0.
 pub(crate) fn tell_count<L: Log, D: Display>(
     log: &L,
     level: Level,
@@ -23,14 +23,14 @@ pub(crate) fn tell_count<L: Log, D: Display>(
     }
 }
 
-/// How many were counted since the count was `told`, which is told with that.
+/// Returns the increase of a count since it was last logged, and stores the count in `told`.
 pub(crate) fn more_than(told: &mut u64, count: u64) -> u64 {
     let more = counted_since(*told, count);
     *told = count;
     more
 }
 
-/// An endpoint as a line has it.
+/// Converts an endpoint to the form that log lines print.
 pub(crate) fn address_of(endpoint: Endpoint) -> SocketAddrV4 {
     let Endpoint { address, port } = endpoint;
     let [a, b, c, d] = address;

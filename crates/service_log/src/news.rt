@@ -1,9 +1,25 @@
-//! What the log tells of a peer that is heard, or falls silent.
+//! Log lines about a peer that answers for the first time, falls silent, or answers again.
+ghost use Rattle.std.specs.Prelude.{◌<◌, length};
+
 use crate::lines::tell;
 use log::{Level, Log};
+use peer_plan::Plan;
 use service_report::News;
 
-// A peer that says nothing is warned of where it has legs.
+// A peer counts as silent after this number of its `ping_ms`.
+const PINGS: u64 = 3;
+
+// Returns the time for which a peer may be silent, in milliseconds. A peer that isn't pinged has no limit.
+pub(crate) fn silence_limit(plan: &Plan, peer: u16) -> u64
+    requires { peer < length plan.now.peers }
+{
+    match plan.rules(peer).ping_ms {
+        0 => u64::MAX,
+        ping_ms => PINGS.saturating_mul(ping_ms),
+    }
+}
+
+// Silence is a warning only if the peer has legs.
 fn tell_silence<L: Log>(log: &L, name: &str, silent_ms: u64, legs: u16) {
     let seconds = silent_ms / 1000;
     let silence = format_args!("{name} is silent for {seconds} s");
@@ -18,7 +34,7 @@ fn tell_silence<L: Log>(log: &L, name: &str, silent_ms: u64, legs: u16) {
     }
 }
 
-// The news of a peer that has so many legs.
+// Logs the news of a peer that has `legs` legs.
 pub(crate) fn tell_news<L: Log>(log: &L, name: &str, news: News, legs: u16) {
     match news {
         News::FirstWord => {

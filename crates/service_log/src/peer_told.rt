@@ -1,16 +1,17 @@
-//! What the log tells of a peer.
+//! Log lines about one peer.
 use crate::lines::{address_of, more_than, tell, tell_count};
 use exchange_core::Rejection;
 use exchange_report::{PeerLosses, refusal_name};
 use log::{Level, Log};
 use peer_plan::Endpoint;
-use service_report::{Hearing, News, news_of};
+use service_report::{Hearing, News, Reach, news_of, reach_of};
 use service_watch::{
     AUTH_FAILURES, AuthFailure, PeerMarksRead, REFUSALS, REJECTIONS, ServiceWatch,
 };
 use std::iter;
 
-// What the log has of datagrams that came to be turned away, and how urgent it is: a caller that has no token asks for one.
+// Returns the level and the wording for datagrams that were turned away. A caller without a token asks for one, so that is
+// no warning.
 fn report_of(rejection: Rejection) -> (Level, &'static str) {
     match rejection {
         Rejection::NoNumber => (Level::Warn, "rejected NoNumber"),
@@ -21,14 +22,17 @@ fn report_of(rejection: Rejection) -> (Level, &'static str) {
     }
 }
 
-// What was told of a peer, and what is told of it next.
+// The log's state for a peer: the last logged counts, and those that the next round logs.
 #[derive(Clone, Copy)]
 pub(crate) struct PeerTold {
     hearing: Hearing,
     pub(crate) news: Option<News>,
+    // As it was logged, and as it is.
+    reach: Reach,
+    reach_now: Reach,
     legs: u64,
     legs_ended: u64,
-    // The legs that it has, and those that had ended when these were counted.
+    // The legs that it has now, and the legs that had ended when these were counted.
     pub(crate) legs_now: u16,
     legs_ended_now: u64,
     turned_away: u64,
@@ -43,11 +47,13 @@ pub(crate) struct PeerTold {
 }
 
 impl PeerTold {
-    // Nothing was told.
+    // Returns a state in which nothing was logged yet.
     pub(crate) fn new() -> PeerTold {
         PeerTold {
             hearing: Hearing::Never,
             news: None,
+            reach: Reach::Unknown,
+            reach_now: Reach::Unknown,
             legs: 0,
             legs_ended: 0,
             legs_now: 0,
@@ -61,7 +67,7 @@ impl PeerTold {
         }
     }
 
-    // What was counted of it at a moment. Whether it has fallen silent.
+    // Stores the counts of a moment. Returns whether the peer has fallen silent.
     pub(crate) fn see(&mut self, marks: PeerMarksRead, now: u64, limit: u64) -> bool {
         let (hearing, news) = news_of(self.hearing, marks.heard, now, limit);
         self.hearing = hearing;
@@ -73,7 +79,31 @@ impl PeerTold {
         }
     }
 
-    // How many legs began and how many ended, in a round. A leg that began and ended in it is one of both.
+    // Notes whether it is there, by when its last datagram came and when a run of POKEs began that it didn't answer.
+    pub(crate) fn note_reach(&mut self, heard: Option<u64>, unanswered_since: Option<u64>) {
+        self.reach_now = reach_of(heard, unanswered_since);
+    }
+
+    // Logs that it became unreachable, or that it is there again.
+    pub(crate) fn tell_reach<L: Log>(&mut self, log: &L, name: &str, now: u64) {
+        match (self.reach, self.reach_now) {
+            (Reach::Unreachable(_), Reach::Unreachable(_)) => return,
+            (_, Reach::Unreachable(since)) => {
+                let ms = now.saturating_sub(since);
+                let line = format_args!("{name} is unreachable: nothing came for {ms} ms");
+                tell(log, Level::Warn, &line);
+            }
+            (Reach::Unreachable(since), _) => {
+                let seconds = now.saturating_sub(since) / 1000;
+                let line = format_args!("{name} is reachable again after {seconds} s");
+                tell(log, Level::Info, &line);
+            }
+            _ => {}
+        }
+        self.reach = self.reach_now;
+    }
+
+    // Logs the number of legs that began and that ended in a round. A leg that did both counts as both.
     pub(crate) fn tell_legs<L: Log>(&mut self, log: &L, name: &str) {
         let legs = u64::from(self.legs_now);
         let ended = more_than(&mut self.legs_ended, self.legs_ended_now);
@@ -95,7 +125,7 @@ impl PeerTold {
         }
     }
 
-    // What was lost on the way to it, in a round of so many seconds.
+    // Logs the frames, and the octets of media, lost on the way to the peer in a round of `seconds` seconds.
     pub(crate) fn tell_losses<L: Log>(&mut self, log: &L, name: &str, seconds: u64) {
         let (told, now) = (&mut self.lost, self.lost_now);
         let kinds = [
@@ -112,7 +142,7 @@ impl PeerTold {
         tell_count(log, Level::Warn, &what, dropped, seconds);
     }
 
-    // How many of its calls failed to authenticate, in a round of so many seconds.
+    // Logs the number of its calls that failed to authenticate in a round of `seconds` seconds.
     fn tell_authentication<L: Log>(
         &mut self,
         log: &L,
@@ -134,8 +164,7 @@ impl PeerTold {
         }
     }
 
-    // How many datagrams were refused for each reason, how many were rejected, and how many were turned away, in a round of so many
-    // seconds.
+    // Logs the number of datagrams that were refused, rejected and turned away in a round of `seconds` seconds.
     pub(crate) fn tell_refusals<L: Log>(
         &mut self,
         log: &L,

@@ -1,9 +1,9 @@
-//! What the log says of the start.
+//! Log lines about the start.
 use crate::lines::{address_of, tell};
 use log::{Level, Log};
 use peer_plan::Plan;
 
-/// Tells what is served: the program's version, the plan's file, the endpoints.
+/// Logs the program's version, the plan's path and the endpoints that are served.
 pub fn tell_start<L: Log>(log: &L, plan: &Plan, version: &str, path: &str) {
     let line = format_args!("exchange_main {version} serves {path}");
     tell(log, Level::Info, &line);
@@ -14,7 +14,7 @@ pub fn tell_start<L: Log>(log: &L, plan: &Plan, version: &str, path: &str) {
     tell_peers(log, plan);
 }
 
-// The peers, each with its worker.
+// Logs the peers, each with its worker.
 fn tell_peers<L: Log>(log: &L, plan: &Plan) {
     for peer in 0..plan.peer_count() {
         let (name, worker) = (plan.name(peer), plan.worker(peer));

@@ -1,4 +1,4 @@
-//! The strangers of a round of the log: the latest by their addresses, the rest as one number.
+//! The strangers of a round of the log: the latest by address, the rest as one count.
 use crate::lines::{address_of, tell_count};
 use log::{Level, Log};
 use lru::LruCache;
@@ -7,19 +7,20 @@ use std::alloc::{AllocError, Global};
 use std::net::SocketAddrV4;
 use std::num::NonZeroUsize;
 
-// How many addresses are told.
+// The greatest number of addresses that a round logs.
 const ADDRESSES: usize = 64;
 
-/// Strangers that came in this round.
+/// The strangers of this round.
 #[derive(Drop)]
 pub(crate) struct Strangers {
     latest: LruCache<SocketAddrV4, u64>,
-    // How many were told. One that is counted before it is seen can be told before that, as one of the rest.
+    // The number of datagrams already logged. A stranger is counted before `see` gets its address. If it is logged in
+    // between, it is one of the rest.
     told: u64,
 }
 
 impl Strangers {
-    /// No stranger came yet.
+    /// Returns a round without strangers.
     pub(crate) fn new(alloc: Global) -> Result<Strangers, AllocError> {
         let Some(limit) = NonZeroUsize::new(ADDRESSES) else {
             return Err(AllocError);
@@ -30,7 +31,7 @@ impl Strangers {
         })
     }
 
-    /// One came from there. Without memory it is one of the rest.
+    /// Adds a stranger's endpoint. Without memory the stranger is counted as one of the rest.
     pub(crate) fn see(&mut self, from: Endpoint) {
         let from = address_of(from);
         let count = match self.latest.peek(&from) {
@@ -40,7 +41,7 @@ impl Strangers {
         let _ = self.latest.put(from, count);
     }
 
-    // A line for each of the latest. Gives how many datagrams these sent.
+    // Logs a line for each of the latest strangers. Returns the number of datagrams that these sent.
     fn tell_latest<L: Log>(&self, log: &L, seconds: u64) -> u64 {
         let mut sum: u64 = 0;
         for (from, count) in self.latest.iter() {
@@ -51,7 +52,7 @@ impl Strangers {
         sum
     }
 
-    /// Ends a round of so many seconds, after so many datagrams from strangers since the start.
+    /// Ends a round of `seconds` seconds. `count` is the number of datagrams from strangers since the start.
     pub(crate) fn tell<L: Log>(&mut self, log: &L, count: u64, seconds: u64) {
         let named = self.tell_latest(log, seconds);
         self.latest.clear();

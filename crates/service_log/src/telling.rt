@@ -1,9 +1,9 @@
-//! What the log tells of a service, and when.
-ghost use Rattle.std.specs.Prelude.{◌<◌, length};
+//! The log of a running service, and the rounds in which it is written.
 
+use crate::drops_told::tell_drops;
 use crate::ends_told::{CallLines, ShownNumbers, tell_leg};
 use crate::lines::{more_than, tell, tell_count};
-use crate::news::tell_news;
+use crate::news::{silence_limit, tell_news};
 use crate::peer_told::PeerTold;
 use crate::strangers::Strangers;
 use crate::writer_told::WriterTold;
@@ -14,27 +14,24 @@ use exchange_report::{PeerLosses, refusal_name};
 use log::{Level, Log, log_enabled};
 use peer_plan::{Endpoint, Plan};
 use service_report::Rounds;
-use service_watch::{DropCount, NOTED, STRANGERS, ServiceWatch, SocketTable, Wanted, drop_counts};
+use service_watch::{NOTED, STRANGERS, ServiceWatch, SocketTable, Wanted, drop_counts};
 use std::alloc::{AllocError, Global};
+use std::mem;
 use std::sync::Wait;
-use std::{iter, mem};
 use worker_watch::{ServiceStage, Watch};
 
-// How long a round lasts in which ended legs are counted, in milliseconds.
+// The length of a round for ended legs, in milliseconds.
 const LEGS_MS: u64 = 1000;
 
-// How long one lasts in which refusals, losses, strangers, faults and drops are counted.
+// The length of a round for refusals, losses, strangers, faults and drops, in milliseconds.
 const REFUSALS_MS: u64 = 10_000;
 
-// After so many times its `ping_ms` a peer is silent.
-const PINGS: u64 = 3;
-
-/// What was told of a service.
+/// The state of a service's log: the last logged values of the service and of its peers, and the rounds of the log.
 #[derive(Drop)]
 pub struct Told<'s> {
     plan: &'s Plan,
     watch: &'s ServiceWatch,
-    // The names of the file of call records and of the folder of the trace.
+    // The path of the file of call records, and of the folder of the trace.
     calls_path: Option<&'s str>,
     trace_path: Option<&'s str>,
     stage: ServiceStage,
@@ -48,42 +45,26 @@ pub struct Told<'s> {
     strangers: Strangers,
     call_lines: CallLines,
     lost_ends: u64,
-    // Lists for the strangers that come, for what is refused, and for the legs that end.
+    // Spare lists for strangers, for refusals, and for ended legs.
     spare: Vec<Endpoint>,
     spare_refusals: Vec<(u16, Refusal)>,
     spare_ends: Vec<CallRow>,
     legs: Rounds,
+    reach: Rounds,
     refusals: Rounds,
 }
 
-// How long a peer may keep silent, in milliseconds. One that isn't pinged may do so for ever.
-fn silence_limit(plan: &Plan, peer: u16) -> u64
-    requires { peer < length plan.now.peers }
-{
-    match plan.rules(peer).ping_ms {
-        0 => u64::MAX,
-        ping_ms => PINGS.saturating_mul(ping_ms),
-    }
-}
-
-// What was dropped at each worker's socket in a round of so many seconds.
-fn tell_drops<L: Log>(log: &L, told: &mut [u64], counts: &[DropCount], seconds: u64) {
-    for (told, count) in iter::zip(told.iter_mut(), counts) {
-        if let Some(drops) = count.drops {
-            let more = more_than(told, drops);
-            let worker = &count.worker;
-            let what = format_args!("the system dropped at the socket of worker {worker}");
-            tell_count(log, Level::Warn, &what, more, seconds);
-        }
-    }
+// Returns rounds of this length, in milliseconds, the first of which begins at this moment.
+fn rounds_of(period: u64, since: u64) -> Rounds {
+    Rounds { period, since }
 }
 
 impl<'s> Told<'s> {
-    /// Nothing was told yet of a service that began at this moment, in milliseconds since the exchange was opened: the service of
-    /// this plan with this watch. `calls` is the name of the file of call records, `trace` that of the folder of the trace, where
-    /// these are wanted. Of calls it tells what is said.
+    /// Returns the log of a service in which nothing was logged yet. The service runs `plan` and counts in `watch`. `now`
+    /// is the moment it began, in milliseconds since the exchange was opened. `calls` is the path of the file of call
+    /// records and `trace` that of the trace's folder, if these are wanted. `call_lines` says how calls are logged.
     ///
-    /// `AllocError`: a request for memory was refused.
+    /// Returns `AllocError` if a request for memory was refused.
     pub fn new<L: Log>(
         log: &L,
         alloc: Global,
@@ -113,14 +94,9 @@ impl<'s> Told<'s> {
             spare: Vec::new(alloc),
             spare_refusals: Vec::new(alloc),
             spare_ends: Vec::new(alloc),
-            legs: Rounds {
-                period: LEGS_MS,
-                since: now,
-            },
-            refusals: Rounds {
-                period: REFUSALS_MS,
-                since: now,
-            },
+            legs: rounds_of(LEGS_MS, now),
+            reach: rounds_of(LEGS_MS, now),
+            refusals: rounds_of(REFUSALS_MS, now),
         };
         match told.make_room(call_lines.wanted(log)) {
             Ok(()) => Ok(told),
@@ -128,7 +104,7 @@ impl<'s> Told<'s> {
         }
     }
 
-    // Room for the plan's peers and workers, for strangers, and for what is wanted.
+    // Reserves room for the plan's peers and workers, for strangers, and for the wanted events.
     fn make_room(&mut self, wanted: Wanted) -> Result<(), AllocError> {
         let plan = self.plan;
         for _ in 0..plan.peer_count() {
@@ -146,9 +122,9 @@ impl<'s> Told<'s> {
         self.spare.reserve_exact(STRANGERS)
     }
 
-    /// Reads what was counted of the peer at this place of the plan, at a moment in milliseconds since the exchange was opened,
-    /// as the next `look` tells it. Gives whether that tells how many legs the peer has, too: where it has fallen silent, and once
-    /// a second where `Info` is logged. Then `note_legs` has to say it first.
+    /// Reads the counts of a peer for the next `look`. `peer` is its place in the plan, and `now` is in milliseconds since
+    /// the exchange was opened. Returns whether `look` also logs the peer's number of legs; then call `note_legs` first. It
+    /// does so when the peer has fallen silent, and once a second if `Info` is logged.
     pub fn see_peer<L: Log>(&mut self, log: &L, peer: u16, now: u64) -> bool {
         let (plan, watch) = (self.plan, self.watch);
         if peer >= plan.peer_count() {
@@ -165,28 +141,44 @@ impl<'s> Told<'s> {
         }
     }
 
-    /// The peer at this place of the plan has so many legs, counted right after `see_peer`.
+    /// Stores the number of legs of the peer at this place of the plan, counted right after `see_peer`.
     pub fn note_legs(&mut self, peer: u16, legs: u16) {
         if let Some(told) = self.peers.get_mut(usize::from(peer)) {
             told.legs_now = legs;
         }
     }
 
-    /// Whether the next `look` at a moment, in milliseconds since the exchange was opened, tells what was lost on the way to
-    /// peers. Then `note_losses` has to say it first, of each peer.
+    /// Returns whether `look` at this moment logs the losses on the way to peers; then call `note_losses` for each peer
+    /// first. `now` is in milliseconds since the exchange was opened.
     pub fn tells_losses(&self, now: u64) -> bool {
         let mut rounds = self.refusals;
         rounds.due(now).is_some()
     }
 
-    /// So much was lost on the way to the peer at this place of the plan.
+    /// Whether the next `look` at a moment, in milliseconds since the exchange was opened, logs which peers are there. Then
+    /// `note_unanswered` has to come first, for each peer.
+    pub fn tells_reach(&self, now: u64) -> bool {
+        let mut rounds = self.reach;
+        rounds.due(now).is_some()
+    }
+
+    /// Notes the moment of the first POKE of a run that the peer at this place of the plan didn't answer; `None` if there is no such
+    /// run.
+    pub fn note_unanswered(&mut self, peer: u16, unanswered_since: Option<u64>) {
+        let watch = self.watch;
+        if let Some(told) = self.peers.get_mut(usize::from(peer)) {
+            told.note_reach(watch.marks(peer).heard, unanswered_since);
+        }
+    }
+
+    /// Stores the losses on the way to the peer at this place of the plan.
     pub fn note_losses(&mut self, peer: u16, losses: PeerLosses) {
         if let Some(told) = self.peers.get_mut(usize::from(peer)) {
             told.lost_now = losses;
         }
     }
 
-    // That the service stops.
+    // Logs that the service stops.
     fn tell_stage<L: Log>(&mut self, log: &L, stage: ServiceStage) {
         if stage == self.stage {
             return;
@@ -200,7 +192,7 @@ impl<'s> Told<'s> {
         tell(log, Level::Info, &line);
     }
 
-    // Whether new calls are rejected from now on.
+    // Logs that new calls are rejected from now on, or accepted again.
     fn tell_drain<L: Log>(&mut self, log: &L, drains: bool) {
         if drains == self.drains {
             return;
@@ -213,7 +205,7 @@ impl<'s> Told<'s> {
         tell(log, Level::Info, &line);
     }
 
-    // How many legs are left, while calls run out.
+    // Logs the number of legs left while the service drains.
     fn tell_left<L: Log>(&mut self, log: &L) {
         if self.drains && self.stage == ServiceStage::Serving {
             let mut legs: u32 = 0;
@@ -228,7 +220,7 @@ impl<'s> Told<'s> {
         }
     }
 
-    // Who was heard for the first time, who is silent, and who is heard again.
+    // Logs the peers that answered for the first time, fell silent, or answered again.
     fn tell_peers<L: Log>(&mut self, log: &L) {
         let plan = self.plan;
         for peer in 0..plan.peer_count() {
@@ -240,7 +232,17 @@ impl<'s> Told<'s> {
         }
     }
 
-    // The legs that began and ended in a round, where that is logged.
+    // Which peers became unreachable, and which are there again.
+    fn tell_reach<L: Log>(&mut self, log: &L, now: u64) {
+        let plan = self.plan;
+        for peer in 0..plan.peer_count() {
+            if let Some(told) = self.peers.get_mut(usize::from(peer)) {
+                told.tell_reach(log, plan.name(peer), now);
+            }
+        }
+    }
+
+    // Logs the legs that began and ended in a round, if `Info` is logged.
     fn tell_legs<L: Log>(&mut self, log: &L) {
         if !log_enabled!(log; Level::Info) {
             return;
@@ -253,7 +255,7 @@ impl<'s> Told<'s> {
         }
     }
 
-    // What is wrong with the file of call records and with the trace, where there are such.
+    // Logs trouble with the file of call records and with the trace, if the service writes them.
     fn tell_files<L: Log>(&mut self, log: &L) {
         let watch = self.watch;
         if let Some(path) = self.calls_path {
@@ -268,7 +270,7 @@ impl<'s> Told<'s> {
         }
     }
 
-    // What was refused and lost in a round of so many seconds.
+    // Logs the refusals and losses of a round of `seconds` seconds.
     fn tell_refusals<L: Log>(&mut self, log: &L, seconds: u64) {
         let (plan, watch) = (self.plan, self.watch);
         for peer in 0..plan.peer_count() {
@@ -280,7 +282,7 @@ impl<'s> Told<'s> {
         }
     }
 
-    // Takes the strangers that came.
+    // Takes the endpoints of new strangers.
     fn see_strangers<R: Wait>(&mut self, rt: &R, alloc: Global) {
         let spare = mem::replace(&mut self.spare, Vec::new(alloc));
         let mut seen = self.watch.take_strangers(rt, spare);
@@ -291,7 +293,7 @@ impl<'s> Told<'s> {
         self.spare = seen;
     }
 
-    // Each datagram that was refused, by its peer and the name of the refusal.
+    // Logs each refused datagram, by its peer and the name of the refusal.
     fn tell_each_refusal<L: Log, R: Wait>(&mut self, rt: &R, log: &L, alloc: Global) {
         let spare = mem::replace(&mut self.spare_refusals, Vec::new(alloc));
         let mut refused = self.watch.take_refusals(rt, spare);
@@ -306,7 +308,7 @@ impl<'s> Told<'s> {
         self.spare_refusals = refused;
     }
 
-    // Each leg that has ended.
+    // Logs each ended leg.
     fn tell_each_end<L: Log, R: Wait>(&mut self, rt: &R, log: &L, alloc: Global) {
         let spare = mem::replace(&mut self.spare_ends, Vec::new(alloc));
         let mut ended = self.watch.take_ends(rt, spare);
@@ -321,7 +323,7 @@ impl<'s> Told<'s> {
         self.spare_ends = ended;
     }
 
-    // What was refused and lost, and came from strangers, and failed, in a round of so many milliseconds.
+    // Logs the refusals, losses, strangers, faults and drops of a round of `lasted` milliseconds.
     fn tell_round<L: Log>(&mut self, table: &mut SocketTable, log: &L, alloc: Global, lasted: u64) {
         let (watch, seconds) = (self.watch, lasted / 1000);
         self.tell_left(log);
@@ -357,9 +359,10 @@ impl<'s> Told<'s> {
         }
     }
 
-    /// Tells the log what is to be told at this moment, in milliseconds since the exchange was opened, once `see_peer` has read
-    /// each peer at that moment: the stage, peers, the files of records and of the trace, what it wants to be told one by one; legs once
-    /// a second; refusals, losses, strangers, faults, lost rows and drops once in ten.
+    /// Logs all that is due at `now`, in milliseconds since the exchange was opened. `see_peer` must have read each peer at
+    /// that moment. Each call logs the stage, the peers, the file of call records, the trace, and the events that the log
+    /// wants one by one. Once a second it logs legs. Every ten seconds it logs refusals, losses, strangers, faults, lost
+    /// rows and drops.
     pub fn look<L: Log, R: Wait>(
         &mut self,
         rt: &R,
@@ -378,14 +381,18 @@ impl<'s> Told<'s> {
         if self.legs.due(now).is_some() {
             self.tell_legs(log);
         }
+        if self.reach.due(now).is_some() {
+            self.tell_reach(log, now);
+        }
         if let Some(lasted) = self.refusals.due(now) {
             self.tell_round(table, log, alloc, lasted);
         }
     }
 
-    /// Has the next `look` tell the rest, at the end: all that it tells is due from now on.
+    /// Makes all rounds due, so that the next `look` logs the rest at the end.
     pub fn end_rounds(&mut self) {
         self.legs.period = 0;
+        self.reach.period = 0;
         self.refusals.period = 0;
     }
 }

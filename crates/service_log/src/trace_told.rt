@@ -1,4 +1,4 @@
-//! What the log tells of the trace.
+//! Log lines about the trace.
 use crate::calls_told::error_of;
 use crate::lines::tell;
 use crate::writer_told::WriterTold;
@@ -7,7 +7,7 @@ use log::{Level, Log};
 use trace_writer::TraceState;
 
 impl WriterTold<Fault> {
-    /// Tells that the trace in this folder has ended before the service, once.
+    /// Logs once that the trace in the folder `path` has ended before the service.
     pub(crate) fn look<L: Log>(&mut self, log: &L, path: &str, state: TraceState) {
         if state.fault != self.wrong {
             self.wrong = state.fault;

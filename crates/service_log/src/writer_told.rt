@@ -1,8 +1,8 @@
-//! What the log tells of what is written beside the calls: the file of call records, and the trace.
+//! The log's state for each output next to the calls: the file of call records, and the trace.
 use crate::lines::{more_than, tell_count};
 use log::{Level, Log};
 
-/// What was told of it: what was wrong at last, and how much of it was lost.
+/// The log's state for an output: its last fault, and the number of lost entries.
 #[derive(Clone, Copy)]
 pub(crate) struct WriterTold<T> {
     pub(crate) wrong: Option<T>,
@@ -10,7 +10,7 @@ pub(crate) struct WriterTold<T> {
 }
 
 impl<T> WriterTold<T> {
-    /// Nothing was told.
+    /// Returns a state in which nothing was logged yet.
     pub(crate) fn new() -> WriterTold<T> {
         WriterTold {
             wrong: None,
@@ -18,7 +18,7 @@ impl<T> WriterTold<T> {
         }
     }
 
-    /// Tells how many more were lost of something, of so many altogether, in a round of so many seconds.
+    /// Logs the number of entries lost in a round of `seconds` seconds. `lost` is the number since the start.
     pub(crate) fn tell_lost<L: Log>(&mut self, log: &L, what: &str, lost: u64, seconds: u64) {
         let more = more_than(&mut self.lost, lost);
         tell_count(log, Level::Warn, &what, more, seconds);

@@ -9,20 +9,20 @@ use Rattle.service_report.specs.declared.metrics.Labels.TheVariants as labels
 use Rattle.service_report.specs.declared.metrics.Sample.{Sample}
 use Rattle.service_report.specs.declared.metrics.Family.{Family}
 
--- an octet of a label's value: a backslash, a quote and the end of a line stand behind a backslash
+-- an octet of a label's value: a backslash, a quote and the end of a line are escaped by a backslash
 abbrev pub value_octet : ℕ → List ℕ
 value_octet octet =
     if octet == 92 then codes "\\\\" else (
     if octet == 34 then codes "\\\"" else (
     if octet == 10 then codes "\\n" else octet ∷ []))
 
--- an octet of a help text: a backslash and the end of a line stand behind a backslash
+-- an octet of a help text: a backslash and the end of a line are escaped by a backslash
 abbrev pub help_octet : ℕ → List ℕ
 help_octet octet =
     if octet == 92 then codes "\\\\" else (
     if octet == 10 then codes "\\n" else octet ∷ [])
 
--- an octet of a label's value, or else of a help text
+-- an octet of a label's value, or otherwise of a help text
 abbrev pub text_octet : Bool → ℕ → List ℕ
 text_octet true = value_octet
 text_octet false = help_octet
@@ -35,7 +35,7 @@ kind_text Gauge = codes "gauge"
 abbrev pub label_text : Label → List ℕ
 label_text label = label.name.now ++ (codes "=\"" ++ (flat_map value_octet label.value.now ++ codes "\""))
 
--- the labels of a sample, in braces, where it has any
+-- the labels of a sample, in braces; nothing if it has none
 abbrev pub labels_text : Labels → List ℕ
 labels_text labels.None = []
 labels_text (labels.One label) = codes "{" ++ (label_text label ++ codes "}")
@@ -68,7 +68,7 @@ scrape_head n =
 abbrev pub scrape_text : List ℕ → List ℕ
 scrape_text text = scrape_head (length text) ++ text
 
--- what stands behind a backslash
+-- the octet that an escaped octet means
 abbrev pub unescaped_octet : ℕ → ℕ
 unescaped_octet octet = if octet == 110 then 10 else octet
 

@@ -1,39 +1,46 @@
 //! The figures of a peer, as metrics.
 ghost use Rattle.std.specs.Prelude.{◌≡◌};
-ghost use Rattle.service_report.specs.Figures.{family_of, value_of};
+ghost use Rattle.service_report.specs.Figures.{family_of, help_of, value_of};
 
 use crate::metrics::{Family, Kind, Sample};
+use crate::reach::Reach;
 
-/// What is known of a peer. Counts begin with the service, and go on at 0 after 2^64 - 1.
+/// The figures of a peer. Counts begin with the service, and wrap to 0 after 2^64 - 1.
 #[derive(Clone, Copy)]
 pub struct PeerFigures<'a> {
     /// The name that the plan gives it.
     pub name: &'a str,
-    /// How many legs it has.
+    /// The number of its legs.
     pub legs: u16,
-    /// How many local call numbers it has.
+    /// The number of its local call numbers.
     pub numbers: u16,
-    /// How many legs of it have ended.
+    /// The number of its ended legs.
     pub legs_ended: u64,
-    /// Milliseconds since its last datagram; none where it was never heard.
+    /// Milliseconds since its last datagram; none if it never sent one.
     pub silent_ms: Option<u64>,
-    /// Datagrams that came from it, whatever became of them.
+    /// Whether it is there.
+    pub reach: Reach,
+    /// Milliseconds since it is unreachable; `None` if it isn't.
+    pub unreachable_ms: Option<u64>,
+    /// Milliseconds from the last POKE that it answered to its PONG; `None` before the first.
+    pub round_trip_ms: Option<u64>,
+    /// Datagrams received from it, whether accepted or refused.
     pub received: u64,
     /// Datagrams that would have opened calls while the service drained.
     pub turned_away: u64,
-    /// Datagrams that went to it.
+    /// Datagrams sent to it.
     pub sent: u64,
-    /// Datagrams that should have gone to it and were lost.
+    /// Datagrams to it that were lost.
     pub lost: u64,
-    /// Octets of media that it brought and were taken in.
+    /// Octets of media accepted from it.
     pub accepted: u64,
-    /// Those that were carried to it and written into frames.
+    /// Octets of media to it that were written into frames.
     pub packed: u64,
-    /// Those that were carried to it and wait for a trunk frame.
+    /// Octets of media to it that wait for a trunk frame.
     pub queued: u64,
-    /// Those that were carried to it and dropped.
+    /// Octets of media to it that were dropped.
     pub dropped: u64,
-    /// Of the dropped ones those that it wanted none of.
+    /// The part of `dropped` that it had quelched.
     pub quelched: u64,
 }
 
@@ -48,6 +55,9 @@ pub enum Figure {
     Numbers,
     LegsEnded,
     Silence,
+    Up,
+    Unreachable,
+    RoundTrip,
     Accepted,
     Packed,
     Queued,
@@ -56,10 +66,12 @@ pub enum Figure {
 }
 
 impl Figure {
-    // What its values do, the name of its family (ASCII letters in lower case and `_`), and what they mean, in a sentence of ASCII.
+    // Returns the kind of its values, the name of its family (lower-case ASCII letters and `_`), and its help text, a
+    // sentence in ASCII.
     fn told(self) -> (Kind, &'static str, &'static str)
         ensures kind { result.0 ≡ (family_of self).0 }
         ensures name { result.1.now ≡ (family_of self).1 }
+        ensures help { result.2.now ≡ help_of self }
     {
         match self {
             Figure::Received => (
@@ -98,6 +110,21 @@ impl Figure {
                 "iax_peer_silence_seconds",
                 "Seconds since the last datagram of the peer.",
             ),
+            Figure::Up => (
+                Kind::Gauge,
+                "iax_peer_up",
+                "Whether the peer is there: 0 if it answers no POKE and sends nothing.",
+            ),
+            Figure::Unreachable => (
+                Kind::Gauge,
+                "iax_peer_unreachable_seconds",
+                "Seconds for which the peer has been unreachable.",
+            ),
+            Figure::RoundTrip => (
+                Kind::Gauge,
+                "iax_peer_round_trip_milliseconds",
+                "Milliseconds between the last POKE that the peer answered and its PONG.",
+            ),
             Figure::Accepted => (
                 Kind::Counter,
                 "iax_media_octets_accepted_total",
@@ -126,10 +153,11 @@ impl Figure {
         }
     }
 
-    /// Its family: whether its values only grow, or grow and shrink, its name, what its values mean, and these samples of it.
+    /// Returns its family with these samples: the kind, the name, and the help text.
     pub fn family<'a>(self, samples: &'a [Sample<'a>]) -> Family<'a>
         ensures kind { result.kind ≡ (family_of self).0 }
         ensures name { result.name.now ≡ (family_of self).1 }
+        ensures help { result.help.now ≡ help_of self }
         ensures samples { result.samples.now ≡ samples.now }
     {
         let (kind, name, help) = self.told();
@@ -141,7 +169,8 @@ impl Figure {
         }
     }
 
-    /// Its value at a peer; none where there is none: the silence of a peer that was never heard. It is in whole seconds.
+    /// Returns its value at a peer. A silence is in whole seconds, and is none if the peer never sent anything. `Up` is 1 or 0,
+    /// and none while it is unknown. `Unreachable`, in whole seconds, is none for every other peer.
     pub fn value(self, peer: &PeerFigures<'_>) -> Option<u64>
         ensures { result ≡ value_of self peer.now }
     {
@@ -157,6 +186,16 @@ impl Figure {
                 Some(ms) => Some(ms / 1000),
                 None => None,
             },
+            Figure::Up => match peer.reach {
+                Reach::Unknown => None,
+                Reach::Up => Some(1),
+                Reach::Unreachable(_) => Some(0),
+            },
+            Figure::Unreachable => match peer.unreachable_ms {
+                Some(ms) => Some(ms / 1000),
+                None => None,
+            },
+            Figure::RoundTrip => peer.round_trip_ms,
             Figure::Accepted => Some(peer.accepted),
             Figure::Packed => Some(peer.packed),
             Figure::Queued => Some(peer.queued),

@@ -1,5 +1,5 @@
-//! What a running service reports: metrics in Prometheus' text form, and when a line of the log is due. Nothing here waits, reads
-//! or writes.
+//! Reports of a running service: metrics in Prometheus' text form, and when a line of the log is due. Nothing here waits,
+//! reads or writes.
 #![tactic(auto)]
 
 mod drops;
@@ -7,7 +7,9 @@ mod figures;
 mod laws;
 mod log_rounds;
 mod metrics;
+mod peer_metrics;
 mod peer_silence;
+mod reach;
 mod scrape;
 mod spelling;
 
@@ -17,4 +19,5 @@ pub use laws::label_values_are_read_back;
 pub use log_rounds::{Rounds, counted_since};
 pub use metrics::{Family, Kind, Label, Labels, Metrics, Sample};
 pub use peer_silence::{Hearing, News, news_of};
+pub use reach::{Reach, reach_of};
 pub use scrape::{Scrape, scrape_of};

@@ -1,19 +1,19 @@
-//! Lines of the log that count something: each is due once a round at most.
+//! Log lines with counts: each is due at most once a round.
 ghost use Rattle.std.specs.Prelude.{◌≡◌, ◌+◌, ◌^◌, ◌⊎◌};
 ghost use Rattle.service_report.specs.LogRounds.{due, begun};
 
-/// Rounds of so many milliseconds, one after the other.
+/// Consecutive rounds of at least `period` milliseconds.
 #[derive(Clone, Copy)]
 pub struct Rounds {
-    /// How long a round lasts at least, in milliseconds.
+    /// The shortest length of a round, in milliseconds.
     pub period: u64,
-    /// When this one began, in milliseconds.
+    /// The start of the current round, in milliseconds.
     pub since: u64,
 }
 
 impl Rounds {
-    /// How many milliseconds this round has lasted, where it is over at this moment, in milliseconds; then the next begins.
-    /// None where it goes on.
+    /// Returns the length of the current round in milliseconds if it is over at `now`, and begins the next. Returns `None`
+    /// if it isn't over.
     pub fn due(&mut self, now: u64) -> Option<u64>
         ensures due { result ≡ due self.old.period self.old.since now }
         ensures next { self.new ≡ record self.old { since = begun self.old.period self.old.since now } }
@@ -27,7 +27,7 @@ impl Rounds {
     }
 }
 
-/// How many were counted since the count was `told`. Counts go on at 0 after 2^64 - 1.
+/// Returns the increase since the count was `told`. Counts wrap to 0 after 2^64 - 1.
 pub fn counted_since(told: u64, count: u64) -> u64
     ensures later { told + result ≡ count ⊎ told + result ≡ count + 2 ^ 64 }
 {

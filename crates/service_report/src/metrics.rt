@@ -6,10 +6,10 @@ use crate::spelling::{family_octets, head_octets};
 use std::alloc::{AllocError, Global};
 use std::marker::Model;
 
-/// What the values of a family do.
+/// The kind of a family's values.
 #[derive(Clone, Copy)]
 pub enum Kind {
-    /// They only grow, until the service begins anew.
+    /// They only grow, until the service restarts.
     Counter,
     /// They grow and shrink.
     Gauge,
@@ -32,19 +32,19 @@ pub enum Labels<'a> {
     Two(Label<'a>, Label<'a>),
 }
 
-/// One value, of what its labels name.
+/// One value, for the labels that it has.
 #[derive(Clone, Copy)]
 pub struct Sample<'a> {
     pub labels: Labels<'a>,
     pub value: u64,
 }
 
-/// A metric family: what is told of it, and its samples.
+/// A metric family: its description and its samples.
 #[derive(Clone, Copy)]
 pub struct Family<'a> {
     /// Letters, digits and `_`.
     pub name: &'a str,
-    /// What its values mean.
+    /// The meaning of its values.
     pub help: &'a str,
     pub kind: Kind,
     pub samples: &'a [Sample<'a>],
@@ -65,7 +65,7 @@ impl Model for Metrics {
 }
 
 impl Metrics {
-    /// No families yet. It takes no memory.
+    /// Returns an empty list of families. It takes no memory.
     pub fn new(alloc: Global) -> Metrics
         ensures { result ≡ [] }
     {
@@ -74,7 +74,7 @@ impl Metrics {
         }
     }
 
-    /// One more family, behind the others.
+    /// Adds a family behind the others.
     ///
     /// `AllocError`: a request for memory was refused. Then the others stay as they were.
     pub fn push(&mut self, alloc: Global, family: &Family<'_>) -> Result<(), AllocError>
@@ -85,7 +85,7 @@ impl Metrics {
         self.text.extend_from_slice(&octets)
     }
 
-    /// The octets that go to the client: the head of an answer in HTTP/1.1, an empty line, the families.
+    /// Returns the octets for the client: the head of an HTTP/1.1 answer, an empty line, and the families.
     ///
     /// `AllocError`: a request for memory was refused. Then the families are dropped.
     pub fn into_answer(self, alloc: Global) -> Result<Vec<u8>, AllocError>

@@ -1,30 +1,30 @@
-//! What the log says of a peer that begins to talk, falls silent, and talks again.
+//! The log's news of a peer that begins to answer, falls silent, and answers again.
 ghost use Rattle.std.specs.Prelude.{◌≡◌};
 ghost use Rattle.service_report.specs.PeerSilence.{news_by, news_of};
 
-/// How a peer is, as far as the log has told.
+/// The state of a peer, as the log last reported it.
 #[derive(Clone, Copy)]
 pub enum Hearing {
-    /// It was never heard.
+    /// It never sent a datagram.
     Never,
-    /// It talks.
+    /// It sends datagrams.
     Heard,
     /// It is silent for longer than the limit.
     Silent,
 }
 
-/// What is to be told of a peer.
+/// The log's news of a peer.
 #[derive(Clone, Copy)]
 pub enum News {
-    /// It was heard for the first time.
+    /// Its first datagram came.
     FirstWord,
-    /// It is silent for so many milliseconds, more than the limit.
+    /// It is silent for this number of milliseconds, more than the limit.
     Silent(u64),
-    /// It was silent, and was heard.
+    /// It was silent, and a datagram came.
     HeardAgain,
 }
 
-// The same of a peer that was heard, and is silent for so many milliseconds.
+// Returns the news of a peer whose last datagram came `silent` milliseconds ago.
 fn news_by(before: Hearing, limit: u64, silent: u64) -> (Hearing, Option<News>)
     ensures { result ≡ news_by before limit silent }
 {
@@ -38,8 +38,9 @@ fn news_by(before: Hearing, limit: u64, silent: u64) -> (Hearing, Option<News>)
     }
 }
 
-/// How a peer is at this moment, and what is to be told of it: its first word; once that it is silent for more than `limit`
-/// milliseconds; once that it is heard again. `heard` is when it was last heard, in milliseconds as `now`; none if it never was.
+/// Returns the state of a peer at `now`, and its news: its first datagram, the end of a silence, or the first moment at
+/// which it is silent for more than `limit` milliseconds. `heard` is the moment of its last datagram, in milliseconds as
+/// `now`; none if it never sent one.
 pub fn news_of(before: Hearing, heard: Option<u64>, now: u64, limit: u64) -> (Hearing, Option<News>)
     ensures { result ≡ news_of before heard now limit }
 {

@@ -1,20 +1,19 @@
-//! What a client of the metrics' address asks for.
+//! Requests to the metrics' address.
 ghost use Rattle.std.specs.Prelude.{◌≡◌};
 ghost use Rattle.service_report.specs.Scrape.{scrape_of};
 
-/// What a request to the address of the metrics asks for.
+/// The meaning of a request to the metrics' address.
 #[derive(Clone, Copy)]
 pub enum Scrape {
     /// `GET /metrics`
     Metrics,
-    /// The path is there, and has another method: GET alone.
+    /// The path exists, but allows only GET.
     NotAllowed,
-    /// There is no such path. One with a query has none either.
+    /// The path doesn't exist. A path with a query doesn't either.
     NotFound,
 }
 
-/// What a method and a path ask for: `NotFound` where the path isn't `/metrics`, then `NotAllowed` where the method isn't
-/// `GET`.
+/// Judges a method and a path: `NotFound` if the path isn't `/metrics`, then `NotAllowed` if the method isn't `GET`.
 pub fn scrape_of(method: &str, path: &str) -> Scrape
     ensures { result ≡ scrape_of method.now path.now }
 {

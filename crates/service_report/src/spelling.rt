@@ -18,7 +18,7 @@ enum Piece<'a> {
     Help(&'a str),
 }
 
-// Adds an octet of a label's value, or of a help text, in which a quote is nothing special.
+// Adds an octet of a label's value, or of a help text, in which a quote needs no escape.
 fn push_octet(octets: &mut Vec<u8>, octet: u8, is_value: bool) -> Result<(), AllocError>
     ensures { OnOk result (octets.new.items ≡ octets.old.items ++ text_octet is_value octet) }
 {
@@ -88,7 +88,7 @@ fn push_labels(octets: &mut Vec<u8>, labels: Labels<'_>) -> Result<(), AllocErro
     }
 }
 
-// A sample's line, of which this is all behind the labels.
+// Adds a sample's line: the name, the labels and the value.
 fn push_line(
     octets: &mut Vec<u8>,
     name: &str,
@@ -128,7 +128,7 @@ fn push_samples(
     Ok(())
 }
 
-// A line of comment: a word, the name of a family, and what is told of it.
+// Adds a comment line: a keyword, the name of a family, and its kind or help text.
 fn push_comment<'x>(
     octets: &mut Vec<u8>,
     word: &'x str,
@@ -161,7 +161,7 @@ fn push_type_line(octets: &mut Vec<u8>, name: &str, kind: Kind) -> Result<(), Al
     push_comment(octets, "# TYPE ", name, Piece::Plain(kind))
 }
 
-/// A family in the text form.
+/// Returns a family in the text form.
 pub(crate) fn family_octets(alloc: Global, family: &Family<'_>) -> Result<Vec<u8>, AllocError>
     ensures { IfOk result (λ octets. octets.items ≡ family_text family.now) }
 {
@@ -172,7 +172,7 @@ pub(crate) fn family_octets(alloc: Global, family: &Family<'_>) -> Result<Vec<u8
     Ok(octets)
 }
 
-/// The head of the answer to a scrape, with the octets of its body.
+/// Returns the head of the answer to a scrape, with the octets of its body.
 pub(crate) fn head_octets(alloc: Global, length: usize) -> Result<Vec<u8>, AllocError>
     ensures { IfOk result (λ octets. octets.items ≡ scrape_head length) }
 {

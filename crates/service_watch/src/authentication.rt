@@ -1,4 +1,4 @@
-//! Authentication that failed, as a leg that has ended shows it.
+//! Failed authentication, as the row of an ended leg shows it.
 use call_records::{CallRow, Ending};
 use call_signals::Failure;
 
@@ -7,7 +7,7 @@ use call_signals::Failure;
 pub enum AuthFailure {
     /// The answer to the challenge was wrong: the call was rejected before it was offered.
     WrongAnswer,
-    /// No answer came in time (plan format 4).
+    /// No answer came in time (plan version 4).
     NoAnswer,
 }
 
@@ -15,7 +15,7 @@ pub enum AuthFailure {
 pub const AUTH_FAILURES: [AuthFailure; 2] = [AuthFailure::WrongAnswer, AuthFailure::NoAnswer];
 
 impl AuthFailure {
-    /// Its name in metrics.
+    /// Returns its name in metrics.
     pub fn name(self) -> &'static str {
         match self {
             AuthFailure::WrongAnswer => "WrongAnswer",
@@ -23,7 +23,7 @@ impl AuthFailure {
         }
     }
 
-    /// How the authentication of the call of a leg that has ended failed, if it did.
+    /// Returns how the authentication of an ended leg's call failed, if it did.
     pub fn of(leg: &CallRow) -> Option<AuthFailure> {
         if leg.failure == Some(Failure::ChallengeTimeout) {
             return Some(AuthFailure::NoAnswer);

@@ -1,5 +1,5 @@
-//! What the workers of a service tell and are told, their wakers, and what the system drops at their sockets: for clients and for
-//! the log.
+//! State that the workers of a service share with clients and the log: events, wakers, and the drops at the workers'
+//! sockets.
 #![tactic(auto)]
 
 mod authentication;

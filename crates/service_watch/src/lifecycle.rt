@@ -1,4 +1,4 @@
-//! How far a service is.
+//! The lifecycle of a service.
 use std::sync::atomic::{AtomicBool, AtomicU64, Ordering};
 use worker_watch::ServiceStage;
 
@@ -8,8 +8,8 @@ const DRAINING: u64 = 1;
 
 const ENDED: u64 = 2;
 
-/// How far a service is: whether it takes new calls, whether it waits for the last one, and whether it stops or has ended. All threads
-/// share it.
+/// The lifecycle of a service: whether it takes new calls, ends with the last call, stops, or has ended. All threads share
+/// it.
 #[derive(Drop)]
 pub struct Lifecycle {
     stage: AtomicU64,
@@ -19,7 +19,7 @@ pub struct Lifecycle {
 }
 
 impl Lifecycle {
-    // A service that serves.
+    // Returns the lifecycle of a running service.
     pub(crate) fn new() -> Lifecycle {
         Lifecycle {
             stage: AtomicU64::new(SERVING),
@@ -28,7 +28,8 @@ impl Lifecycle {
         }
     }
 
-    /// Notes whether new calls are rejected. Returns false, and new calls are still rejected, if a graceful stop was asked for before.
+    /// Sets whether new calls are rejected. Returns false after a graceful stop was requested: new calls are then still
+    /// rejected.
     pub fn drain(&self, drains: bool) -> bool {
         if self.ends_with_calls() && !drains {
             return false;
@@ -37,23 +38,23 @@ impl Lifecycle {
         true
     }
 
-    /// Whether new calls are rejected, while those that are there continue.
+    /// Returns whether new calls are rejected while current calls continue.
     pub fn drains(&self) -> bool {
         self.drains.load(Ordering::SeqCst)
     }
 
-    /// Has the workers end once no leg is left; new calls are rejected from now on.
+    /// Rejects new calls, and ends the workers once no leg is left.
     pub fn stop_gracefully(&self) {
         self.drains.store(true, Ordering::SeqCst);
         self.ends_with_calls.store(true, Ordering::SeqCst);
     }
 
-    /// Whether the workers end once no leg is left.
+    /// Returns whether the workers end once no leg is left.
     pub fn ends_with_calls(&self) -> bool {
         self.ends_with_calls.load(Ordering::SeqCst)
     }
 
-    /// Has the service hang up its calls and end; if it does so already, has its workers end at once.
+    /// Hangs up all calls and then ends the service. If the service stops already, ends its workers at once.
     pub fn stop(&self) {
         if self.stage.load(Ordering::SeqCst) == SERVING {
             self.stage.store(DRAINING, Ordering::SeqCst);
@@ -62,22 +63,22 @@ impl Lifecycle {
         }
     }
 
-    /// Has the workers end: none of them begins a further turn.
+    /// Ends the workers: none begins another turn.
     pub fn end(&self) {
         self.stage.store(ENDED, Ordering::SeqCst);
     }
 
-    /// Whether it was told to stop, and its workers still run.
+    /// Returns whether a stop was requested and the workers still run.
     pub fn is_stopping(&self) -> bool {
         self.stage.load(Ordering::SeqCst) == DRAINING
     }
 
-    /// Whether its workers are told to end.
+    /// Returns whether the workers are to end.
     pub fn has_ended(&self) -> bool {
         self.stage.load(Ordering::SeqCst) == ENDED
     }
 
-    // What the workers ask for.
+    // Returns the stage that the workers read.
     pub(crate) fn stage(&self) -> ServiceStage {
         if self.has_ended() {
             ServiceStage::Ended

@@ -1,19 +1,19 @@
-//! What is to be told one by one: it is kept until somebody takes it.
+//! Events that are kept one by one until the log takes them.
 use std::alloc::{AllocError, Global};
 use std::mem;
 use std::sync::atomic::{AtomicU64, Ordering};
 use std::sync::{Mutex, Wait};
 
-/// A list that threads add to without waiting, where there is room and nobody else looks.
+/// A list to which threads add without waiting. An event is lost if the list is full or another thread has locked it.
 #[derive(Drop)]
 pub(crate) struct Noted<T: Drop> {
     list: Mutex<Vec<T>>,
-    // How many found no place, modulo 2^64.
+    // The number of lost events, modulo 2^64.
     lost: AtomicU64,
 }
 
 impl<T: Drop> Noted<T> {
-    /// Room for so many.
+    /// Returns a list with room for `room` events.
     ///
     /// `AllocError`: a request for memory was refused.
     pub(crate) fn new(alloc: Global, room: usize) -> Result<Noted<T>, AllocError> {
@@ -24,7 +24,7 @@ impl<T: Drop> Noted<T> {
         })
     }
 
-    /// Adds one, or counts that it is lost.
+    /// Adds an event, or counts it as lost.
     pub(crate) fn note(&self, one: T) {
         if let Some(mut list) = self.list.try_lock() {
             if list.len() < list.capacity() && list.push(one).is_ok() {
@@ -34,13 +34,13 @@ impl<T: Drop> Noted<T> {
         self.lost.fetch_add(1, Ordering::Relaxed);
     }
 
-    /// Gives what is there. The list `spare` takes its place, as it is.
+    /// Takes the events. The list `spare` replaces theirs, with its content.
     pub(crate) fn take<R: Wait>(&self, rt: &R, spare: Vec<T>) -> Vec<T> {
         let mut list = self.list.lock(rt);
         mem::replace(&mut *list, spare)
     }
 
-    /// How many were lost, modulo 2^64.
+    /// Returns the number of lost events, modulo 2^64.
     pub(crate) fn lost(&self) -> u64 {
         self.lost.load(Ordering::Relaxed)
     }

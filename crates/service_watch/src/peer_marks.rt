@@ -1,4 +1,4 @@
-//! What is counted of a peer of a service.
+//! The counters of a peer of a service.
 use crate::authentication::AuthFailure;
 use crate::reasons::REASONS;
 use exchange_core::{Refusal, Rejection};
@@ -6,7 +6,7 @@ use std::alloc::{AllocError, Global};
 use std::iter;
 use std::sync::atomic::{AtomicU64, Ordering};
 
-/// Why a datagram of a peer is refused: all reasons but `Stranger`.
+/// The reasons for which a peer's datagram is refused: all but `Stranger`.
 pub const REFUSALS: [Refusal; 15] = [
     Refusal::StepsSpent,
     Refusal::TooLong,
@@ -25,7 +25,7 @@ pub const REFUSALS: [Refusal; 15] = [
     Refusal::Memory,
 ];
 
-/// What steps report of datagrams of a peer that came to be turned away.
+/// The rejections that steps report of a peer's datagrams.
 pub const REJECTIONS: [Rejection; 5] = [
     Rejection::NoNumber,
     Rejection::Draining,
@@ -34,19 +34,19 @@ pub const REJECTIONS: [Rejection; 5] = [
     Rejection::Reflection,
 ];
 
-// How many datagrams were refused for one reason.
+// The number of datagrams refused for one reason.
 #[derive(Drop)]
 struct RefusalCount {
     refusal: Refusal,
     count: AtomicU64,
 }
 
-// What is counted of a peer since the service began, modulo 2^64.
+// The counters of a peer since the service began, modulo 2^64.
 #[derive(Drop)]
 pub(crate) struct PeerMarks {
-    // The worker that serves it.
+    // The place of the worker that serves it.
     pub(crate) worker: u16,
-    // One more than the moment at which it was last heard, in milliseconds; 0 if it never was.
+    // The moment of its last datagram plus 1, in milliseconds; 0 if there was none.
     pub(crate) heard: AtomicU64,
     pub(crate) received: AtomicU64,
     pub(crate) refused: AtomicU64,
@@ -66,13 +66,13 @@ pub(crate) struct PeerMarks {
     pub(crate) legs_ended: AtomicU64,
 }
 
-/// What is counted of a peer since the service began, modulo 2^64: its datagrams, and its legs that have ended.
+/// The counters of a peer since the service began, modulo 2^64: its datagrams, and its ended legs.
 #[derive(Clone, Copy, Default)]
 pub struct PeerMarksRead {
-    /// The moment at which it was last heard, in milliseconds since the exchange was opened.
+    /// The moment of its last datagram, in milliseconds since the exchange was opened.
     pub heard: Option<u64>,
     pub received: u64,
-    /// Those that were turned away among them.
+    /// The number of these that were turned away.
     pub refused: u64,
     pub turned_away: u64,
     pub sent: u64,
@@ -80,7 +80,7 @@ pub struct PeerMarksRead {
     pub legs_ended: u64,
 }
 
-// No datagram was refused for any reason.
+// Returns a count of 0 for each reason of a refusal.
 fn refusal_counts(alloc: Global) -> Result<Vec<RefusalCount>, AllocError> {
     let mut counts = Vec::with_capacity(alloc, REFUSALS.len())?;
     for refusal in &REFUSALS {
@@ -92,7 +92,7 @@ fn refusal_counts(alloc: Global) -> Result<Vec<RefusalCount>, AllocError> {
     Ok(counts)
 }
 
-// No call failed for any reason.
+// Returns a count of 0 for each reason of a failed call.
 fn reason_counts(alloc: Global) -> Result<Vec<AtomicU64>, AllocError> {
     let mut counts = Vec::with_capacity(alloc, REASONS.len())?;
     for _ in &REASONS {
@@ -104,7 +104,7 @@ fn reason_counts(alloc: Global) -> Result<Vec<AtomicU64>, AllocError> {
 }
 
 impl PeerMarks {
-    // Nothing was heard of it, and nothing was sent to it.
+    // Returns the counters of a peer before its first datagram.
     pub(crate) fn new(alloc: Global, worker: u16) -> Result<PeerMarks, AllocError> {
         Ok(PeerMarks {
             worker,
@@ -127,7 +127,7 @@ impl PeerMarks {
         })
     }
 
-    // How many datagrams were refused for this reason.
+    // Returns the count of datagrams refused for this reason.
     pub(crate) fn refused_for(&self, refusal: Refusal) -> Option<&AtomicU64> {
         for it in &self.by_refusal {
             if it.refusal == refusal {
@@ -137,7 +137,7 @@ impl PeerMarks {
         None
     }
 
-    // How many datagrams this was reported of.
+    // Returns the count of datagrams with this rejection.
     pub(crate) fn rejected(&self, rejection: Rejection) -> &AtomicU64 {
         match rejection {
             Rejection::NoNumber => &self.without_number,
@@ -148,7 +148,7 @@ impl PeerMarks {
         }
     }
 
-    // How many of its calls failed for the reason of this name.
+    // Returns the count of calls that failed for the reason of this name.
     pub(crate) fn failed(&self, reason: &str) -> Option<&AtomicU64> {
         for (name, count) in iter::zip(&REASONS, &self.by_reason) {
             if *name == reason {
@@ -158,7 +158,7 @@ impl PeerMarks {
         None
     }
 
-    // How many of its calls failed to authenticate so.
+    // Returns the count of calls that failed to authenticate in this way.
     pub(crate) fn unauthenticated(&self, failure: AuthFailure) -> &AtomicU64 {
         match failure {
             AuthFailure::WrongAnswer => &self.wrong_answers,
@@ -179,7 +179,7 @@ impl PeerMarks {
     }
 }
 
-// One more, modulo 2^64.
+// Adds 1, modulo 2^64.
 pub(crate) fn count_one(count: &AtomicU64) {
     count.fetch_add(1, Ordering::Relaxed);
 }

@@ -1,4 +1,4 @@
-//! Why calls failed, as they are counted.
+//! The reasons why calls failed, by which they are counted.
 
 /// The names that the column `reason` of call records has (`docs/RECORDS.md`).
 pub const REASONS: [&str; 10] = [

@@ -1,4 +1,4 @@
-//! What the workers of a service ask, and what they tell of each peer.
+//! The stage that the workers of a service read, and the events that they report of each peer.
 ghost use Rattle.std.specs.Prelude.{◌≡◌};
 
 use crate::authentication::AuthFailure;
@@ -19,13 +19,13 @@ use trace_writer::Trace;
 use udp_wires::WireWaker;
 use worker_watch::{Event, ServiceStage, Watch};
 
-/// How many endpoints of strangers are kept until the log takes them.
+/// The number of strangers' endpoints that are kept until the log takes them.
 pub const STRANGERS: usize = 256;
 
-/// How many refusals, and how many ended legs, are kept until the log takes them.
+/// The number of refusals, and of ended legs, that are kept until the log takes them.
 pub const NOTED: usize = 1024;
 
-/// What the log wants to be told one by one.
+/// The kinds of events that the log wants one by one.
 #[derive(Clone, Copy)]
 pub struct Wanted {
     /// Each datagram of a peer that is refused.
@@ -34,26 +34,26 @@ pub struct Wanted {
     pub ends: bool,
 }
 
-/// How far a service is, and what its workers tell of each peer. All threads share it.
+/// The stage of a service, and the events of its workers, by peer. All threads share it.
 pub struct ServiceWatch {
     lifecycle: Lifecycle,
     peers: Vec<PeerMarks>,
     strangers: AtomicU64,
     faults: AtomicU64,
-    // The strangers that the log hasn't taken yet.
+    // The endpoints of strangers that the log hasn't taken yet.
     seen: Mutex<Vec<Endpoint>>,
-    // The refusals, and the legs that have ended, that the log hasn't taken yet, where it wants them.
+    // The refusals and the ended legs that the log hasn't taken yet, if it wants them.
     wanted: Wanted,
     refusals: Noted<(u16, Refusal)>,
     ends: Noted<CallRow>,
     wakers: WakerTable,
-    // Where the rows of ended legs go, if they are wanted.
+    // The outlets for the rows of ended legs, if a file of call records is written.
     calls: Option<CallOutlets>,
-    // Where it is noted what the exchange is given, if that is wanted.
+    // The trace of the exchange's input, if one is written.
     trace: Option<Trace>,
 }
 
-// (Written out, so that whoever owns one proves a call where it is dropped, and not the drop of each field.)
+// Written out, so that an owner proves one call at its drop, not the drop of each field.
 impl Drop for ServiceWatch {
     fn drop(self) {
         let ServiceWatch {
@@ -72,7 +72,7 @@ impl Drop for ServiceWatch {
     }
 }
 
-// Room for what the log wants to be told one by one.
+// Reserves room for the events that the log wants one by one.
 fn noted_of(
     alloc: Global,
     wanted: Wanted,
@@ -82,7 +82,7 @@ fn noted_of(
     Ok((refusals, ends))
 }
 
-// The peers of a plan, of which nothing was heard, room for strangers, and for the wakers of the workers.
+// Returns a plan's peers before their first datagram, and room for strangers and the workers' wakers.
 fn room_of(
     alloc: Global,
     plan: &Plan,
@@ -100,10 +100,11 @@ fn room_of(
 }
 
 impl ServiceWatch {
-    /// A service that serves, with the peers of a plan, of which nothing was heard. The rows of ended legs go to these outlets,
-    /// if there are some, and what the exchange is given is noted in the trace, if there is one. What is wanted is kept for the log.
+    /// Returns the watch of a running service with a plan's peers, before their first datagram. The rows of ended legs go
+    /// to `calls`, and the exchange's input to `trace`, if these are given. Events of the `wanted` kinds are kept for the
+    /// log.
     ///
-    /// `AllocError`: a request for memory was refused.
+    /// Returns `AllocError` if a request for memory was refused.
     pub fn new(
         alloc: Global,
         plan: &Plan,
@@ -128,7 +129,7 @@ impl ServiceWatch {
         })
     }
 
-    /// What was counted of a peer, by its place in the plan; nothing of a place where there is none.
+    /// Returns the counters of the peer at this place of the plan, or zeros if the plan has no such place.
     pub fn marks(&self, peer: u16) -> PeerMarksRead {
         match self.peers.get(usize::from(peer)) {
             Some(marks) => marks.read(),
@@ -136,8 +137,8 @@ impl ServiceWatch {
         }
     }
 
-    /// How many datagrams of a peer, by its place in the plan, were refused for this reason, modulo 2^64; 0 of a place where
-    /// there is none.
+    /// Returns the number of a peer's datagrams that were refused for this reason, modulo 2^64. `peer` is a place in the
+    /// plan; if there is none, the number is 0.
     pub fn refused_for(&self, peer: u16, refusal: Refusal) -> u64 {
         match self.peers.get(usize::from(peer)) {
             Some(marks) => match marks.refused_for(refusal) {
@@ -148,8 +149,8 @@ impl ServiceWatch {
         }
     }
 
-    /// How many datagrams of a peer, by its place in the plan, were answered by this rejection, modulo 2^64; 0 of a place where
-    /// there is none.
+    /// Returns the number of a peer's datagrams that were answered by this rejection, modulo 2^64. `peer` is a place in the
+    /// plan; if there is none, the number is 0.
     pub fn rejected(&self, peer: u16, rejection: Rejection) -> u64 {
         match self.peers.get(usize::from(peer)) {
             Some(marks) => marks.rejected(rejection).load(Ordering::Relaxed),
@@ -157,7 +158,8 @@ impl ServiceWatch {
         }
     }
 
-    /// How many calls of a peer, by its place in the plan, failed to authenticate so, modulo 2^64; 0 of a place where there is none.
+    /// Returns the number of a peer's calls that failed to authenticate in this way, modulo 2^64. `peer` is a place in the
+    /// plan; if there is none, the number is 0.
     pub fn unauthenticated(&self, peer: u16, failure: AuthFailure) -> u64 {
         match self.peers.get(usize::from(peer)) {
             Some(marks) => marks.unauthenticated(failure).load(Ordering::Relaxed),
@@ -165,8 +167,8 @@ impl ServiceWatch {
         }
     }
 
-    /// How many calls of a peer, by its place in the plan, failed for the reason of this name, modulo 2^64; 0 of a place where there is
-    /// none.
+    /// Returns the number of a peer's calls that failed for the reason of this name, modulo 2^64. `peer` is a place in the
+    /// plan; if there is none, the number is 0.
     pub fn failed(&self, peer: u16, reason: &str) -> u64 {
         match self.peers.get(usize::from(peer)) {
             Some(marks) => match marks.failed(reason) {
@@ -177,35 +179,35 @@ impl ServiceWatch {
         }
     }
 
-    /// Where the rows of ended legs go, if they are wanted.
+    /// Returns the outlets for the rows of ended legs, if a file of call records is written.
     pub fn calls(&self) -> Option<&CallOutlets> {
         self.calls.as_ref()
     }
 
-    /// Where it is noted what the exchange is given, if that is wanted.
+    /// Returns the trace of the exchange's input, if one is written.
     pub fn trace(&self) -> Option<&Trace> {
         self.trace.as_ref()
     }
 
-    /// How many datagrams came from strangers, modulo 2^64.
+    /// Returns the number of datagrams from strangers, modulo 2^64.
     pub fn strangers(&self) -> u64 {
         self.strangers.load(Ordering::Relaxed)
     }
 
-    /// How many calls of the sockets failed, modulo 2^64.
+    /// Returns the number of failed calls of the sockets, modulo 2^64.
     pub fn faults(&self) -> u64 {
         self.faults.load(Ordering::Relaxed)
     }
 
-    /// Gives the endpoints of the strangers that came since they were taken, at most as many as the list had room for. The list
-    /// `spare` takes its place, as it is.
+    /// Takes the endpoints of new strangers, at most as many as the list had room for. The list `spare` replaces theirs,
+    /// with its content.
     pub fn take_strangers<R: Wait>(&self, rt: &R, spare: Vec<Endpoint>) -> Vec<Endpoint> {
         let mut seen = self.seen.lock(rt);
         mem::replace(&mut *seen, spare)
     }
 
-    /// Gives the refusals since they were taken, each with the place of its peer, where they are wanted. The list `spare` takes
-    /// their place, as it is.
+    /// Takes the new refusals, each with the place of its peer, if they are wanted. The list `spare` replaces theirs, with
+    /// its content.
     pub fn take_refusals<R: Wait>(
         &self,
         rt: &R,
@@ -214,12 +216,13 @@ impl ServiceWatch {
         self.refusals.take(rt, spare)
     }
 
-    /// Gives the legs that have ended since they were taken, where they are wanted. The list `spare` takes their place, as it is.
+    /// Takes the legs that have ended since the last call, if they are wanted. The list `spare` replaces theirs, with its
+    /// content.
     pub fn take_ends<R: Wait>(&self, rt: &R, spare: Vec<CallRow>) -> Vec<CallRow> {
         self.ends.take(rt, spare)
     }
 
-    /// How many legs that have ended found no place among those that are kept, modulo 2^64.
+    /// Returns the number of ended legs for which the kept list had no place, modulo 2^64.
     pub fn lost_ends(&self) -> u64 {
         self.ends.lost()
     }
@@ -234,12 +237,12 @@ impl ServiceWatch {
         self.wakers.wake_all();
     }
 
-    /// How far the service is.
+    /// Returns the lifecycle of the service.
     pub fn lifecycle(&self) -> &Lifecycle {
         &self.lifecycle
     }
 
-    // A datagram of a peer was received.
+    // Counts a datagram received from a peer.
     fn hear(&self, peer: u16, now: u64) {
         if let Some(marks) = self.peers.get(usize::from(peer)) {
             marks.heard.store(now.saturating_add(1), Ordering::Relaxed);
@@ -247,7 +250,7 @@ impl ServiceWatch {
         }
     }
 
-    // A datagram of a peer did nothing.
+    // Counts a datagram of a peer that had no effect.
     fn refuse(&self, peer: u16, refusal: Refusal) {
         if let Some(marks) = self.peers.get(usize::from(peer)) {
             count_one(&marks.refused);
@@ -276,14 +279,14 @@ impl ServiceWatch {
         }
     }
 
-    // What a datagram of a peer asked for was rejected by the answer.
+    // Counts a request of a peer that the answer rejected.
     fn reject(&self, peer: u16, rejection: Rejection) {
         if let Some(marks) = self.peers.get(usize::from(peer)) {
             count_one(marks.rejected(rejection));
         }
     }
 
-    // A datagram of a peer wasn't handed on.
+    // Counts a datagram of a peer that wasn't passed to the exchange.
     fn turn_away(&self, peer: u16) {
         if let Some(marks) = self.peers.get(usize::from(peer)) {
             count_one(&marks.refused);
@@ -294,14 +297,15 @@ impl ServiceWatch {
         }
     }
 
-    // A leg of a peer was taken out.
+    // Counts a leg of a peer that was taken out.
     fn end_leg(&self, peer: u16) {
         if let Some(marks) = self.peers.get(usize::from(peer)) {
             count_one(&marks.legs_ended);
         }
     }
 
-    // A datagram of a stranger came. It is kept for the log where there is room, and nobody else looks.
+    // Counts a datagram of a stranger. Its endpoint is kept for the log if there is room and no other thread has locked the
+    // list.
     fn see_stranger(&self, from: Endpoint) {
         count_one(&self.strangers);
         if let Some(mut seen) = self.seen.try_lock() {
@@ -311,7 +315,7 @@ impl ServiceWatch {
         }
     }
 
-    // A datagram to a peer was sent, or lost.
+    // Counts a datagram to a peer as sent or lost.
     fn send(&self, peer: u16, lost: bool) {
         if let Some(marks) = self.peers.get(usize::from(peer)) {
             count_one(if lost { &marks.lost } else { &marks.sent });
@@ -348,7 +352,7 @@ impl Watch for ServiceWatch {
         }
     }
 
-    // A service lacks no worker: where a thread is refused, the others end.
+    // A service runs with all workers or none: if a thread is refused, the others end.
     fn no_thread(&self) {
         self.lifecycle.end();
     }

@@ -1,6 +1,5 @@
-//! How many datagrams the system dropped at the sockets of a plan's workers, as its table of UDP sockets has it: at all that
-//! have a worker's endpoint, its own and those that are connected to its peers. Workers of one endpoint have one count, that of
-//! all of them.
+//! The datagrams that the system dropped at the workers' sockets, from its table of UDP sockets. A worker's endpoint has
+//! the worker's own socket and those connected to its peers. Workers of one endpoint share one count.
 ghost use Rattle.std.specs.Prelude.{◌≡◌, ◌⊎◌, IfOk, length, vec_len};
 
 use peer_plan::{Endpoint, Plan};
@@ -10,31 +9,31 @@ use std::fs::{File, Files};
 use std::io;
 use std::io::{Read, Seek, SeekFrom};
 
-/// What was dropped at the sockets of a worker.
+/// The datagrams dropped at a worker's sockets.
 #[derive(Drop)]
 pub struct DropCount {
     /// The place of the worker, in digits.
     pub worker: String,
-    /// None where the table has none of them.
+    /// None if the table has none of its sockets.
     pub drops: Option<u64>,
 }
 
-/// The system's table of UDP sockets, which is read anew each time.
+/// The system's table of UDP sockets, which each query reads again from its start.
 #[derive(Drop)]
 pub struct SocketTable {
-    // None where the system has no table.
+    // None if the system has no table.
     file: Option<File>,
 }
 
 impl SocketTable {
-    /// The table `/proc/net/udp`, where the system has one. Where it can't be opened, nothing is known of drops.
+    /// Opens `/proc/net/udp`. If that fails, no drops are known.
     pub fn open<R: Files<File = File>>(rt: &R) -> SocketTable {
         SocketTable {
             file: File::open(rt, "/proc/net/udp").ok(),
         }
     }
 
-    // Its text now. None where it can't be read, or there is no memory.
+    // Returns the current text of the table, or `None` if it can't be read or there is no memory.
     fn text(&mut self, alloc: Global) -> Option<String> {
         let file = self.file.as_mut()?;
         let mut text = String::new(alloc);
@@ -51,14 +50,14 @@ fn read_anew(file: &mut File, text: &mut String) -> io::Result<usize> {
     file.read_to_string(text)
 }
 
-// An endpoint as the table has it: the address as a number in the order of the machine, which has the last octet first.
+// Formats an endpoint as the table does: the address as a number in the machine's octet order, with the last octet first.
 fn local_text(alloc: Global, endpoint: Endpoint) -> Result<String, AllocError> {
     let Endpoint { address, port } = endpoint;
     let [a, b, c, d] = address;
     format!(in alloc; "{d:02X}{c:02X}{b:02X}{a:02X}:{port:04X}")
 }
 
-// What was dropped at the sockets of each of these workers, by the text of the table.
+// Returns the drops at the sockets of each of these workers, by the text of the table.
 fn counts_in(table: &str, alloc: Global, workers: &[Endpoint]) -> Result<Vec<DropCount>, AllocError>
     ensures { IfOk result (λ counts. vec_len counts ≡ length workers.now) }
 {
@@ -74,7 +73,7 @@ fn counts_in(table: &str, alloc: Global, workers: &[Endpoint]) -> Result<Vec<Dro
     Ok(counts)
 }
 
-/// What was dropped at the sockets of each worker, in order. Nothing where there is no table.
+/// Returns the drops at each worker's sockets, in order, or an empty list if there is no table.
 ///
 /// `AllocError`: a request for memory was refused.
 pub fn drop_counts(

@@ -10,7 +10,7 @@ pub(crate) struct WakerTable {
 }
 
 impl WakerTable {
-    /// No worker has a waker yet.
+    /// Returns a table in which no worker has a waker.
     ///
     /// `AllocError`: a request for memory was refused.
     pub(crate) fn new(alloc: Global, workers: usize) -> Result<WakerTable, AllocError> {

@@ -1,12 +1,12 @@
-//! Descriptors: whether one takes octets, how many are free, and the three that each process has.
+//! Descriptors: whether one takes octets, the number of free ones, and the three that each process has.
 use libc::net::{POLLOUT, poll};
 use libc::types::pollfd;
 
-// How many descriptors are looked for at most.
+// The greatest number of descriptors that are looked for.
 const MOST: usize = 128;
 
-/// Whether a descriptor takes octets without waiting: a pipe or a terminal with room, a regular file. One that fails takes them
-/// too, and answers with the error. A pipe with room takes 4,096 octets.
+/// Returns whether a descriptor takes octets without waiting: a pipe or a terminal with room, or a regular file. One that
+/// fails takes them too, and returns the error. A pipe with room takes 4,096 octets.
 pub fn is_writable(descriptor: i32) -> bool {
     let mut asked = [pollfd {
         fd: descriptor,
@@ -16,13 +16,13 @@ pub fn is_writable(descriptor: i32) -> bool {
     poll(&mut asked, 0) != 0
 }
 
-// A descriptor of what has nothing and takes everything, or a number below 0.
+// Returns a descriptor of `/dev/null`, or a number below 0.
 fn open_nothing() -> i32 {
     os::open_update(b"/dev/null")
 }
 
-/// Opens `/dev/null` at each of the descriptors 0 to 2 that is closed, so that no file or socket gets their numbers and what is
-/// written to standard output or standard error.
+/// Opens `/dev/null` at each of the descriptors 0 to 2 that is closed. Otherwise a file or a socket could get their
+/// numbers, and the text for standard output or standard error.
 pub fn fill_standard() {
     for _ in 0..4 {
         let descriptor = open_nothing();
@@ -39,7 +39,7 @@ fn close(descriptor: i32) {
     }
 }
 
-/// Whether the process may open so many descriptors more, at most 128. All of them are closed again.
+/// Returns whether the process may open `count` more descriptors, at most 128. It closes all of them again.
 pub fn has_free(count: usize) -> bool {
     let mut opened = [-1; MOST];
     let mut are_free = true;

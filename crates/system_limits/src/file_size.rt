@@ -6,13 +6,13 @@ use libc::types::rlimit;
 // The limit on the size of files among those that `getrlimit` knows.
 const FILE_SIZE: i32 = 1;
 
-// Where a seek counts from: the end of the file.
+// The origin of a seek: the end of the file.
 const FROM_END: i32 = 2;
 
-/// The system's number of the error "File too large", with which a write beyond the limit fails where the signal is ignored.
+/// The system's number of the error "File too large", with which a write beyond the limit fails if the signal is ignored.
 pub const ABOVE_LIMIT: i32 = 27;
 
-/// How many octets a file may have by the limit of the process; `u64::MAX` without a limit.
+/// Returns the greatest length of a file by the limit of the process, in octets; `u64::MAX` without a limit.
 pub fn file_size_limit() -> u64 {
     let mut limit = rlimit {
         rlim_cur: u64::MAX,
@@ -25,7 +25,7 @@ pub fn file_size_limit() -> u64 {
     }
 }
 
-/// How many of so many octets fit in a file that has `length` octets and may have `limit`.
+/// Returns the number of `octets` octets that fit in a file that has `length` octets and may have `limit`.
 pub fn octets_below(limit: u64, length: u64, octets: usize) -> usize
     ensures most { result ≤ octets }
     ensures within { length ≤ limit → length + result ≤ limit }
@@ -40,8 +40,8 @@ pub fn octets_below(limit: u64, length: u64, octets: usize) -> usize
     }
 }
 
-/// Whether so many octets more, at the end of the file that a descriptor leads to, would pass the limit of the process. Of a pipe,
-/// a socket or a terminal it is false. A descriptor of a file that isn't written at its end is moved there.
+/// Returns whether `octets` more octets, at the end of a descriptor's file, would pass the limit of the process. For a
+/// pipe, a socket or a terminal it returns false. A descriptor of a file that isn't written at its end is moved there.
 pub fn is_above(descriptor: i32, octets: usize) -> bool {
     let limit = file_size_limit();
     if limit == u64::MAX {

@@ -1,8 +1,8 @@
 //! The builder of plans.
 
-/// The text of a plan, put together when it is compiled: its format and further keys of its own; each worker, by its address and
-/// port; each peer, at a port of 127.0.0.1, under a worker, with the codec `ulaw` and further keys; each route, by its prefix and
-/// the peer to which it leads, and further keys. A further key is a line of the text, as `"numbers = 4"`.
+/// The text of a plan, put together at compile time: its version and further keys; each worker, by its address and port;
+/// each peer, at a port of 127.0.0.1, with a worker, the codec `ulaw` and further keys; each route, by its prefix and the
+/// peer to which it leads, and further keys. A further key is a line of the text, as `"numbers = 4"`.
 #[macro_export]
 macro_rules! plan {
     (
@@ -38,8 +38,8 @@ macro_rules! plan {
     };
 }
 
-/// The text of a plan of two peers, with the numbers 1 ..= 4 and 5 ..= 8, and one worker. What begins with `3` leads east. It is
-/// built by `plan` of its format, and of further keys: its own, those of the west, those of the east.
+/// The text of a plan of two peers, with the numbers 1 ..= 4 and 5 ..= 8, and one worker. Numbers that begin with `3` lead
+/// east. `plan` builds it from the version and from further keys: the plan's, those of the west, those of the east.
 #[macro_export]
 macro_rules! west_and_east {
     (

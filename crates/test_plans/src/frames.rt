@@ -1,5 +1,5 @@
-//! Frames of a call: the west calls from call number 7, the exchange calls the east under local number 5, and the east answers
-//! under call number 9. As octets, and those of NEWs in hexadecimal digits too.
+//! Frames of a call, as octets, and NEWs also in hexadecimal digits. The west calls from call number 7, the exchange calls
+//! the east under local number 5, and the east answers under call number 9.
 
 /// A NEW for 300 from call number 7, in hexadecimal digits.
 pub const NEW_300: &str = "8007000000000000000006010b0200020103333030090400000004080400000004";

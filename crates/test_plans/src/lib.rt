@@ -1,4 +1,4 @@
-//! What several crates of tests share: plans and a builder of them, and frames.
+//! Shared parts of several crates of tests: plans and a builder of them, and frames.
 #![tactic(auto)]
 
 mod builder;

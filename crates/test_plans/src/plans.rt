@@ -8,7 +8,7 @@ pub const ONE_WORKER: &str = west_and_east!(
     east;
 );
 
-/// The same, beside a third peer, which sends nothing and is sent nothing.
+/// The same with a third peer, which neither sends nor receives anything.
 pub const SILENT_THIRD: &str = plan!(
     format 1;
     worker "127.0.0.1" 4569;

@@ -4,17 +4,17 @@ ghost use Rattle.std.specs.Prelude.{◌≡◌, ◌++◌, [], Ok, Err, true, fals
 use std::alloc::{AllocError, Global};
 use std::io::Write;
 
-/// What is written. That a request for memory was refused is remembered, and is asked once, of the whole.
+/// A text as it is written. A refused request for memory is remembered, so that one check at the end suffices.
 #[derive(Drop)]
 pub struct TextBuffer {
-    /// What was written.
+    /// The octets written so far.
     pub octets: Vec<u8>,
-    /// Whether a request for memory was refused: not all is there.
+    /// Whether a request for memory was refused, so that a part is missing.
     pub is_cut: bool,
 }
 
 impl TextBuffer {
-    /// Nothing is written. It takes no memory.
+    /// Returns an empty text. It takes no memory.
     pub fn new(alloc: Global) -> TextBuffer
         ensures octets { result.octets.items ≡ [] }
         ensures whole { result.is_cut ≡ false }
@@ -25,7 +25,7 @@ impl TextBuffer {
         }
     }
 
-    /// What was written. `AllocError`: a request for memory was refused.
+    /// Returns the octets, or `AllocError` if a request for memory was refused.
     pub fn into_octets(self) -> Result<Vec<u8>, AllocError>
         ensures octets { IfOk result (λ octets. octets ≡ self.octets) }
         ensures whole { OnErr result (self.is_cut ≡ true) }
@@ -37,7 +37,7 @@ impl TextBuffer {
         Ok(self.octets)
     }
 
-    /// Some octets more.
+    /// Writes octets.
     pub fn put(&mut self, octets: &[u8])
         ensures cut { self.old.is_cut ≡ true → self.new.is_cut ≡ true }
         ensures put { self.old.is_cut ≡ false → self.new.is_cut ≡ false →
@@ -48,7 +48,7 @@ impl TextBuffer {
         }
     }
 
-    /// A text more.
+    /// Writes a text.
     pub fn text(&mut self, text: &str)
         ensures cut { self.old.is_cut ≡ true → self.new.is_cut ≡ true }
         ensures put { self.old.is_cut ≡ false → self.new.is_cut ≡ false →
@@ -57,7 +57,7 @@ impl TextBuffer {
         self.put(text.as_bytes());
     }
 
-    /// A number in decimal digits.
+    /// Writes a number in decimal digits.
     pub fn number(&mut self, number: u64)
         ensures cut { self.old.is_cut ≡ true → self.new.is_cut ≡ true }
         ensures put { self.old.is_cut ≡ false → self.new.is_cut ≡ false →
@@ -68,7 +68,7 @@ impl TextBuffer {
         }
     }
 
-    /// A text, and a number behind it in decimal digits.
+    /// Writes a text, and a number behind it in decimal digits.
     pub fn labelled(&mut self, text: &str, number: u64)
         ensures cut { self.old.is_cut ≡ true → self.new.is_cut ≡ true }
         ensures put { self.old.is_cut ≡ false → self.new.is_cut ≡ false →
@@ -78,7 +78,7 @@ impl TextBuffer {
         self.number(number);
     }
 
-    /// A number in decimal digits, and a text behind it.
+    /// Writes a number in decimal digits, and a text behind it.
     pub fn counted(&mut self, number: u64, text: &str)
         ensures cut { self.old.is_cut ≡ true → self.new.is_cut ≡ true }
         ensures put { self.old.is_cut ≡ false → self.new.is_cut ≡ false →

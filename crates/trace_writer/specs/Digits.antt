@@ -11,6 +11,6 @@ spells_digit octets =
 abbrev pub hidden : List ℕ → List ℕ
 hidden octets = set octets 11 0x30
 
--- what is written of a datagram
+-- the octets that a trace shows of a datagram
 abbrev pub shown : Bool → List ℕ → List ℕ
 shown shows_digits octets = if shows_digits || not (spells_digit octets) then octets else hidden octets

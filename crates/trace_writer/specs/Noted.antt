@@ -1,4 +1,4 @@
--- What is noted of the calls of an exchange: what a thread has handed over, and behind it what it holds
+-- The notes of a thread: the batches that it has handed over, and behind them the batch that it holds.
 use Rattle.std.specs.Prelude.{ℕ, List, ◌++◌}
 use Rattle.std.specs.List.{flat_map}
 use Rattle.trace_writer.specs.declared.mark.Mark.{Mark}

@@ -1,19 +1,20 @@
 //! The calls of an exchange, by all threads, as they begin and end.
 use std::sync::atomic::{AtomicU64, Ordering};
 
-// A call that is open counts 1, one that has begun this.
+// An open call counts 1, and a call that has begun counts this.
 const BEGUN: u64 = 0x1_0000;
 
-/// How many calls have begun, and how many of them are open. Both are one number, so that a call draws its own at one moment.
+/// The number of calls that have begun, and the number of open ones. Both are in one number, so that a call draws its own
+/// at one moment.
 #[derive(Drop)]
 pub(crate) struct Calls {
     counts: AtomicU64,
 }
 
-/// A call that is open.
+/// An open call.
 #[derive(Clone, Copy)]
 pub(crate) struct OpenCall {
-    /// How many calls had begun before it.
+    /// The number of calls that had begun before it.
     pub(crate) number: u64,
     /// Whether another one was open when it began.
     pub(crate) is_beside: bool,
@@ -26,7 +27,7 @@ impl Calls {
         }
     }
 
-    /// A call begins.
+    /// Begins a call.
     pub(crate) fn begin(&self) -> OpenCall {
         let before = self.counts.fetch_add(BEGUN + 1, Ordering::SeqCst);
         OpenCall {
@@ -35,13 +36,14 @@ impl Calls {
         }
     }
 
-    /// It ends. True if another call was open, or began, while it was.
+    /// Ends a call. Returns whether another call was open, or began, while it was.
     pub(crate) fn end(&self, call: OpenCall) -> bool {
         let before = self.counts.fetch_sub(1, Ordering::SeqCst);
         call.is_beside || before / BEGUN != call.number.wrapping_add(1)
     }
 
-    /// It ends, and the same thread's next one begins at the same moment. True if another call was open, or began, while it was.
+    /// Ends a call, and begins the same thread's next one at the same moment. Returns whether another call was open, or began,
+    /// while the first was.
     pub(crate) fn follow(&self, call: OpenCall) -> (bool, OpenCall) {
         let before = self.counts.fetch_add(BEGUN, Ordering::SeqCst);
         let number = before / BEGUN;
@@ -55,7 +57,7 @@ impl Calls {
         )
     }
 
-    /// How many calls have begun, where all of them have ended.
+    /// Returns the number of calls that have begun, if all of them have ended.
     pub(crate) fn begun_if_none_is_open(&self) -> Option<u64> {
         let counts = self.counts.load(Ordering::SeqCst);
         if counts % BEGUN > 0 {
@@ -64,7 +66,7 @@ impl Calls {
         Some(counts / BEGUN)
     }
 
-    /// How many calls have begun.
+    /// Returns the number of calls that have begun.
     pub(crate) fn begun(&self) -> u64 {
         self.counts.load(Ordering::SeqCst) / BEGUN
     }

@@ -5,20 +5,21 @@ use std::os::unix::fs::{DirBuilderExt, MetadataExt, OpenOptionsExt};
 use std::{fs, io};
 use system_limits::user;
 
-/// Where folders and files are made by their names. A thread may be given one, where its maker's file system is a type of its
-/// own: what has `Files` has this.
+/// Makes folders and files by their names. Each type with `Files` has it. A thread can hold one, whatever the type of its
+/// maker's file system is.
 pub trait Folder {
-    /// Makes a folder of this name, with the mode 0700, where there is none.
+    /// Makes a folder of this name, with the mode 0700, if there is none.
     ///
-    /// `PermissionDenied`: the folder that is there is another user's, or others than its owner may look into it.
+    /// Returns `PermissionDenied` if the folder is another user's, or if others may look into it.
     fn make(&self, path: &str) -> io::Result<()>;
 
-    /// Opens the file of a name, to write over it from its beginning. Where there is none it is made, with the mode 0600.
+    /// Opens the file of a name, to overwrite it from its beginning. If there is none, it is made with the mode 0600.
     ///
-    /// `InvalidInput`: what is there is no regular file, but a pipe, a link or a device.
+    /// Returns `InvalidInput` if the name leads to a pipe, a link, a device or another file that isn't regular.
     fn begin(&self, path: &str) -> io::Result<File>;
 
-    /// When the file of a name was changed last, in seconds since the beginning of 1970; none where there is no file.
+    /// Returns the last change of the file of a name, in seconds since the beginning of 1970, or `None` if there is no
+    /// file.
     fn changed(&self, path: &str) -> Option<i64>;
 }
 
@@ -27,12 +28,12 @@ const NOT_PERMITTED: i32 = 13;
 
 const NOT_REGULAR: i32 = 22;
 
-// Whether nobody but the user of the process may look into a folder.
+// Returns whether only the user of the process may look into a folder.
 fn is_own(folder: &Metadata) -> bool {
     folder.is_dir() && folder.uid() == user() && folder.mode() & 0o777 == 0o700
 }
 
-// Whether a regular file may be opened at a path: one is there, or nothing.
+// Returns whether a regular file may be opened at a path: there is one, or nothing.
 fn is_free<R: Files>(rt: &R, path: &str) -> io::Result<bool> {
     match fs::symlink_metadata(rt, path) {
         Ok(found) => Ok(found.is_file()),

@@ -1,11 +1,11 @@
-//! The order in which free numbers are given out, as the lines of a script say it.
+//! The order in which free numbers are given out, and the serial of the next leg, as the lines of a script say them.
 use crate::trace::Trace;
 use peer_plan::Plan;
 use std::alloc::{AllocError, Global};
 use text_buffer::TextBuffer;
 
-// The numbers of a peer that has no leg, each with when it was freed last, as they are given out: those first that never had a
-// leg.
+// Returns the numbers of a peer that has no leg, each with the moment at which it was last freed. They are in the order in
+// which they are given out: first those that never had a leg.
 fn free_numbers(
     alloc: Global,
     trace: &Trace,
@@ -23,7 +23,7 @@ fn free_numbers(
     Ok(numbers)
 }
 
-// The numbers of this list, those that follow one another as `first-last`.
+// Writes the numbers of this list, consecutive ones as `first-last`.
 fn write_numbers(lines: &mut TextBuffer, numbers: &[(u64, u16)]) {
     let mut run: Option<(u16, u16)> = None;
     for &(_, number) in numbers {
@@ -50,7 +50,7 @@ fn write_run(lines: &mut TextBuffer, first: u16, last: u16) {
     }
 }
 
-/// The line that has all peers drain, or none.
+/// Returns the line that sets whether all peers drain, or none.
 pub(crate) fn drain_line(drains: bool) -> &'static str {
     match drains {
         true => "drain\n",
@@ -58,32 +58,33 @@ pub(crate) fn drain_line(drains: bool) -> &'static str {
     }
 }
 
-/// The lines with which a file begins while no call is up: they give each peer the order of its free numbers, and say that peers drain,
-/// if they do.
-pub(crate) fn orders_of(alloc: Global, trace: &Trace, plan: &Plan) -> TextBuffer {
-    let mut lines = TextBuffer::new(alloc);
+// Writes the order of the free numbers of each peer.
+fn write_free(lines: &mut TextBuffer, alloc: Global, trace: &Trace, plan: &Plan) {
     for peer in 0..plan.peer_count() {
         let range = plan.range(peer);
         lines.text("free ");
         lines.text(plan.name(peer));
         lines.text(" ");
         match free_numbers(alloc, trace, range.first, range.count) {
-            Ok(numbers) => write_numbers(&mut lines, &numbers),
+            Ok(numbers) => write_numbers(lines, &numbers),
             Err(_) => lines.is_cut = true,
         }
         lines.text("\n");
     }
+}
+
+/// Returns the lines with which a file begins while no call is up. If a number was given back before, they have the order of each
+/// peer's free numbers. They have the serial of the next leg, and say that peers drain, if they do.
+pub(crate) fn orders_of(alloc: Global, trace: &Trace, plan: &Plan, serial: u64) -> TextBuffer {
+    let mut lines = TextBuffer::new(alloc);
+    if trace.has_freed() {
+        write_free(&mut lines, alloc, trace, plan);
+    }
+    lines.text("serial ");
+    lines.number(serial);
+    lines.text("\n");
     if trace.drains() {
         lines.text(drain_line(true));
     }
     lines
-}
-
-/// The same lines for the first file of a trace: none, unless numbers were skipped before it begins.
-pub(crate) fn first_orders_of(alloc: Global, trace: &Trace, plan: &Plan) -> TextBuffer {
-    if trace.has_freed() {
-        orders_of(alloc, trace, plan)
-    } else {
-        TextBuffer::new(alloc)
-    }
 }

@@ -1,4 +1,4 @@
-//! What a thread has handed over, until the writer takes it.
+//! The batches that a thread has handed over, until the writer takes them.
 ghost use Rattle.std.specs.Prelude.{◌≡◌, ◌++◌, ◌<◌, [], vec_len, vec_capacity};
 ghost use Rattle.trace_writer.specs.Noted.{marks_of, octets_of};
 
@@ -6,11 +6,11 @@ use crate::mark::Batch;
 use std::alloc::{AllocError, Global};
 use std::mem;
 
-// How many batches a thread and the writer have between them, beside the one that the thread notes into. While the writer is held
-// up by five that it has taken, there are five more: one may have been handed over with little in it, four are for 16,384 calls.
+// The number of batches between a thread and the writer, not counting the one that the thread fills. While the writer is
+// held up by five that it took, five more are left. One of these may be nearly empty; the other four hold 16,384 calls.
 const BATCHES: usize = 10;
 
-/// What a thread has handed over, and batches for what it notes next.
+/// The batches that a thread has handed over, and spare ones for its next notes.
 #[derive(Drop)]
 pub(crate) struct Handed {
     alloc: Global,
@@ -19,9 +19,9 @@ pub(crate) struct Handed {
 }
 
 impl Handed {
-    /// Nothing was handed over.
+    /// Returns a state in which nothing was handed over.
     ///
-    /// `AllocError`: a request for memory was refused.
+    /// Returns `AllocError` if a request for memory was refused.
     pub(crate) fn new(alloc: Global) -> Result<Handed, AllocError> {
         let mut spare = Vec::with_capacity(alloc, BATCHES + 1)?;
         for _ in 0..BATCHES {
@@ -36,14 +36,14 @@ impl Handed {
         })
     }
 
-    /// A list with room for all batches of a thread.
+    /// Returns a list with room for all batches of a thread.
     ///
-    /// `AllocError`: a request for memory was refused.
+    /// Returns `AllocError` if a request for memory was refused.
     pub(crate) fn list(alloc: Global) -> Result<Vec<Batch>, AllocError> {
         Vec::with_capacity(alloc, BATCHES + 1)
     }
 
-    // A batch for what is noted next; where none is spare, one that has room for nothing.
+    // Returns a spare batch for the next notes, or one without room if none is spare.
     fn next(&mut self) -> Batch
         ensures marks { result.marks.items ≡ [] }
         ensures octets { result.octets.items ≡ [] }
@@ -59,9 +59,8 @@ impl Handed {
         }
     }
 
-    /// Hands over what a thread noted: it stands behind all that was handed over before, and the thread goes on with a batch that
-    /// holds nothing. Where none is spare that batch has no room, either. Nothing is lost, in any case: what isn't handed over
-    /// the thread has as before.
+    /// Hands over the notes of a thread, behind all that was handed over before. The thread continues with an empty batch,
+    /// which has no room if none is spare. No note is lost: if the batch can't be handed over, the thread keeps it.
     pub(crate) fn hand_over(&mut self, noted: &mut Batch)
         ensures marks { marks_of self.new.batches.items ++ noted.new.marks.items
             ≡ marks_of self.old.batches.items ++ noted.old.marks.items }
@@ -71,7 +70,7 @@ impl Handed {
             → (noted.new.marks.items ≡ []) × (noted.new.octets.items ≡ []) }
     {
         if !noted.is_empty() {
-            // (where there is room for one batch more)
+            // There is room for one more batch.
             if self.batches.reserve(1).is_ok() {
                 let next = self.next();
                 self.batches.push_reserved(mem::replace(noted, next));
@@ -81,8 +80,8 @@ impl Handed {
         }
     }
 
-    /// Gives back to a thread what it handed over last, so that it notes on behind that, where the writer hasn't taken it, and
-    /// has something else to take. Nothing is lost: the rest of what was handed over stands before what the thread has then.
+    /// Gives the last batch back to a thread, which continues to fill it. It does so only if the writer hasn't taken the
+    /// batch and has another to take. No note is lost: the other batches come before the thread's.
     pub(crate) fn resume(&mut self, noted: &mut Batch)
         ensures marks { marks_of self.new.batches.items ++ noted.new.marks.items
             ≡ marks_of self.old.batches.items ++ noted.old.marks.items }
@@ -100,7 +99,8 @@ impl Handed {
         }
     }
 
-    /// What was handed over, in its order, for the batches that the writer had before, all of which is written.
+    /// Takes the batches that were handed over, in their order. In return the writer gives back its own, which are all
+    /// written.
     pub(crate) fn trade(&mut self, batches: &mut Vec<Batch>)
         ensures taken { batches.new.items ≡ self.old.batches.items }
         ensures left { self.new.batches.items ≡ [] }

@@ -4,10 +4,10 @@ ghost use Rattle.hex.specs.Hex.{encode_lower, lower_digits};
 
 use std::alloc::AllocError;
 
-// What no datagram has: a text that is so long isn't made.
+// More octets than any datagram has. A longer text isn't made.
 const TOO_LONG: usize = 65_536;
 
-// The digit of a value.
+// Returns the hexadecimal digit of a value.
 fn digit(value: u8) -> u8
     requires { value < 16 }
     ensures { result ≡ slice_index lower_digits value }
@@ -16,8 +16,8 @@ fn digit(value: u8) -> u8
     b'0' + value + to_letters
 }
 
-// Each octet as two digits. A digit is reckoned, so that the processor does many at once: `hex`, which looks each up, takes three
-// times as long, and that was two fifths of the writer's time.
+// Writes each octet as two digits. The digits are computed, not looked up, so that the processor handles many at once:
+// `hex` looks up each one and takes three times as long.
 fn write_digits(octets: &[u8], digits: &mut [u8])
     requires { length digits.old ≡ 2 * length octets.now }
     ensures { digits.new ≡ encode_lower octets.now }
@@ -28,8 +28,8 @@ fn write_digits(octets: &[u8], digits: &mut [u8])
     }
 }
 
-/// Puts the octets behind a text, each as two digits, and ends the line. An error where there is no memory for them, or where
-/// there are 65,536 or more.
+/// Adds the octets to a text, each as two digits, and ends the line. Returns an error if there is no memory, or if there
+/// are 65,536 octets or more.
 pub(crate) fn end_in_hex(text: &mut Vec<u8>, octets: &[u8]) -> Result<(), AllocError>
     ensures { OnOk result (text.new.items ≡ text.old.items ++ encode_lower octets.now ++ 10 ∷ []) }
 {

@@ -1,4 +1,4 @@
-//! A thread of a service, as it notes what it hands to the exchange.
+//! The notes that a thread of a service takes of its calls of the exchange.
 use crate::calls::OpenCall;
 use crate::free_numbers::orders_of;
 use crate::mark::{Batch, Input, Mark};
@@ -8,37 +8,37 @@ use peer_plan::{Endpoint, Plan};
 use std::alloc::{AllocError, Global};
 use std::sync::Wait;
 
-// The longest challenge, and the longest datagram that is received.
+// The octets of the longest challenge and of the longest received datagram together.
 const LONGEST: usize = 32 + 2049;
 
 /// A thread's own end of the trace.
 ///
-/// A worker says when a turn begins, each datagram before it is handed to the exchange, that its peers are about to be ticked,
-/// what it sends, and when the turn has ended. A call of the exchange is open until the next of these. Whoever gives orders says
-/// of each when it begins and when it has ended.
+/// A worker reports the start of a turn and its end, each datagram before the exchange gets it, the ticks of its peers, and
+/// the datagrams that it sends. A call of the exchange is open until the next of these reports. A thread that gives orders
+/// reports the start and the end of each.
 ///
-/// What is noted stays with the thread until its turn or its order has ended, so that it notes without a lock and writes the
-/// octets of a datagram once. Then it is handed over.
+/// Notes stay with the thread until the end of its turn or order. So it notes without a lock, and copies the octets of a
+/// datagram once. Then it hands the notes over.
 pub struct TraceLane<'t> {
     trace: &'t Trace,
     thread: usize,
     now: u64,
     challenge: Challenge,
-    // What is noted, and isn't handed over yet. Where a call is open, the last mark is its.
+    // The notes that aren't handed over yet. If a call is open, the last mark is its mark.
     noted: Batch,
     open: Option<(OpenCall, Input)>,
-    // How many calls weren't noted since one was.
+    // The number of calls that weren't noted since the last one that was.
     lost: u64,
-    // What happened in this turn.
+    // The events of this turn.
     is_in_turn: bool,
     has_received: bool,
     peers: u32,
     untaken: u32,
-    // How many calls had begun when it was looked whether any leg is up.
+    // The number of calls that had begun when a check for legs began.
     look: Option<u64>,
 }
 
-// (Written out, so that whoever owns one proves a call where it is dropped, and not the drop of each field.)
+// Written out, so that an owner proves one call at its drop, not the drop of each field.
 impl<'t> Drop for TraceLane<'t> {
     fn drop(self) {
         let TraceLane {
@@ -58,7 +58,7 @@ impl<'t> Drop for TraceLane<'t> {
     }
 }
 
-// Whether a datagram is a full frame: only such a one needs the challenge.
+// Returns whether a datagram is a full frame. Only a full frame needs the challenge.
 fn is_full(octets: &[u8]) -> bool {
     match octets.first() {
         Some(octet) => *octet >= 0x80,
@@ -67,9 +67,9 @@ fn is_full(octets: &[u8]) -> bool {
 }
 
 impl<'t> TraceLane<'t> {
-    /// The end of the thread at this place, from 0 on. Nothing is noted.
+    /// Returns the end of the thread at this place, from 0 on, without notes.
     ///
-    /// `AllocError`: a request for memory was refused.
+    /// Returns `AllocError` if a request for memory was refused.
     pub fn new(
         alloc: Global,
         trace: &'t Trace,
@@ -94,7 +94,7 @@ impl<'t> TraceLane<'t> {
         })
     }
 
-    // Whether there is room for a call more. Where there is none, the open one ends, and what is noted is handed over first.
+    // Returns whether there is room for one more call. If there is none, ends the open call and hands the notes over first.
     fn make_room<R: Wait>(&mut self, rt: &R) -> bool {
         if self.noted.has_room(1, LONGEST) {
             return true;
@@ -104,9 +104,8 @@ impl<'t> TraceLane<'t> {
         self.noted.has_room(1, LONGEST)
     }
 
-    // A call begins, of this input and with these octets, which come in two pieces, as the one that is open ends. Without room it
-    // isn't noted.
-    // (inlined, with what it calls, so that an input isn't moved through memory from one to the next)
+    // Begins a call with this input and these octets, which come in two pieces, and ends the open call. Without room it
+    // isn't noted. Inlined with its callees, so that an input isn't copied through memory from one to the next.
     #[inline(always)]
     fn begin<R: Wait>(&mut self, rt: &R, input: Input, front: &[u8], back: &[u8]) {
         if self.trace.has_ended() {
@@ -121,7 +120,7 @@ impl<'t> TraceLane<'t> {
         }
     }
 
-    // The next call; the one that is open has ended.
+    // Returns the next call, and ends the open one.
     #[inline(always)]
     fn next_call(&mut self) -> OpenCall {
         let Some((call, input)) = self.open.take() else {
@@ -132,7 +131,7 @@ impl<'t> TraceLane<'t> {
         next
     }
 
-    // The call that is open has ended.
+    // Ends the open call.
     fn end(&mut self) {
         if let Some((call, input)) = self.open.take() {
             let is_beside = self.trace.calls.end(call);
@@ -140,8 +139,8 @@ impl<'t> TraceLane<'t> {
         }
     }
 
-    // A call is noted, with its octets; one that there is no room for as a call that did nothing, since the writer waits for each
-    // number. Gives what is noted.
+    // Notes a call with its octets, and returns the noted input. Without room for the octets it notes a call without
+    // effect, because the writer waits for each number.
     #[inline(always)]
     fn note(&mut self, call: OpenCall, input: Input, front: &[u8], back: &[u8]) -> Input {
         let mark = Mark {
@@ -161,7 +160,7 @@ impl<'t> TraceLane<'t> {
         mark.input
     }
 
-    // How the call has ended that was noted last. Of a datagram it is known only now whether it was turned away.
+    // Notes the end of the last call. Only now is it known whether its datagram was turned away.
     #[inline(always)]
     fn note_end(&mut self, input: Input, is_beside: bool) {
         let input = match input {
@@ -173,20 +172,21 @@ impl<'t> TraceLane<'t> {
         self.noted.end_last(input, is_beside);
     }
 
-    // What was handed over last is noted on behind, if the writer hasn't taken it: so that short turns don't use up the batches.
+    // Continues the last batch that was handed over, if the writer hasn't taken it. So short turns don't use up the
+    // batches.
     fn resume<R: Wait>(&mut self, rt: &R) {
         self.trace.resume(rt, self.thread, &mut self.noted);
     }
 
-    // What is noted is handed over; no call is open.
+    // Hands the notes over. No call is open.
     fn hand_over<R: Wait>(&mut self, rt: &R) {
         if !self.noted.is_empty() {
             self.trace.hand_over(rt, self.thread, &mut self.noted);
         }
     }
 
-    /// The worker is in a turn. Its moment, in milliseconds since the exchange was opened, and its challenge are those that the
-    /// trace was told last. Where it is in one already, nothing changes.
+    /// Begins a turn of the worker, unless one has begun. Its moment, in milliseconds since the exchange was opened, and
+    /// its challenge are those last reported to the trace.
     #[inline(always)]
     pub fn be_in_turn<R: Wait>(&mut self, rt: &R) {
         if !self.is_in_turn {
@@ -194,7 +194,7 @@ impl<'t> TraceLane<'t> {
         }
     }
 
-    // A turn of the worker begins.
+    // Begins a turn of the worker.
     fn begin_turn<R: Wait>(&mut self, rt: &R) {
         self.is_in_turn = true;
         self.trace.begin_turn();
@@ -209,8 +209,8 @@ impl<'t> TraceLane<'t> {
         self.untaken = 0;
     }
 
-    /// A datagram is handed to the exchange next: of the peer at this place of the plan, or, where there is none, of an
-    /// endpoint that no peer has. The challenge is noted with a peer's full frame alone ("Full Frames").
+    /// Notes the datagram that is given to the exchange next. `peer` is its peer's place in the plan, or `None` if no peer
+    /// has the endpoint. The challenge is noted only with a peer's full frame ("Full Frames").
     pub fn datagram<R: Wait>(&mut self, rt: &R, peer: Option<u16>, from: Endpoint, octets: &[u8]) {
         self.has_received = true;
         match peer {
@@ -228,12 +228,13 @@ impl<'t> TraceLane<'t> {
         }
     }
 
-    /// The peers of the worker are ticked next.
+    /// Notes that the peers of the worker are ticked next.
     pub fn tick<R: Wait>(&mut self, rt: &R) {
         self.begin(rt, Input::Tick, b"", b"");
     }
 
-    // The ticks of this turn, where there was no time to say so before them. Whether others came between isn't known then.
+    // Notes the ticks of this turn if the worker couldn't report them before. It isn't known then whether other calls came
+    // between.
     fn tick_if_none<R: Wait>(&mut self, rt: &R) {
         if let Some((_, Input::Tick)) = self.open {
             return;
@@ -250,7 +251,7 @@ impl<'t> TraceLane<'t> {
         }
     }
 
-    /// A datagram went out to the peer at this place of the plan, 0 ..= 31. The socket took it, or it is lost.
+    /// Notes a datagram sent to the peer at this place of the plan, 0 ..= 31. `is_taken` is false if the socket lost it.
     pub fn send<R: Wait>(&mut self, rt: &R, peer: u16, is_taken: bool) {
         if self.peers == 0 {
             self.tick_if_none(rt);
@@ -262,8 +263,8 @@ impl<'t> TraceLane<'t> {
         }
     }
 
-    /// The turn has ended. Where nothing came, nothing went out and no leg was taken out, it isn't told. Where a leg was taken out,
-    /// what waits goes out last, so that the leg ends there in a replay, too.
+    /// Ends the turn. A turn in which nothing was received or sent, and no leg was taken out, isn't noted. If a leg was
+    /// taken out, the last note is a send, so that the leg ends at the same place in a replay.
     pub fn end_turn<R: Wait>(&mut self, rt: &R) {
         if !self.is_in_turn {
             return;
@@ -276,7 +277,7 @@ impl<'t> TraceLane<'t> {
             }
             self.end();
         }
-        // (a leg that was taken out is told where what waits goes out, be it nothing)
+        // The script reports a retired leg at a send, so there is a send even without datagrams.
         if self.peers != 0 || has_retired {
             let (peers, lost) = (self.peers, self.untaken);
             self.begin(rt, Input::Send { peers, lost }, b"", b"");
@@ -287,15 +288,15 @@ impl<'t> TraceLane<'t> {
         self.trace.end_turn();
     }
 
-    // What is open did nothing.
+    // Marks the open call as one without effect.
     fn forget(&mut self) {
         if let Some((_, input)) = &mut self.open {
             *input = Input::Nothing;
         }
     }
 
-    /// A call goes out to the peer at this place of the plan next, at this moment, in milliseconds since the exchange was
-    /// opened. A number of more than 2,081 octets is noted as an empty one.
+    /// Notes that a call is placed next, to the peer at this place of the plan. `now` is in milliseconds since the exchange
+    /// was opened. A number of more than 2,081 octets is noted as an empty one.
     pub fn begin_call<R: Wait>(&mut self, rt: &R, now: u64, peer: u16, number: &[u8]) {
         self.resume(rt);
         self.now = now;
@@ -303,14 +304,14 @@ impl<'t> TraceLane<'t> {
         self.begin(rt, Input::Call { peer }, number, b"");
     }
 
-    /// The leg of this local number hangs up next, at this moment, in milliseconds since the exchange was opened.
+    /// Notes that the leg of this local number hangs up next. `now` is in milliseconds since the exchange was opened.
     pub fn begin_hang_up<R: Wait>(&mut self, rt: &R, now: u64, number: u16) {
         self.resume(rt);
         self.now = now;
         self.begin(rt, Input::HangUp { number }, b"", b"");
     }
 
-    /// All peers drain next, or none does any more, at this moment, in milliseconds since the exchange was opened.
+    /// Notes that all peers drain next, or none. `now` is in milliseconds since the exchange was opened.
     pub fn begin_drain<R: Wait>(&mut self, rt: &R, now: u64, drains: bool) {
         self.resume(rt);
         self.now = now;
@@ -318,18 +319,18 @@ impl<'t> TraceLane<'t> {
         self.begin(rt, Input::Drain { drains }, b"", b"");
     }
 
-    /// The order that was begun last was made, or refused.
+    /// Notes the end of the last order, whether it was made or refused.
     pub fn end_order<R: Wait>(&mut self, rt: &R) {
         self.end();
         self.hand_over(rt);
     }
 
-    /// Whether it is to be looked next if any leg is up, since there may be a new file where none is. It isn't while a call of
-    /// the exchange or a turn is open.
+    /// Returns whether the caller has to check next if any leg is up, because a new file may begin when none is. Returns
+    /// false while a call of the exchange or a turn is open.
     pub fn begin_look(&mut self) -> bool {
         self.look = None;
         if self.trace.wants_rest() {
-            // (first, since a turn that begins after this draws a greater number, or is seen)
+            // Read first: a turn that begins after this gets a greater number, or is seen below.
             let begun = self.trace.calls.begun_if_none_is_open();
             if !self.trace.has_turn() {
                 self.look = begun;
@@ -338,20 +339,21 @@ impl<'t> TraceLane<'t> {
         self.look.is_some()
     }
 
-    /// It was looked, at this moment, in milliseconds since the exchange was opened: no leg of the plan's peers is up, and no
-    /// media waits, or some are. Nothing is noted where some are, or where no `begin_look` answered true before it.
+    /// Notes the result of the check, at `now`, in milliseconds since the exchange was opened. `rest` is the serial of the next
+    /// leg if no leg of the plan's peers is up and no media waits. Nothing is noted if it is `None`, or if `begin_look` didn't
+    /// return true before.
     pub fn end_look<R: Wait>(
         &mut self,
         rt: &R,
         alloc: Global,
         now: u64,
         plan: &Plan,
-        is_at_rest: bool,
+        rest: Option<u64>,
     ) {
-        let Some(begun) = self.look.take() else {
+        let (Some(begun), Some(serial)) = (self.look.take(), rest) else {
             return;
         };
-        if !is_at_rest || self.trace.has_ended() {
+        if self.trace.has_ended() {
             return;
         }
         self.resume(rt);
@@ -360,7 +362,7 @@ impl<'t> TraceLane<'t> {
         }
         self.now = now;
         let call = self.trace.calls.begin();
-        let orders = orders_of(alloc, self.trace, plan);
+        let orders = orders_of(alloc, self.trace, plan, serial);
         let is_beside = self.trace.calls.end(call);
         let call = OpenCall {
             number: call.number,

@@ -1,5 +1,5 @@
-//! The trace of a service: what its threads hand to the exchange is written down, as a script that gives the same datagrams again
-//! where it is replayed. The threads note it without waiting for the disk, and a thread of its own writes it to a folder.
+//! The trace of a service: a script of the exchange's input. A replay of it gives the same datagrams again. The threads of
+//! the service note their calls without waiting for the disk, and a separate thread writes the notes to a folder.
 #![tactic(auto)]
 
 mod calls;

@@ -1,4 +1,4 @@
-//! What is noted of a call of the exchange, until it is written.
+//! The note of a call of the exchange, until it is written.
 ghost use Rattle.std.specs.Prelude.{◌≡◌, ◌++◌, ◌+◌, ◌∷◌, [], List, length, if◌then◌else◌};
 ghost use Rattle.std.specs.Bool.{OnTrue};
 ghost use Rattle.trace_writer.specs.declared.mark.Mark.{Mark};
@@ -7,32 +7,32 @@ ghost use Rattle.trace_writer.specs.declared.mark.Input.TheVariants.{Nothing};
 use peer_plan::Endpoint;
 use std::alloc::{AllocError, Global};
 
-// What a batch has room for.
+// The room of a batch.
 const MARKS: usize = 4096;
 
 const OCTETS: usize = 1_048_576;
 
-/// What a call of the exchange was given. A peer is named by its place in the plan.
+/// The input of a call of the exchange. A peer is named by its place in the plan.
 #[derive(Clone, Copy)]
 pub(crate) enum Input {
-    /// A datagram of a peer. Of the octets the first ones, so many, are the challenge of its moment.
+    /// A datagram of a peer. The first `challenge` octets are the challenge of its moment.
     Datagram { peer: u16, challenge: u8 },
-    /// A datagram of a peer that wasn't handed to the exchange, since the service drains.
+    /// A datagram of a peer that wasn't handed to the exchange because the service drains.
     TurnedAway { peer: u16, challenge: u8 },
     /// A datagram of an endpoint that no peer has.
     Stranger { from: Endpoint },
-    /// Time went on at each peer of the worker.
+    /// A tick of each peer of the worker.
     Tick,
-    /// What waited for the worker's peers went out: to those whose bits are set, or nothing to any of them where none is. So many
-    /// datagrams weren't taken by the socket.
+    /// The datagrams that waited for the worker's peers were sent: to the peers whose bits are set, or to none. The socket
+    /// didn't take `lost` of them.
     Send { peers: u32, lost: u32 },
-    /// A call went out to a peer. The octets are the number that was called.
+    /// A call was placed to a peer. The octets are the called number.
     Call { peer: u16 },
     /// The leg of this number hung up.
     HangUp { number: u16 },
     /// All peers drain from here on, or none does.
     Drain { drains: bool },
-    /// Nothing was done.
+    /// A call without effect.
     Nothing,
     /// No call is up. The octets are the lines that give each peer the order of its free numbers.
     Rest,
@@ -41,21 +41,21 @@ pub(crate) enum Input {
 /// A call of the exchange.
 #[derive(Clone, Copy)]
 pub(crate) struct Mark {
-    /// How many calls had begun before it.
+    /// The number of calls that had begun before it.
     pub(crate) number: u64,
     /// Its moment, in milliseconds since the exchange was opened.
     pub(crate) now: u64,
     pub(crate) input: Input,
-    /// Whether another call was open while it was.
+    /// Whether another call was open at the same time.
     pub(crate) is_beside: bool,
-    /// How many calls weren't noted before it.
+    /// The number of calls before it that weren't noted.
     pub(crate) lost: u64,
-    /// How many octets belong to it.
+    /// The number of its octets.
     pub(crate) octets: usize,
 }
 
 impl Mark {
-    /// The same, of a call that did nothing.
+    /// Returns the mark as that of a call without effect.
     pub(crate) fn emptied(self) -> Mark
         ensures { result ≡ record self { input = Nothing } }
     {
@@ -73,7 +73,7 @@ pub(crate) struct Batch {
 }
 
 impl Batch {
-    /// One without marks, with room for 4,096, and for 1 MiB of octets.
+    /// Returns an empty batch with room for 4,096 marks and 1 MiB of octets.
     pub(crate) fn new(alloc: Global) -> Result<Batch, AllocError> {
         Ok(Batch {
             marks: Vec::with_capacity(alloc, MARKS)?,
@@ -81,7 +81,7 @@ impl Batch {
         })
     }
 
-    /// One without marks, and without room for any. It takes no memory.
+    /// Returns an empty batch without room. It takes no memory.
     pub(crate) fn without_room(alloc: Global) -> Batch
         ensures marks { result.marks.items ≡ [] }
         ensures octets { result.octets.items ≡ [] }
@@ -92,13 +92,13 @@ impl Batch {
         }
     }
 
-    /// Whether there is room for so many marks more, with so many octets.
+    /// Returns whether there is room for `marks` more marks with `octets` octets.
     pub(crate) fn has_room(&self, marks: usize, octets: usize) -> bool {
         marks <= self.marks.capacity().saturating_sub(self.marks.len())
             && octets <= self.octets.capacity().saturating_sub(self.octets.len())
     }
 
-    /// Whether nothing is noted.
+    /// Returns whether there are no marks.
     pub(crate) fn is_empty(&self) -> bool
         ensures marks { OnTrue result (self.now.marks.items ≡ []) }
         ensures octets { OnTrue result (self.now.octets.items ≡ []) }
@@ -106,7 +106,7 @@ impl Batch {
         self.marks.is_empty() && self.octets.is_empty()
     }
 
-    /// A mark more, with its octets, which come in two pieces. False where there is no room for it; then nothing has changed.
+    /// Adds a mark with its octets, which come in two pieces. Without room it changes nothing and returns false.
     #[inline(always)]
     pub(crate) fn push(&mut self, mark: Mark, front: &[u8], back: &[u8]) -> bool
         ensures marks { self.new.marks.items ≡ (if result
@@ -128,7 +128,7 @@ impl Batch {
         true
     }
 
-    /// The call of the last mark has ended: it had this input, and another call was open while it was, or none.
+    /// Ends the call of the last mark: sets its input, and whether another call was open at the same time.
     #[inline(always)]
     pub(crate) fn end_last(&mut self, input: Input, is_beside: bool)
         ensures marks { (before : List Mark) (mark : Mark) → self.old.marks.items ≡ before ++ mark ∷ []
@@ -144,7 +144,7 @@ impl Batch {
         }
     }
 
-    /// No mark is left.
+    /// Removes all marks.
     pub(crate) fn clear(&mut self)
         ensures marks { self.new.marks.items ≡ [] }
         ensures octets { self.new.octets.items ≡ [] }

@@ -8,20 +8,20 @@ use std::io::Write;
 use std::os::unix::fs::FileExt;
 use system_limits::{ABOVE_LIMIT, file_size_limit, octets_below};
 
-// How many files there are.
+// The number of files.
 const FILES: u64 = 8;
 
-// How many octets of the last lines are kept, so that they can make room for the line that ends a trace.
+// The number of octets of the last lines that are kept. They can make room for the line that ends a trace.
 const KEPT: usize = 1024;
 
-// What stands behind the last whole line while a file is written: there a script ends.
+// The octet behind the last complete line while a file is written: a script ends there.
 const END: u8 = 0;
 
 /// A folder for a trace.
 #[derive(Clone, Copy)]
 pub struct TraceFolder<'a> {
     pub path: &'a str,
-    /// How many octets all files have together at most, but for a turn.
+    /// The limit on the octets of all files together. A turn that is under way may exceed it.
     pub limit: u64,
 }
 
@@ -30,15 +30,15 @@ pub struct TraceFile {
     alloc: Global,
     place: u64,
     file: File,
-    // Whole lines.
+    // The length of the complete lines.
     length: u64,
-    // The end of these.
+    // The end of these lines.
     tail: Vec<u8>,
-    // How many octets it may have by the limit of the process.
+    // The greatest length by the limit of the process.
     limit: u64,
 }
 
-// (Written out, so that whoever owns one proves a call where it is dropped, and not the drop of each field.)
+// Written out, so that an owner proves one call at its drop, not the drop of each field.
 impl Drop for TraceFile {
     fn drop(self) {
         let TraceFile {
@@ -58,7 +58,8 @@ fn fault_of(error: &io::Error) -> Fault {
     }
 }
 
-// Writes octets to a place of a file, where all of them are below the limit on its size: beyond that the system ends the process.
+// Writes octets to a place of a file, if all of them are below the limit on its size. Beyond that the system ends the
+// process.
 fn write_below(file: &File, limit: u64, octets: &[u8], place: u64) -> io::Result<()> {
     if octets_below(limit, place, octets.len()) < octets.len() {
         return Err(io::Error::from_raw_os_error(ABOVE_LIMIT));
@@ -67,12 +68,12 @@ fn write_below(file: &File, limit: u64, octets: &[u8], place: u64) -> io::Result
 }
 
 impl TraceFolder<'_> {
-    // The path of the file at a place.
+    // Returns the path of the file at a place.
     fn path_of(&self, alloc: Global, place: u64) -> Result<String, AllocError> {
         format!(in alloc; "{}/trace-{place}.script", self.path)
     }
 
-    // The place of the file that was changed longest ago, or of one that isn't there.
+    // Returns the place of the file that was changed longest ago, or of one that doesn't exist.
     fn oldest<D: Folder>(&self, disk: &D, alloc: Global) -> Result<u64, AllocError> {
         let (mut oldest, mut since) = (0, i64::MAX);
         for place in 0..FILES {
@@ -85,8 +86,8 @@ impl TraceFolder<'_> {
         Ok(oldest)
     }
 
-    // Begins the file at a place anew. What it had is given up, and is written over: that takes the system half of what it takes
-    // to empty a file and to fill it again.
+    // Begins the file at a place. Its old content is overwritten: that takes the system half the time of emptying a file
+    // and filling it again.
     fn begin<D: Folder>(&self, disk: &D, alloc: Global, place: u64) -> io::Result<TraceFile> {
         let path = self.path_of(alloc, place)?;
         let file = disk.begin(path.as_str())?;
@@ -104,11 +105,12 @@ impl TraceFolder<'_> {
         })
     }
 
-    /// Makes the folder, where there is none, and begins the one of its eight files that was changed longest ago. Of those that
-    /// are left a new one is made first.
+    /// Makes the folder if there is none, and begins one of its eight files: a missing one, or otherwise the one that was
+    /// changed longest ago.
     ///
-    /// Errors are the system's, of the folder and then of the file; `OutOfMemory`: a request for memory was refused;
-    /// `PermissionDenied`: the folder isn't this user's alone; `InvalidInput`: what has the file's name is no regular file.
+    /// Returns the system's error of the folder, then of the file. `OutOfMemory`: a request for memory was refused.
+    /// `PermissionDenied`: the folder isn't this user's alone. `InvalidInput`: the name is that of a file that isn't
+    /// regular.
     pub fn open<D: Folder>(&self, disk: &D, alloc: Global) -> io::Result<TraceFile> {
         disk.make(self.path)?;
         let place = self.oldest(disk, alloc)?;
@@ -129,27 +131,27 @@ impl TraceFolder<'_> {
         }
     }
 
-    /// How many octets a file has at most, but for a turn.
+    /// Returns the limit on the octets of a file. A turn that is under way may exceed it.
     pub(crate) fn part(&self) -> u64 {
         self.limit / FILES
     }
 }
 
 impl TraceFile {
-    /// How many octets it has.
+    /// Returns its length in octets.
     pub(crate) fn length(&self) -> u64 {
         self.length
     }
 
-    // The last of what was written.
+    // Keeps the last octets written.
     fn keep_tail(&mut self, text: &[u8]) {
         let from = text.len().saturating_sub(KEPT);
         self.tail.clear();
         let _ = self.tail.extend_from_slice(text.get(from..).unwrap_or(b""));
     }
 
-    // Puts whole lines behind those that there are, and the end behind them. Their first octet comes last, over the end that
-    // stood there: whenever the service is killed, the file's lines are those of a time before or after this.
+    // Adds complete lines to the file, and the end octet behind them. Their first octet is written last, over the old end
+    // octet. So a file has all of these lines or none of them, even if the service is killed.
     fn put(&self, lines: &mut Vec<u8>) -> io::Result<()> {
         lines.push(END)?;
         let Some((first, rest)) = lines.split_first() else {
@@ -160,14 +162,14 @@ impl TraceFile {
         write_below(&self.file, self.limit, &[*first], self.length)
     }
 
-    /// No more is written: the file ends with its lines.
+    /// Ends the file after its last line.
     pub(crate) fn finish(&self) {
-        // (else its lines end where they did)
+        // If this fails, the end octet still ends the lines.
         let _ = self.file.set_len(self.length);
     }
 
-    /// Writes whole lines behind those that there are; none is left to be written. Where it fails, so many of these are cut off
-    /// that there is room for one line, which says why the trace ends.
+    /// Adds complete lines to the file, and empties `lines`. If that fails, some lines are cut off to make room for one
+    /// that says why the trace ends.
     pub(crate) fn write(&mut self, lines: &mut Vec<u8>) -> Result<(), Fault> {
         let length = lines.len();
         if length == 0 {
@@ -184,7 +186,7 @@ impl TraceFile {
         Ok(())
     }
 
-    // Where the lines end that are left when these octets at the end of the file have gone.
+    // Returns the end of the lines that remain if these octets at the end of the file are removed.
     fn cut(&self) -> u64 {
         let half = self.tail.get(..self.tail.len() / 2).unwrap_or(b"");
         let mut left = 0;
@@ -197,13 +199,13 @@ impl TraceFile {
         self.length.saturating_sub(cut)
     }
 
-    // The last line says why the trace ends.
+    // Writes the last line, which says why the trace ends.
     fn end(&mut self, error: &io::Error) {
         let mut line = Vec::new(self.alloc);
         if writeln!(line, "# The trace ends here: {error}.").is_err() {
             return;
         }
-        // (where there is no room for it, some lines make room)
+        // Without room for it, some lines are removed.
         for length in [self.length, self.cut()] {
             if write_below(&self.file, self.limit, &line, length).is_ok() {
                 let _ = self.file.set_len(length.saturating_add(line.len() as u64));

@@ -14,44 +14,44 @@ use text_buffer::TextBuffer;
 /// How a trace is written.
 #[derive(Clone, Copy)]
 pub(crate) struct Manner {
-    /// Whether digits are written as they are.
+    /// Whether digits are shown.
     pub(crate) shows_digits: bool,
 }
 
-/// What the first lines of a file say.
+/// The values of a file's first lines.
 #[derive(Clone, Copy)]
 pub(crate) struct Head<'a> {
-    /// The first of them: whether a replay of the file gives what went out.
+    /// The first line: whether a replay of the file gives the same datagrams.
     pub(crate) exactness: &'static str,
-    /// The service.
+    /// The line about the service.
     pub(crate) about: &'a str,
     /// The number of the file, from 1 on.
     pub(crate) part: u64,
 }
 
-/// Lines that are still to be written to a file, and what those before them said.
+/// Lines to be written to a file, and the state that the lines before them set.
 #[derive(Drop)]
 pub(crate) struct Script<'p> {
     alloc: Global,
     pub(crate) plan: &'p Plan,
     manner: Manner,
-    // How the line of a datagram begins, of each peer by its place in the plan.
+    // The beginning of a datagram's line, for each peer by its place in the plan.
     heads: Vec<String>,
     pub(crate) lines: TextBuffer,
     now: u64,
     challenge: Vec<u8>,
-    // How many calls of the exchange aren't there, since the last that is.
+    // The number of calls of the exchange that are missing since the last line.
     missing: u64,
 }
 
-// A full frame that is a digit: of one of the types "DTMF" (RFC 5456, section 8.1).
+// Returns whether a full frame is a digit ("Frame Types").
 fn is_digit(octets: &[u8]) -> bool
     ensures { result ≡ spells_digit octets.now }
 {
     octets.len() >= 12 && octets[0] >= 0x80 && matches!(octets[10] & 0x7f, 1 | 12)
 }
 
-// The octets of a frame that is a digit, with 0 in its place, in hexadecimal digits; the line ends.
+// Adds the octets of a frame that is a digit, with 0 in its place, in hexadecimal digits, and ends the line.
 fn end_hidden(alloc: Global, text: &mut Vec<u8>, octets: &[u8]) -> Result<(), AllocError>
     requires { 12 ≤ length octets.now }
     ensures { OnOk result (text.new.items ≡ text.old.items ++ encode_lower (hidden octets.now) ++ 10 ∷ []) }
@@ -62,7 +62,7 @@ fn end_hidden(alloc: Global, text: &mut Vec<u8>, octets: &[u8]) -> Result<(), Al
     end_in_hex(text, &hidden)
 }
 
-// The octets of a datagram; of one that is a digit only that it is one, where they are hidden. The line ends.
+// Adds the octets of a datagram, with 0 for a digit if digits are hidden, and ends the line.
 fn end_in_octets(
     alloc: Global,
     manner: Manner,
@@ -79,7 +79,7 @@ fn end_in_octets(
     }
 }
 
-// How the line of a datagram begins, of each peer.
+// Returns the beginning of a datagram's line, for each peer.
 fn heads_of(alloc: Global, plan: &Plan) -> Result<Vec<String>, AllocError> {
     let mut heads = Vec::new(alloc);
     for peer in 0..plan.peer_count() {
@@ -91,7 +91,7 @@ fn heads_of(alloc: Global, plan: &Plan) -> Result<Vec<String>, AllocError> {
     Ok(heads)
 }
 
-// The peers of a worker, as bits.
+// Returns the peers of a worker, as bits.
 fn peers_of(plan: &Plan, thread: usize) -> u32 {
     let mut peers: u32 = 0;
     for peer in 0..plan.peer_count() {
@@ -102,7 +102,7 @@ fn peers_of(plan: &Plan, thread: usize) -> u32 {
     peers
 }
 
-// A line for each of these peers, or one for all where one worker has them.
+// Adds a line for each of these peers, or one for all if there is only one worker.
 fn write_peers(plan: &Plan, command: &str, peers: u32, lines: &mut TextBuffer) {
     if plan.workers().len() == 1 {
         lines.text(command);
@@ -118,7 +118,7 @@ fn write_peers(plan: &Plan, command: &str, peers: u32, lines: &mut TextBuffer) {
     }
 }
 
-// Whether a text may stand in a line as a word.
+// Returns whether a text can be a word of a line.
 fn is_word(text: &[u8]) -> bool {
     for octet in text {
         if !octet.is_ascii_graphic() {
@@ -128,7 +128,7 @@ fn is_word(text: &[u8]) -> bool {
     !text.is_empty()
 }
 
-// What call tokens are made with, where a peer is asked for them.
+// Returns the key of the call tokens, if a peer needs them.
 fn token_key(plan: &Plan) -> Option<[u8; 32]> {
     for peer in 0..plan.peer_count() {
         if let Some(tokens) = plan.call_tokens(peer) {
@@ -139,7 +139,7 @@ fn token_key(plan: &Plan) -> Option<[u8; 32]> {
     None
 }
 
-// The name of a peer, by its place in the plan.
+// Returns the name of a peer, by its place in the plan.
 fn name_of(plan: &Plan, peer: u16) -> &str {
     if peer < plan.peer_count() {
         plan.name(peer)
@@ -149,7 +149,7 @@ fn name_of(plan: &Plan, peer: u16) -> &str {
 }
 
 impl<'p> Script<'p> {
-    /// No line is there.
+    /// Returns an empty script.
     ///
     /// `AllocError`: a request for memory was refused.
     pub(crate) fn new(
@@ -169,8 +169,9 @@ impl<'p> Script<'p> {
         })
     }
 
-    /// The first lines of a file. One with orders of free numbers begins at the moment 0, with the challenge `0`, as a replay
-    /// does. Another goes on at the moment of the last line of the file before it, and may stand behind that in a script.
+    /// Adds the first lines of a file. A file with orders of free numbers begins at the moment 0 with the challenge `0`, as
+    /// a replay does. Another continues at the moment of the last line of the file before it, and can be appended to that
+    /// file.
     pub(crate) fn begin(&mut self, head: &Head<'_>, orders: Option<&[u8]>) {
         self.challenge.clear();
         self.lines.text(head.exactness);
@@ -179,20 +180,21 @@ impl<'p> Script<'p> {
         self.lines.text(", part ");
         self.lines.number(head.part);
         self.lines.text(".\n");
-        if orders.is_some() {
-            self.write_drawn();
-        }
-        self.lines.text("hold\n");
         match orders {
             Some(orders) => {
                 self.now = 0;
+                self.write_drawn();
                 self.lines.put(orders);
+                self.lines.text("hold\n");
             }
-            None => self.write_moment("at "),
+            None => {
+                self.lines.text("hold\n");
+                self.write_moment("at ");
+            }
         }
     }
 
-    /// Says that so many datagrams of strangers aren't there.
+    /// Adds a line with the number of datagrams of strangers that were left out.
     pub(crate) fn leave_out(&mut self, strangers: u64) {
         if strangers > 0 {
             self.lines.text("# Left out: datagrams from strangers, ");
@@ -201,13 +203,13 @@ impl<'p> Script<'p> {
         }
     }
 
-    /// The last lines, of a service that has ended: its accounts are closed.
+    /// Adds the last lines of a service that has ended: its accounts are closed.
     pub(crate) fn end(&mut self) {
         self.lines.text("settle\n");
     }
 
-    /// The lines of a call of the exchange that a thread made, or handed to it. False where there was no memory for them: then
-    /// none is there, and the next ones say so.
+    /// Adds the lines of a call that a thread made. Returns false if there was no memory for them; then none is added, and
+    /// the next lines report it.
     pub(crate) fn push(&mut self, thread: usize, mark: &Mark, octets: &[u8]) -> bool {
         let (length, now) = (self.lines.octets.len(), self.now);
         let missing = self.missing.saturating_add(mark.lost);
@@ -222,7 +224,7 @@ impl<'p> Script<'p> {
                 self.write_input(thread, input, octets);
             }
         }
-        // (room for the end of the file, which is written with them)
+        // Reserves the end octet of the file, which is written with these lines.
         if !self.lines.is_cut && self.lines.octets.reserve(1).is_ok() {
             return true;
         }
@@ -234,7 +236,7 @@ impl<'p> Script<'p> {
         false
     }
 
-    // What is to be said before what a call was given.
+    // Adds the comments and the moment that belong before the input of a call.
     fn begin_call(&mut self, mark: &Mark) {
         if self.missing > 0 {
             self.lines.text("# Not exact from here on: ");
@@ -254,13 +256,13 @@ impl<'p> Script<'p> {
         self.missing = 0;
     }
 
-    // Whether nothing is to be said before what a call was given.
+    // Returns whether a call needs no line before its input.
     fn goes_on(&self, mark: &Mark) -> bool {
         self.missing == 0 && !mark.is_beside && mark.now == self.now
     }
 
-    // What the exchange drew when it was opened: what its challenges begin with, and what its call tokens are made with, where a peer
-    // is asked for them.
+    // Adds the values that the exchange drew when it was opened: the prefix of its challenges, and, if a peer needs call
+    // tokens, their key.
     fn write_drawn(&mut self) {
         if let Some(prefix) = self.plan.challenge_prefix() {
             self.lines.text("prefix ");
@@ -282,7 +284,7 @@ impl<'p> Script<'p> {
         self.lines.text("\n");
     }
 
-    // What the exchange was given.
+    // Adds the input of a call.
     fn write_input(&mut self, thread: usize, input: Input, octets: &[u8]) {
         match input {
             Input::Datagram { peer, challenge } => {
@@ -316,7 +318,7 @@ impl<'p> Script<'p> {
         }
     }
 
-    // What waited went out to these peers.
+    // Adds the sends to these peers.
     fn write_sends(&mut self, peers: u32, lost: u32) {
         if lost > 0 {
             self.lines.text("# The socket didn't take ");
@@ -326,7 +328,7 @@ impl<'p> Script<'p> {
         write_peers(self.plan, "send", peers, &mut self.lines);
     }
 
-    // The challenge, where a datagram needs one, and it is another than before.
+    // Adds the challenge if it differs from the last one and the datagram needs it.
     fn write_challenge(&mut self, challenge: &[u8]) {
         if challenge.is_empty() || self.challenge.as_slice() == challenge {
             return;
@@ -340,7 +342,7 @@ impl<'p> Script<'p> {
         self.lines.text("\n");
     }
 
-    // A datagram of a peer. One without octets can't be said by a script, and does nothing.
+    // Adds a datagram of a peer. One without octets has no line, and does nothing.
     fn write_datagram(&mut self, peer: u16, octets: &[u8]) {
         if octets.is_empty() {
             self.lines.text("# Without an octet: ");
@@ -353,7 +355,7 @@ impl<'p> Script<'p> {
         }
     }
 
-    // A datagram of nobody in the plan.
+    // Adds a datagram of an endpoint that no peer has.
     fn write_stranger(&mut self, from: Endpoint, octets: &[u8]) {
         if octets.is_empty() {
             self.lines.text("# Without an octet: ");
@@ -367,7 +369,7 @@ impl<'p> Script<'p> {
         }
     }
 
-    // A call that an order had go out.
+    // Adds a call that an order placed.
     fn write_call(&mut self, peer: u16, number: &[u8]) {
         if !is_word(number) {
             return self

@@ -1,4 +1,4 @@
-//! What the threads of a service share with the writer of its trace.
+//! State that the threads of a service share with the writer of its trace.
 use crate::calls::Calls;
 use crate::handed::Handed;
 use crate::mark::Batch;
@@ -8,38 +8,40 @@ use std::alloc::{AllocError, Global};
 use std::sync::atomic::{AtomicBool, AtomicU64, Ordering};
 use std::sync::{Mutex, Wait};
 
-/// How the trace is.
+/// The state of the trace.
 #[derive(Clone, Copy, Default)]
 pub struct TraceState {
-    /// How many octets were written, modulo 2^64.
+    /// Octets written, modulo 2^64.
     pub written: u64,
-    /// How many calls of the exchange weren't noted, since the writer was too slow, modulo 2^64.
+    /// Calls of the exchange that weren't noted because the writer was too slow, modulo 2^64.
     pub lost: u64,
-    /// Why the trace has ended before the service, where it has.
+    /// The reason why the trace ended before the service, if it did.
     pub fault: Option<Fault>,
 }
 
-// What a thread has noted, until the writer takes it.
+// The notes of a thread, until the writer takes them.
 #[derive(Drop)]
 struct Notes {
     handed: Mutex<Handed>,
     // The moment and the challenge of its turn.
     now: AtomicU64,
     challenge: Mutex<Option<Challenge>>,
-    // What is told of the thread's call that is open.
+    // Events of the thread's open call.
     is_turned_away: AtomicBool,
     has_retired: AtomicBool,
 }
 
-/// What the threads note, and what the writer tells of its files. All threads share it.
+/// The notes of the threads, and the state of the writer's files. All threads share it.
 pub struct Trace {
     pub(crate) calls: Calls,
-    // How many workers are in a turn.
+    // The number of workers in a turn.
     turns: AtomicU64,
     lanes: Vec<Notes>,
-    // By number: one more than how many numbers had been given back when it was last; 0 if it never was.
+    // By number: 1 more than the count of numbers returned before it was last returned; 0 if it never was.
     freed: Vec<AtomicU64>,
     legs: AtomicU64,
+    // The serial of the first leg.
+    serial: AtomicU64,
     // Whether all peers drain.
     drains: AtomicBool,
     wants_rest: AtomicBool,
@@ -50,7 +52,7 @@ pub struct Trace {
     fault: AtomicU64,
 }
 
-// (Written out, so that whoever owns one proves a call where it is dropped, and not the drop of each field.)
+// Written out, so that an owner proves one call at its drop, not the drop of each field.
 impl Drop for Trace {
     fn drop(self) {
         let Trace {
@@ -59,6 +61,7 @@ impl Drop for Trace {
             lanes: _,
             freed: _,
             legs: _,
+            serial: _,
             drains: _,
             wants_rest: _,
             has_ended: _,
@@ -71,9 +74,9 @@ impl Drop for Trace {
 }
 
 impl Trace {
-    /// Nothing is noted, by so many threads, of an exchange of the local numbers 1 ..= `numbers`.
+    /// Returns a trace of `threads` threads without notes. The exchange has the local numbers 1 ..= `numbers`.
     ///
-    /// `AllocError`: a request for memory was refused.
+    /// Returns `AllocError` if a request for memory was refused.
     pub fn new(alloc: Global, threads: usize, numbers: u16) -> Result<Trace, AllocError> {
         let mut lanes = Vec::new(alloc);
         for _ in 0..threads {
@@ -94,6 +97,7 @@ impl Trace {
             lanes,
             freed: never_freed(alloc, numbers)?,
             legs: AtomicU64::new(0),
+            serial: AtomicU64::new(0),
             drains: AtomicBool::new(false),
             wants_rest: AtomicBool::new(false),
             has_ended: AtomicBool::new(false),
@@ -104,21 +108,21 @@ impl Trace {
         })
     }
 
-    /// The next turn of the worker at this place has this moment, in milliseconds since the exchange was opened.
+    /// Sets the moment of the next turn of the worker at this place, in milliseconds since the exchange was opened.
     pub fn tell_moment(&self, thread: usize, now: u64) {
         if let Some(notes) = self.lanes.get(thread) {
             notes.now.store(now, Ordering::SeqCst);
         }
     }
 
-    /// The next turn of the worker at this place has this challenge.
+    /// Sets the challenge of the next turn of the worker at this place.
     pub fn tell_challenge<R: Wait>(&self, rt: &R, thread: usize, challenge: &Challenge) {
         if let Some(notes) = self.lanes.get(thread) {
             *notes.challenge.lock(rt) = Some(challenge.copied());
         }
     }
 
-    /// The moment of a worker's turn, and its challenge, where that is another than before.
+    /// Returns the moment of a worker's turn, and its challenge if that has changed.
     pub(crate) fn turn_of<R: Wait>(&self, rt: &R, thread: usize) -> (u64, Option<Challenge>) {
         match self.lanes.get(thread) {
             Some(notes) => {
@@ -129,24 +133,24 @@ impl Trace {
         }
     }
 
-    /// Notes whether all peers drain.
+    /// Sets whether all peers drain.
     pub(crate) fn set_draining(&self, drains: bool) {
         self.drains.store(drains, Ordering::SeqCst);
     }
 
-    /// Whether all peers drain.
+    /// Returns whether all peers drain.
     pub(crate) fn drains(&self) -> bool {
         self.drains.load(Ordering::SeqCst)
     }
 
-    /// The datagram that the thread at this place has in its hands isn't handed to the exchange.
+    /// Marks the thread's current datagram as turned away.
     pub fn turn_away(&self, thread: u16) {
         if let Some(notes) = self.lanes.get(usize::from(thread)) {
             notes.is_turned_away.store(true, Ordering::SeqCst);
         }
     }
 
-    /// A leg of this local number was taken out by the thread at this place.
+    /// Notes that the thread at this place took out the leg with this local number.
     pub fn retire(&self, thread: u16, number: u16) {
         if let Some(notes) = self.lanes.get(usize::from(thread)) {
             notes.has_retired.store(true, Ordering::SeqCst);
@@ -154,12 +158,22 @@ impl Trace {
         self.free(number);
     }
 
-    /// This local number was skipped: it was reserved, and given back at once.
+    /// Notes that this local number was skipped: it was reserved, and returned at once.
     pub fn skip(&self, number: u16) {
         self.free(number);
     }
 
-    // This local number is free again, behind those that were before.
+    /// The first leg of the service has this serial; 0 if nobody says so. No call is open yet.
+    pub fn tell_serial(&self, serial: u64) {
+        self.serial.store(serial, Ordering::SeqCst);
+    }
+
+    /// The serial of the first leg.
+    pub(crate) fn first_serial(&self) -> u64 {
+        self.serial.load(Ordering::SeqCst)
+    }
+
+    // Notes that this local number is free again, behind the others.
     fn free(&self, number: u16) {
         if let Some(freed) = self.freed.get(usize::from(number)) {
             let legs = self.legs.fetch_add(1, Ordering::SeqCst);
@@ -167,12 +181,12 @@ impl Trace {
         }
     }
 
-    /// Whether a local number was given back.
+    /// Returns whether a local number was returned.
     pub(crate) fn has_freed(&self) -> bool {
         self.legs.load(Ordering::SeqCst) != 0
     }
 
-    /// How the trace is, by what the threads and the writer told last. Contracts don't speak of it.
+    /// Returns the state of the trace, as the threads and the writer last reported it. Contracts don't mention it.
     pub fn state(&self) -> TraceState {
         TraceState {
             written: self.written.load(Ordering::SeqCst),
@@ -181,12 +195,12 @@ impl Trace {
         }
     }
 
-    /// Whether the writer would begin a new file, were no call up. It wouldn't once the trace has ended.
+    /// Returns whether the writer would begin a new file if no call were up. It wouldn't once the trace has ended.
     pub fn wants_rest(&self) -> bool {
         self.wants_rest.load(Ordering::SeqCst) && !self.has_ended()
     }
 
-    /// No thread notes anything any more: the writer writes what there is, and ends.
+    /// Ends the notes: no thread notes anything after this. The writer writes the rest and ends.
     pub fn end(&self) {
         self.are_over.store(true, Ordering::SeqCst);
     }
@@ -195,7 +209,7 @@ impl Trace {
         self.are_over.load(Ordering::SeqCst)
     }
 
-    /// Whether the writer has given up.
+    /// Returns whether the writer has given up.
     pub(crate) fn has_ended(&self) -> bool {
         self.has_ended.load(Ordering::SeqCst)
     }
@@ -204,17 +218,17 @@ impl Trace {
         self.wants_rest.store(wants, Ordering::SeqCst);
     }
 
-    /// So many octets more were written.
+    /// Counts octets written.
     pub(crate) fn count_written(&self, octets: u64) {
         self.written.fetch_add(octets, Ordering::SeqCst);
     }
 
-    /// A call wasn't noted.
+    /// Counts a call that wasn't noted.
     pub(crate) fn count_lost(&self) {
         self.lost.fetch_add(1, Ordering::SeqCst);
     }
 
-    /// The writer gives up.
+    /// Records that the writer gave up, and why.
     pub(crate) fn give_up(&self, fault: Fault) {
         self.fault.store(number_of(fault), Ordering::SeqCst);
         self.has_ended.store(true, Ordering::SeqCst);
@@ -228,15 +242,15 @@ impl Trace {
         self.turns.fetch_sub(1, Ordering::SeqCst);
     }
 
-    /// Whether a worker is in a turn.
+    /// Returns whether a worker is in a turn.
     pub(crate) fn has_turn(&self) -> bool {
         self.turns.load(Ordering::SeqCst) > 0
     }
 
-    /// Whether the datagram of a thread was turned away; then it isn't said again.
+    /// Returns whether a thread's datagram was turned away, and resets the mark.
     pub(crate) fn take_turned_away(&self, thread: usize) -> bool {
         match self.lanes.get(thread) {
-            // (seldom is it so, and to look costs less than to write)
+            // A read costs less than a write, and the mark is rarely set.
             Some(notes) => {
                 notes.is_turned_away.load(Ordering::SeqCst)
                     && notes.is_turned_away.swap(false, Ordering::SeqCst)
@@ -245,7 +259,7 @@ impl Trace {
         }
     }
 
-    /// Whether a thread took a leg out; then it isn't said again.
+    /// Returns whether a thread took a leg out, and resets the mark.
     pub(crate) fn take_retired(&self, thread: usize) -> bool {
         match self.lanes.get(thread) {
             Some(notes) => notes.has_retired.swap(false, Ordering::SeqCst),
@@ -253,28 +267,28 @@ impl Trace {
         }
     }
 
-    /// Hands over what a thread noted.
+    /// Hands over the notes of a thread.
     pub(crate) fn hand_over<R: Wait>(&self, rt: &R, thread: usize, noted: &mut Batch) {
         if let Some(notes) = self.lanes.get(thread) {
             notes.handed.lock(rt).hand_over(noted);
         }
     }
 
-    /// Gives a thread back what it handed over last, to note on behind it, where the writer has something else to take.
+    /// Gives a thread back the last batch that it handed over, to continue it, if the writer has another to take.
     pub(crate) fn resume<R: Wait>(&self, rt: &R, thread: usize, noted: &mut Batch) {
         if let Some(notes) = self.lanes.get(thread) {
             notes.handed.lock(rt).resume(noted);
         }
     }
 
-    /// Takes what a thread has handed over, for the batches that are written.
+    /// Takes the batches that a thread has handed over, and gives back those that are written.
     pub(crate) fn trade<R: Wait>(&self, rt: &R, thread: usize, batches: &mut Vec<Batch>) {
         if let Some(notes) = self.lanes.get(thread) {
             notes.handed.lock(rt).trade(batches);
         }
     }
 
-    /// One more than how many legs had been taken out when the last one of a number was; 0 where it had none.
+    /// Returns 1 more than the count of legs taken out before the last leg of a number; 0 if it had none.
     pub(crate) fn freed(&self, number: u16) -> u64 {
         match self.freed.get(usize::from(number)) {
             Some(freed) => freed.load(Ordering::SeqCst),
@@ -283,7 +297,7 @@ impl Trace {
     }
 }
 
-// No number had a leg.
+// Returns a list in which no number was returned.
 fn never_freed(alloc: Global, numbers: u16) -> Result<Vec<AtomicU64>, AllocError> {
     let mut freed = Vec::new(alloc);
     for _ in 0..=numbers {
@@ -294,7 +308,7 @@ fn never_freed(alloc: Global, numbers: u16) -> Result<Vec<AtomicU64>, AllocError
     Ok(freed)
 }
 
-// A fault as a number: 0 for none.
+// Returns a fault as a number: 0 for none.
 fn number_of(fault: Fault) -> u64 {
     match fault.code {
         Some(code) => u64::from(code.cast_unsigned()) + 2,

@@ -1,6 +1,6 @@
-//! The thread that writes.
+//! The thread that writes the trace.
 use crate::folder::Folder;
-use crate::free_numbers::first_orders_of;
+use crate::free_numbers::orders_of;
 use crate::handed::Handed;
 use crate::mark::{Batch, Input, Mark};
 use crate::parts::{TraceFile, TraceFolder};
@@ -14,26 +14,28 @@ use std::thread;
 use std::thread::Threads;
 use std::time::{Clock, Duration};
 
-// How long the writer rests after a round, in milliseconds; and where there is much to write, so that what a thread notes is
-// still in a processor's own memory when it is read, and when it is noted over.
+// The writer's rest after a round, in milliseconds. After much output the rest is shorter, so that a thread's notes are
+// still in the processor's cache when they are read and when they are overwritten.
 const REST_MS: u64 = 20;
 
 const SHORT_REST_MS: u64 = 10;
 
-// So many octets written for each millisecond of rest are much.
+// Output counts as much from this number of octets for each millisecond of rest.
 const MUCH: u64 = 3200;
 
-// Lines are written once there are so many octets of them, and at the end of a round: each call of the system costs what it
-// takes to write some eight thousand octets.
+// Lines are written once there are this many octets of them, and at the end of a round. A system call costs as much as
+// writing some eight thousand octets.
 const PIECE: usize = 262_144;
 
-// One of so many octets of a file is a line of a stranger's datagram at most, so that strangers don't push calls out of the trace.
+// At most 1 of this many octets of a file belongs to strangers' datagrams, so that strangers don't push calls out of the
+// trace.
 const STRANGERS: u64 = 8;
 
-// There is no memory for the head of a file, or for those of its lines.
+// The fault if there is no memory for a file's head or lines.
 const NO_MEMORY: Fault = Fault { code: Some(12) };
 
-// What a thread has handed over, and how much of it is written: so many batches, and of the next one so many marks and octets.
+// The batches that a thread has handed over, and the part already written: batches, then marks and octets of the next
+// batch.
 #[derive(Drop)]
 struct Taken {
     batches: Vec<Batch>,
@@ -43,14 +45,14 @@ struct Taken {
 }
 
 impl Taken {
-    // The number of the next call, if there is one.
+    // Returns the number of the next call, if there is one.
     fn next(&self) -> Option<u64> {
         let batch = self.batches.get(self.written)?;
         let mark = batch.marks.get(self.marks)?;
         Some(mark.number)
     }
 
-    // What the thread has handed over since, where all before is written.
+    // Takes the thread's new batches, if all earlier ones are written.
     fn refill<R: Wait>(&mut self, rt: &R, trace: &Trace, thread: usize) {
         if self.written < self.batches.len() {
             return;
@@ -61,7 +63,7 @@ impl Taken {
         self.octets = 0;
     }
 
-    // Writes the lines of the thread's next calls, as long as they follow on one another and lie in one batch.
+    // Writes the lines of the thread's next calls, as long as their numbers are consecutive and they are in one batch.
     fn tell<D: Folder>(&mut self, thread: usize, writer: &mut Writer<'_, D>) -> Result<(), Fault> {
         let Some(batch) = self.batches.get(self.written) else {
             return Ok(());
@@ -84,33 +86,33 @@ impl Taken {
     }
 }
 
-/// What the writer needs: room for what the threads hand over.
+/// The writer's memory: room for the batches of the threads.
 pub struct TraceNotes {
     alloc: Global,
     taken: Vec<Taken>,
 }
 
-// (Written out, so that whoever owns one proves a call where it is dropped, and not the drop of each field.)
+// Written out, so that an owner proves one call at its drop, not the drop of each field.
 impl Drop for TraceNotes {
     fn drop(self) {
         let TraceNotes { alloc: _, taken: _ } = self;
     }
 }
 
-/// How a trace is written.
+/// The settings of a trace.
 #[derive(Clone, Copy)]
 pub struct TraceSettings<'a> {
     pub folder: TraceFolder<'a>,
-    /// Whether digits are written as they are; else each is a 0.
+    /// Whether digits are shown. Otherwise each is written as 0.
     pub shows_digits: bool,
-    /// What the head of each file says of the service.
+    /// The line about the service in the head of each file.
     pub about: &'a str,
 }
 
 impl TraceNotes {
-    /// Room for what so many threads hand over.
+    /// Returns room for the batches of `threads` threads.
     ///
-    /// `AllocError`: a request for memory was refused.
+    /// Returns `AllocError` if a request for memory was refused.
     pub fn new(alloc: Global, threads: usize) -> Result<TraceNotes, AllocError> {
         let mut taken = Vec::new(alloc);
         for _ in 0..threads {
@@ -128,7 +130,7 @@ impl TraceNotes {
     }
 }
 
-// A trace as it is written.
+// The writer's state.
 #[derive(Drop)]
 struct Writer<'a, D: Folder> {
     disk: &'a D,
@@ -140,15 +142,15 @@ struct Writer<'a, D: Folder> {
     part: u64,
     // The number of the next call.
     next: u64,
-    // How many octets were written in this round.
+    // The number of octets written in this round.
     written: u64,
-    // How many octets of lines of strangers' datagrams the file has, and how many such datagrams it lacks.
+    // The octets of strangers' lines in the file, and the number of strangers' datagrams that were left out.
     strangers: u64,
     left_out: u64,
 }
 
 impl<'a, D: Folder> Writer<'a, D> {
-    // Nothing is written.
+    // Returns the writer before its first line.
     fn new(
         disk: &'a D,
         trace: &'a Trace,
@@ -178,8 +180,8 @@ impl<'a, D: Folder> Writer<'a, D> {
         }
     }
 
-    // The first lines of the next part: of one that begins where no call is up, with the order of free numbers there, or of
-    // another.
+    // Adds the first lines of the next file. With `orders` no call is up at its beginning, and these are the orders of free
+    // numbers and the serial of the next leg.
     fn begin_part(&mut self, orders: Option<&[u8]>) -> Result<(), Fault> {
         self.part = self.part.wrapping_add(1);
         let exactness = if !self.settings.shows_digits {
@@ -201,7 +203,7 @@ impl<'a, D: Folder> Writer<'a, D> {
         Ok(())
     }
 
-    // The lines that there are go to the file.
+    // Writes the lines to the file.
     fn write(&mut self) -> Result<(), Fault> {
         let before = self.file.length();
         self.file.write(&mut self.script.lines.octets)?;
@@ -211,7 +213,7 @@ impl<'a, D: Folder> Writer<'a, D> {
         Ok(())
     }
 
-    // The next file is begun.
+    // Ends the file and begins the next.
     fn turn_over(&mut self, orders: Option<&[u8]>) -> Result<(), Fault> {
         self.end_strangers();
         self.write()?;
@@ -223,18 +225,19 @@ impl<'a, D: Folder> Writer<'a, D> {
         self.begin_part(orders)
     }
 
-    // The last line of a file says how many datagrams of strangers it lacks, if it lacks some.
+    // Adds the file's last line, the number of strangers' datagrams that were left out, if there are any.
     fn end_strangers(&mut self) {
         self.script.leave_out(self.left_out);
         self.strangers = 0;
         self.left_out = 0;
     }
 
-    // The lines of a call of a stranger, as far as the file's share for them has room. Whether there was memory for them.
+    // Adds the lines of a stranger's datagram, unless the file's share for them is used up. Returns whether there was
+    // memory for them.
     fn push_stranger(&mut self, thread: usize, mark: &Mark, octets: &[u8]) -> bool {
         if self.strangers >= self.settings.folder.part() / STRANGERS {
             self.left_out = self.left_out.saturating_add(1);
-            // (what is missing before it is said before the next)
+            // A pending note about missing calls comes before the next call.
             return self.script.push(thread, &mark.emptied(), b"");
         }
         let before = self.script.lines.octets.len() as u64;
@@ -245,14 +248,15 @@ impl<'a, D: Folder> Writer<'a, D> {
         is_pushed
     }
 
-    // How many octets the file has once the lines are written.
+    // Returns the length of the file once the lines are written.
     fn length(&self) -> u64 {
         self.file
             .length()
             .saturating_add(self.script.lines.octets.len() as u64)
     }
 
-    // The lines of a call. It may begin a file: where no call is up, a file that is half as long as it may be has a next one.
+    // Adds the lines of a call, and begins the next file if this one is full. At a moment without calls it does so when the
+    // file is half full.
     fn tell(&mut self, thread: usize, mark: &Mark, octets: &[u8]) -> Result<(), Fault> {
         let part = self.settings.folder.part();
         let length = self.length();
@@ -275,8 +279,8 @@ impl<'a, D: Folder> Writer<'a, D> {
     }
 }
 
-// The lines of calls, in the order in which they began, as far as that is known: of each thread in turn those that come next.
-// True if there were some.
+// Writes the next calls of each thread in turn, in the order in which the calls began, as far as they have been handed
+// over. Returns whether there were any.
 fn tell_some<R: Wait, D: Folder>(
     rt: &R,
     taken: &mut [Taken],
@@ -293,7 +297,7 @@ fn tell_some<R: Wait, D: Folder>(
     Ok(has_told)
 }
 
-// How long the writer rests after a round in which so many octets were written, behind a rest of so many milliseconds.
+// Returns the writer's rest after a round that wrote `written` octets. `rest_ms` is the rest before that round.
 fn rest_after(written: u64, rest_ms: u64) -> u64 {
     if written >= MUCH.saturating_mul(rest_ms) {
         SHORT_REST_MS
@@ -302,7 +306,7 @@ fn rest_after(written: u64, rest_ms: u64) -> u64 {
     }
 }
 
-// All that the threads have noted up to now.
+// Writes all that the threads have noted up to now.
 fn write_noted<R: Wait, D: Folder>(
     rt: &R,
     notes: &mut TraceNotes,
@@ -327,20 +331,21 @@ fn write_noted<R: Wait, D: Folder>(
     Ok(())
 }
 
-// Writes what the threads of a service note to the files of a folder, until they are over.
+// Writes the notes of a service's threads to the files of a folder, until the service has ended.
 fn write_rounds<R: Clock + Wait, D: Folder>(
     rt: &R,
     notes: &mut TraceNotes,
     writer: &mut Writer<'_, D>,
 ) -> Result<(), Fault> {
-    let orders = first_orders_of(writer.alloc, writer.trace, writer.script.plan);
+    let (trace, plan) = (writer.trace, writer.script.plan);
+    let orders = orders_of(writer.alloc, trace, plan, trace.first_serial());
     if orders.is_cut {
         return Err(NO_MEMORY);
     }
     writer.begin_part(Some(&orders.octets))?;
     let mut rest_ms = REST_MS;
     for _ in rt.forever() {
-        // (asked first, so that nothing is missed that a thread noted before its end)
+        // Read first, so that no note is missed that a thread made before its end.
         let are_over = writer.trace.are_over();
         writer.written = 0;
         write_noted(rt, notes, writer, are_over)?;
@@ -353,12 +358,12 @@ fn write_rounds<R: Clock + Wait, D: Folder>(
     Ok(())
 }
 
-/// Has a service serve, and writes meanwhile, on a thread of its own, what the service's threads note, to the files of a folder;
-/// in rounds, fifty a second, or a hundred where there is much. What calls of the exchange were given stands there in the order
-/// in which they began. Once the service has served the trace ends.
+/// Runs a service. A separate thread writes the notes of the service's threads to the files of a folder. It does so fifty
+/// times a second, or a hundred times if there is much to write. The calls of the exchange appear in the order in which
+/// they began. The trace ends once `serve` has returned.
 ///
-/// Answers what `serve` does; false if the thread was refused, and then nothing is served. Where a file can't be written to the
-/// trace ends, with a line that says so; the service goes on.
+/// Returns the result of `serve`, or false if the thread was refused; then nothing is served. If a file can't be written
+/// to, the trace ends with a line that says so, and the service continues.
 pub fn write_trace_beside<R: Clock + Threads + Wait + Sync, D: Folder + Sync, F: FnOnce() -> bool>(
     rt: &R,
     disk: &D,

@@ -1,4 +1,4 @@
--- A trunk frame of all that is queued, and looking for a call in a ring.
+-- A trunk frame of the whole queue, and the search for a call in a ring.
 use Rattle.std.proofs.Common.{◌≡◌, ℕ, ◌+◌, ◌*◌, ◌<◌, ◌≤◌, ◌==◌, ◌||◌, Bool, true, false, List, [], ◌∷◌, ◌++◌, length, Some, None, refl, sym, ap, ◌∙◌, append-nil, arith, length-append}
 use Rattle.std.specs.List.{flat_map}
 use Rattle.iax_frames.specs.Items.{SpellsItems, go_on, items_within}
@@ -8,7 +8,7 @@ use Rattle.trunk_packer.specs.Queue.{QueueEntry, media_octets, has_call, trunk_o
 use Rattle.trunk_packer.specs.Stored.{stored, IsStored, first_stored, queue_in}
 use Rattle.trunk_packer.proofs.StoredLaws.{format}
 
--- ---- how long a frame is
+-- ---- the length of a frame
 
 pub timed_octets : (xs : List QueueEntry) → trunk_octets true xs ≡ 8 + length xs * 6 + media_octets xs
 timed_octets [] = omega arith
@@ -44,7 +44,7 @@ none_left timed now old (e ∷ rest) bytes packs fits =
 spells : (bytes : List ℕ) (t : TrunkFrame) → SpellsTrunk bytes t → bytes ≡ trunk_head t.command_data t.timestamp ++ flat_map entry t.entries
 spells bytes t s = s.whole ∙ ap (λ (r : List ℕ). trunk_head t.command_data t.timestamp ++ r) s.entries.whole
 
--- the frame, and what is left
+-- the frame, and the rest
 pub record PacksAll (timed : Bool) (now : ℕ) (old new : List QueueEntry) (bytes : List ℕ) : Type 0 where
   pub empty : new ≡ []
   pub frame : bytes ≡ trunk_spelling timed now old
@@ -60,11 +60,11 @@ all_media octets old new counted none = omega (arith, counted, ap media_octets n
 
 -- ---- looking for a call
 
--- what is found in the octets is found in the queue
+-- a call found in the octets is found in the queue
 pub found_in : (number : ℕ) (octets items : List ℕ) (queue : List QueueEntry) (found : Bool) → octets ≡ items → queue_in items ≡ queue → has_call number (queue_in octets) ≡ found → found ≡ has_call number queue
 found_in number octets items queue found joined was is = sym is ∙ ap (λ (o : List ℕ). has_call number (queue_in o)) joined ∙ ap (has_call number) was
 
--- these octets of the ring are left to be looked through
+-- these octets of the ring remain to be searched
 pub record IsSearching (number : ℕ) (octets left : List ℕ) : Type 0 where
   pub left_spelled : SpellsItems stored IsStored left (queue_in left)
   pub same : has_call number (queue_in octets) ≡ has_call number (queue_in left)
@@ -105,7 +105,7 @@ IsSearching-found number octets left rest e so first same =
     let more = items_of-more stored IsStored first_stored format left rest e first so.left_spelled in
     so.same ∙ ap (has_call number) more.0 ∙ or_true (e.number == number) (has_call number (queue_in rest)) same
 
--- fewer octets are left with each entry
+-- fewer octets remain with each entry
 pub IsSearching-shorter : (number : ℕ) (octets left rest : List ℕ) (e : QueueEntry) → IsSearching number octets left → first_stored left ≡ Some (e, rest) → length rest < length left
 IsSearching-shorter number octets left rest e so first =
     let more = items_of-more stored IsStored first_stored format left rest e first so.left_spelled in

@@ -4,7 +4,7 @@ use Rattle.iax_frames.specs.TrunkFrame.{TrunkFrame, SpellsTrunk, with_entry, hea
 use Rattle.trunk_packer.specs.Queue.{QueueEntry, trunk_entry}
 use Rattle.trunk_packer.specs.Stored.{first_stored}
 
--- the entry at the front of the octets stands at the end of the trunk frame
+-- the entry at the front of the octets is moved to the end of the trunk frame
 pub record AppendsFront (timed : Bool) (old new octets : List ℕ) (media : ℕ) (rest : List ℕ) : Type 0 where
   pub entry : QueueEntry
   pub first : first_stored octets ≡ Some (entry, rest)

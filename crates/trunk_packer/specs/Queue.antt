@@ -41,7 +41,7 @@ abbrev pub trunk_spelling : Bool → ℕ → List QueueEntry → List ℕ
 trunk_spelling timed now entries =
     let t = trunk_of timed now entries in trunk_head t.command_data t.timestamp ++ flat_map entry t.entries
 
--- how many octets a trunk frame of these entries has
+-- the number of octets of a trunk frame with these entries
 abbrev pub trunk_octets : Bool → List QueueEntry → ℕ
 trunk_octets timed [] = 8
 trunk_octets timed (e ∷ es) = head_len timed + length e.media + trunk_octets timed es

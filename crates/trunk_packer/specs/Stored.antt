@@ -1,4 +1,4 @@
--- How the entries of a queue lie in a ring of octets: one after another.
+-- The layout of a queue in a ring of octets: its entries, one after another.
 use Rattle.std.specs.Prelude.{◌≡◌, ℕ, ◌+◌, ◌<◌, ◌≤◌, ◌^◌, Bool, ◌&&◌, List, ◌++◌, length, take, drop, nat_lt, nat_le}
 use Rattle.std.specs.Prelude.{if◌then◌else◌, Option, Some, None}
 use Rattle.std.specs.Int.{w16, to_be_bytes}
@@ -29,7 +29,7 @@ first_stored bytes =
     )
     else None
 
--- the queue that lies in the octets
+-- the queue in the octets
 abbrev pub queue_in : List ℕ → List QueueEntry
 queue_in bytes = items_of first_stored bytes
 

@@ -14,16 +14,16 @@ use iax_frames::{CallNumber, Out, write_trunk};
 use std::alloc::{AllocError, Global};
 use std::marker::Model;
 
-/// The most entries of a queue.
+/// The greatest number of entries in a queue.
 const MAX_ENTRIES: usize = 256;
-/// The most octets of media in a queue.
+/// The greatest number of octets of media in a queue.
 const MAX_QUEUED: usize = 16384;
-/// The most octets of media in an entry.
+/// The greatest number of octets of media in an entry.
 const MAX_MEDIA: usize = 1380;
 /// The octets of a full queue: 6 before the media of each of its 256 entries, and the media.
 const CAPACITY: usize = 17920;
 
-/// Why media isn't queued, in the order in which causes are looked for.
+/// The reason why media isn't queued, in the order in which causes are checked.
 #[derive(Clone, Copy, Debug, PartialEq, Eq)]
 pub enum QueueError {
     /// The media has more than 1,380 octets.
@@ -34,8 +34,8 @@ pub enum QueueError {
 
 /// The media that waits for a trunk frame, in order. Contracts see its list of entries.
 ///
-/// Only `new` takes memory. `queue` adds an entry at the end, `pack` takes as many from the front as a trunk frame
-/// holds, and the others only look.
+/// Only `new` takes memory. `queue` adds an entry at the end, and `pack` takes as many from the front as a trunk frame
+/// holds. The others are read-only.
 #[derive(Drop)]
 pub struct Packer {
     // Each entry is its number, the length of its media and its timestamp, two octets each, and the media.
@@ -57,7 +57,8 @@ impl Model for Packer {
 }
 
 impl Packer {
-    /// An empty queue, with room for 256 entries and 16,384 octets of media. `Err` comes only where memory was refused.
+    /// Returns an empty queue, with room for 256 entries and 16,384 octets of media. Returns `Err` only if memory was
+    /// refused.
     pub fn new(alloc: Global) -> Result<Packer, AllocError>
         ensures { IfOk result (λ packer. packer ≡ []) }
     {
@@ -68,7 +69,7 @@ impl Packer {
         })
     }
 
-    /// How many entries are queued, 0 ..= 256, and the octets of their media, 0 ..= 16,384.
+    /// Returns the number of queued entries, 0 ..= 256, and the octets of their media, 0 ..= 16,384.
     pub fn queued(&self) -> (usize, u64)
         ensures entries { result.0 ≡ length self.now }
         ensures octets { result.1 ≡ media_octets self.now }
@@ -78,14 +79,14 @@ impl Packer {
         (self.entries, self.media as u64)
     }
 
-    /// Whether nothing is queued.
+    /// Returns whether nothing is queued.
     pub fn is_empty(&self) -> bool
         ensures { IsTrue result ↔ (self.now ≡ []) }
     {
         self.entries == 0
     }
 
-    /// Whether media of a call is queued.
+    /// Returns whether media of a call is queued.
     pub fn has_call(&self, number: CallNumber) -> bool
         ensures { result ≡ has_call number self.now }
     {
@@ -100,7 +101,7 @@ impl Packer {
         false
     }
 
-    /// How many octets a trunk frame of all that is queued would have, with timestamps where `timed` says so.
+    /// Returns the length in octets of a trunk frame of the whole queue. `timed` says whether its entries have timestamps.
     pub fn frame_len(&self, timed: bool) -> usize
         ensures len { result ≡ trunk_octets timed self.now }
         ensures few { result ≤ 17928 }
@@ -110,7 +111,7 @@ impl Packer {
 
     /// Queues media of a call with the low 16 bits of its timestamp, in milliseconds. It takes no memory.
     ///
-    /// Refusals are looked for in this order: `TooLong` where the media has more than 1,380 octets, `QueueFull` where it has no
+    /// Refusals are checked in this order: `TooLong` if the media has more than 1,380 octets, `QueueFull` if it has no
     /// room; then nothing is changed.
     pub fn queue(
         &mut self,
@@ -138,9 +139,9 @@ impl Packer {
         Ok(())
     }
 
-    /// Takes as many entries from the front as fit in one trunk frame of at most 1,400 octets, with timestamps where
-    /// `timed` says so, and gives the frame and the octets of media in it, or `None` where nothing is queued.
-    /// The frame's timestamp is the moment `now`, in milliseconds, modulo 2^32. It takes no memory.
+    /// Takes as many entries from the front as fit in one trunk frame of at most 1,400 octets. Returns the frame and the
+    /// octets of media in it, or `None` if nothing is queued. `timed` says whether the entries have timestamps. The frame's
+    /// timestamp is the moment `now`, in milliseconds, modulo 2^32. It takes no memory.
     pub fn pack(&mut self, now: u64, timed: bool) -> Option<(Out, u64)>
         ensures none { IsNone result ↔ (self.old ≡ []) }
         ensures same { IfNone result (self.new ≡ self.old) }
@@ -167,9 +168,9 @@ impl Packer {
         Some((out, media as u64))
     }
 
-    /// Takes all that is queued, which fits in one trunk frame of at most 1,400 octets, with timestamps where `timed` says so,
-    /// and gives the frame and the octets of media in it, or `None` where nothing is queued. The frame's timestamp is the moment
-    /// `now`, in milliseconds, modulo 2^32. It takes no memory.
+    /// Takes the whole queue, which fits in one trunk frame of at most 1,400 octets. Returns the frame and the octets of
+    /// media in it, or `None` if nothing is queued. `timed` says whether the entries have timestamps. The frame's timestamp
+    /// is the moment `now`, in milliseconds, modulo 2^32. It takes no memory.
     pub fn pack_whole(&mut self, now: u64, timed: bool) -> Option<(Out, u64)>
         requires fits { trunk_octets timed self.old ≤ 1400 }
         ensures none { IsNone result ↔ (self.old ≡ []) }
@@ -183,7 +184,7 @@ impl Packer {
     }
 }
 
-/// How many octets an entry of a trunk frame has before its media, 4, or 6 with timestamps ("Meta Frames").
+/// Returns the length in octets of an entry's head in a trunk frame: 4, or 6 with timestamps ("Meta Frames").
 pub fn entry_head_len(timed: bool) -> usize
     ensures len { result ≡ head_len timed }
     ensures few { result ≤ 6 }
@@ -214,8 +215,8 @@ fn push_entry(octets: &mut HeapCircularBuffer<u8>, number: CallNumber, timestamp
     octets.fill_from_slice(media);
 }
 
-// Appends the entry at the front to a trunk frame, and gives the octets of its media and what follows it,
-// or changes nothing where there is none or it doesn't fit.
+// Appends the entry at the front to a trunk frame, and returns the octets of its media and the rest. Changes nothing if
+// there is none, or if it doesn't fit.
 fn append_front<'a>(out: &mut Out, octets: &Pieces<'a>) -> Option<(usize, Pieces<'a>)>
     requires trunk { IsTrunk out.old }
     requires short { length octets.now < 2 ^ 63 }

@@ -1,4 +1,4 @@
-//! Octets that lie in two pieces, as those of a ring do.
+//! Octets in two pieces, as those of a ring are.
 ghost use Rattle.std.specs.Prelude.{◌≡◌, ◌+◌, ◌<◌, ◌≤◌, ◌^◌, length, take, drop, slice_index};
 ghost use Rattle.iax_frames.specs.Octets.{u16_at as word};
 
@@ -27,7 +27,7 @@ impl<'a> Pieces<'a> {
         self.front.len() + self.back.len()
     }
 
-    // The first octets, and those that follow them.
+    // Returns the first `len` octets, and the rest.
     pub(crate) fn split_at(&self, len: usize) -> (Pieces<'a>, Pieces<'a>)
         requires { len ≤ length self.now }
         ensures taken { result.0 ≡ take len self.now }

@@ -1,4 +1,4 @@
-//! The entries of a queue as they lie in a ring of octets.
+//! The entries of a queue in a ring of octets.
 ghost use Rattle.std.specs.Prelude.{◌≡◌, ◌==◌, ◌+◌, ◌<◌, ◌≤◌, ◌^◌, ◌↔◌, IsOk, OnOk, OnErr, IfNone, IfSome, length, slice_index, Some};
 ghost use Rattle.std.specs.Prelude.{None};
 ghost use Rattle.iax_frames.specs.TrunkFrame.{TrunkFrame, SpellsTrunk, IsTrunk, with_entry, head_len, is_timed};
@@ -29,7 +29,7 @@ impl<'a> Model for StoredEntry<'a> {
 }
 
 impl<'a> StoredEntry<'a> {
-    // The octets of media, at most 1,380.
+    // Returns the octets of media, at most 1,380.
     pub(crate) fn media_len(&self) -> usize
         ensures len { result ≡ length self.now.media }
         ensures short { result ≤ 1380 }
@@ -37,7 +37,7 @@ impl<'a> StoredEntry<'a> {
         self.media.len()
     }
 
-    // Whether it is media of this call.
+    // Returns whether it is media of this call.
     pub(crate) fn is_of(&self, number: CallNumber) -> bool
         ensures { result ≡ (self.now.number == number) }
     {
@@ -65,7 +65,7 @@ impl<'a> StoredEntry<'a> {
     }
 }
 
-// The entry at the front, and what follows it.
+// Returns the entry at the front, and the octets after it.
 pub(crate) fn split_entry<'a>(octets: &Pieces<'a>) -> Option<(StoredEntry<'a>, Pieces<'a>)>
     requires { length octets.now < 2 ^ 63 }
     ensures none { IfNone result (first_stored octets.now ≡ None) }

@@ -42,7 +42,7 @@ steps_low from place low within = omega arith
 
 -- ---- the first of a set, going round
 
--- what it is of a set's bits
+-- the place that is first in a set of bits, going round
 pub record Nearest (bits from place : ℕ) : Type 0 where
   pub there : bit_at bits place ≡ 1
   pub within : place < 64

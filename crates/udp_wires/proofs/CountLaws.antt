@@ -11,7 +11,7 @@ use Rattle.peer_plan.specs.declared.endpoint.Endpoint.{Endpoint}
 use Rattle.udp_wires.specs.PeerCounts.{count_for}
 use Rattle.peer_plan.proofs.EndpointLaws.{other_endpoint, same_endpoint}
 
--- what the peers have is found
+-- an endpoint that the peers have is found
 pub found_there : (peers : List Endpoint) (to : Endpoint) → Contains peers to → position (λ peer. is_endpoint peer to) peers ≡ None → ⊥
 found_there peers to there none =
     let test : Endpoint → Bool = λ peer. is_endpoint peer to in

@@ -1,4 +1,4 @@
--- Laws of what the system tells of sockets, one event after another.
+-- Laws of the readiness events that the system reports of sockets, one after another.
 use Rattle.std.proofs.Common.{◌≡◌, ◌≢◌, ◌<◌, ◌≤◌, ◌↔◌, ◌⊎◌, inl, inr, ℕ, zero, suc, List, ◌∷◌, refl, sym, subst, ◌∙◌, arith}
 use Rattle.std.proofs.lemmas.Bool.{cases_lt}
 use Rattle.std.specs.List.{Any}
@@ -28,7 +28,7 @@ module _ {X : Type 0} (token : X → ℕ) (event : X) (rest : List X) (place : �
   abbrev Tells : List X → Type 0
   Tells events = Any (λ e. token e ≡ place) events
 
-  -- the event's place comes into the set
+  -- the event's place is added to the set
   pub told_of_place : (before after : SocketSet) → place < 64 → Has after (token event)
       → ((other : ℕ) → other < 64 → other ≢ token event → Has after other ↔ Has before other)
       → (Has after place ⊎ Tells rest) ↔ (Has before place ⊎ Tells (event ∷ rest))

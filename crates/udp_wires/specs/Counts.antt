@@ -5,7 +5,7 @@ use Rattle.std.specs.Prelude.{◌≡◌, ◌≤◌, ℕ, ◌+◌, ◌%◌, ◌^�
 abbrev pub RisesBy : ℕ → ℕ → ℕ → Type 0
 RisesBy old new n = new % 2 ^ 64 ≡ (old + n) % 2 ^ 64
 
--- the count went up by at most so much, modulo 2 ^ 64
+-- the count went up by at most this number, modulo 2 ^ 64
 abbrev pub RisesByAtMost : ℕ → ℕ → ℕ → Type 0
 RisesByAtMost most old new = (n : ℕ) × (n ≤ most) × RisesBy old new n
 

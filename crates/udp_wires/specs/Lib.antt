@@ -1,8 +1,10 @@
 pub mod Counts
 pub mod Link
 pub mod MioWire
+pub mod Parcels
 pub mod Pauses
 pub mod PeerCounts
 pub mod Sharing
 pub mod SocketAddress
 pub mod SocketSet
+pub mod Traffic

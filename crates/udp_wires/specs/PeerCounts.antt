@@ -4,7 +4,7 @@ use Rattle.peer_plan.specs.Reading.{is_endpoint}
 use Rattle.peer_plan.specs.declared.endpoint.Endpoint.{Endpoint}
 use Rattle.udp_wires.specs.declared.peer_counts.PeerCounts as code
 
--- the count at the first place where the peers have this endpoint, 0 if they don't
+-- the count at the first place of this endpoint among the peers, 0 if they don't have it
 abbrev pub count_for : List Endpoint → List ℕ → Endpoint → ℕ
 count_for peers counts to = unwrap_or (option_map (slice_index counts) (position (λ peer. is_endpoint peer to) peers)) 0
 

@@ -10,11 +10,11 @@ use Rattle.udp_wires.specs.declared.sharing.Sharing.TheVariants.{Alone, First, B
 abbrev pub is_among : List Endpoint → Endpoint → Bool
 is_among workers at = list_any (λ other. is_endpoint other at) workers
 
--- how the first of the others stands to those before it and to those behind it
+-- how the first of the others shares its endpoint with those before it and those behind it
 abbrev pub sharing_among : List Endpoint → List Endpoint → Sharing
 sharing_among before [] = Alone
 sharing_among before (at ∷ behind) = if is_among before at then Beside else if is_among behind at then First else Alone
 
--- how the worker at a place stands to the others
+-- how the worker at a place shares its endpoint with the others
 abbrev pub sharing_of : List Endpoint → ℕ → Sharing
 sharing_of workers place = sharing_among (take place workers) (drop place workers)

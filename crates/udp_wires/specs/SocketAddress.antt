@@ -1,5 +1,5 @@
--- The octets of C's `sockaddr_in`, in as much room as the system's calls want: the family in the order of the machine, the port
--- in that of the network, the address.
+-- The octets of C's `sockaddr_in`, as many as the system's calls expect. The family is in the byte order of the machine,
+-- the port in that of the network, and the address follows.
 use Rattle.std.specs.Prelude.{ℕ, List, ◌++◌, replicate}
 use Rattle.std.specs.Int.{w16, to_le_bytes, to_be_bytes}
 use Rattle.peer_plan.specs.declared.endpoint.Endpoint.{Endpoint}

@@ -11,7 +11,7 @@ Has set place = bit_at set.bits place ≡ 1
 abbrev pub IsEmpty : SocketSet → Type 0
 IsEmpty set = (place : ℕ) → place < 64 → Has set place → ⊥
 
--- how many steps it is from one place to another, going up, and from the last place on to the first
+-- the number of steps from one place to another, going up, and from the last place on to the first
 abbrev pub steps_from : ℕ → ℕ → ℕ
 steps_from from place = (place + 64 - from) % 64
 

@@ -1,11 +1,11 @@
-//! Why no socket was bound.
+//! The reason why no socket was bound.
 ghost use Rattle.std.specs.Prelude.{◌≡◌};
 ghost use Rattle.udp_wires.specs.declared.bind_error.BindError.TheVariants as errors;
 
 use std::alloc::AllocError;
 use std::io;
 
-/// Why no socket was bound.
+/// The reason why no socket was bound.
 #[derive(Clone, Copy, Debug, PartialEq, Eq)]
 pub enum BindError {
     /// The system doesn't bind a socket to that endpoint, or has no more sockets.

@@ -1,4 +1,4 @@
-//! Wires: sockets for datagrams, by what is asked of them, and those of the system. They know the endpoints of peers, and no
+//! Wires: the interface of sockets for datagrams, and the sockets of the system. They know the endpoints of peers, but no
 //! exchange.
 #![tactic(auto)]
 
@@ -11,6 +11,7 @@ mod shared_port;
 mod sharing;
 mod socket_set;
 mod sockets;
+mod traffic;
 mod waker;
 mod wire;
 
@@ -18,5 +19,6 @@ pub use bind_error::BindError;
 pub use mio_wire::MioWire;
 pub use peer_counts::PeerCounts;
 pub use sharing::Sharing;
+pub use traffic::Traffic;
 pub use waker::WireWaker;
 pub use wire::{Wire, WireFault};

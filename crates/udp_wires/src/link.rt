@@ -1,5 +1,5 @@
-//! A socket that is connected to a peer, at the endpoint of its worker: the system keeps the way to the peer, and gives the
-//! socket what this peer sends alone.
+//! A socket that is connected to a peer, at the endpoint of its worker. The system keeps the route to the peer, and gives
+//! the socket only datagrams of this peer.
 ghost use Rattle.std.specs.Prelude.{◌≡◌, ◌≤◌, IfOk, IfSome, length};
 ghost use Rattle.udp_wires.specs.Link.{is_definite};
 
@@ -12,7 +12,7 @@ use peer_plan::Endpoint;
 use std::io;
 use std::os::fd::{AsRawFd, RawFd};
 
-// How many datagrams are taken away at most of a socket that was just connected.
+// The greatest number of datagrams that are removed from a socket that was just connected.
 const TRIES: u32 = 4096;
 
 /// A socket that is connected to a peer.
@@ -22,14 +22,14 @@ pub(crate) struct Link {
     pub(crate) peer: Endpoint,
 }
 
-/// Whether an endpoint names one address and one port.
+/// Returns whether an endpoint names one address and one port.
 pub(crate) fn is_definite(endpoint: Endpoint) -> bool
     ensures { result ≡ is_definite endpoint }
 {
     endpoint.address != [0; 4] && endpoint.port != 0
 }
 
-// The next datagram that a connected socket was given: its length in octets.
+// Reads the next datagram of a connected socket. Returns its length in octets.
 fn received(socket: &UdpSocket, octets: &mut [u8]) -> Result<Option<usize>, WireFault>
     ensures within { IfOk result (λ found. IfSome found (λ len. len ≤ length octets.new)) }
 {
@@ -44,7 +44,7 @@ fn received(socket: &UdpSocket, octets: &mut [u8]) -> Result<Option<usize>, Wire
     }
 }
 
-// A socket that is bound beside the worker's own and connected to a peer. None: the system gives none.
+// Returns a socket that is bound next to the worker's own and connected to a peer, or `None` if the system gives none.
 fn connected(at: Endpoint, peer: Endpoint) -> Option<UdpSocket> {
     let socket = UdpSocket::from_std(bound_beside(at)?);
     socket.connect(socket_address(peer)).ok()?;
@@ -52,11 +52,11 @@ fn connected(at: Endpoint, peer: Endpoint) -> Option<UdpSocket> {
 }
 
 impl Link {
-    /// A socket at this endpoint, beside one that lets others be bound there. It is connected to the peer, and the system tells
-    /// of its datagrams under that token where they are polled.
+    /// Returns a socket at this endpoint, next to one that lets others be bound there. It is connected to the peer, and
+    /// registered with the poll under that token.
     ///
-    /// None: the peer's address or port is 0, or the system gives no socket, doesn't bind it, has no way to the peer, or doesn't
-    /// tell of its datagrams.
+    /// Returns `None` if the peer's address or port is 0, or if the system refuses it: there is no socket, it can't be
+    /// bound or registered, or there is no route to the peer.
     pub(crate) fn made(poll: &Poll, at: Endpoint, peer: Endpoint, token: Token) -> Option<Link>
         ensures { IfSome result (λ link. link.peer ≡ peer) }
     {
@@ -76,13 +76,13 @@ impl Link {
         self.socket.as_raw_fd()
     }
 
-    /// From now on nobody else can be bound beside it. False: the system doesn't set that.
+    /// Keeps others from being bound next to it from now on. Returns false if the system doesn't set that.
     pub(crate) fn keep_alone(&self) -> bool {
         share(self.descriptor(), false)
     }
 
-    /// Takes away what came before it was connected, which may be anybody's. Once nobody else can be bound beside it, none of
-    /// anybody else comes any more. False: there may be more.
+    /// Removes the datagrams that came before it was connected, from any sender. Once nobody else can be bound next to it,
+    /// no datagrams of other senders come any more. Returns false if there may be more.
     pub(crate) fn is_emptied(&self) -> bool {
         let mut octets = [0u8; 1];
         for _ in 0..TRIES {
@@ -93,10 +93,10 @@ impl Link {
         false
     }
 
-    /// The next datagram of its peer.
+    /// Reads the next datagram of its peer.
     ///
-    /// The system tells a connected socket once of a datagram that its peer's machine didn't take: that is no fault of this
-    /// one, so after an error it is asked once more. `WireFault`: it failed again.
+    /// A connected socket reports an error once if its peer's machine didn't take a datagram. That is no fault of this
+    /// socket, so after an error it is read once more. Returns `WireFault` if that fails too.
     pub(crate) fn receive(&self, octets: &mut [u8]) -> Result<Option<(usize, Endpoint)>, WireFault>
         ensures within { IfOk result (λ found. IfSome found (λ datagram. datagram.0 ≤ length octets.new)) }
         ensures from { IfOk result (λ found. IfSome found (λ datagram. datagram.1 ≡ self.now.peer)) }
@@ -111,8 +111,8 @@ impl Link {
         }
     }
 
-    /// Sends a datagram to its peer. False: it would have to wait. `WireFault`: it failed, which may be since the system tells so
-    /// of an earlier one; it isn't sent.
+    /// Sends a datagram to its peer. Returns false if it would have to wait, and `WireFault` if it failed. The failure may
+    /// be the report of an earlier datagram's error; this datagram isn't sent.
     pub(crate) fn send(&self, octets: &[u8]) -> Result<bool, WireFault> {
         match self.socket.send(octets) {
             Ok(_) => Ok(true),

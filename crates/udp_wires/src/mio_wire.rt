@@ -1,5 +1,5 @@
 //! A wire over UDP sockets of the system.
-ghost use Rattle.std.specs.Prelude.{◌≡◌, ◌≢◌, ◌↔◌, Contains, IfOk, IsFalse, IsNone, IsSome, IsTrue, position};
+ghost use Rattle.std.specs.Prelude.{◌≡◌, ◌≢◌, ◌↔◌, [], Contains, IfOk, IsFalse, IsNone, IsSome, IsTrue, position};
 ghost use Rattle.peer_plan.specs.Reading.{is_endpoint};
 ghost use Rattle.peer_plan.specs.declared.endpoint.Endpoint.{Endpoint};
 ghost use Rattle.udp_wires.specs.Counts.{RisesBy};
@@ -9,6 +9,7 @@ use crate::bind_error::BindError;
 use crate::peer_counts::PeerCounts;
 use crate::sharing::Sharing;
 use crate::sockets::Sockets;
+use crate::traffic::Traffic;
 use crate::waker::WireWaker;
 use crate::wire::{Wire, WireFault};
 use peer_plan::Endpoint;
@@ -19,21 +20,24 @@ use std::os::fd::RawFd;
 // The longest wait, in milliseconds, while another worker may fill outboxes of these peers without waking this one.
 const SHARED_MS: u64 = 2;
 
-/// UDP sockets of the system that are bound to an IPv4 endpoint: a worker's own, and where it may be, one for each peer that is
+/// UDP sockets of the system that are bound to an IPv4 endpoint: a worker's own, and if possible one for each peer,
 /// connected to it.
 ///
-/// `receive` asks those sockets at which the system told of a datagram, by turns, each until it has none. Of a datagram that
-/// comes meanwhile to another one it knows once `wait` was called, or once it has found none.
+/// `receive` reads the sockets that the system reported as ready, by turns, each until it is empty. A datagram that comes
+/// meanwhile to another socket is found after the next `wait`, or once `receive` has found none.
 pub struct MioWire {
     sockets: Sockets,
-    // Whether a wait takes `SHARED_MS` at most.
+    // Whether a wait takes at most `SHARED_MS`.
     waits_short: bool,
     peers: PeerCounts,
     given: u64,
     failures: u64,
+    came: Traffic,
+    went: Traffic,
+    sent: Traffic,
 }
 
-// (Written out, so that whoever owns one proves a call where it is dropped, and not the drop of each field.)
+// Written out, so that an owner proves one call at its drop, not the drop of each field.
 impl Drop for MioWire {
     fn drop(self) {
         let MioWire {
@@ -42,11 +46,14 @@ impl Drop for MioWire {
             peers: _,
             given: _,
             failures: _,
+            came: _,
+            went: _,
+            sent: _,
         } = self;
     }
 }
 
-// How long it waits at most: not where it may have a datagram.
+// Returns the longest wait: 0 if there may be a datagram.
 fn pause_of(empty: bool, short: bool, ms: u64) -> u64
     ensures { result ≡ pause_of empty short ms }
 {
@@ -57,27 +64,28 @@ fn pause_of(empty: bool, short: bool, ms: u64) -> u64
 }
 
 impl MioWire {
-    ghost use Rattle.udp_wires.specs.MioWire.{given_of, given_to_of, failures_of, peers_of, waits_short};
+    ghost use Rattle.udp_wires.specs.MioWire.{came_of, went_of, sent_of, given_of, given_to_of, failures_of, peers_of, waits_short};
 
-    /// A UDP socket that is bound to this IPv4 endpoint and may send to these peers. Nothing was given to it yet, and no call
-    /// failed.
+    /// Returns a UDP socket that is bound to this IPv4 endpoint and may send to these peers. Nothing was given to it yet,
+    /// and no call failed.
     ///
-    /// The socket doesn't block; the system tells of what comes where it is polled. `Alone`: it is bound with no option set, so
-    /// nobody else can be bound there. `First`: it is bound so, and then `SO_REUSEPORT` is set. `Beside`: `SO_REUSEPORT` is set
-    /// before it is bound. Contracts speak of the peers, of the counts and of whether its waits are short: of the endpoint, the
-    /// options, the sockets and the polling they say nothing.
+    /// The socket doesn't block, and is registered with a poll. `Alone`: it is bound with no option set, so nobody else can
+    /// be bound there. `First`: it is bound in the same way, and then `SO_REUSEPORT` is set. `Beside`: `SO_REUSEPORT` is
+    /// set before it is bound. Contracts describe the peers, the counts, and whether its waits are short. They don't
+    /// mention the endpoint, the options, the sockets and the polling.
     ///
-    /// `Alone`, at an address and a port that aren't 0: each of the first 32 peers gets a socket there too, which is connected
-    /// to it, so that the system needn't look up the way for each datagram. `SO_REUSEPORT` is set only while these are bound,
-    /// and nobody else can be bound there after it. A peer for which the system gives no such socket, or whose address or port
-    /// is 0, is served by the worker's own.
+    /// `Alone`, at an address and a port that aren't 0: each of the first 32 peers also gets a socket there, which is
+    /// connected to it. So the system needn't look up the route for each datagram. `SO_REUSEPORT` is set only while these
+    /// are bound, and nobody else can be bound there after it. A peer for which the system gives no such socket, or whose
+    /// address or port is 0, is served by the worker's own.
     ///
-    /// Workers of one endpoint are bound in the order of their places: what comes from one sender then comes to one of them,
-    /// whichever the system chooses. Until such a wire has given a waker, it waits 2 ms at most: another worker may have filled
-    /// outboxes of its peers.
+    /// Workers of one endpoint are bound in the order of their places. The system then chooses one of them for each sender,
+    /// and gives it all datagrams of that sender. Until such a wire has given a waker, it waits at most 2 ms, because
+    /// another worker may have filled outboxes of its peers.
     ///
-    /// `Memory`: a request for memory was refused. `Bind`: the system gives no socket or no poll, doesn't set the option, doesn't
-    /// bind the socket to that endpoint, or doesn't take `SO_REUSEPORT` back. At an `Err` the list is dropped.
+    /// Returns `Memory` if a request for memory was refused. Returns `Bind` if the system gives no socket or no poll,
+    /// doesn't set the option, doesn't bind the socket to that endpoint, or doesn't take `SO_REUSEPORT` back. At an `Err`
+    /// the list is dropped.
     pub fn bind<N: Net>(
         rt: &N,
         alloc: Global,
@@ -86,6 +94,9 @@ impl MioWire {
         sharing: Sharing,
     ) -> Result<MioWire, BindError>
         ensures peers { IfOk result (λ wire. peers_of wire ≡ peers.items) }
+        ensures came { IfOk result (λ wire. came_of wire ≡ []) }
+        ensures went { IfOk result (λ wire. went_of wire ≡ []) }
+        ensures sent { IfOk result (λ wire. sent_of wire ≡ []) }
         ensures given { IfOk result (λ wire. given_of wire ≡ 0) }
         ensures given_to { IfOk result (λ wire. (to : Endpoint) → given_to_of wire to ≡ 0) }
         ensures failures { IfOk result (λ wire. failures_of wire ≡ 0) }
@@ -96,22 +107,25 @@ impl MioWire {
         Ok(MioWire::over(sockets, peers, sharing))
     }
 
-    /// The descriptor of its own socket, for whoever sets what the system does with it. Contracts don't speak of it.
+    /// Returns the descriptor of its own socket, for a caller that sets the socket's options. Contracts don't mention it.
     pub fn descriptor(&self) -> RawFd {
         self.sockets.own_descriptor()
     }
 
-    /// The descriptor of the socket that is connected to the peer at this place of its list, from 0 on, for whoever sets what the
-    /// system does with it. None: that peer has none. Contracts don't speak of it.
+    /// Returns the descriptor of the socket that is connected to the peer at this place of its list, from 0 on. A caller
+    /// may use it to set the socket's options. Returns `None` if that peer has none. Contracts don't mention it.
     pub fn link_descriptor(&self, peer: usize) -> Option<RawFd> {
         self.sockets.link_descriptor(peer)
     }
 
-    /// Gives a waker, by which any thread ends its waits. From then on a wait takes as long as it is told to, with a shared
-    /// endpoint, too: callers that fill outboxes of its peers have to wake it.
+    /// Returns a waker, by which any thread ends its waits. From then on a wait takes as long as the caller asks, even with
+    /// a shared endpoint. So callers that fill outboxes of its peers have to wake it.
     ///
-    /// `None`: the system gives no eventfd, and waits are as before.
+    /// Returns `None` if the system gives no eventfd; then waits are as before.
     pub fn waker(&mut self) -> Option<WireWaker>
+        ensures came { came_of self.new ≡ came_of self.old }
+        ensures went { went_of self.new ≡ went_of self.old }
+        ensures sent { sent_of self.new ≡ sent_of self.old }
         ensures given { given_of self.new ≡ given_of self.old }
         ensures given_to { (to : Endpoint) → given_to_of self.new to ≡ given_to_of self.old to }
         ensures failures { failures_of self.new ≡ failures_of self.old }
@@ -126,9 +140,12 @@ impl MioWire {
         waker
     }
 
-    // Over sockets that are bound and polled.
+    // Returns a wire over sockets that are bound and polled.
     fn over(sockets: Sockets, peers: PeerCounts, sharing: Sharing) -> MioWire
         ensures peers { result.peers ≡ peers }
+        ensures came { came_of result ≡ [] }
+        ensures went { went_of result ≡ [] }
+        ensures sent { sent_of result ≡ [] }
         ensures given { given_of result ≡ 0 }
         ensures failures { failures_of result ≡ 0 }
         ensures short { IsTrue (waits_short result) ↔ (sharing ≢ Sharing.Alone) }
@@ -139,12 +156,18 @@ impl MioWire {
             peers,
             given: 0,
             failures: 0,
+            came: Traffic::new(),
+            went: Traffic::new(),
+            sent: Traffic::new(),
         }
     }
 
-    // A datagram is given to it, for this endpoint, which one of its peers has: the first place of such a peer.
+    // Counts a datagram for this endpoint, which one of its peers has. Returns the first place of such a peer.
     fn count(&mut self, to: Endpoint) -> Option<usize>
         requires { Contains (peers_of self.old) to }
+        ensures came { came_of self.new ≡ came_of self.old }
+        ensures went { went_of self.new ≡ went_of self.old }
+        ensures sent { sent_of self.new ≡ sent_of self.old }
         ensures given { RisesBy (given_of self.old) (given_of self.new) 1 }
         ensures to { RisesBy (given_to_of self.old to) (given_to_of self.new to) 1 }
         ensures others { (other : Endpoint) → other ≢ to → given_to_of self.new other ≡ given_to_of self.old other }
@@ -158,7 +181,13 @@ impl MioWire {
 }
 
 impl Wire for MioWire {
-    ghost use Rattle.udp_wires.specs.MioWire.{given_of, given_to_of, failures_of, peers_of};
+    ghost use Rattle.udp_wires.specs.MioWire.{came_of, went_of, sent_of, given_of, given_to_of, failures_of, peers_of};
+
+    ghost came = { came_of };
+
+    ghost went = { went_of };
+
+    ghost sent = { sent_of };
 
     ghost given = { given_of };
 
@@ -169,22 +198,27 @@ impl Wire for MioWire {
     ghost peers = { peers_of };
 
     fn receive(&mut self, octets: &mut [u8]) -> Result<Option<(usize, Endpoint)>, WireFault> {
-        // Whoever didn't wait since it found nothing hears all the same what came meanwhile.
+        // A caller that doesn't wait still gets the datagrams that came since the last empty read.
         if self.sockets.are_empty() {
             self.sockets.look(0);
         }
         let found = self.sockets.receive(octets);
-        if found.is_err() {
-            self.failures = self.failures.wrapping_add(1);
+        match found {
+            Ok(Some((len, from))) => self.came.add(from, &octets[..len]),
+            Ok(None) => {}
+            Err(_) => self.failures = self.failures.wrapping_add(1),
         }
         found
     }
 
     fn send(&mut self, to: Endpoint, octets: &[u8]) -> Result<bool, WireFault> {
         let place = self.count(to);
+        self.went.add(to, octets);
         let sent = self.sockets.send(place, to, octets);
-        if sent.is_err() {
-            self.failures = self.failures.wrapping_add(1);
+        match sent {
+            Ok(true) => self.sent.add(to, octets),
+            Ok(false) => {}
+            Err(_) => self.failures = self.failures.wrapping_add(1),
         }
         sent
     }

@@ -1,4 +1,4 @@
-//! A worker's own socket: anybody may send to it, and it sends to whoever is named.
+//! A worker's own socket: it receives from any sender, and sends to any endpoint.
 ghost use Rattle.std.specs.Prelude.{◌≤◌, IfOk, IfSome, length};
 
 use crate::bind_error::BindError;
@@ -28,7 +28,7 @@ fn endpoint_of(address: SocketAddr) -> Option<Endpoint> {
     }
 }
 
-// The next datagram, with its sender, which has to be an IPv4 endpoint.
+// Reads the next datagram, with its sender, which has to be an IPv4 endpoint.
 pub(crate) fn received(
     socket: &UdpSocket,
     octets: &mut [u8],
@@ -49,7 +49,7 @@ pub(crate) fn received(
     }
 }
 
-// False: it would have to wait.
+// Sends a datagram. Returns false if it would have to wait.
 pub(crate) fn sent(socket: &UdpSocket, to: Endpoint, octets: &[u8]) -> Result<bool, WireFault> {
     match socket.send_to(octets, socket_address(to)) {
         Ok(_) => Ok(true),
@@ -62,7 +62,7 @@ pub(crate) fn sent(socket: &UdpSocket, to: Endpoint, octets: &[u8]) -> Result<bo
     }
 }
 
-// A socket that is bound to this endpoint.
+// Returns a socket that is bound to this endpoint.
 pub(crate) fn bound<N: Net>(
     rt: &N,
     at: Endpoint,

@@ -1,5 +1,5 @@
-//! Sockets that are bound to one endpoint: the system shares out what comes by who sends it (`SO_REUSEPORT`), which neither
-//! `std::net` nor `mio` offers. To one that is connected it gives what that peer sends, and to no other.
+//! Sockets that are bound to one endpoint. The system distributes datagrams among them by sender (`SO_REUSEPORT`), which
+//! neither `std::net` nor `mio` offers. A connected socket gets the datagrams of its peer, and no others.
 ghost use Rattle.std.specs.Prelude.{◌≡◌};
 ghost use Rattle.udp_wires.specs.SocketAddress.{socket_address};
 
@@ -9,7 +9,7 @@ use peer_plan::Endpoint;
 use std::net::UdpSocket;
 use std::os::fd::{AsRawFd, RawFd};
 
-// How long C's `sockaddr_in` is.
+// The length of C's `sockaddr_in`, in octets.
 const ADDRESS_OCTETS: u32 = 16;
 
 fn socket_address(at: Endpoint) -> [u8; system::_SS_SIZE]
@@ -22,7 +22,8 @@ fn socket_address(at: Endpoint) -> [u8; system::_SS_SIZE]
     octets
 }
 
-// Whether others that share it, too, may be bound beside it from now on. False: the system doesn't set that.
+// Sets whether other sockets that share the endpoint may be bound next to it from now on. Returns false if the system
+// doesn't set that.
 pub(crate) fn share(descriptor: RawFd, shared: bool) -> bool {
     let mut value = [0u8; 16];
     value[..4].copy_from_slice(&i32::from(shared).to_ne_bytes());
@@ -38,7 +39,7 @@ pub(crate) fn share(descriptor: RawFd, shared: bool) -> bool {
     status == 0
 }
 
-// A socket that isn't bound yet. It never waits.
+// Returns a socket that isn't bound yet. It never waits.
 fn unbound() -> Option<UdpSocket> {
     let kind = system::SOCK_DGRAM | system::SOCK_NONBLOCK | system::SOCK_CLOEXEC;
     let descriptor = unsafe { system::socket(system::AF_INET, kind, 0) };
@@ -48,7 +49,7 @@ fn unbound() -> Option<UdpSocket> {
     Some(unsafe { UdpSocket::from_raw_fd(descriptor) })
 }
 
-// A socket that is bound beside others that share this endpoint. It never waits.
+// Returns a socket that is bound next to others that share this endpoint. It never waits.
 pub(crate) fn bound_beside(at: Endpoint) -> Option<UdpSocket> {
     let socket = unbound()?;
     let descriptor = socket.as_raw_fd();

@@ -9,7 +9,8 @@ use peer_plan::Endpoint;
 pub enum Sharing {
     /// None has it, and nobody else can be bound there.
     Alone,
-    /// Others have it, and this one is the first of them: it is bound while it is alone, and then lets them be bound beside it.
+    /// Others have it, and this one is the first of them. It is bound while it is alone, and then lets the others be bound
+    /// next to it.
     First,
     /// One before it has it.
     Beside,
@@ -37,8 +38,8 @@ impl Sharing {
         }
     }
 
-    /// Whether other workers of the plan have the endpoint of the worker at this place, before it or behind it. At the place
-    /// behind the last worker: `Alone`.
+    /// Returns whether other workers of the plan have the endpoint of the worker at this place, before it or behind it. For
+    /// the place behind the last worker it returns `Alone`.
     pub fn of(workers: &[Endpoint], place: u16) -> Sharing
         requires { place ≤ length workers.now }
         ensures { result ≡ sharing_of workers.now place }

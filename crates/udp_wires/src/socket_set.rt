@@ -9,7 +9,7 @@ pub(crate) struct SocketSet {
 }
 
 impl SocketSet {
-    // The set of the first so many places.
+    // Returns the set of the first `count` places.
     pub(crate) fn below(count: u32) -> SocketSet
         requires { count < 64 }
         ensures { (place : ℕ) → place < 64 → Has result place ↔ place < count }
@@ -25,7 +25,7 @@ impl SocketSet {
         self.bits == 0
     }
 
-    // The set with this place, too.
+    // Returns the set with this place added.
     pub(crate) fn with(self, place: u32) -> SocketSet
         requires { place < 64 }
         ensures there { Has result place }
@@ -36,7 +36,7 @@ impl SocketSet {
         }
     }
 
-    // The set without this place.
+    // Returns the set without this place.
     pub(crate) fn without(self, place: u32) -> SocketSet
         requires { place < 64 }
         ensures gone { Has result place → ⊥ }
@@ -47,7 +47,7 @@ impl SocketSet {
         }
     }
 
-    // The place of the set that is met first, going round from this place on. None: the set is empty.
+    // Returns the first place of the set, going round from this place on, or `None` if the set is empty.
     pub(crate) fn first_from(self, from: u32) -> Option<u32>
         requires { from < 64 }
         ensures first { IfSome result (λ place. IsFirstFrom self from place) }

@@ -1,5 +1,5 @@
-//! The sockets of a wire, all at one endpoint: the worker's own, and one for each peer that is connected to it, where there may
-//! be such ones.
+//! The sockets of a wire, all at one endpoint: the worker's own, and one for each peer that is connected to it, if such
+//! sockets are possible.
 ghost use Rattle.std.specs.Prelude.{◌≡◌, ◌<◌, ◌≤◌, ◌↔◌, ◌⊎◌, Any, IfOk, IfSome, IsTrue, ℕ, length, vec_len};
 ghost use Rattle.mio.specs.Event.{event_token};
 ghost use Rattle.mio.specs.Events.{items};
@@ -21,19 +21,19 @@ use std::net::Net;
 use std::os::fd::{AsRawFd, RawFd};
 use std::time::Duration;
 
-// A plan has no more peers.
+// The greatest number of peers of a plan.
 const LINKS: usize = 32;
 
-// The worker's own socket, and those.
+// The worker's own socket, and the links.
 const SOCKETS: u32 = 33;
 
 // The place of the worker's own socket. That of a link is the place of its peer and one more.
 const OWN: u32 = 0;
 
-// How many places a set of sockets has. The first number behind them is the token of a waker.
+// The number of places of a set of sockets. It is also the token of a waker.
 const PLACES: usize = 64;
 
-/// The sockets of a wire, where they are polled.
+/// The sockets of a wire, with their poll.
 #[derive(Drop)]
 pub(crate) struct Sockets {
     own: UdpSocket,
@@ -41,14 +41,14 @@ pub(crate) struct Sockets {
     links: Vec<Option<Link>>,
     poll: Poll,
     events: Events,
-    // Those that may have a datagram. The system tells of each datagram once, so whoever had one may have more.
+    // The sockets that may have a datagram. The system reports each datagram once, so a socket that had one may have more.
     ready: SocketSet,
-    // The one that was asked last.
+    // The socket that was read last.
     last: u32,
     ghost few: { vec_len links ≤ 32 },
 }
 
-// The sockets that may have a datagram, with those that the system tells of.
+// Returns the sockets that may have a datagram: these, and those that the system reports.
 fn told(ready: SocketSet, events: &Events) -> SocketSet
     ensures { (place : ℕ) → place < 64 →
         Has result place ↔ (Has ready place ⊎ Any (λ event. (event_token event).0 ≡ place) (items events.now)) }
@@ -63,7 +63,7 @@ fn told(ready: SocketSet, events: &Events) -> SocketSet
     ready
 }
 
-// The worker's own socket; the system tells of its datagrams where they are polled.
+// Returns the worker's own socket, registered with the poll.
 fn readable<N: Net>(
     rt: &N,
     poll: &Poll,
@@ -76,7 +76,7 @@ fn readable<N: Net>(
     Ok(socket)
 }
 
-// A link to each of the peers, where the system gives one.
+// Returns a link to each of the peers for which the system gives one.
 fn made(
     alloc: Global,
     poll: &Poll,
@@ -92,7 +92,8 @@ fn made(
     Ok(links)
 }
 
-// Nobody else can be bound beside these from now on, nor beside the worker's own. False: the system doesn't set that.
+// Keeps others from being bound next to these sockets from now on. Returns false if the system doesn't set that for the
+// worker's own.
 fn keep_alone(own: &UdpSocket, links: &[Option<Link>]) -> bool {
     for link in links {
         if let Some(link) = link {
@@ -102,7 +103,7 @@ fn keep_alone(own: &UdpSocket, links: &[Option<Link>]) -> bool {
     share(own.as_raw_fd(), false)
 }
 
-// Takes away what came to these before they were connected, which may be anybody's. False: there may be more.
+// Removes the datagrams that came to these before they were connected, from any sender. Returns false if there may be more.
 fn are_emptied(links: &[Option<Link>]) -> bool {
     for link in links {
         if let Some(link) = link {
@@ -114,7 +115,8 @@ fn are_emptied(links: &[Option<Link>]) -> bool {
     true
 }
 
-// The links of a worker whose own socket is bound: none where others have its endpoint too, or the system chooses that.
+// Returns the links of a worker whose own socket is bound. There are none if other workers have its endpoint, or if the
+// system chooses it.
 fn links_of(
     alloc: Global,
     own: &UdpSocket,
@@ -141,10 +143,10 @@ fn links_of(
 }
 
 impl Sockets {
-    /// The sockets at this endpoint for these peers, where they are polled. No socket was asked yet.
+    /// Returns the sockets at this endpoint for these peers, with their poll. No socket was read yet.
     ///
-    /// `Memory`: a request for memory was refused. `Bind`: the system gives no own socket or no poll, doesn't set an option of
-    /// it, or doesn't bind it to that endpoint. A link that the system doesn't give isn't there.
+    /// Returns `Memory` if a request for memory was refused. Returns `Bind` if the system gives no own socket or no poll,
+    /// doesn't set an option of it, or doesn't bind it to that endpoint. A link that the system doesn't give is missing.
     pub(crate) fn bound<N: Net>(
         rt: &N,
         alloc: Global,
@@ -167,12 +169,12 @@ impl Sockets {
         })
     }
 
-    /// The descriptor of the worker's own socket.
+    /// Returns the descriptor of the worker's own socket.
     pub(crate) fn own_descriptor(&self) -> RawFd {
         self.own.as_raw_fd()
     }
 
-    /// The descriptor of the link of the peer at this place. None: it has no link.
+    /// Returns the descriptor of the link of the peer at this place, or `None` if it has no link.
     pub(crate) fn link_descriptor(&self, place: usize) -> Option<RawFd> {
         match self.links.get(place) {
             Some(Some(link)) => Some(link.descriptor()),
@@ -180,7 +182,7 @@ impl Sockets {
         }
     }
 
-    /// A waker, which ends `look` from any thread. None: the system gives no eventfd.
+    /// Returns a waker, which ends `look` from any thread, or `None` if the system gives no eventfd.
     pub(crate) fn waker(&self) -> Option<WireWaker> {
         match Waker::new(self.poll.registry(), Token(PLACES)) {
             Ok(waker) => Some(WireWaker::over(waker)),
@@ -188,15 +190,15 @@ impl Sockets {
         }
     }
 
-    /// Whether none may have a datagram.
+    /// Returns whether no socket may have a datagram.
     pub(crate) fn are_empty(&self) -> bool
         ensures { IsTrue result ↔ IsEmpty self.now.ready }
     {
         self.ready.is_empty()
     }
 
-    /// Asks the system which sockets have a datagram, and waits for one, or until it is woken, at most so many milliseconds. Where
-    /// it doesn't tell, each may have one.
+    /// Asks the system which sockets have a datagram. Waits for one, or for a waker, at most `ms` milliseconds. If the call
+    /// fails, each socket may have one.
     pub(crate) fn look(&mut self, ms: u64) {
         let wait = Duration::from_millis(ms);
         let polled = self.poll.poll(&mut self.events, Some(wait));
@@ -207,7 +209,7 @@ impl Sockets {
         };
     }
 
-    // The next datagram of the socket at this place. None too where there is no such socket.
+    // Reads the next datagram of the socket at this place. Returns `None` if it has none, or if there is no such socket.
     fn receive_at(
         &self,
         place: u32,
@@ -224,8 +226,9 @@ impl Sockets {
         }
     }
 
-    /// The next datagram, with its sender. After each datagram the next socket is asked, going round: so a peer that sends
-    /// without end keeps no other from being heard. None: no socket that may have had one has one.
+    /// Returns the next datagram, with its sender. After each datagram it reads the next socket, going round. So a peer
+    /// that sends without end doesn't keep the datagrams of others from being read. Returns `None` if no socket that may
+    /// have had a datagram has one.
     pub(crate) fn receive(
         &mut self,
         octets: &mut [u8],
@@ -246,7 +249,7 @@ impl Sockets {
         Ok(None)
     }
 
-    // The link that is connected to this endpoint, which the peer at this place has.
+    // Returns the link that is connected to this endpoint of the peer at this place.
     fn link_to(&self, place: Option<usize>, to: Endpoint) -> Option<&Link>
         ensures { IfSome result (λ link. link.now.peer ≡ to) }
     {
@@ -254,8 +257,8 @@ impl Sockets {
         if link.peer == to { Some(link) } else { None }
     }
 
-    /// Sends a datagram to an endpoint, which the peer at this place has: by its link, or where there is none, or it failed, by
-    /// the worker's own socket. False: it would have to wait. `WireFault`: the worker's own socket failed.
+    /// Sends a datagram to an endpoint of the peer at this place, by its link. If there is none or it failed, the worker's
+    /// own socket sends it. Returns false if it would have to wait, and `WireFault` if the worker's own socket failed.
     pub(crate) fn send(
         &self,
         place: Option<usize>,

@@ -8,13 +8,13 @@ pub struct WireWaker {
 }
 
 impl WireWaker {
-    /// Over a waker of the wire's poll.
+    /// Returns a waker over one of the wire's poll.
     pub(crate) fn over(waker: Waker) -> WireWaker {
         WireWaker { waker }
     }
 
-    /// Ends the wait under way, or else the next one, unless `receive` comes before that one. It doesn't block. If the system
-    /// refuses it, the wire waits on.
+    /// Ends the current wait, or otherwise the next one, unless `receive` comes before it. It doesn't block. If the system
+    /// refuses it, the wire continues to wait.
     pub fn wake(&self) {
         let _woken = self.waker.wake();
     }

@@ -5,7 +5,10 @@ use Rattle.std.specs.List.{AllWithin}
 use Rattle.std.specs.Prelude.{AllPairs, slice_get}
 use Rattle.peer_plan.specs.declared.endpoint.Endpoint.{Endpoint}
 use Rattle.udp_wires.specs.Counts.{RiseAlike, RisesBy, RisesByAtMost}
+use Rattle.udp_wires.specs.Parcels.{Parcel}
 use Rattle.udp_wires.proofs.EndpointLaws.{either_endpoint}
+use Rattle.udp_workers.specs.Events.{CountsSends}
+use Rattle.udp_workers.specs.declared.report.TurnReport.{TurnReport}
 
 -- ---- one peer after another
 
@@ -32,3 +35,11 @@ module _ (first before after : Endpoint → ℕ) (ends : List Endpoint) (place n
 
 pub by_as_much : (before after old new : ℕ) → RiseAlike before after old new → old ≤ new → RisesBy before after (new - old)
 by_as_much before after old new alike more = omega (arith, alike, more)
+
+-- ---- what a wire sent
+
+pub counts_on : (old mid new : TurnReport) (went then_went now_went sent then_sent now_sent : List Parcel)
+    → CountsSends old mid went then_went sent then_sent → CountsSends mid new then_went now_went then_sent now_sent
+    → CountsSends old new went now_went sent now_sent
+counts_on old mid new went then_went now_went sent then_sent now_sent before after =
+    record { sent = omega (arith, before.sent, after.sent); given = omega (arith, before.given, after.given) }

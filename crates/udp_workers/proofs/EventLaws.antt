@@ -1,4 +1,4 @@
--- Laws of the events that a watch is told of.
+-- Laws of the events that a watch receives.
 use Rattle.std.proofs.Common.{◌≡◌, sym, ap, ◌∙◌, ◌∷◌}
 use Rattle.std.proofs.Math.Logic.{∥∥₁_map}
 use Rattle.std.proofs.lemmas.List.Elements.{All-cons}
@@ -6,7 +6,7 @@ use Rattle.udp_workers.specs.Events.{Tells, counted}
 use Rattle.udp_workers.specs.declared.report.TurnReport.{TurnReport}
 use Rattle.worker_watch.specs.declared.watch.Event.{Event}
 
--- an event more is told and counted
+-- one more event is reported and counted
 pub tells_more : (told : Event → Type 0) (report new : TurnReport) (event : Event) → told event → new ≡ counted report event → ∥ Tells told report ∥₁ → ∥ Tells told new ∥₁
 tells_more told report new event this is before = ∥∥₁_map before (λ tells. record {
   events = event ∷ tells.events;

@@ -26,7 +26,7 @@ gives_on given old mid new before after = record {
 
 -- ---- the legs of a call
 
--- a leg was given that left the same behind
+-- a leg was given that had the same result
 record Stands (given : Departure → Type 0) (leg : Departure) : Type 0 where
   departure : Departure
   is_given : given departure
@@ -42,7 +42,7 @@ join : (P : Departure → Type 0) (xs ys : List Departure) → ByRecursion P xs 
 join P [] ys first rest = rest
 join P (x ∷ xs) ys first rest = (first.0, join P xs ys first.1 rest)
 
--- the partner that the book tells changes nothing else
+-- the partner, which the book supplies, changes nothing else
 unparted : (given : Departure → Type 0) (former : Option LegName) (gone : List Departure) (last : Option Departure)
     → ByRecursion (Stands given) ((gone ++ option_to_list (option_map (parted former) last)) ++ []) → ByRecursion (Stands given) (gone ++ option_to_list last)
 unparted given former gone None all = (split (Stands given) (gone ++ []) [] all).0
@@ -69,7 +69,7 @@ back_all given now (made ∷ rest) leaving all =
     let here = back given now made leaving later.1 in
     ((here.0, later.0), here.1)
 
--- where each leg of an answer was given, each was that was taken out in the steps of the call
+-- if each leg of an answer was given, so was each leg that the call's steps took out
 pub leave_gives : (given : Departure → Type 0) (now : ℕ) (old new : Noted) (legs : List Retired) → Leave now old new (map departure_of legs)
     → All (λ leg. given (departure_of leg)) legs → GivesAll given old new
 leave_gives given now old new legs leave each =

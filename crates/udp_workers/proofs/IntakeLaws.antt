@@ -1,14 +1,16 @@
--- Laws of what a turn takes in.
+-- Laws of the datagrams that a turn takes.
 use Rattle.std.proofs.Common.{◌≡◌, ℕ, suc, ◌+◌, ◌≤◌, ◌⊎◌, inl, inr, Bool, true, false, List, [], ◌∷◌, length, map, Option, None, Some, Result, Ok, Err, Bor, refl, sym, ap, subst, ◌∙◌, arith, length-append, add-zero, zero-add, if◌then◌else◌}
 use Rattle.std.proofs.lemmas.List.{length-map}
 use Rattle.std.proofs.lemmas.List.Sums.{sum_by-cons}
 use Rattle.std.specs.List.{flat_map}
-use Rattle.std.specs.Prelude.{sum_by, IsSome, OnErr, is_err, option_map}
+use Rattle.std.specs.Prelude.{◌++◌, sum_by, IsSome, OnErr, is_err, option_map, option_to_list}
+use Rattle.std.proofs.Common.{append_assoc, append-nil}
 use Rattle.iax_frames.specs.TrunkFrame.{TrunkEntry, TrunkFrame, SpellsTrunk, entry, entry_head, entry_item, trunk_head}
 use Rattle.noted_steps.specs.Notes.{Noted}
 use Rattle.peer_plan.specs.Plan.{PlanView}
 use Rattle.peer_plan.specs.declared.endpoint.Endpoint.{Endpoint}
-use Rattle.udp_workers.specs.Intake.{Arrival, BeginsWith, IsLoaded, IsTaken, IsWithin, Leaves, TakesAll, TakesIn, TurnView, Weigh, fits, media_octets, no_weight, plus, with_weight}
+use Rattle.udp_wires.specs.Parcels.{Parcel}
+use Rattle.udp_workers.specs.Intake.{BeginsWith, Fills, IsLoaded, IsTaken, IsWithin, Leaves, TakesAll, TakesIn, TakesWhatCame, TurnView, Weigh, fits, in_order, media_octets, no_weight, plus, with_weight}
 use Rattle.udp_workers.specs.declared.intake.Intake.{Intake}
 use Rattle.udp_workers.specs.declared.intake.Intake.TheVariants.{Whole, Bounded}
 use Rattle.udp_workers.specs.declared.intake.Weight.{Weight}
@@ -60,24 +62,64 @@ one_weighed left next item gone = (
     counted : (n m : ℕ) → n ≡ suc (length (map entry_item next)) → length (map entry_item next) ≡ m → n ≡ m + 1
     counted n m all rest = omega arith
 
--- ---- what a turn has taken in so far
+-- ---- the datagrams that a turn has taken so far
 
--- so much was weighed of what was taken in
-abbrev pub IsLoad : Intake → List Arrival → Option Weight → Type 0
+-- the weight of the datagrams taken
+abbrev pub IsLoad : Intake → List Parcel → Option Weight → Type 0
 IsLoad Whole arrivals taken = Unit {0}
 IsLoad Bounded [] taken = taken ≡ None
 IsLoad Bounded (arrival ∷ before) None = ⊥
 IsLoad Bounded (arrival ∷ before) (Some weight) = Weigh (arrival ∷ before) weight × ((before ≡ []) ⊎ (fits weight ≡ true))
 
--- Datagrams were taken in since the turn began, and so much was weighed of them. What was left to it was the first of them; it is
--- still there if there is none.
-pub record TakesSoFar (intake : Intake) (plan : PlanView) (turn : TurnView) (was here : Option Arrival) (load : Option Weight) (count counted now_counted : ℕ) (old new : Noted) : Type 0 where
-  pub arrivals : List Arrival
+-- Datagrams were taken since the turn began, and this is their weight. The datagram that was left to the turn was the first
+-- of them; if there is none, it is still there.
+pub record TakesSoFar (intake : Intake) (plan : PlanView) (turn : TurnView) (was here : Option Parcel) (load : Option Weight) (count counted now_counted : ℕ)
+    (old new : Noted) (before after : List Parcel) : Type 0 where
+  pub arrivals : List Parcel
   pub counts : length arrivals ≡ count
   pub received : now_counted ≡ counted + length arrivals
   pub first : (arrivals ≡ []) × (here ≡ was) ⊎ BeginsWith was arrivals × (here ≡ None)
   pub loaded : IsLoad intake arrivals load
   pub taken : TakesAll plan turn arrivals old new
+  pub what_came : TakesWhatCame was here arrivals before after
+
+-- ---- what the wire gave
+
+pub fills_still : (was : Option Parcel) (before after : List Parcel) → after ≡ before ++ [] → Fills was was before after
+fills_still was before after same = record { since = []; came = same; filled = append-nil (option_to_list was) }
+
+pub fills_not : (was : Option Parcel) (wire : List Parcel) → Fills was was wire wire
+fills_not was wire = fills_still was wire wire (sym (append-nil wire))
+
+pub fills_one : (arrival : Parcel) (before after : List Parcel) → after ≡ before ++ arrival ∷ [] → Fills None (Some arrival) before after
+fills_one arrival before after one = record { since = arrival ∷ []; came = one; filled = refl }
+
+what_came_none : (was : Option Parcel) (wire : List Parcel) → TakesWhatCame was was [] wire wire
+what_came_none was wire = record { since = []; came = sym (append-nil wire); whole = append-nil (option_to_list was) }
+
+-- a datagram more came, or none
+pub what_came_more : (was here next : Option Parcel) (arrivals first before after : List Parcel) → TakesWhatCame was here arrivals first before → Fills here next before after
+    → TakesWhatCame was next arrivals first after
+what_came_more was here next arrivals first before after came fills = record {
+  since = came.since ++ fills.since;
+  came = fills.came ∙ ap (λ (l : List Parcel). l ++ fills.since) came.came ∙ append_assoc first came.since fills.since;
+  whole =
+      sym (append_assoc (option_to_list was) came.since fills.since)
+      ∙ ap (λ (l : List Parcel). l ++ fills.since) came.whole
+      ∙ append_assoc (in_order arrivals) (option_to_list here) fills.since
+      ∙ ap (λ (l : List Parcel). in_order arrivals ++ l) fills.filled;
+}
+
+-- it was taken
+what_came_taken : (was : Option Parcel) (arrival : Parcel) (arrivals first now : List Parcel) → TakesWhatCame was (Some arrival) arrivals first now
+    → TakesWhatCame was None (arrival ∷ arrivals) first now
+what_came_taken was arrival arrivals first now came = record {
+  since = came.since;
+  came = came.came;
+  whole = came.whole ∙ sym (append-nil (in_order arrivals ++ arrival ∷ []));
+}
+
+-- ---- the weight so far
 
 pub load_none : (intake : Intake) → IsLoad intake [] None
 load_none Whole = tt
@@ -106,7 +148,7 @@ none_fits : (w one : Weight) (b : Bool) → fits (plus w one) ≡ b → None ≡
 none_fits w one true is e = absurd (not_none (plus w one) e)
 none_fits w one false is e = is
 
-load_more : (intake : Intake) (arrivals : List Arrival) (load : Option Weight) (arrival : Arrival) (next : Weight)
+load_more : (intake : Intake) (arrivals : List Parcel) (load : Option Weight) (arrival : Parcel) (next : Weight)
     → IsLoad intake arrivals load → IsLoaded intake load arrival.octets (Some next) → IsLoad intake (arrival ∷ arrivals) (Some next)
 load_more Whole arrivals load arrival next so_far loaded = tt
 load_more Bounded [] load arrival next so_far loaded =
@@ -117,7 +159,7 @@ load_more Bounded (before ∷ rest) (Some w) arrival next so_far loaded =
     let fit = one_fits w loaded.0 next (fits (plus w loaded.0)) refl loaded.2 in
     ((loaded.0, w, loaded.1, so_far.0, fit.0), inr (ap fits fit.0 ∙ fit.1))
 
-left_out : (intake : Intake) (arrivals : List Arrival) (load : Option Weight) (arrival : Arrival)
+left_out : (intake : Intake) (arrivals : List Parcel) (load : Option Weight) (arrival : Parcel)
     → IsLoad intake arrivals load → IsLoaded intake load arrival.octets None → Leaves intake arrivals (Some arrival)
 left_out Whole arrivals load arrival so_far loaded = not_none no_weight loaded
 left_out Bounded [] load arrival so_far loaded = absurd (not_none loaded.0 (first_fits load loaded.0 None so_far loaded.2))
@@ -125,13 +167,13 @@ left_out Bounded (before ∷ rest) None arrival so_far loaded = absurd so_far
 left_out Bounded (before ∷ rest) (Some w) arrival so_far loaded =
     (w, loaded.0, so_far.0, loaded.1, none_fits w loaded.0 (fits (plus w loaded.0)) refl loaded.2)
 
-some_taken : (intake : Intake) (arrivals : List Arrival) (load : Option Weight) (octets : List ℕ)
+some_taken : (intake : Intake) (arrivals : List Parcel) (load : Option Weight) (octets : List ℕ)
     → IsLoad intake arrivals load → IsLoaded intake load octets None → arrivals ≡ [] → ⊥
 some_taken Whole arrivals load octets so_far loaded none = not_none no_weight loaded
 some_taken Bounded [] load octets so_far loaded none = not_none loaded.0 (first_fits load loaded.0 None so_far loaded.2)
 some_taken Bounded (before ∷ rest) load octets so_far loaded none = cc
 
-within_load : (intake : Intake) (arrivals : List Arrival) (load : Option Weight) → IsLoad intake arrivals load → length arrivals ≤ 64 → IsWithin intake arrivals
+within_load : (intake : Intake) (arrivals : List Parcel) (load : Option Weight) → IsLoad intake arrivals load → length arrivals ≤ 64 → IsWithin intake arrivals
 within_load Whole arrivals load so_far few = few
 within_load Bounded [] load so_far few = (few, inl (omega arith))
 within_load Bounded (arrival ∷ before) None so_far few = absurd so_far
@@ -141,58 +183,67 @@ within_load Bounded (arrival ∷ before) (Some w) so_far few =
       | inr fit ↦ (few, inr (w, so_far.0, fit))
     ]
 
-leaves_none : (intake : Intake) (arrivals : List Arrival) → Leaves intake arrivals None
+leaves_none : (intake : Intake) (arrivals : List Parcel) → Leaves intake arrivals None
 leaves_none Whole arrivals = tt
 leaves_none Bounded arrivals = tt
 
 -- ---- the first datagram
 
 -- one more, behind others
-begins_more : (was : Option Arrival) (arrival : Arrival) (arrivals : List Arrival) → BeginsWith was arrivals → BeginsWith was (arrival ∷ arrivals)
+begins_more : (was : Option Parcel) (arrival : Parcel) (arrivals : List Parcel) → BeginsWith was arrivals → BeginsWith was (arrival ∷ arrivals)
 begins_more None arrival arrivals begins = tt
 begins_more (Some held) arrival [] begins = absurd (never held begins)
   where
-    never : (held : Arrival) → None ≡ Some held → ⊥
+    never : (held : Parcel) → None ≡ Some held → ⊥
     never held e = cc
 begins_more (Some held) arrival (before ∷ rest) begins = begins
 
--- the first one, which is what was left if anything was
-begins_first : (was here : Option Arrival) (arrival : Arrival) → here ≡ was → (IsSome here → Some arrival ≡ here) → BeginsWith was (arrival ∷ [])
+-- the first one, which is the one that was left, if there was one
+begins_first : (was here : Option Parcel) (arrival : Parcel) → here ≡ was → (IsSome here → Some arrival ≡ here) → BeginsWith was (arrival ∷ [])
 begins_first None here arrival same kept = tt
 begins_first (Some held) here arrival same kept = kept (subst IsSome (sym same) refl) ∙ same
 
--- nothing was left if none is there though what was left stays
-begins_none : (was here : Option Arrival) (arrivals : List Arrival) → here ≡ was → (IsSome here → None ≡ here) → BeginsWith was arrivals
+-- If nothing is there, nothing was left: a datagram that was left would still be there.
+begins_none : (was here : Option Parcel) (arrivals : List Parcel) → here ≡ was → (IsSome here → None ≡ here) → BeginsWith was arrivals
 begins_none None here arrivals same kept = tt
 begins_none (Some held) here arrivals same kept = absurd (never (kept (subst IsSome (sym same) refl) ∙ same))
   where
     never : None ≡ Some held → ⊥
     never e = cc
 
--- what holds at an error
+-- the fact that holds at an error
 pub at_error : {T E : Type 0} (r : Result T E) (P : Type 0) → OnErr r P → is_err r ≡ true → P
 at_error (Ok value) P holds wrong = absurd (cc)
 at_error (Err error) P holds right = holds
 
 -- no datagram is there
-pub not_there : (here : Option Arrival) (found : Option (Endpoint × Bor (List ℕ))) → option_map (λ (d : Endpoint × Bor (List ℕ)). record { from = d.0; octets = d.1.now }) found ≡ here → found ≡ None → None ≡ here
-not_there here found is none = sym (ap (option_map (λ (d : Endpoint × Bor (List ℕ)). record { from = d.0; octets = d.1.now })) none) ∙ is
+pub not_there : (here : Option Parcel) (found : Option (Endpoint × Bor (List ℕ))) → option_map (λ (d : Endpoint × Bor (List ℕ)). record { endpoint = d.0; octets = d.1.now }) found ≡ here → found ≡ None → None ≡ here
+not_there here found is none = sym (ap (option_map (λ (d : Endpoint × Bor (List ℕ)). record { endpoint = d.0; octets = d.1.now })) none) ∙ is
 
 -- ---- a turn
 
-module _ (intake : Intake) (plan : PlanView) (turn : TurnView) (was : Option Arrival) (counted : ℕ) (old : Noted) where
-  pub takes_none : TakesSoFar intake plan turn was was None 0 counted counted old old
-  takes_none = record { arrivals = []; counts = refl; received = sym (add-zero counted); first = inl (refl, refl); loaded = load_none intake; taken = refl }
+module _ (intake : Intake) (plan : PlanView) (turn : TurnView) (was : Option Parcel) (counted : ℕ) (old : Noted) (came : List Parcel) where
+  pub takes_none : TakesSoFar intake plan turn was was None 0 counted counted old old came came
+  takes_none = record {
+    arrivals = [];
+    counts = refl;
+    received = sym (add-zero counted);
+    first = inl (refl, refl);
+    loaded = load_none intake;
+    taken = refl;
+    what_came = what_came_none was came;
+  }
 
   -- a datagram more
-  pub takes_one : (here : Option Arrival) (load : Option Weight) (next : Weight) (arrival : Arrival) (count before after : ℕ) (mid new : Noted)
-      → TakesSoFar intake plan turn was here load count counted before old mid
+  pub takes_one : (here : Option Parcel) (load : Option Weight) (next : Weight) (arrival : Parcel) (count before after : ℕ) (mid new : Noted) (seen now : List Parcel)
+      → TakesSoFar intake plan turn was here load count counted before old mid came seen
+      → Fills here (Some arrival) seen now
       → (IsSome here → Some arrival ≡ here)
       → IsLoaded intake load arrival.octets (Some next)
       → IsTaken plan turn arrival mid new
       → after ≡ before + 1
-      → TakesSoFar intake plan turn was None (Some next) (count + 1) counted after old new
-  takes_one here load next arrival count before after mid new so_far kept loaded is one = record {
+      → TakesSoFar intake plan turn was None (Some next) (count + 1) counted after old new came now
+  takes_one here load next arrival count before after mid new seen now so_far fills kept loaded is one = record {
     arrivals = arrival ∷ so_far.arrivals;
     counts = let n = so_far.counts in omega arith;
     received = let n = so_far.received in omega arith;
@@ -205,15 +256,17 @@ module _ (intake : Intake) (plan : PlanView) (turn : TurnView) (was : Option Arr
     );
     loaded = load_more intake so_far.arrivals load arrival next so_far.loaded loaded;
     taken = (mid, so_far.taken, is);
+    what_came = what_came_taken was arrival so_far.arrivals came now (what_came_more was here (Some arrival) so_far.arrivals came seen now so_far.what_came fills);
   }
 
   -- no datagram is there, or the call of the wire failed
-  pub takes_no_more : (here : Option Arrival) (load : Option Weight) (count after : ℕ) (new : Noted)
-      → TakesSoFar intake plan turn was here load count counted after old new
+  pub takes_no_more : (here : Option Parcel) (load : Option Weight) (count after : ℕ) (new : Noted) (seen now : List Parcel)
+      → TakesSoFar intake plan turn was here load count counted after old new came seen
+      → Fills here None seen now
       → (IsSome here → None ≡ here)
       → count ≤ 64
-      → TakesIn intake plan turn was None counted after old new
-  takes_no_more here load count after new so_far kept few = record {
+      → TakesIn intake plan turn was None counted after old new came now
+  takes_no_more here load count after new seen now so_far fills kept few = record {
     arrivals = so_far.arrivals;
     received = so_far.received;
     first = elim so_far.first [
@@ -223,15 +276,17 @@ module _ (intake : Intake) (plan : PlanView) (turn : TurnView) (was : Option Arr
     within = within_load intake so_far.arrivals load so_far.loaded (let n = so_far.counts in omega arith);
     leaves = leaves_none intake so_far.arrivals;
     taken = so_far.taken;
+    what_came = what_came_more was here None so_far.arrivals came seen now so_far.what_came fills;
   }
 
   -- one doesn't fit any more
-  pub takes_what_fits : (here : Option Arrival) (load : Option Weight) (arrival : Arrival) (count after : ℕ) (new : Noted)
-      → TakesSoFar intake plan turn was here load count counted after old new
+  pub takes_what_fits : (here : Option Parcel) (load : Option Weight) (arrival : Parcel) (count after : ℕ) (new : Noted) (seen now : List Parcel)
+      → TakesSoFar intake plan turn was here load count counted after old new came seen
+      → Fills here (Some arrival) seen now
       → IsLoaded intake load arrival.octets None
       → count ≤ 64
-      → TakesIn intake plan turn was (Some arrival) counted after old new
-  takes_what_fits here load arrival count after new so_far loaded few = record {
+      → TakesIn intake plan turn was (Some arrival) counted after old new came now
+  takes_what_fits here load arrival count after new seen now so_far fills loaded few = record {
     arrivals = so_far.arrivals;
     received = so_far.received;
     first = elim so_far.first [
@@ -241,21 +296,23 @@ module _ (intake : Intake) (plan : PlanView) (turn : TurnView) (was : Option Arr
     within = within_load intake so_far.arrivals load so_far.loaded (let n = so_far.counts in omega arith);
     leaves = left_out intake so_far.arrivals load arrival so_far.loaded loaded;
     taken = so_far.taken;
+    what_came = what_came_more was here (Some arrival) so_far.arrivals came seen now so_far.what_came fills;
   }
 
   -- 64 were taken
-  pub takes_64 : (here : Option Arrival) (load : Option Weight) (after : ℕ) (new : Noted)
-      → TakesSoFar intake plan turn was here load 64 counted after old new
-      → TakesIn intake plan turn was here counted after old new
-  takes_64 here load after new so_far =
+  pub takes_64 : (here : Option Parcel) (load : Option Weight) (after : ℕ) (new : Noted) (now : List Parcel)
+      → TakesSoFar intake plan turn was here load 64 counted after old new came now
+      → TakesIn intake plan turn was here counted after old new came now
+  takes_64 here load after new now so_far =
       elim so_far.first [
         | inl empty ↦ absurd (let n = so_far.counts in let none = ap length empty.0 in omega arith)
-        | inr begun ↦ subst (λ left. TakesIn intake plan turn was left counted after old new) (sym begun.1) (record {
+        | inr begun ↦ subst (λ left. TakesIn intake plan turn was left counted after old new came now) (sym begun.1) (record {
           arrivals = so_far.arrivals;
           received = so_far.received;
           first = begun.0;
           within = within_load intake so_far.arrivals load so_far.loaded (let n = so_far.counts in omega arith);
           leaves = leaves_none intake so_far.arrivals;
           taken = so_far.taken;
+          what_came = subst (λ left. TakesWhatCame was left so_far.arrivals came now) begun.1 so_far.what_came;
         })
       ]

@@ -1,6 +1,9 @@
+pub mod CarriedPlaces
+pub mod CarryingLaws
 pub mod CountLaws
 pub mod EventLaws
 pub mod HandingLaws
+pub mod EmptyingLaws
 pub mod IntakeLaws
 pub mod RoomLaws
 pub mod TurnRoom

@@ -1,4 +1,4 @@
--- What the steps to which a datagram leads put at each peer is no more than it weighs.
+-- The steps that follow a datagram put no more at each peer than the datagram weighs.
 use Rattle.std.proofs.Common.{◌≡◌, ◌≢◌, ◌≤◌, ◌<◌, ℕ, ◌+◌, ◌==◌, ◌&&◌, ◌⊎◌, Bool, true, false, cond, List, [], ◌∷◌, ◌++◌, Option, None, Some, Ok, Err, length, slice_get, refl, sym, ap, subst, ◌∙◌, inl, inr, append_assoc, append-nil, arith}
 use Rattle.std.specs.Prelude.{nat_le, Result}
 use Rattle.std.proofs.lemmas.Bool.{cases_Bool, leb-true, leb-false, eqb-true, eq-eqb}
@@ -43,15 +43,16 @@ use Rattle.peer_lock.specs.declared.errors.PeerError.TheVariants as peer_errors
 use Rattle.peer_lock.specs.declared.steps.Step.{Step}
 use Rattle.peer_plan.specs.Plan.{PlanView}
 use Rattle.peer_plan.specs.declared.endpoint.Endpoint.{Endpoint}
+use Rattle.udp_wires.specs.Parcels.{Parcel}
 use Rattle.udp_workers.specs.Draining.{IsTurnedAway}
-use Rattle.udp_workers.specs.Intake.{Arrival, IsWeightOf, TakesAll, TurnView, Weigh, fits, weight_of}
+use Rattle.udp_workers.specs.Intake.{IsWeightOf, TakesAll, TurnView, Weigh, fits, weight_of}
 use Rattle.udp_workers.specs.Ticked.{IsLater}
 use Rattle.udp_workers.specs.declared.intake.Weight.{Weight}
 use Rattle.udp_workers.proofs.VnakFrames.{vnak_is}
 
 -- ---- one step
 
--- a step puts no more than the need says, and brings nothing
+-- a step puts no more than its need allows, and brings nothing
 record StepFew (load : Load) (need : Need) (reply : Reply) : Type 0 where
   few : load.datagrams ≤ need_puts (Some need)
   opens : OpensFew reply
@@ -61,7 +62,7 @@ as_is : (load : Load) (need other : Need) (reply answer : Reply) → need ≡ ot
 as_is load need other reply answer need_is reply_is few =
     subst (λ (n : Need). StepFew load n reply) (sym need_is) (subst (λ (r : Reply). StepFew load other r) (sym reply_is) few)
 
--- what a step puts at a peer is at most what it puts at its own
+-- a step puts at any peer at most what it puts at its own
 at_most : (place other : ℕ) (load : Load) (most : ℕ) → load.datagrams ≤ most → (cond (other == place) load no_load).datagrams ≤ most
 at_most place other load most few = either_load (other == place)
   where
@@ -97,7 +98,7 @@ order_few kind act octets is = omega (arith, order_same kind octets, ap (λ (k :
 idle : (need : Need) (reply : Reply) → OpensFew reply → brought_by reply ≡ 0 → StepFew no_load need reply
 idle need reply opens brings = record { few = omega arith; opens = opens; brings = brings }
 
--- what isn't asked of a peer
+-- the calls that ask no peer for a step
 unasked_few : (call : Call) (handed : Option HandedUp) (need : Need) (reply : Reply) → IsUnasked call (offer_in handed) need reply → StepFew no_load need reply
 unasked_few call handed (needs.OpenOut name) reply is = as_is no_load _ (needs.OpenOut name) reply _ refl is.0 (idle _ _ tt refl)
 unasked_few call handed (needs.Order name act) reply is = as_is no_load _ (needs.Order name act) reply _ refl is.0 (idle _ _ tt refl)
@@ -163,6 +164,7 @@ module _ (opening : (peer : PeerView) (name : LegName) (frame : FullFrame) (now 
       as_is _ need (needs.Partner name) reply (replies.Partner answer) is.0 is.1 (idle _ _ tt refl)
   made_few call handed need reply (mades.Release name answer) place old new leads is later =
       as_is _ need (needs.Release name) reply (replies.Release answer) is.0 is.1 (idle _ _ tt refl)
+  made_few call handed need reply (mades.TakeOut peer out) place old new leads is later = absurd is
   made_few call handed need reply mades.Unasked place old new leads is later = unasked_few call handed need reply is
 
 -- ---- the steps of a call
@@ -182,6 +184,7 @@ spelled_full call handed need reply (mades.Reserve peer answer) name is opens = 
 spelled_full call handed need reply (mades.Bridge one other answer) name is opens = let same = is.0 in cc
 spelled_full call handed need reply (mades.Partner other answer) name is opens = let same = is.0 in cc
 spelled_full call handed need reply (mades.Release other answer) name is opens = let same = is.0 in cc
+spelled_full call handed need reply (mades.TakeOut peer out) name is opens = absurd is
 spelled_full call handed need reply mades.Unasked name is opens = absurd (subst (λ (n : Need). IsUnasked call (offer_in handed) n reply) opens is)
 
 -- so is one that is rejected
@@ -199,6 +202,7 @@ spelled_rejected call handed need reply (mades.Reserve peer answer) at_peer is r
 spelled_rejected call handed need reply (mades.Bridge one other answer) at_peer is rejects = let same = is.0 in cc
 spelled_rejected call handed need reply (mades.Partner other answer) at_peer is rejects = let same = is.0 in cc
 spelled_rejected call handed need reply (mades.Release other answer) at_peer is rejects = let same = is.0 in cc
+spelled_rejected call handed need reply (mades.TakeOut peer out) at_peer is rejects = absurd is
 spelled_rejected call handed need reply mades.Unasked at_peer is rejects = absurd (subst (λ (n : Need). IsUnasked call (offer_in handed) n reply) rejects is)
 
 -- a full frame weighs four at least
@@ -251,7 +255,7 @@ module _ (steps_few : (work : Work) (reply : Reply) → OpensFew reply → datag
       let full = spelled_rejected call from.onwards trace.0 trace.1 step peer trace.3 rejects in
       omega (arith, all, left, full_weighs full.0 call.octets weight full.1 weighs)
 
-  -- where the answer of the book leads
+  -- the peer that the book's answer names
   reserved : (peer : ℕ) (reply : Reply)
       → (datagrams_left (after_told (at (places.ReserveIn peer) nothing_left) reply) ≤ 0)
       ⊎ (((name : LegName) × (after_told (at (places.ReserveIn peer) nothing_left) reply ≡ at (places.OpenIn name) nothing_left))
@@ -290,7 +294,7 @@ module _ (answers : (peer : PeerView) (frame : FullFrame) (now : ℕ) → is_vna
     (mini : (first : ℕ) (peer : PeerView) (frame : MiniFrame) (now : ℕ) → step_puts (datagram_step first peer (Mini frame) now) ≤ 1)
     (video : (first : ℕ) (peer : PeerView) (frame : VideoFrame) (now : ℕ) → step_puts (datagram_step first peer (Video frame) now) ≤ 0)
     (trunk : (first : ℕ) (peer : PeerView) (frame : TrunkFrame) (now : ℕ) → step_puts (datagram_step first peer (Trunk frame) now) ≤ length frame.entries) where
-  -- what it is answered by and what it brings
+  -- its replies, and the datagrams that it causes
   pub arrival_few : (first : ℕ) (peer : PeerView) (d : Datagram) (now : ℕ) → IsSoundPeer peer
       → (datagram_load peer d now).datagrams + step_puts (datagram_step first peer d now) ≤ (weight_of d).entries
   arrival_few first peer (Full frame) now sound = elim (cases_Bool (is_vnak (message_of frame.head))) [
@@ -302,7 +306,7 @@ module _ (answers : (peer : PeerView) (frame : FullFrame) (now : ℕ) → is_vna
   arrival_few first peer (Video frame) now sound = omega (arith, video first peer frame now)
   arrival_few first peer (Trunk frame) now sound = omega (arith, trunk first peer frame now)
 
--- ---- a heard datagram
+-- ---- a received datagram
 
 -- nothing was noted
 pub none_noted : (first steps : List Made) → first ≡ first ++ steps → steps ≡ []
@@ -367,6 +371,7 @@ module _ (steps_few : (work : Work) (reply : Reply) → OpensFew reply → datag
   call_few call peer place weight (mades.Bridge one other answer ∷ rest) to old new follow trace weighs sound = let same = first_is peer trace.0 _ trace.2 trace.3.0 in cc
   call_few call peer place weight (mades.Partner name answer ∷ rest) to old new follow trace weighs sound = let same = first_is peer trace.0 _ trace.2 trace.3.0 in cc
   call_few call peer place weight (mades.Release name answer ∷ rest) to old new follow trace weighs sound = let same = first_is peer trace.0 _ trace.2 trace.3.0 in cc
+  call_few call peer place weight (mades.TakeOut p out ∷ rest) to old new follow trace weighs sound = absurd trace.3
   call_few call peer place weight (mades.Unasked ∷ rest) to old new follow trace weighs sound =
       let same : needs.Datagram peer ≡ trace.0 = cc in
       absurd (subst (λ (n : Need). IsUnasked call (offer_in None) n trace.1) (sym same) trace.3)

@@ -25,7 +25,7 @@ served_below (peer ∷ peers) first worker bound fits =
 pub peers_below : (plan : PlanView) (worker : ℕ) → All (λ peer. peer < length plan.peers) (peers_of plan worker)
 peers_below plan worker = served_below plan.peers 0 worker (length plan.peers) (omega arith)
 
--- none of them stands before the first that is looked at
+-- none of them comes before the first peer considered
 served_from : (peers : List Peer) (first worker least : ℕ) → least ≤ first → All (λ peer. least ≤ peer) (served_of peers first worker)
 served_from [] first worker least low = All-nil (λ peer. least ≤ peer)
 served_from (peer ∷ peers) first worker least low =
@@ -34,7 +34,7 @@ served_from (peer ∷ peers) first worker least low =
       | false ↦ served_from peers (first + 1) worker least (omega arith)
     ]
 
--- they stand in the plan's order
+-- they are in the plan's order
 served_rising : (peers : List Peer) (first worker : ℕ) → AllPairs (λ one other. one < other) (served_of peers first worker)
 served_rising [] first worker = λ i j d below within. absurd (omega arith)
 served_rising (peer ∷ peers) first worker =
@@ -106,7 +106,7 @@ peers_apart plan one other to sound lower at_one at_other =
     sound.endpoints one other first.0 lower (slice_get_within plan.peers other second.0 second.1)
     (ap (λ (peer : Peer). peer.endpoint) same_first ∙ first.2 ∙ sym second.2 ∙ sym (ap (λ (peer : Peer). peer.endpoint) same_second))
 
--- the peer whose endpoint stands at a place
+-- the peer whose endpoint is at a place
 served_there : (plan : PlanView) (peers : List ℕ) (endpoints : List Endpoint) (i : ℕ) (d : Endpoint) → AreEndpoints plan peers endpoints → i < length endpoints → (i < length peers) × (endpoint_at plan (get_or peers i 0) ≡ Some (get_or endpoints i d))
 served_there plan peers endpoints i d are within =
     let ends : option_map (endpoint_at plan) (slice_get peers i) ≡ Some (Some (get_or endpoints i d)) =

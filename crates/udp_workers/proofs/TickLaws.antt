@@ -8,7 +8,7 @@ use Rattle.peer_plan.specs.Plan.{PlanView}
 use Rattle.peer_plan.specs.declared.endpoint.Endpoint.{Endpoint}
 use Rattle.udp_workers.specs.Intake.{TurnView, last_moment, ticks_all}
 use Rattle.udp_workers.specs.declared.intake.Intake.{Intake}
-use Rattle.udp_workers.specs.Ticked.{IsLater, Ticks, TicksAll, TicksDue, TicksIfDue, is_due}
+use Rattle.udp_workers.specs.Ticked.{IsLater, Ticks, TicksDue, TicksIfDue, is_due}
 
 -- ---- one peer
 
@@ -30,11 +30,6 @@ due_more plan now all [] peer old mid new is more = (new, subst (λ from. TicksI
 due_more plan now all (first ∷ rest) peer old mid new is more = (is.0, is.1, due_more plan now all rest peer is.0 mid new is.2 more)
 
 -- ---- all peers
-
--- a turn that ticks all peers ticks each
-pub all_due : (plan : PlanView) (now : ℕ) (peers : List ℕ) (old new : Noted) → TicksDue plan now true peers old new → TicksAll plan now peers old new
-all_due plan now [] old new is = is
-all_due plan now (peer ∷ rest) old new is = (is.0, is.1.due refl, all_due plan now rest is.0 new is.2)
 
 -- a turn that has to tick all does
 pub must_tick : (intake : Intake) (before : Option ℕ) (now : ℕ) (full all : Bool) (turns : List TurnView)
@@ -63,13 +58,7 @@ if_due : (plan : PlanView) (now peer : ℕ) (old new : Noted) (due : Bool)
 if_due plan now peer old new true ticks left_out = makes_later _ _ old new (ticks refl)
 if_due plan now peer old new false ticks left_out = subst (IsLater old) (sym (left_out refl)) (later_same old)
 
-due_later : (plan : PlanView) (now : ℕ) (all : Bool) (peers : List ℕ) (old new : Noted) → TicksDue plan now all peers old new → IsLater old new
+pub due_later : (plan : PlanView) (now : ℕ) (all : Bool) (peers : List ℕ) (old new : Noted) → TicksDue plan now all peers old new → IsLater old new
 due_later plan now all [] old new is = subst (IsLater old) (sym is) (later_same old)
 due_later plan now all (peer ∷ rest) old new is =
     later_on old is.0 new (if_due plan now peer old is.0 (is_due all peer old) is.1.due is.1.left_out) (due_later plan now all rest is.0 new is.2)
-
--- a turn after others
-pub turn_later : (plan : PlanView) (now : ℕ) (all : Bool) (peers : List ℕ) (first old new : Noted)
-    → IsLater first old → (mid : Noted) × IsLater old mid × TicksDue plan now all peers mid new → IsLater first new
-turn_later plan now all peers first old new before turn =
-    later_on first old new before (later_on old turn.0 new turn.1 (due_later plan now all peers turn.0 new turn.2))

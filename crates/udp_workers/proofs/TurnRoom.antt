@@ -1,4 +1,4 @@
--- What the steps of a turn put at each peer is no more than its datagrams weigh together.
+-- The steps of a turn put no more at each peer than its datagrams weigh together.
 use Rattle.std.proofs.Common.{◌≡◌, ◌≢◌, ◌≤◌, ◌<◌, ℕ, ◌+◌, ◌==◌, ◌&&◌, ◌⊎◌, Bool, true, false, cond, List, [], ◌∷◌, ◌++◌, Option, None, Some, Ok, Err, length, slice_get, refl, sym, ap, subst, ◌∙◌, inl, inr, append_assoc, append-nil, arith}
 use Rattle.std.specs.Prelude.{nat_le, Result}
 use Rattle.std.proofs.lemmas.Bool.{cases_Bool, leb-true, leb-false, eqb-true, eq-eqb}
@@ -43,16 +43,17 @@ use Rattle.peer_lock.specs.declared.errors.PeerError.TheVariants as peer_errors
 use Rattle.peer_lock.specs.declared.steps.Step.{Step}
 use Rattle.peer_plan.specs.Plan.{PlanView}
 use Rattle.peer_plan.specs.declared.endpoint.Endpoint.{Endpoint}
+use Rattle.udp_wires.specs.Parcels.{Parcel}
 use Rattle.udp_workers.specs.Draining.{IsTurnedAway}
-use Rattle.udp_workers.specs.Intake.{Arrival, IsWeightOf, TakesAll, TurnView, Weigh, fits, weight_of}
+use Rattle.udp_workers.specs.Intake.{IsWeightOf, TakesAll, TurnView, Weigh, fits, weight_of}
 use Rattle.udp_workers.specs.Ticked.{IsLater}
 use Rattle.udp_workers.specs.declared.intake.Weight.{Weight}
 use Rattle.udp_workers.proofs.VnakFrames.{vnak_is}
 use Rattle.udp_workers.proofs.RoomLaws.{none_few, none_noted}
 
--- ---- all that a turn takes
+-- ---- all datagrams of a turn
 
--- what can't fail to be so is so
+-- a comparison that can't fail holds
 stable : (a b : ℕ) → ((a ≤ b → ⊥) → ⊥) → a ≤ b
 stable a b never = elim (cases_Bool (nat_le a b)) [
   | inl e ↦ leb-true a b e
@@ -63,14 +64,14 @@ heard_later : (plan : PlanView) (from : Endpoint) (call : Call) (old new : Noted
 heard_later plan from call old new (inl stranger) = ([], ap (λ (n : Noted). n.made) stranger.1 ∙ sym (append-nil old.made))
 heard_later plan from call old new (inr known) = (known.2.traces.steps, known.2.traces.noted)
 
--- what follows if a turn only added to what was noted
-later_so : (plan : PlanView) (turn : TurnView) (arrivals : List Arrival) (old new : Noted) → TakesAll plan turn arrivals old new → (a b : ℕ) → (IsLater old new → a ≤ b) → a ≤ b
+-- the consequence if a turn only added to the notes
+later_so : (plan : PlanView) (turn : TurnView) (arrivals : List Parcel) (old new : Noted) → TakesAll plan turn arrivals old new → (a b : ℕ) → (IsLater old new → a ≤ b) → a ≤ b
 later_so plan turn [] old new takes a b so = so ([], ap (λ (n : Noted). n.made) takes ∙ sym (append-nil old.made))
 later_so plan turn (arrival ∷ earlier) old new takes a b so =
     stable a b (λ never.
     let stays : IsTurnedAway turn.stage arrival.octets → ⊥ = λ away.
     never (later_so plan turn earlier old takes.0 takes.1 a b (λ later. so (later.0, ap (λ (n : Noted). n.made) (takes.2.away away) ∙ later.1))) in
-    let heard = heard_later plan arrival.from _ takes.0 new (takes.2.heard stays) in
+    let heard = heard_later plan arrival.endpoint _ takes.0 new (takes.2.heard stays) in
     never (later_so plan turn earlier old takes.0 takes.1 a b (λ later.
     so (later.0 ++ heard.0, heard.1 ∙ ap (λ (m : List Made). m ++ heard.0) later.1 ∙ append_assoc old.made later.0 heard.0))))
 
@@ -107,7 +108,7 @@ follow_sound (made ∷ rest) old new follow sound = follow_sound rest follow.0 n
 module _ (heard : (plan : PlanView) (from : Endpoint) (call : Call) (weight : Weight) (old new : Noted) (trail : List Made) (before after : List PeerView)
     (follow : Follow trail before after) (place : ℕ) → IsHeard plan from call old new → new.made ≡ old.made ++ trail → IsWeightOf call.octets weight → AreSound before
     → (loads_at place trail before after follow).datagrams ≤ weight.entries) where
-  pub turn_few : (plan : PlanView) (turn : TurnView) (arrivals : List Arrival) (weight : Weight) (old new : Noted) (trail : List Made) (before after : List PeerView)
+  pub turn_few : (plan : PlanView) (turn : TurnView) (arrivals : List Parcel) (weight : Weight) (old new : Noted) (trail : List Made) (before after : List PeerView)
       (follow : Follow trail before after) (place : ℕ) → TakesAll plan turn arrivals old new → new.made ≡ old.made ++ trail → Weigh arrivals weight → AreSound before
       → (loads_at place trail before after follow).datagrams ≤ weight.entries
   turn_few plan turn [] weight old new trail before after follow place takes noted weighs sound =
@@ -119,7 +120,7 @@ module _ (heard : (plan : PlanView) (from : Endpoint) (call : Call) (weight : We
       let few = turn_few plan turn earlier weighs.1 old takes.0 trail before after follow place takes.1 (sym (ap (λ (n : Noted). n.made) (takes.2.away away)) ∙ noted) weighs.3 sound in
       never (omega (arith, few, more)) in
       let last = takes.2.heard stays in
-      let added = heard_later plan arrival.from _ takes.0 new last in
+      let added = heard_later plan arrival.endpoint _ takes.0 new last in
       never (later_so plan turn earlier old takes.0 takes.1 (loads_at place trail before after follow).datagrams weight.entries (λ later.
       let whole : trail ≡ later.0 ++ added.0 =
       append_cancel_left old.made trail (later.0 ++ added.0)
@@ -128,10 +129,10 @@ module _ (heard : (plan : PlanView) (from : Endpoint) (call : Call) (weight : We
       (λ f.
       let parts = split later.0 added.0 before after place f in
       let few = turn_few plan turn earlier weighs.1 old takes.0 later.0 before parts.mid parts.first place takes.1 later.1 weighs.3 sound in
-      let one = heard plan arrival.from _ weighs.0 takes.0 new added.0 parts.mid after parts.second place last added.1 weighs.2 (follow_sound later.0 before parts.mid parts.first sound) in
+      let one = heard plan arrival.endpoint _ weighs.0 takes.0 new added.0 parts.mid after parts.second place last added.1 weighs.2 (follow_sound later.0 before parts.mid parts.first sound) in
       omega (arith, parts.loads, few, one, more)) follow)))
 
--- ---- what fits
+-- ---- datagrams that fit
 
 first_of_both : (a b : Bool) → (a && b) ≡ true → a ≡ true
 first_of_both true b is = refl

@@ -1,4 +1,4 @@
--- What a draining service doesn't hand to its exchange ("NEW").
+-- The datagrams that a draining service keeps from its exchange ("NEW").
 use Rattle.std.specs.Prelude.{◌≡◌, ℕ, List, Some}
 use Rattle.call_signals.specs.Codes.{FRAME_IAX, IAX_NEW}
 use Rattle.iax_frames.specs.FullFrame.{FullFrame, SpellsFull, subclass_meaning}
@@ -18,6 +18,6 @@ pub record SpellsNew (octets : List ℕ) : Type 0 where
   pub spelled : SpellsFull octets frame
   pub new : IsNew frame
 
--- a datagram that isn't handed to the exchange
+-- a datagram that isn't given to the exchange
 abbrev pub IsTurnedAway : ServiceStage → List ℕ → Type 0
 IsTurnedAway stage octets = (stage ≡ stages.Draining) × SpellsNew octets

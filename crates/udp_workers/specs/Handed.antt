@@ -7,7 +7,7 @@ use Rattle.noted_steps.specs.declared.made.Made.TheVariants as mades
 use Rattle.call_book.specs.declared.leg_name.LegName.{LegName}
 use Rattle.peer_lock.specs.declared.steps.EndedLeg.{EndedLeg}
 
--- a leg was given that left this behind under this name
+-- a departure under this name was given, with the facts and the entries of this leg
 pub record IsGiven (given : Departure → Type 0) (under : LegName) (leg : EndedLeg) : Type 0 where
   pub departure : Departure
   pub is_given : given departure
@@ -15,7 +15,7 @@ pub record IsGiven (given : Departure → Type 0) (under : LegName) (leg : Ended
   pub facts : departure.facts ≡ leg.facts
   pub entries : departure.entries ≡ leg.history.entries
 
--- where a step took a leg out, that was given
+-- if a step took a leg out, that leg was given
 abbrev pub GivesStep : (Departure → Type 0) → Made → Type 0
 GivesStep given (mades.Retire peer name (Some leg)) = IsGiven given name leg
 GivesStep given made = Unit {0}

@@ -1,4 +1,6 @@
+pub mod Carried
 pub mod Draining
+pub mod Emptied
 pub mod Events
 pub mod Followed
 pub mod Handed

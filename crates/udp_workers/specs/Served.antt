@@ -4,8 +4,8 @@ use Rattle.peer_plan.specs.Plan.{PlanView}
 use Rattle.peer_plan.specs.declared.endpoint.Endpoint.{Endpoint}
 use Rattle.peer_plan.specs.declared.peer.Peer.{Peer}
 
--- A worker: its place among the workers of the plan, its peers by their places in the plan, and the turns that it made, modulo
--- 2 ^ 64.
+-- A worker: its place among the workers of the plan, its peers by their places in the plan, and the number of its turns,
+-- modulo 2 ^ 64.
 pub record WorkerView : Type 0 where
   pub place : ℕ
   pub peers : List ℕ

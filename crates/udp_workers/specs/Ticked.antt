@@ -1,4 +1,4 @@
--- What a turn notes under the pass of its worker.
+-- The notes that a turn makes under the pass of its worker.
 use Rattle.std.specs.Prelude.{◌≡◌, ℕ, ◌||◌, Bool, true, false, List, [], ◌∷◌, ◌++◌}
 use Rattle.call_steps.specs.Work.{of_tick}
 use Rattle.call_steps.specs.WorkState.{begun}
@@ -8,17 +8,17 @@ use Rattle.noted_steps.specs.Stepped.{is_unticked}
 use Rattle.noted_steps.specs.declared.made.Made.{Made}
 use Rattle.peer_plan.specs.Plan.{PlanView, counts_of, range_of}
 
--- all that was noted is still there, and what came since follows it
+-- all earlier notes are still there, and the later ones follow them
 abbrev pub IsLater : Noted → Noted → Type 0
 IsLater old new = (steps : List Made) × (new.made ≡ old.made ++ steps)
 
--- time went on at one peer of a plan: the pass has noted all steps of its tick at that moment, and none else
+-- a tick of one peer of a plan: the pass has noted all steps of its tick at that moment, and no others
 abbrev pub Ticks : PlanView → ℕ → ℕ → Noted → Noted → Type 0
 Ticks plan now peer old new =
     MakesAll (moment plan now)
     (begun (of_tick peer (range_of (counts_of plan.peers) peer).first (range_of (counts_of plan.peers) peer).count)) old new
 
--- time went on at each of these peers, at one and the same moment, in their order: a tick of each, and none else
+-- a tick of each of these peers, at one moment, in their order, and nothing else
 abbrev pub TicksAll : PlanView → ℕ → List ℕ → Noted → Noted → Type 0
 TicksAll plan now [] old new = new ≡ old
 TicksAll plan now (peer ∷ rest) old new = (mid : Noted) × Ticks plan now peer old mid × TicksAll plan now rest mid new
@@ -27,13 +27,12 @@ TicksAll plan now (peer ∷ rest) old new = (mid : Noted) × Ticks plan now peer
 abbrev pub is_due : Bool → ℕ → Noted → Bool
 is_due all peer pass = all || is_unticked pass peer
 
--- time went on at one peer if it was due; otherwise nothing was noted
+-- a tick of one peer if it was due; otherwise nothing was noted
 pub record TicksIfDue (plan : PlanView) (now : ℕ) (all : Bool) (peer : ℕ) (old new : Noted) : Type 0 where
   pub due : is_due all peer old ≡ true → Ticks plan now peer old new
   pub left_out : is_due all peer old ≡ false → new ≡ old
 
--- time went on at each of these peers that was due when its place in their order came, at one and the same moment: a tick of each
--- of those, and none else
+-- a tick of each of these peers that was due when its turn in the order came, at one moment, and nothing else
 abbrev pub TicksDue : PlanView → ℕ → Bool → List ℕ → Noted → Noted → Type 0
 TicksDue plan now all [] old new = new ≡ old
 TicksDue plan now all (peer ∷ rest) old new =

@@ -1,4 +1,4 @@
-//! What a draining service doesn't hand to its exchange ("NEW").
+//! The datagrams that a draining service keeps from its exchange ("NEW").
 ghost use Rattle.std.specs.Prelude.{◌↔◌, IsTrue};
 ghost use Rattle.udp_workers.specs.Draining.{IsNew, IsTurnedAway, SpellsNew};
 
@@ -7,7 +7,7 @@ use iax_frames::Full;
 use peer_lock::ReadDatagram;
 use worker_watch::ServiceStage;
 
-// Whether a full frame is a NEW that may open a leg.
+// Returns whether a full frame is a NEW that may open a leg.
 fn is_new(frame: &Full) -> bool
     ensures { IsTrue result ↔ IsNew frame.now }
 {
@@ -17,7 +17,7 @@ fn is_new(frame: &Full) -> bool
     frame.destination().get() == 0 && frame.oseqno() == 0
 }
 
-// Whether the octets spell a NEW that may open a leg.
+// Returns whether the octets spell a NEW that may open a leg.
 fn spells_new(octets: &[u8]) -> bool
     ensures { IsTrue result ↔ SpellsNew octets.now }
 {
@@ -27,7 +27,7 @@ fn spells_new(octets: &[u8]) -> bool
     }
 }
 
-// Whether a datagram of a peer isn't handed to the exchange.
+// Returns whether a datagram of a peer is kept from the exchange.
 pub(crate) fn is_turned_away(stage: ServiceStage, octets: &[u8]) -> bool
     ensures { IsTrue result ↔ IsTurnedAway stage octets.now }
 {

@@ -1,4 +1,4 @@
-//! The datagram that was received and isn't heard yet.
+//! The datagram that was received and isn't handled yet.
 ghost use Rattle.std.specs.Prelude.{◌≡◌, ◌↔◌, IsSome, IsTrue, option_map};
 ghost use Rattle.peer_plan.specs.declared.endpoint.Endpoint.{Endpoint};
 ghost use Rattle.udp_wires.specs.Counts.{RiseAlike, RisesBy};
@@ -10,15 +10,15 @@ use udp_wires::{Wire, WireFault};
 // The longest datagram is 2,048 octets; one more shows that a datagram is longer.
 const OCTETS: usize = 2049;
 
-// A place for one datagram. It has one from when that is received until it is heard: a turn leaves the next one what doesn't fit
-// any more.
+// A place for one datagram between its receipt and its handling. A turn leaves a datagram that doesn't fit any more here
+// for the next turn.
 #[derive(Drop)]
 pub(crate) struct Inbox {
     octets: [u8; OCTETS],
     len: usize,
     // The sender; none if no datagram is here.
     from: Option<Endpoint>,
-    // How many datagrams were received, modulo 2^64.
+    // The number of datagrams received, modulo 2^64.
     given: u64,
 }
 
@@ -29,7 +29,7 @@ impl Model for Inbox {
     ghost Value = { InboxView };
 
     ghost view = { λ inbox. record {
-      datagram = option_map (λ from. record { from = from; octets = take inbox.len inbox.octets }) inbox.from;
+      datagram = option_map (λ from. record { endpoint = from; octets = take inbox.len inbox.octets }) inbox.from;
       given = inbox.given;
     } };
 
@@ -38,9 +38,9 @@ impl Model for Inbox {
 
 impl Inbox {
     ghost use Rattle.std.specs.Prelude.{if◌then◌else◌, is_ok, OnErr};
-    ghost use Rattle.udp_workers.specs.Intake.{waiting};
+    ghost use Rattle.udp_workers.specs.Intake.{Fills, waiting};
 
-    // No datagram is here.
+    // Returns an empty place.
     pub(crate) fn new() -> Inbox
         ensures { result ≡ record { datagram = None; given = 0 } }
     {
@@ -52,19 +52,24 @@ impl Inbox {
         }
     }
 
-    // Whether a datagram is here.
+    // Returns whether a datagram is here.
     pub(crate) fn is_full(&self) -> bool
         ensures { IsTrue result ↔ IsSome self.now.datagram }
     {
         self.from.is_some()
     }
 
-    // Receives a datagram, if one is there, unless one is here already. `WireFault`: the call of the wire failed.
+    // Receives a datagram if one is available, unless one is here already. Returns `WireFault` if the call of the wire
+    // failed.
+    #[tactic(auto, using(crate::proofs::IntakeLaws::fills_still, crate::proofs::IntakeLaws::fills_not, crate::proofs::IntakeLaws::fills_one))]
     pub(crate) fn fill<W: Wire>(&mut self, wire: &mut W) -> Result<(), WireFault>
         ensures kept { IsSome self.old.datagram → self.new ≡ self.old }
         ensures fault { OnErr result (self.new.datagram ≡ None) }
-        // What was received is here.
+        // A received datagram is here.
         ensures here { RiseAlike self.old.given self.new.given (waiting self.old.datagram) (waiting self.new.datagram) }
+        ensures fills { Fills self.old.datagram self.new.datagram (W.came wire.old) (W.came wire.new) }
+        ensures went { W.went wire.new ≡ W.went wire.old }
+        ensures sent { W.sent wire.new ≡ W.sent wire.old }
         ensures given { W.given wire.new ≡ W.given wire.old }
         ensures given_to { (to : Endpoint) → W.given_to wire.new to ≡ W.given_to wire.old to }
         ensures failures { RisesBy (W.failures wire.old) (W.failures wire.new) (if is_ok result then 0 else 1) }
@@ -85,9 +90,9 @@ impl Inbox {
         }
     }
 
-    // The datagram that is here, with its sender.
+    // Returns the datagram that is here, with its sender.
     pub(crate) fn datagram(&self) -> Option<(Endpoint, &[u8])>
-        ensures { option_map (λ datagram. record { from = datagram.0; octets = datagram.1.now }) result ≡ self.now.datagram }
+        ensures { option_map (λ datagram. record { endpoint = datagram.0; octets = datagram.1.now }) result ≡ self.now.datagram }
     {
         match self.from {
             Some(from) => Some((from, &self.octets[..self.len])),
@@ -95,7 +100,7 @@ impl Inbox {
         }
     }
 
-    // The datagram that is here was heard.
+    // Removes the datagram that was handled.
     pub(crate) fn clear(&mut self)
         ensures { self.new ≡ record { datagram = None; given = self.old.given } }
     {

@@ -1,20 +1,20 @@
-//! How much a turn takes in.
+//! The limit on the datagrams of a turn.
 ghost use Rattle.std.specs.Prelude.{◌≡◌, ◌<◌, ◌^◌, length};
 ghost use Rattle.udp_workers.specs.Intake.{IsLoaded, IsWeightOf, fits, may_open, media_octets, weight_of_full, with_weight};
 
 use call_signals::codes::{FRAME_IAX, FRAME_VOICE, IAX_NEW, IAX_VNAK};
 use iax_frames::{Datagram, Full, Trunk, read};
 
-// An outbox has 256 datagrams, one of which is left for what waits in the trunk queue; that has 256 entries.
+// An outbox has 256 datagrams, one of which is left for the trunk queue, which has 256 entries.
 const MOST_ENTRIES: u64 = 255;
 
-// A trunk queue has so many octets of media.
+// The octets of media in a full trunk queue.
 const MOST_OCTETS: u64 = 16_384;
 
-// A VNAK may have so many frames sent again.
+// The greatest number of frames that a VNAK has retransmitted.
 const VNAK_ENTRIES: u64 = 128;
 
-// The frames that a full frame leads to at most, as a rule.
+// The greatest number of frames that follow a full frame, as a rule.
 const FULL_ENTRIES: u64 = 4;
 
 // The challenge of a turn is for one NEW.
@@ -23,17 +23,18 @@ const MOST_OPENINGS: u64 = 1;
 // The longest media.
 const MEDIA_OCTETS: usize = 1380;
 
-/// How much a turn takes in, beside 64 datagrams at most, and which peers it ticks.
+/// The limit on the datagrams of a turn, in addition to 64 datagrams, and the peers that it ticks.
 #[derive(Clone, Copy, Debug, PartialEq, Eq)]
 pub enum Intake {
-    /// Whatever comes. All peers are ticked.
+    /// No further limit. All peers are ticked.
     Whole,
-    /// As much as an empty outbox and a trunk queue with less than a trunk frame have room for: 255 entries and 16,384 octets of
-    /// media, or one datagram; of that at most one NEW that may open a leg, so that each has a challenge of its own. All peers are ticked, or at the moment of the turn before those that are due (`Worker::run_until`).
+    /// The room of an empty outbox and of a trunk queue with less than a trunk frame: 255 entries and 16,384 octets of
+    /// media, or one datagram. At most one NEW that may open a leg is among them, so that a challenge is for one leg. All
+    /// peers are ticked, or, at the moment of the turn before, those that are due (`Worker::run_until`).
     Bounded,
 }
 
-/// What a datagram may put into queues and outboxes, or several together.
+/// The most that one datagram, or several together, may put into queues and outboxes.
 #[derive(Clone, Copy, Debug, PartialEq, Eq)]
 pub(crate) struct Weight {
     /// Entries of a trunk queue, or datagrams of an outbox.
@@ -50,7 +51,7 @@ const NO_WEIGHT: Weight = Weight {
     openings: 0,
 };
 
-// Whether it is a NEW that may open a leg: it has no destination and OSeqno 0 ("NEW").
+// Returns whether it is a NEW that may open a leg: it has no destination and OSeqno 0 ("NEW").
 fn may_open(frame: &Full<'_>) -> bool
     ensures { result ≡ may_open frame.now }
 {
@@ -58,7 +59,7 @@ fn may_open(frame: &Full<'_>) -> bool
     is_new && (frame.destination().get() == 0 && frame.oseqno() == 0)
 }
 
-// The weight of a full frame.
+// Returns the weight of a full frame.
 fn weight_of_full(frame: &Full<'_>) -> Weight
     ensures { result ≡ weight_of_full frame.now }
 {
@@ -75,7 +76,7 @@ fn weight_of_full(frame: &Full<'_>) -> Weight
     }
 }
 
-// The weight of a trunk frame, in one pass over the heads of its entries.
+// Returns the weight of a trunk frame, in one pass over the heads of its entries.
 fn weight_of_trunk(frame: &Trunk<'_>) -> Weight
     requires few { length frame.now.entries < 2 ^ 64 }
     requires short { media_octets frame.now.entries < 2 ^ 64 }
@@ -92,7 +93,7 @@ fn weight_of_trunk(frame: &Trunk<'_>) -> Weight
     weight
 }
 
-// The weight of a datagram.
+// Returns the weight of a datagram.
 fn weigh(octets: &[u8]) -> Weight
     ensures { IsWeightOf octets.now result }
 {
@@ -108,7 +109,7 @@ fn weigh(octets: &[u8]) -> Weight
     }
 }
 
-// Whether an empty outbox has room for it beside a trunk frame, and the challenge of the turn serves it.
+// Returns whether an empty outbox has room for it and a trunk frame, and whether the turn's challenge suffices.
 fn fits(weight: Weight) -> bool
     ensures { result ≡ fits weight }
 {
@@ -116,7 +117,7 @@ fn fits(weight: Weight) -> bool
         && (weight.octets <= MOST_OCTETS && weight.openings <= MOST_OPENINGS)
 }
 
-// What a turn has taken in with one datagram more. None: it doesn't fit.
+// Returns the weight of a turn with one more datagram, or `None` if the datagram doesn't fit.
 fn with_weight(taken: Option<Weight>, one: Weight) -> Option<Weight>
     ensures { result ≡ with_weight taken one }
 {
@@ -131,9 +132,8 @@ fn with_weight(taken: Option<Weight>, one: Weight) -> Option<Weight>
     if fits(both) { Some(both) } else { None }
 }
 
-/// What a turn has taken in with one datagram more; None before the first. A turn that isn't bounded weighs nothing.
-///
-/// None: it doesn't fit.
+/// Returns the weight of a turn with one more datagram, or `None` if it doesn't fit. `taken` is `None` before the first
+/// datagram. A turn without a limit weighs nothing.
 pub(crate) fn loaded(intake: Intake, taken: Option<Weight>, octets: &[u8]) -> Option<Weight>
     ensures { IsLoaded intake taken octets.now result }
 {

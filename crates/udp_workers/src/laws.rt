@@ -1,34 +1,42 @@
-//! Laws of draining services, and of what a turn takes in.
-ghost use Rattle.std.specs.Prelude.{◌≡◌, ◌+◌, ◌≤◌, ◌⊎◌, ℕ, List, Option, Some, false, length, slice_get, true};
+//! Laws of draining services, and of the datagrams that a turn takes.
+ghost use Rattle.std.specs.Prelude.{◌≡◌, ◌+◌, ◌≤◌, ◌⊎◌, ℕ, List, [], Option, Some, false, length, slice_get, true};
+ghost use Rattle.std.specs.List.{AllByRecursion};
+ghost use Rattle.call_book.specs.declared.leg_name.LegName.{LegName};
+ghost use Rattle.call_steps.specs.Work.{of_call, of_datagram, of_hang_up, of_tick};
+ghost use Rattle.call_steps.specs.WorkState.{WorkState, begun};
 ghost use Rattle.exchange_core.specs.Newcomers.{SpellsOpening};
-ghost use Rattle.exchange_core.specs.Traces.{Call, IsHeard};
+ghost use Rattle.exchange_core.specs.Traces.{Call, IsHeard, IsTrace};
 ghost use Rattle.noted_steps.specs.Followed.{loads_at};
 ghost use Rattle.noted_steps.specs.Notes.{Noted};
+ghost use Rattle.noted_steps.specs.declared.made.Made.{Made};
 ghost use Rattle.peer_lock.specs.Loads.{dropped_for_room};
 ghost use Rattle.peer_lock.specs.Peer.{PeerView, to_send};
 ghost use Rattle.peer_lock.specs.Trunks.{waits};
 ghost use Rattle.peer_plan.specs.Plan.{PlanView};
 ghost use Rattle.peer_plan.specs.declared.endpoint.Endpoint.{Endpoint};
+ghost use Rattle.udp_wires.specs.Parcels.{Parcel};
+ghost use Rattle.udp_workers.specs.Carried.{AllCarry, Carries, IsItsCall, IsNoMedia};
 ghost use Rattle.udp_workers.specs.Draining.{SpellsNew};
 ghost use Rattle.udp_workers.specs.Followed.{FollowNotes};
-ghost use Rattle.udp_workers.specs.Intake.{Arrival, IsWeightOf, TakesAll, TakesIn, TurnView, Weigh};
+ghost use Rattle.udp_workers.specs.Intake.{IsWeightOf, TakesAll, TakesIn, TurnView, Weigh};
 ghost use Rattle.udp_workers.specs.declared.intake.Intake.TheVariants.{Bounded};
 ghost use Rattle.udp_workers.specs.declared.intake.Weight.{Weight};
 
-/// What opens a leg at an exchange is a NEW by the judgement of a worker: so none is opened by a datagram while a service
-/// drains ("Call Setup"). A law about definitions, for provers; the call does nothing.
+/// A datagram that opens a leg at an exchange is a NEW by the judgement of a worker. So no datagram opens a leg while a
+/// service drains ("Call Setup"). A law about definitions, for provers; the call does nothing.
 pub fn what_opens_is_turned_away()
     ensures { (octets : List ℕ) → SpellsOpening octets → SpellsNew octets }
 {}
 
-/// The steps to which a datagram leads put no more datagrams at any one peer than it weighs, if no one else makes steps there. So
-/// those of all that a turn took put no more there than they weigh together. A law about definitions; the call does nothing.
+/// The steps that follow a datagram put no more datagrams at any one peer than it weighs, if no one else makes steps there.
+/// So the steps of all datagrams of a turn put no more there than these weigh together. A law about definitions; the call
+/// does nothing.
 pub fn arrivals_put_what_they_weigh()
     ensures one { (plan : PlanView) (from : Endpoint) (call : Call) (weight : Weight) (old new : Noted)
         (before after : List PeerView) (follows : FollowNotes old new before after) (place : ℕ) →
         IsHeard plan from call old new → IsWeightOf call.octets weight →
         (loads_at place follows.trail before after follows.follow).datagrams ≤ weight.entries }
-    ensures all { (plan : PlanView) (turn : TurnView) (arrivals : List Arrival) (weight : Weight) (old new : Noted)
+    ensures all { (plan : PlanView) (turn : TurnView) (arrivals : List Parcel) (weight : Weight) (old new : Noted)
         (before after : List PeerView) (follows : FollowNotes old new before after) (place : ℕ) →
         TakesAll plan turn arrivals old new → Weigh arrivals weight →
         (loads_at place follows.trail before after follows.follow).datagrams ≤ weight.entries }
@@ -38,18 +46,20 @@ pub fn arrivals_put_what_they_weigh()
     call_steps::laws::datagrams_bring_few();
 }
 
-/// What a bounded turn takes in loses nothing in an outbox that was empty when the turn began, while less than a trunk frame
-/// waited, if no one else makes steps at the peers. One datagram that comes alone may be heavier. In plan format 4, or without trunks, no trunk queue drops media but what
-/// the other side wants none of. A law about definitions; the call does nothing.
+/// A bounded turn loses nothing in an outbox if that was empty when the turn began, and less than a trunk frame waited. No
+/// one else may make steps at the peers. One datagram that comes alone may be heavier. In plan version 4, or without
+/// trunks, a trunk queue drops only quelched media. A law about definitions; the call does nothing.
 pub fn bounded_turns_lose_nothing()
-    ensures empty { (plan : PlanView) (turn : TurnView) (was left : Option Arrival) (counted now_counted : ℕ) (old new : Noted)
-        (takes : TakesIn Bounded plan turn was left counted now_counted old new)
+    ensures empty { (plan : PlanView) (turn : TurnView) (was left : Option Parcel) (counted now_counted : ℕ) (old new : Noted)
+        (came now_came : List Parcel)
+        (takes : TakesIn Bounded plan turn was left counted now_counted old new came now_came)
         (before after : List PeerView) → FollowNotes old new before after →
         (place : ℕ) (first last : PeerView) → slice_get before place ≡ Some first → slice_get after place ≡ Some last →
         2 ≤ length takes.arrivals → to_send first ≤ 1 → last.outbox.lost ≡ first.outbox.lost }
     // If something waits there, or one datagram came alone, both have to fit together.
-    ensures room { (plan : PlanView) (turn : TurnView) (was left : Option Arrival) (counted now_counted : ℕ) (old new : Noted)
-        (takes : TakesIn Bounded plan turn was left counted now_counted old new) (weight : Weight)
+    ensures room { (plan : PlanView) (turn : TurnView) (was left : Option Parcel) (counted now_counted : ℕ) (old new : Noted)
+        (came now_came : List Parcel)
+        (takes : TakesIn Bounded plan turn was left counted now_counted old new came now_came) (weight : Weight)
         (before after : List PeerView) → FollowNotes old new before after →
         (place : ℕ) (first last : PeerView) → slice_get before place ≡ Some first → slice_get after place ≡ Some last →
         Weigh takes.arrivals weight → to_send first + weight.entries ≤ 256 → last.outbox.lost ≡ first.outbox.lost }
@@ -61,3 +71,24 @@ pub fn bounded_turns_lose_nothing()
     arrivals_put_what_they_weigh();
     noted_steps::laws::trails_that_fit_lose_nothing();
 }
+
+/// Media crosses only its own call. Each order of media in a datagram's call passes on a span of that datagram, which a leg
+/// handed up in the same call. In the step before it the book named the ordered leg as that leg's partner. Spans keep their
+/// order, and each is passed on at most once. A law about definitions; the call does nothing.
+pub fn media_follows_its_call()
+    ensures call { (call : Call) (peer : ℕ) (steps : List Made) (to : WorkState) →
+        IsTrace call (begun (of_datagram peer)) steps to → Carries peer call.octets [] [] steps }
+    // The call begins at a peer that has the sender's endpoint; a stranger's datagram brings no steps.
+    ensures datagram { (plan : PlanView) (from : Endpoint) (call : Call) (old new : Noted) →
+        IsHeard plan from call old new → IsItsCall plan from call.octets old new }
+    // Nothing else orders media: a tick, a call from outside, and a hang-up from outside don't.
+    ensures ticks { (call : Call) (peer first count : ℕ) (steps : List Made) (to : WorkState) →
+        IsTrace call (begun (of_tick peer first count)) steps to → AllByRecursion IsNoMedia steps }
+    ensures calls { (call : Call) (peer : ℕ) (steps : List Made) (to : WorkState) →
+        IsTrace call (begun (of_call peer)) steps to → AllByRecursion IsNoMedia steps }
+    ensures hang_ups { (call : Call) (name : LegName) (steps : List Made) (to : WorkState) →
+        IsTrace call (begun (of_hang_up name)) steps to → AllByRecursion IsNoMedia steps }
+    // The steps that a turn's datagrams bring are those of their own calls, one call after another.
+    ensures turn { (plan : PlanView) (turn : TurnView) (arrivals : List Parcel) (old new : Noted) →
+        TakesAll plan turn arrivals old new → AllCarry plan turn.stage arrivals old new }
+{}

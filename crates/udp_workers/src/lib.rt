@@ -1,4 +1,4 @@
-//! Workers: each carries datagrams between its own socket and the exchange, for its own peers alone.
+//! Workers: each carries datagrams between its own socket and the exchange, only for its own peers.
 #![tactic(auto)]
 
 mod draining;

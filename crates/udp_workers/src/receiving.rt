@@ -1,4 +1,4 @@
-//! Datagrams come in.
+//! Receives datagrams.
 ghost use Rattle.std.specs.Prelude.{◌≡◌, ◌+◌, ◌≤◌, IsTrue, Some};
 ghost use Rattle.exchange_core.specs.Rejections.{rejected_since};
 ghost use Rattle.exchange_core.specs.Traces.{IsHeard, moment};
@@ -23,10 +23,10 @@ use std::sync::Wait;
 use udp_wires::Wire;
 use worker_watch::{Event, Watch};
 
-// How many datagrams are received in one turn at most.
+// The greatest number of datagrams that one turn receives.
 const DATAGRAMS: u64 = 64;
 
-// Takes a datagram that was received. A stranger's is refused, and so is a NEW while the service drains; else it is handed to the
+// Handles a received datagram. A stranger's is refused, and so is a NEW while the service drains. Any other is given to the
 // exchange.
 fn hear<V: Watch, G: Gate, J: Naming, R: Wait>(
     turn: &Turn<'_, G, J, R>,
@@ -44,14 +44,14 @@ fn hear<V: Watch, G: Gate, J: Naming, R: Wait>(
     ensures faults { tally.new.report.faults ≡ tally.old.report.faults }
     ensures watch { tally.new.watch ≡ tally.old.watch }
     ensures told { TellsReceipt (V.told tally.old.watch.now) turn.now.exchange.now from turn.now.time }
-    // Where it isn't refused, it makes a step.
+    // Unless it is refused, it makes a step.
     ensures steps { pass.old.credit.steps + 1 + tally.old.report.refused ≤ pass.new.credit.steps + tally.new.report.refused }
     ensures later { IsLater pass.old pass.new }
     ensures handed { GivesAll (V.given tally.old.watch.now) pass.old pass.new }
-    // What makes a step isn't refused; what was rejected in it is told.
+    // A datagram that makes a step isn't refused. A rejection is reported.
     ensures taken { pass.old.credit.steps + 1 ≤ pass.new.credit.steps → tally.new.report.refused ≡ tally.old.report.refused }
     ensures rejected { TellsRejection (V.told tally.old.watch.now) turn.now.exchange.now from (rejected_since pass.old pass.new) }
-    // One that is turned away is refused, and makes none; any other is heard by the exchange.
+    // A datagram that is turned away is refused and makes no step. Any other is given to the exchange.
     ensures away { IsTurnedAway turn.now.stage octets.now →
         (pass.new ≡ pass.old) × (tally.new.report.refused ≡ tally.old.report.refused + 1) }
     ensures heard { (IsTurnedAway turn.now.stage octets.now → ⊥) →
@@ -79,8 +79,8 @@ fn hear<V: Watch, G: Gate, J: Naming, R: Wait>(
     tally.tell_retired(&answer.retired);
 }
 
-// Takes the datagram that was left to this turn, and then receives until nothing is there, a call of the wire fails, 64
-// datagrams came or one doesn't fit any more, and takes each. What doesn't fit is left to the next turn.
+// Handles the datagram that was left to this turn. Then receives and handles others until none is available, a call of the
+// wire fails, 64 came, or one doesn't fit any more. That one is left to the next turn.
 pub(crate) fn receive_all<W: Wire, V: Watch, G: Gate, J: Naming, R: Wait>(
     turn: &Turn<'_, G, J, R>,
     wire: &mut W,
@@ -89,6 +89,8 @@ pub(crate) fn receive_all<W: Wire, V: Watch, G: Gate, J: Naming, R: Wait>(
     tally: &mut Tally<'_, V>,
 )
     requires room { HasRoom 66 tally.old.report }
+    ensures went { W.went wire.new ≡ W.went wire.old }
+    ensures wire_sent { W.sent wire.new ≡ W.sent wire.old }
     ensures given { W.given wire.new ≡ W.given wire.old }
     ensures given_to { (to : Endpoint) → W.given_to wire.new to ≡ W.given_to wire.old to }
     ensures failures { RiseAlike (W.failures wire.old) (W.failures wire.new) tally.old.report.faults tally.new.report.faults }
@@ -106,8 +108,8 @@ pub(crate) fn receive_all<W: Wire, V: Watch, G: Gate, J: Naming, R: Wait>(
     ensures handed { GivesAll (V.given tally.old.watch.now) pass.old pass.new }
     ensures takes { TakesIn turn.now.intake turn.now.exchange.now
         (record { stage = turn.now.stage; now = turn.now.time; challenge = turn.now.challenge.now }) inbox.old.datagram inbox.new.datagram
-        tally.old.report.received tally.new.report.received pass.old pass.new }
-    // What was received was taken, or is left.
+        tally.old.report.received tally.new.report.received pass.old pass.new (W.came wire.old) (W.came wire.new) }
+    // A received datagram was handled, or is left.
     ensures none_lost { RiseAlike inbox.old.given inbox.new.given (tally.old.report.received + waiting inbox.old.datagram)
         (tally.new.report.received + waiting inbox.new.datagram) }
 {

@@ -1,9 +1,9 @@
-//! What a turn did.
+//! The report of a turn.
 ghost use Rattle.std.specs.Prelude.{◌≡◌, ◌+◌, ◌<◌, ◌^◌};
 
 use worker_watch::Event;
 
-/// What one turn did, or several together.
+/// The counts of one turn, or of several together.
 #[derive(Clone, Copy, Debug, Default, PartialEq, Eq)]
 pub struct TurnReport {
     /// Datagrams that were received.
@@ -23,7 +23,7 @@ pub struct TurnReport {
 impl TurnReport {
     ghost use Rattle.udp_workers.specs.Events.{HasRoom, counted};
 
-    // With an event more.
+    // Returns the report with one more event.
     pub(crate) fn counted(self, event: Event) -> TurnReport
         requires { HasRoom 1 self }
         ensures { result ≡ counted self event }

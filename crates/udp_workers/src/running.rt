@@ -1,7 +1,7 @@
-//! Turns one after another.
+//! Runs turns one after another.
 ghost use Rattle.std.specs.Prelude.{◌≡◌, ◌+◌, ◌*◌, ◌^◌, ◌≤◌, ◌||◌, if◌then◌else◌, length, min, option_and_then, slice_get};
 ghost use Rattle.udp_wires.specs.Counts.{RisesBy};
-ghost use Rattle.udp_workers.specs.Events.{MakesTurns, Tells};
+ghost use Rattle.udp_workers.specs.Events.{CountsSends, MakesTurns, Tells, nothing};
 ghost use Rattle.udp_workers.specs.Handed.{GivesAll};
 ghost use Rattle.udp_workers.specs.Intake.{RunsTurns, longest_wait, ticks_all};
 ghost use Rattle.udp_workers.specs.Served.{AreEndpoints, peers_of};
@@ -22,17 +22,17 @@ use std::sync::Wait;
 use udp_wires::Wire;
 use worker_watch::{ServiceStage, Watch};
 
-// How long a worker waits for a datagram between two turns, in milliseconds.
+// The longest wait for a datagram between two turns, in milliseconds.
 const WAIT_MS: u64 = 20;
 
-// How long it waits after a turn that left out a peer: until the next millisecond, at which it ticks all.
+// The wait after a turn that left out a peer: until the next millisecond, at which the worker ticks all.
 const SHORT_WAIT_MS: u64 = 1;
 
-/// How many turns a worker makes at most until a service ends: 2^48, so that no sum passes 64 bits, since a turn gives the wire
-/// 8,192 datagrams at most. At ten microseconds a turn these are eighty-nine years.
+/// The greatest number of turns that a worker makes until a service ends: 2^48, so that no sum exceeds 64 bits. A turn
+/// gives the wire 8,192 datagrams at most. At ten microseconds a turn, these turns last eighty-nine years.
 pub const MOST_TURNS: u64 = 0x1_0000_0000_0000;
 
-// How long media waits for a trunk frame to fill, in milliseconds, as all peers of the plan have it.
+// Returns the time for which media waits for a trunk frame to fill, in milliseconds. All peers of the plan have the same.
 fn trunk_ms(plan: &Plan) -> Option<u64>
     ensures { result ≡ option_and_then (λ peer. peer.rules.trunk_ms) (slice_get plan.now.peers 0) }
 {
@@ -42,7 +42,7 @@ fn trunk_ms(plan: &Plan) -> Option<u64>
     plan.rules(0).trunk_ms
 }
 
-// How long a run waits at most between two turns, in milliseconds.
+// Returns the longest wait between two turns, in milliseconds.
 fn longest_wait(intake: Intake, trunk_ms: Option<u64>) -> u64
     ensures { result ≡ longest_wait intake trunk_ms }
 {
@@ -58,8 +58,8 @@ fn longest_wait(intake: Intake, trunk_ms: Option<u64>) -> u64
     }
 }
 
-// How long a worker waits at most, in milliseconds: not at all if the last turn left a datagram, and not for long if it left out a
-// peer, whose outbox another worker may have filled since.
+// Returns the longest wait, in milliseconds. It is 0 if the last turn left a datagram, and short if it left out a peer,
+// because another worker may have filled that peer's outbox.
 fn wait_ms(is_left: bool, has_left_out: bool, longest: u64) -> u64
     ensures { result ≡ (if is_left then 0 else if has_left_out then min longest 1 else longest) }
 {
@@ -74,6 +74,9 @@ fn wait_ms(is_left: bool, has_left_out: bool, longest: u64) -> u64
 
 // Waits for a datagram, except before the first turn and if one was left.
 fn pause<W: Wire>(wire: &mut W, turn: u64, is_left: bool, has_left_out: bool, longest: u64)
+    ensures came { W.came wire.new ≡ W.came wire.old }
+    ensures went { W.went wire.new ≡ W.went wire.old }
+    ensures sent { W.sent wire.new ≡ W.sent wire.old }
     ensures given { W.given wire.new ≡ W.given wire.old }
     ensures failures { W.failures wire.new ≡ W.failures wire.old }
     ensures peers { W.peers wire.new ≡ W.peers wire.old }
@@ -83,7 +86,8 @@ fn pause<W: Wire>(wire: &mut W, turn: u64, is_left: bool, has_left_out: bool, lo
     }
 }
 
-// Whether a turn ticks all peers, by its moment, that of the turn before it, and whether that one found an outbox full.
+// Returns whether a turn ticks all peers, by its moment, that of the turn before, and whether that turn found an outbox
+// full.
 fn ticks_all(intake: Intake, before: Option<u64>, time: u64, was_full: bool) -> bool
     ensures { result ≡ (ticks_all intake before time || was_full) }
 {
@@ -94,8 +98,8 @@ fn ticks_all(intake: Intake, before: Option<u64>, time: u64, was_full: bool) -> 
 }
 
 impl Worker {
-    /// Makes so many turns, each with its own moment, in milliseconds since the exchange was opened, and its own challenge, and
-    /// waits for a datagram between them, at most 20 ms. Gives the sum of their reports.
+    /// Makes `turns` turns, each with its own moment, in milliseconds since the exchange was opened, and its own challenge.
+    /// Waits for a datagram between them, at most 20 ms. Returns the sum of their reports.
     pub fn run<W: Wire, G: Gate, J: Naming, M: Moments, C: Challenges, R: Wait>(
         &mut self,
         rt: &R,
@@ -111,10 +115,14 @@ impl Worker {
         ensures given { RisesBy (W.given wire.old) (W.given wire.new) (result.sent + result.lost) }
         ensures faults { RisesBy (W.failures wire.old) (W.failures wire.new) result.faults }
         ensures wire { W.peers wire.new ≡ W.peers wire.old }
+        ensures counts { CountsSends nothing result (W.went wire.old) (W.went wire.new) (W.sent wire.old) (W.sent wire.new) }
         ensures received { result.received ≤ 64 * turns }
         ensures emptied { result.sent + result.lost ≤ 256 * 32 * turns }
         ensures steps { pass.old.credit.steps + result.received ≤ pass.new.credit.steps + result.refused }
         ensures later { IsLater pass.old pass.new }
+        // What the wire gave and was given, turn by turn.
+        ensures intake { RunsTurns Intake.Whole exchange.now self.old.peers result.received pass.old pass.new
+            (record { came = W.came wire.old; went = W.went wire.old }) (record { came = W.came wire.new; went = W.went wire.new }) }
         ensures place { self.new.place ≡ self.old.place }
         ensures peers { self.new.peers ≡ self.old.peers }
         ensures turns { RisesBy self.old.turns self.new.turns turns }
@@ -133,26 +141,28 @@ impl Worker {
         )
     }
 
-    /// Makes turns until the watch says that the service has ended, at most so many, and at most `MOST_TURNS`: it is asked before
-    /// each, and told what happens. Each turn has its own moment and challenge; between them the worker waits for a datagram, at
-    /// most 20 ms. Gives the sum of their reports, which counts just what the watch was told.
+    /// Makes turns until the watch reports the end of the service, at most `turns` and at most `MOST_TURNS`. Each turn
+    /// first reads the stage from the watch and then reports its events to it. Each turn has its own moment and challenge;
+    /// between them the worker waits for a datagram, at most 20 ms. Returns the sum of their reports, which counts exactly
+    /// the reported events.
     ///
-    /// While the service drains, a NEW of a peer isn't handed to the exchange if it has no destination and OSeqno 0, also where
-    /// it is sent again for a leg that is there. It counts as received and refused. All else goes on.
+    /// While the service drains, a NEW of a peer with no destination and OSeqno 0 is kept from the exchange, even a
+    /// retransmission for a current leg. It counts as received and refused. All other datagrams are handled as before.
     ///
-    /// `Bounded`: a turn takes in no more than empty outboxes have room for beside a trunk frame: 255 entries and 16,384 octets of
-    /// media, but for its first datagram, which it takes whatever it weighs. An entry of a trunk frame and a mini frame are one
-    /// entry, a full frame is four, a VNAK 128. Of NEWs that may open a leg it takes in one, so that a challenge is for one leg
-    /// alone. A datagram that doesn't fit any more ends the receiving of its turn. The next
-    /// turn follows without a pause, takes it first and counts it then; what the last turn left is lost.
+    /// `Bounded`: a turn takes no more than empty outboxes have room for, next to a trunk frame: 255 entries and 16,384
+    /// octets of media. Its first datagram is taken whatever it weighs. An entry of a trunk frame and a mini frame are one
+    /// entry, a full frame is four, a VNAK 128. Of NEWs that may open a leg a turn takes one, so that a challenge is for
+    /// one leg alone. A datagram that doesn't fit any more ends the receiving of its turn. The next turn follows without a
+    /// pause, and takes and counts it first. A datagram that the last turn left is lost.
     /// A bounded run waits no longer than the plan's `trunk_ms` between two turns, unless that is 0.
     ///
-    /// A bounded turn ticks all peers if it is the first or has another moment than the turn before it. Otherwise it leaves out
-    /// each peer at which no step was made under the pass since its last tick, whose tick at the same moment would find nothing to
-    /// do, and sends only what is in the outboxes of peers at which a step was made since. A tick that found no memory for a frame
-    /// is made again. It ticks all as well if the turn before it took 256 datagrams out of one outbox. After a turn that left out a peer the worker waits at most 1 ms.
+    /// A bounded turn ticks all peers if it is the first, or if its moment differs from that of the turn before it. It also
+    /// does so if that turn took 256 datagrams out of one outbox. Otherwise it leaves out each peer at which no step was
+    /// made under the pass since its last tick: another tick at the same moment would do nothing. It then sends only from
+    /// the outboxes of peers at which a step was made. A tick that found no memory for a frame is repeated. After a turn that
+    /// left out a peer the worker waits at most 1 ms.
     ///
-    /// At the end of a turn the watch is told to wake each other worker at whose peers steps were made in it.
+    /// At the end of a turn the watch is asked to wake each other worker at whose peers the turn made steps.
     pub fn run_until<W: Wire, V: Watch, G: Gate, J: Naming, M: Moments, C: Challenges, R: Wait>(
         &mut self,
         rt: &R,
@@ -170,7 +180,8 @@ impl Worker {
         ensures given { RisesBy (W.given wire.old) (W.given wire.new) (result.sent + result.lost) }
         ensures faults { RisesBy (W.failures wire.old) (W.failures wire.new) result.faults }
         ensures wire { W.peers wire.new ≡ W.peers wire.old }
-        // So many turns as it made; each of them received 64 datagrams at most, and gave the wire 256 for each peer at most.
+        ensures counts { CountsSends nothing result (W.went wire.old) (W.went wire.new) (W.sent wire.old) (W.sent wire.new) }
+        // The turns that it made; each received at most 64 datagrams, and gave the wire at most 256 for each peer.
         ensures turns { MakesTurns
             (min turns (2 ^ 48)) (V.answered watch.now ServiceStage.Ended) self.old.turns self.new.turns result }
         ensures told { ∥ Tells (V.told watch.now) result ∥₁ }
@@ -179,9 +190,11 @@ impl Worker {
         ensures refused { result.refused ≤ result.received }
         ensures steps { pass.old.credit.steps + result.received ≤ pass.new.credit.steps + result.refused }
         ensures later { IsLater pass.old pass.new }
-        // Turn by turn: what it took in, which was within its bound, with the datagram that the turn before left as the first;
-        // then a tick of all its peers, or of each that was due, and nothing else.
-        ensures intake { RunsTurns intake exchange.now self.old.peers result.received pass.old pass.new }
+        // For each turn: the datagrams that it took, which are those that the wire gave, whole and in order, within its
+        // limit and with the one left by the turn before as the first; then a tick of all its peers, or of each that was
+        // due; then what it took out of their outboxes and gave to the wire, whole and in order; and nothing else.
+        ensures intake { RunsTurns intake exchange.now self.old.peers result.received pass.old pass.new
+            (record { came = W.came wire.old; went = W.went wire.old }) (record { came = W.came wire.new; went = W.went wire.new }) }
         ensures place { self.new.place ≡ self.old.place }
         ensures peers { self.new.peers ≡ self.old.peers }
     {

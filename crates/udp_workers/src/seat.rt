@@ -1,4 +1,4 @@
-//! A worker with all that its run needs.
+//! A worker with all resources of its run.
 ghost use Rattle.std.specs.Prelude.{◌≡◌, ◌+◌, ◌^◌, ◌≤◌, min};
 ghost use Rattle.peer_plan.specs.Plan.{PlanView};
 ghost use Rattle.udp_wires.specs.Counts.{RisesBy};
@@ -26,8 +26,8 @@ impl Post for Brand {
     ghost plan = { record { workers = []; passes = 0; peers = []; routes = [] } };
 }
 
-/// The exchange of that plan, the watch of those that serve on it, how much each of them takes in in a turn, and how many turns it
-/// makes at most.
+/// The exchange of that plan, the watch of its workers, the limit on the datagrams of a turn, and the greatest number of
+/// turns of each worker.
 #[derive(Drop)]
 pub struct WatchedExchange<'x, V: Watch, G: Gate, J: Naming, P: Post> {
     pub exchange: &'x Exchange<G, J>,
@@ -38,7 +38,7 @@ pub struct WatchedExchange<'x, V: Watch, G: Gate, J: Naming, P: Post> {
     ghost named: { exchange.now ≡ P.plan },
 }
 
-/// What was counted of a seat up to the beginning of its last run, or until it was made if it had none.
+/// The counts of a seat at the beginning of its last run, or at its creation if it had none.
 #[derive(Clone, Copy, Debug, PartialEq, Eq)]
 pub struct Start {
     /// Datagrams that its wire was given to send, modulo 2^64.
@@ -49,9 +49,9 @@ pub struct Start {
     pub steps: u64,
 }
 
-/// What a worker's thread works on, and the sum of the reports of its last run. It has each datagram that the wire was given
-/// since that run began and each call of the wire that failed; and each datagram that it has as received, and not as refused,
-/// made a step under the pass.
+/// The resources of a worker's thread, and the sum of the reports of its last run. The report has each datagram given to
+/// the wire since that run began, and each call of the wire that failed. Each datagram that it counts as received and not
+/// as refused made a step under the pass.
 #[derive(Drop)]
 pub struct Place<W: Wire + Drop, M: Moments + Drop, C: Challenges + Drop, J: Naming, P: Post> {
     pub worker: Worker,
@@ -69,7 +69,7 @@ pub struct Place<W: Wire + Drop, M: Moments + Drop, C: Challenges + Drop, J: Nam
     ghost steps: { start.steps + report.received ≤ pass.credit.steps + report.refused },
 }
 
-// What is counted so far.
+// Returns the counts so far.
 fn start_of<W: Wire, J: Naming>(wire: &W, pass: &Pass<J>) -> Start
     ensures given { result.given ≡ W.given wire.now }
     ensures failures { result.failures ≡ W.failures wire.now }
@@ -89,12 +89,12 @@ impl<W: Wire + Drop, M: Moments + Drop, C: Challenges + Drop, J: Naming, P: Post
     J,
     P,
 > {
-    ghost use Rattle.udp_workers.specs.Events.{MakesTurns, Tells};
+    ghost use Rattle.udp_workers.specs.Events.{CountsSends, MakesTurns, Tells, nothing};
     ghost use Rattle.udp_workers.specs.Handed.{GivesAll};
     ghost use Rattle.udp_workers.specs.Intake.{RunsTurns};
     ghost use Rattle.worker_watch.specs.declared.watch.ServiceStage.TheVariants as ServiceStage;
 
-    // A run from here: its counts begin with what is counted so far.
+    // Makes a run, whose counts begin with the current ones.
     fn run<V: Watch, G: Gate, R: Wait>(
         &mut self,
         rt: &R,
@@ -110,9 +110,13 @@ impl<W: Wire + Drop, M: Moments + Drop, C: Challenges + Drop, J: Naming, P: Post
         ensures turns { MakesTurns
             (min turns (2 ^ 48)) (V.answered watch.now ServiceStage.Ended) self.old.worker.turns self.new.worker.turns
             self.new.report }
+        ensures counts { CountsSends nothing self.new.report (W.went self.old.wire) (W.went self.new.wire) (W.sent self.old.wire)
+            (W.sent self.new.wire) }
         ensures told { ∥ Tells (V.told watch.now) self.new.report ∥₁ }
         ensures handed { GivesAll (V.given watch.now) self.old.pass self.new.pass }
-        ensures intake { RunsTurns intake exchange.now self.old.worker.peers self.new.report.received self.old.pass self.new.pass }
+        ensures intake { RunsTurns intake exchange.now self.old.worker.peers self.new.report.received self.old.pass self.new.pass
+            (record { came = W.came self.old.wire; went = W.went self.old.wire })
+            (record { came = W.came self.new.wire; went = W.went self.new.wire }) }
     {
         self.start = start_of(&self.wire, &self.pass);
         self.report = self.worker.run_until(
@@ -129,7 +133,7 @@ impl<W: Wire + Drop, M: Moments + Drop, C: Challenges + Drop, J: Naming, P: Post
     }
 }
 
-/// A place under a lock, so that a thread of its own can take it.
+/// A place under a lock, so that a separate thread can take it.
 #[derive(Drop)]
 pub struct Seat<W: Wire + Drop, M: Moments + Drop, C: Challenges + Drop, J: Naming, P: Post> {
     place: Mutex<Place<W, M, C, J, P>>,
@@ -142,8 +146,8 @@ impl<W: Wire + Drop, M: Moments + Drop, C: Challenges + Drop, J: Naming, P: Post
     J,
     P,
 > {
-    /// A worker with all that its run needs, and an empty report. What was counted of its wire and of its pass so far is its
-    /// start.
+    /// Returns a worker with all resources of its run, and an empty report. The current counts of its wire and its pass are
+    /// its start.
     pub fn new(worker: Worker, wire: W, pass: Pass<J>, moments: M, challenges: C) -> Self
         requires peers { worker.peers ≡ peers_of P.plan worker.place }
         requires ends { AreEndpoints P.plan worker.peers (W.peers wire) }
@@ -178,7 +182,7 @@ impl<W: Wire + Drop, M: Moments + Drop, C: Challenges + Drop, J: Naming, P: Post
         );
     }
 
-    /// The worker with all that its run needed, and the sum of the reports of its last run.
+    /// Returns the worker with the resources of its run, and the sum of the reports of its last run.
     pub fn into_place(self) -> Place<W, M, C, J, P> {
         let Seat { place } = self;
         place.into_inner()

@@ -1,9 +1,10 @@
-//! Frames go out.
-ghost use Rattle.std.specs.Prelude.{◌≡◌, ◌≢◌, ◌+◌, ◌<◌, ◌≤◌, ◌⊎◌, Contains, length};
+//! Sends frames.
+ghost use Rattle.std.specs.Prelude.{◌≡◌, ◌≢◌, ◌+◌, ◌<◌, ◌≤◌, ◌⊎◌, [], ◌∷◌, ◌++◌, Contains, length};
 ghost use Rattle.iax_frames.specs.Datagram.{IsFrame};
 ghost use Rattle.peer_plan.specs.declared.endpoint.Endpoint.{Endpoint};
 ghost use Rattle.udp_wires.specs.Counts.{RiseAlike, RisesBy};
-ghost use Rattle.udp_workers.specs.Events.{HasRoom};
+ghost use Rattle.udp_workers.specs.Emptied.{Empties, EmptiesIfDue};
+ghost use Rattle.udp_workers.specs.Events.{CountsSends, HasRoom};
 ghost use Rattle.worker_watch.specs.declared.watch.Event.TheVariants as events;
 
 use crate::tally::Tally;
@@ -16,10 +17,10 @@ use std::sync::Wait;
 use udp_wires::Wire;
 use worker_watch::{Event, Watch};
 
-// How many frames are taken from one outbox in one turn at most: all that it can hold.
+// The greatest number of frames that one turn takes from one outbox: all that it can hold.
 const FRAMES: u64 = 256;
 
-// Sends a frame to the endpoint of a peer. What the wire doesn't take is lost.
+// Sends a frame to the endpoint of a peer. A frame that the wire doesn't take is lost.
 fn send_frame<W: Wire, V: Watch>(
     wire: &mut W,
     tally: &mut Tally<'_, V>,
@@ -30,6 +31,10 @@ fn send_frame<W: Wire, V: Watch>(
     requires frame { IsFrame octets.now }
     requires peer { Contains (W.peers wire.old) to }
     requires room { HasRoom 2 tally.old.report }
+    ensures came { W.came wire.new ≡ W.came wire.old }
+    ensures counts { CountsSends tally.old.report tally.new.report (W.went wire.old) (W.went wire.new) (W.sent wire.old)
+        (W.sent wire.new) }
+    ensures went { W.went wire.new ≡ W.went wire.old ++ record { endpoint = to; octets = octets.now } ∷ [] }
     ensures given { RisesBy (W.given wire.old) (W.given wire.new) 1 }
     ensures to { RisesBy (W.given_to wire.old to) (W.given_to wire.new to) 1 }
     ensures others { (other : Endpoint) → other ≢ to → W.given_to wire.new other ≡ W.given_to wire.old other }
@@ -54,8 +59,8 @@ fn send_frame<W: Wire, V: Watch>(
     }
 }
 
-// Takes up to 256 frames from the outbox of a peer, one after another into the place that is lent, and sends each to its
-// endpoint. What the wire doesn't take is lost. Returns whether it took 256.
+// Takes up to 256 frames from the outbox of a peer, one after another into the lent buffer, and sends each to the peer's
+// endpoint. A frame that the wire doesn't take is lost. Returns whether it took 256.
 fn send_all<W: Wire, V: Watch, G: Gate, J: Naming, R: Wait>(
     turn: &Turn<'_, G, J, R>,
     wire: &mut W,
@@ -68,6 +73,9 @@ fn send_all<W: Wire, V: Watch, G: Gate, J: Naming, R: Wait>(
     requires peer { peer < length turn.now.exchange.now.peers }
     requires to { Contains (W.peers wire.old) to }
     requires room { HasRoom 257 tally.old.report }
+    ensures came { W.came wire.new ≡ W.came wire.old }
+    ensures counts { CountsSends tally.old.report tally.new.report (W.went wire.old) (W.went wire.new) (W.sent wire.old)
+        (W.sent wire.new) }
     ensures given { RiseAlike (W.given wire.old) (W.given wire.new) (tally.old.report.sent + tally.old.report.lost)
         (tally.new.report.sent + tally.new.report.lost) }
     ensures to { RiseAlike (W.given_to wire.old to) (W.given_to wire.new to) (tally.old.report.sent + tally.old.report.lost)
@@ -82,7 +90,7 @@ fn send_all<W: Wire, V: Watch, G: Gate, J: Naming, R: Wait>(
     ensures received { tally.new.report.received ≡ tally.old.report.received }
     ensures refused { tally.new.report.refused ≡ tally.old.report.refused }
     ensures watch { tally.new.watch ≡ tally.old.watch }
-    ensures pass { pass.new ≡ pass.old }
+    ensures empties { Empties peer to pass.old pass.new (W.went wire.old) (W.went wire.new) }
 {
     for _ in 0..FRAMES {
         if !turn.exchange.take_into(turn.rt, pass, peer, out) {
@@ -93,8 +101,8 @@ fn send_all<W: Wire, V: Watch, G: Gate, J: Naming, R: Wait>(
     true
 }
 
-// The same, if the turn empties all outboxes, or a step was made at the peer, or a tick, since it was sent to last. Returns whether
-// the outbox gave all that a turn takes out of it.
+// Sends as above if the turn empties all outboxes, or if the peer had a step or a tick since the last send. Returns whether
+// the outbox gave as many frames as a turn takes.
 pub(crate) fn send_if_due<W: Wire, V: Watch, G: Gate, J: Naming, R: Wait>(
     turn: &Turn<'_, G, J, R>,
     wire: &mut W,
@@ -107,6 +115,9 @@ pub(crate) fn send_if_due<W: Wire, V: Watch, G: Gate, J: Naming, R: Wait>(
     requires peer { peer < length turn.now.exchange.now.peers }
     requires to { Contains (W.peers wire.old) to }
     requires room { HasRoom 257 tally.old.report }
+    ensures came { W.came wire.new ≡ W.came wire.old }
+    ensures counts { CountsSends tally.old.report tally.new.report (W.went wire.old) (W.went wire.new) (W.sent wire.old)
+        (W.sent wire.new) }
     ensures given { RiseAlike (W.given wire.old) (W.given wire.new) (tally.old.report.sent + tally.old.report.lost)
         (tally.new.report.sent + tally.new.report.lost) }
     ensures to { RiseAlike (W.given_to wire.old to) (W.given_to wire.new to) (tally.old.report.sent + tally.old.report.lost)
@@ -121,7 +132,7 @@ pub(crate) fn send_if_due<W: Wire, V: Watch, G: Gate, J: Naming, R: Wait>(
     ensures received { tally.new.report.received ≡ tally.old.report.received }
     ensures refused { tally.new.report.refused ≡ tally.old.report.refused }
     ensures watch { tally.new.watch ≡ tally.old.watch }
-    ensures pass { pass.new ≡ pass.old }
+    ensures empties { EmptiesIfDue turn.now.all peer to pass.old pass.new (W.went wire.old) (W.went wire.new) }
 {
     let is_due = pass.take_unasked(peer);
     if !turn.all && !is_due {

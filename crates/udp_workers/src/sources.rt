@@ -1,14 +1,14 @@
-//! What a run is handed in beside its wire: moments and challenges.
+//! The inputs of a run other than its wire: moments and challenges.
 use call_auth::Challenge;
 
-/// Tells the moments of a run.
+/// Supplies the moments of a run.
 pub trait Moments {
-    /// Milliseconds since the exchange was opened.
+    /// Returns the milliseconds since the exchange was opened.
     fn now(&mut self) -> u64;
 }
 
-/// Gives the challenges of a run.
+/// Supplies the challenges of a run.
 pub trait Challenges {
-    /// What callers of the next turn have to answer.
+    /// Returns the challenge that callers of the next turn have to answer.
     fn draw(&mut self) -> Challenge;
 }

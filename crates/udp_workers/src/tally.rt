@@ -1,4 +1,4 @@
-//! What was told to a watch, and counted.
+//! The events that were reported to a watch, and their counts.
 ghost use Rattle.std.specs.Prelude.{◌≡◌, All, IfSome, MatchOption};
 ghost use Rattle.exchange_core.specs.Leaving.{departure_of};
 ghost use Rattle.udp_workers.specs.Events.{Tells};
@@ -8,11 +8,11 @@ use crate::report::TurnReport;
 use exchange_core::{Answer, Retired};
 use worker_watch::{Event, Watch};
 
-// The events that a watch was told of, as they are counted.
+// The watch, and the counts of the events reported to it.
 #[derive(Drop)]
 pub(crate) struct Tally<'w, V: Watch> {
     pub(crate) watch: &'w V,
-    // The place of the worker whose turns they happen in.
+    // The place of the worker that makes the turns.
     pub(crate) worker: u16,
     pub(crate) report: TurnReport,
     ghost told: { ∥ Tells (V.told watch.now) report ∥₁ },
@@ -21,7 +21,7 @@ pub(crate) struct Tally<'w, V: Watch> {
 impl<'w, V: Watch> Tally<'w, V> {
     ghost use Rattle.udp_workers.specs.Events.{HasRoom, OnlyRetires, counted, nothing};
 
-    // Nothing was told yet.
+    // Returns a tally before the first event.
     pub(crate) fn new(watch: &'w V, worker: u16) -> Self
         ensures watch { result.watch.now ≡ watch.now }
         ensures none { result.report ≡ nothing }
@@ -33,7 +33,7 @@ impl<'w, V: Watch> Tally<'w, V> {
         }
     }
 
-    // Tells the watch of an event, and counts it.
+    // Reports an event to the watch, and counts it.
     pub(crate) fn tell(&mut self, event: Event)
         requires room { HasRoom 1 self.old.report }
         ensures told { V.told self.old.watch.now event }
@@ -44,7 +44,7 @@ impl<'w, V: Watch> Tally<'w, V> {
         self.report = self.report.counted(event);
     }
 
-    // Tells the watch what became of a datagram of a peer: that it was refused, or that its answer rejected something.
+    // Reports the outcome of a peer's datagram to the watch: its refusal, or the rejection in its answer.
     pub(crate) fn tell_outcome(&mut self, peer: u16, answer: &Answer)
         requires room { HasRoom 1 self.old.report }
         ensures rejected { IfSome answer.now.rejected (λ rejection.
@@ -61,7 +61,7 @@ impl<'w, V: Watch> Tally<'w, V> {
         }
     }
 
-    // Tells the watch of each leg that was taken out, and gives it the leg.
+    // Reports each leg that was taken out to the watch, and gives it the leg.
     pub(crate) fn tell_retired(&mut self, legs: &[Retired])
         requires room { HasRoom 1 self.old.report }
         ensures given { All (λ leg. V.given self.old.watch.now (departure_of leg)) legs.now }

@@ -1,4 +1,4 @@
-//! Seats on threads of their own.
+//! Runs seats on threads.
 ghost use Rattle.std.specs.Prelude.{◌≡◌, ◌≤◌, [], IsFalse, IsOk, length};
 
 use crate::intake::Intake;
@@ -18,9 +18,10 @@ use worker_watch::Watch;
 #[derive(Clone, Copy, Debug, PartialEq, Eq)]
 pub struct NoThread;
 
-/// Makes the run of each seat, so many turns, and puts the sum of its reports into it: the run of the last on the thread of the
-/// caller, that of each other one on a thread of its own. There are at most 8 seats. All threads have ended when it returns. So a
-/// worker that is alone needs no thread, and the C library spares it what its calls cost a program with several.
+/// Makes the run of each seat, with its number of turns, and puts the sum of its reports into the seat. The last seat runs
+/// on the thread of the caller, each other one on a separate thread. There are at most 8 seats. All threads have ended when
+/// it returns. So a worker that is alone needs no thread, and the C library spares it the cost of its calls in a program
+/// with several threads.
 ///
 /// `NoThread`: a thread was refused. Seats whose thread was refused are unchanged, the others have run.
 pub fn run_all<
@@ -65,12 +66,12 @@ impl<'s, V: Watch + Sync, G: Gate + Sync, J: Naming, P: Post + Send + Sync> Watc
     J,
     P,
 > {
-    /// Starts a thread for each seat in a scope of the caller. It makes the seat's run until the watch says that the service has
-    /// ended, or all turns are made, and puts the sum of its reports into the seat. True if no thread was refused; the watch is
-    /// told of each that was, so that it can answer `Ended` to the others.
+    /// Starts a thread for each seat in a scope of the caller. It makes the seat's run until the watch reports the end of
+    /// the service, or all turns are made. Then it puts the sum of its reports into the seat. Returns true if no thread was
+    /// refused. Each refusal is reported to the watch, so that it can answer `Ended` to the others.
     ///
-    /// The scope returns when all threads have ended, and none does before it is answered `Ended` or has made its turns. Until
-    /// then the caller's thread does beside them what it likes.
+    /// The scope returns when all threads have ended, and none ends before it gets `Ended` or has made its turns. Until
+    /// then the caller's thread is free for other work.
     pub fn start_until<
         E,
         W: Wire + Drop + Send,
@@ -90,8 +91,8 @@ impl<'s, V: Watch + Sync, G: Gate + Sync, J: Naming, P: Post + Send + Sync> Watc
         started
     }
 
-    // Makes the runs of seats, each on a thread of its own, and beside them that of the last on the thread of the caller. True if no
-    // thread was refused.
+    // Makes the runs of seats, each on a separate thread, and that of the last on the thread of the caller. Returns true if
+    // no thread was refused.
     fn run_beside<
         W: Wire + Drop + Send,
         M: Moments + Drop + Send,

@@ -1,13 +1,14 @@
 //! One turn of a worker.
-ghost use Rattle.std.specs.Prelude.{◌≡◌, ◌≢◌, ◌+◌, ◌*◌, ◌<◌, ◌≤◌, All, AllPairs, length};
+ghost use Rattle.std.specs.Prelude.{◌≡◌, ◌≢◌, ◌+◌, ◌*◌, ◌<◌, ◌≤◌, All, AllPairs, None, Option, length, true};
 ghost use Rattle.peer_plan.specs.declared.endpoint.Endpoint.{Endpoint};
-ghost use Rattle.noted_steps.specs.Notes.{Noted};
 ghost use Rattle.udp_wires.specs.Counts.{RiseAlike, RisesBy, RisesByAtMost};
-ghost use Rattle.udp_workers.specs.Events.{HasRoom, OnlyRetires};
+ghost use Rattle.udp_wires.specs.Parcels.{Parcel};
+ghost use Rattle.udp_workers.specs.Emptied.{EmptiesDue};
+ghost use Rattle.udp_workers.specs.Events.{CountsSends, HasRoom, OnlyRetires, nothing};
 ghost use Rattle.udp_workers.specs.Handed.{GivesAll};
 ghost use Rattle.udp_workers.specs.Intake.{MakesTurn};
 ghost use Rattle.udp_workers.specs.Served.{AreEndpoints, peers_of};
-ghost use Rattle.udp_workers.specs.Ticked.{IsLater, Ticks, TicksAll, TicksDue, TicksIfDue, is_due};
+ghost use Rattle.udp_workers.specs.Ticked.{IsLater, Ticks, TicksDue, TicksIfDue, is_due};
 
 use crate::inbox::Inbox;
 use crate::intake::Intake;
@@ -26,12 +27,12 @@ use std::sync::Wait;
 use udp_wires::Wire;
 use worker_watch::{ServiceStage, Watch};
 
-// What a turn is made with, beside what it changes.
+// The inputs of a turn that it doesn't change.
 #[derive(Drop)]
 pub(crate) struct Turn<'x, G: Gate, J: Naming, R: Wait> {
     pub(crate) rt: &'x R,
     pub(crate) exchange: &'x Exchange<G, J>,
-    // The stage that the watch was asked for.
+    // The stage, as read from the watch.
     pub(crate) stage: ServiceStage,
     pub(crate) intake: Intake,
     // Its moment, in milliseconds since the exchange was opened.
@@ -41,17 +42,18 @@ pub(crate) struct Turn<'x, G: Gate, J: Naming, R: Wait> {
     pub(crate) challenge: &'x Challenge,
 }
 
-// What a turn left to the next one.
+// The state that a turn leaves to the next one.
 #[derive(Clone, Copy)]
 pub(crate) struct TurnEnd {
     // A peer wasn't ticked.
     pub(crate) has_left_out: bool,
-    // An outbox gave all that a turn takes out of it: it may have more, or have been too full for what a tick packs.
+    // An outbox gave all that a turn takes out of it. It may have more, or may have been too full for a tick to pack into
+    // it.
     pub(crate) was_full: bool,
 }
 
 impl TurnEnd {
-    // No turn was made.
+    // Returns the state before the first turn.
     pub(crate) fn nothing() -> TurnEnd {
         TurnEnd {
             has_left_out: false,
@@ -61,11 +63,11 @@ impl TurnEnd {
 }
 
 impl Worker {
-    /// One turn, at a moment in milliseconds since the exchange was opened: receives what is there, at most 64 datagrams; then
-    /// lets time go on at each of its peers; then sends what is in their outboxes, up to 256 datagrams each.
+    /// Makes one turn, at a moment in milliseconds since the exchange was opened: receives the available datagrams, at most
+    /// 64; then ticks each of its peers; then sends the datagrams in their outboxes, up to 256 each.
     ///
-    /// A call of the wire that fails ends the receiving; the rest of the turn follows. A datagram that the wire doesn't take is
-    /// lost and counted. Histories of legs are dropped.
+    /// A call of the wire that fails ends the receiving; the rest of the turn follows. A datagram that the wire doesn't
+    /// take is lost and counted. The records of legs are dropped.
     pub fn turn<W: Wire, G: Gate, J: Naming, R: Wait>(
         &mut self,
         rt: &R,
@@ -85,11 +87,16 @@ impl Worker {
         ensures emptied { result.sent + result.lost ≤ 256 * length self.old.peers }
         ensures each { (to : Endpoint) → RisesByAtMost 256 (W.given_to wire.old to) (W.given_to wire.new to) }
         ensures few_faults { result.faults ≤ result.lost + 1 }
+        ensures counts { CountsSends nothing result (W.went wire.old) (W.went wire.new) (W.sent wire.old) (W.sent wire.new) }
         // Each datagram that isn't refused made a step at least.
         ensures steps { pass.old.credit.steps + result.received ≤ pass.new.credit.steps + result.refused }
-        // First what the datagrams led to, then a tick of each of its peers, in their order, at this moment; the sending makes no
-        // step.
-        ensures ticked { (mid : Noted) × IsLater pass.old mid × TicksAll exchange.now now self.old.peers mid pass.new }
+        // The datagrams that the wire gave, in order and whole; then a tick of each of its peers, in their order, at this
+        // moment; then what waited in the outbox of each, up to 256 datagrams, in order and whole, for the peer's endpoint.
+        ensures turn { (left : Option Parcel) × MakesTurn Intake.Whole exchange.now self.old.peers true
+            (record { stage = ServiceStage.Serving; now = now; challenge = challenge.now }) None left 0 result.received
+            pass.old pass.new (record { came = W.came wire.old; went = W.went wire.old })
+            (record { came = W.came wire.new; went = W.went wire.new }) }
+        ensures later { IsLater pass.old pass.new }
         ensures place { self.new.place ≡ self.old.place }
         ensures peers { self.new.peers ≡ self.old.peers }
         ensures few { length self.new.peers ≤ 32 }
@@ -109,8 +116,8 @@ impl Worker {
         tally.report
     }
 
-    // Makes a turn, with the datagram that the one before it left. It ticks all peers and empties their outboxes, or those that are
-    // due. Returns what is left to the next turn.
+    // Makes a turn, with the datagram that the turn before left. It ticks all peers and empties their outboxes, or those
+    // that are due. Returns the state for the next turn.
     pub(crate) fn turn_at<W: Wire, V: Watch, G: Gate, J: Naming, R: Wait>(
         &mut self,
         turn: &Turn<'_, G, J, R>,
@@ -136,15 +143,17 @@ impl Worker {
         ensures each { (to : Endpoint) → RisesByAtMost 256 (W.given_to wire.old to) (W.given_to wire.new to) }
         ensures few_faults { tally.new.report.faults + tally.old.report.lost ≤ tally.old.report.faults + tally.new.report.lost +
             1 }
+        ensures counts { CountsSends tally.old.report tally.new.report (W.went wire.old) (W.went wire.new) (W.sent wire.old)
+            (W.sent wire.new) }
         ensures watch { tally.new.watch ≡ tally.old.watch }
         ensures steps { pass.old.credit.steps + tally.new.report.received + tally.old.report.refused ≤ pass.new.credit.steps +
             tally.new.report.refused + tally.old.report.received }
         ensures handed { GivesAll (V.given tally.old.watch.now) pass.old pass.new }
-        ensures ticked { (mid : Noted) × IsLater pass.old mid ×
-            TicksDue turn.now.exchange.now turn.now.time turn.now.all self.old.peers mid pass.new }
         ensures turn { MakesTurn turn.now.intake turn.now.exchange.now self.old.peers turn.now.all
             (record { stage = turn.now.stage; now = turn.now.time; challenge = turn.now.challenge.now }) inbox.old.datagram inbox.new.datagram
-            tally.old.report.received tally.new.report.received pass.old pass.new }
+            tally.old.report.received tally.new.report.received pass.old pass.new
+            (record { came = W.came wire.old; went = W.went wire.old }) (record { came = W.came wire.new; went = W.went wire.new }) }
+        ensures later { IsLater pass.old pass.new }
         ensures place { self.new.place ≡ self.old.place }
         ensures peers { self.new.peers ≡ self.old.peers }
         ensures few { length self.new.peers ≤ 32 }
@@ -165,7 +174,7 @@ impl Worker {
     }
 }
 
-// Time goes on at a peer.
+// Ticks a peer.
 fn tick_peer<V: Watch, G: Gate, J: Naming, R: Wait>(
     turn: &Turn<'_, G, J, R>,
     pass: &mut Pass<J>,
@@ -184,14 +193,14 @@ fn tick_peer<V: Watch, G: Gate, J: Naming, R: Wait>(
     tally.tell_retired(&answer.retired);
 }
 
-// Whether a turn ticks a peer.
+// Returns whether a turn ticks a peer.
 fn is_due<G: Gate, J: Naming, R: Wait>(turn: &Turn<'_, G, J, R>, pass: &Pass<J>, peer: u16) -> bool
     ensures { result ≡ is_due turn.now.all peer pass.now }
 {
     turn.all || pass.is_unticked(peer)
 }
 
-// Time goes on at a peer, if it is due. Returns whether it is.
+// Ticks a peer if it is due. Returns whether it is.
 #[tactic(auto, using(crate::proofs::TickLaws::if_ticked, crate::proofs::TickLaws::if_left_out, crate::proofs::HandingLaws::gives_none))]
 fn tick_if_due<V: Watch, G: Gate, J: Naming, R: Wait>(
     turn: &Turn<'_, G, J, R>,
@@ -214,8 +223,8 @@ fn tick_if_due<V: Watch, G: Gate, J: Naming, R: Wait>(
     true
 }
 
-// Time goes on at each of these peers that is due when its place in their order comes: so also at one that the tick of a peer
-// before it hangs up. Returns whether it left out a peer.
+// Ticks each of these peers that is due when its turn in the order comes. So a peer with a leg that the tick of an earlier
+// peer hangs up is due too. Returns whether it left out a peer.
 fn tick_due<V: Watch, G: Gate, J: Naming, R: Wait>(
     turn: &Turn<'_, G, J, R>,
     pass: &mut Pass<J>,
@@ -238,7 +247,8 @@ fn tick_due<V: Watch, G: Gate, J: Naming, R: Wait>(
     has_left_out
 }
 
-// Sends what is in the outboxes of these peers, or of those that are due. Returns whether one gave all that a turn takes out of it.
+// Sends the datagrams in the outboxes of these peers, or of those that are due. Returns whether one gave as many as a turn
+// takes.
 fn empty_due<W: Wire, V: Watch, G: Gate, J: Naming, R: Wait>(
     turn: &Turn<'_, G, J, R>,
     wire: &mut W,
@@ -263,7 +273,10 @@ fn empty_due<W: Wire, V: Watch, G: Gate, J: Naming, R: Wait>(
     ensures received { tally.new.report.received ≡ tally.old.report.received }
     ensures refused { tally.new.report.refused ≡ tally.old.report.refused }
     ensures watch { tally.new.watch ≡ tally.old.watch }
-    ensures pass { pass.new ≡ pass.old }
+    ensures came { W.came wire.new ≡ W.came wire.old }
+    ensures counts { CountsSends tally.old.report tally.new.report (W.went wire.old) (W.went wire.new) (W.sent wire.old)
+        (W.sent wire.new) }
+    ensures empties { EmptiesDue turn.now.exchange.now turn.now.all peers.now pass.old pass.new (W.went wire.old) (W.went wire.new) }
 {
     let mut was_full = false;
     for &peer in peers {

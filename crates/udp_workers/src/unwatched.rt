@@ -1,10 +1,10 @@
-//! A watch that nobody has.
+//! The watch of a run that nobody observes.
 ghost use Rattle.std.specs.Prelude.{◌≡◌};
 
 use exchange_core::Retired;
 use worker_watch::{Event, ServiceStage, Watch};
 
-/// Always serves, and drops what it is told.
+/// Always serves, and ignores its events.
 #[derive(Clone, Copy, Debug, Drop)]
 pub struct Unwatched;
 

@@ -1,4 +1,4 @@
-//! What a turn led to at the peers of other workers.
+//! The steps of a turn at the peers of other workers.
 ghost use Rattle.std.specs.Prelude.{◌≡◌};
 
 use crate::turning::Turn;
@@ -7,10 +7,10 @@ use peer_lock::Naming;
 use std::sync::Wait;
 use worker_watch::Watch;
 
-// A plan has at most so many workers.
+// The greatest number of workers of a plan.
 const WORKERS: usize = 8;
 
-// Tells the watch to wake a worker, unless it was told so already.
+// Asks the watch to wake a worker, unless it was asked already.
 fn wake_once<V: Watch>(watch: &V, worker: u16, woken: &mut [bool; WORKERS]) {
     let place = usize::from(worker);
     if place >= WORKERS || woken[place] {
@@ -20,9 +20,9 @@ fn wake_once<V: Watch>(watch: &V, worker: u16, woken: &mut [bool; WORKERS]) {
     watch.wake(worker);
 }
 
-// Tells the watch to wake each other worker at whose peers steps were made under the pass since this was done last: they may have
-// put datagrams into outboxes that only that worker empties. The worker at this place of the plan, which serves these peers, makes
-// the turn.
+// Asks the watch to wake each other worker at whose peers steps were made under the pass since the last call. They may have
+// put datagrams into outboxes that only that worker empties. The worker at this place of the plan, which serves these
+// peers, makes the turn.
 pub(crate) fn wake_others<V: Watch, G: Gate, J: Naming, R: Wait>(
     turn: &Turn<'_, G, J, R>,
     pass: &mut Pass<J>,

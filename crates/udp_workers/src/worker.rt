@@ -31,7 +31,8 @@ impl Model for Worker {
 }
 
 impl Worker {
-    /// The worker at a place of the plan, which has made no turn yet. Its peers are those that name its place, in plan order.
+    /// Returns the worker at a place of the plan, which has made no turn yet. Its peers are those that name its place, in
+    /// plan order.
     pub fn new(plan: &Plan, place: u16) -> Worker
         requires { place < length plan.now.workers }
         ensures place { result.place ≡ place }
@@ -52,14 +53,14 @@ impl Worker {
         }
     }
 
-    /// Its place among the workers of the plan, from 0 on.
+    /// Returns its place among the workers of the plan, from 0 on.
     pub fn place(&self) -> u16
         ensures { result ≡ self.now.place }
     {
         self.place
     }
 
-    /// The peers that it serves, at most 32, by their places in the plan, in plan order.
+    /// Returns the peers that it serves, at most 32, by their places in the plan, in plan order.
     pub fn peers(&self) -> &[u16]
         ensures peers { result.now ≡ self.now.peers }
         ensures few { length result.now ≤ 32 }
@@ -67,14 +68,14 @@ impl Worker {
         self.peers.as_slice()
     }
 
-    /// How many turns it has made, modulo 2^64.
+    /// Returns the number of turns that it has made, modulo 2^64.
     pub fn turns(&self) -> u64
         ensures { result ≡ self.now.turns }
     {
         self.turns
     }
 
-    /// The endpoints of its peers, in their order: those that its wire may send to.
+    /// Returns the endpoints of its peers, in their order: those to which its wire may send.
     ///
     /// `AllocError`: a request for memory was refused.
     pub fn endpoints(&self, alloc: Global, plan: &Plan) -> Result<Vec<Endpoint>, AllocError>

@@ -3,20 +3,20 @@ use std::time::{Clock, Instant};
 use trace_writer::Trace;
 use udp_workers::Moments;
 
-/// Tells the milliseconds since an exchange was opened, also to the trace, where there is one. Where the clock can't be read, it
-/// tells the last ones again.
+/// Returns the milliseconds since an exchange was opened, and reports them to the trace if there is one. If the clock can't
+/// be read, it returns the last ones again.
 #[derive(Drop)]
 pub struct SinceOpening<'t, R: Clock> {
     pub(crate) rt: &'t R,
     pub(crate) opened: Instant,
-    // The moment that was told last.
+    // The last moment that it returned.
     pub(crate) last: u64,
     pub(crate) trace: Option<&'t Trace>,
     pub(crate) thread: usize,
 }
 
 impl<'t, R: Clock> Moments for SinceOpening<'t, R> {
-    // Where the clock can't be read, time stands still.
+    // If the clock can't be read, the moment stays the same.
     fn now(&mut self) -> u64 {
         if let Ok(elapsed) = self.opened.elapsed(self.rt) {
             if let Ok(now) = u64::try_from(elapsed.as_millis()) {

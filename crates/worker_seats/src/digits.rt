@@ -10,8 +10,8 @@ use std::sync::Wait;
 use trace_writer::Trace;
 use udp_workers::Challenges;
 
-/// Draws challenges from a generator ("Authentication"), and tells them to the trace, where there is one. A challenge is ten decimal
-/// digits; in an exchange whose challenges begin alike it is that prefix, and decimal digits up to 32 octets.
+/// Draws challenges from a generator ("Authentication"), and reports them to the trace if there is one. A challenge is ten
+/// decimal digits. If the exchange's challenges have a common prefix, it is that prefix and decimal digits up to 32 octets.
 #[derive(Drop)]
 pub struct Digits<'t, R: Wait> {
     pub(crate) rt: &'t R,
@@ -34,7 +34,7 @@ impl<'t, R: Wait> Challenges for Digits<'t, R> {
     }
 }
 
-// A challenge of ten decimal digits.
+// Draws a challenge of ten decimal digits.
 fn ten_digits_alone<R: Rng>(generator: &mut R) -> Challenge
     ensures { length result ≡ 10 }
 {
@@ -44,7 +44,7 @@ fn ten_digits_alone<R: Rng>(generator: &mut R) -> Challenge
     }
 }
 
-// Ten decimal digits.
+// Draws ten decimal digits.
 fn ten_digits<R: Rng>(generator: &mut R) -> [u8; 10]
     ensures { (k : ℕ) → k < 10 → (48 ≤ slice_index result k) × (slice_index result k ≤ 57) }
 {
@@ -55,7 +55,7 @@ fn ten_digits<R: Rng>(generator: &mut R) -> [u8; 10]
     digits
 }
 
-// A challenge that begins with the prefix.
+// Draws a challenge that begins with the prefix.
 fn challenge_behind<R: Rng>(prefix: &Challenge, generator: &mut R) -> Challenge
     ensures { take (length prefix.now) result ≡ prefix.now }
 {
@@ -65,7 +65,7 @@ fn challenge_behind<R: Rng>(prefix: &Challenge, generator: &mut R) -> Challenge
     }
 }
 
-// The prefix, and decimal digits behind it, as many as a challenge has room for.
+// Returns the prefix with decimal digits behind it, up to the length of a challenge.
 fn digits_behind<R: Rng>(prefix: &Challenge, generator: &mut R) -> [u8; 32]
     ensures prefix { take (length prefix.now) result ≡ prefix.now }
     ensures challenge { IsChallenge result }

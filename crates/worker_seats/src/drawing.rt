@@ -1,4 +1,4 @@
-//! What an exchange draws of the system's entropy when it is opened.
+//! Random values that an exchange draws from the system's entropy when it is opened.
 ghost use Rattle.std.specs.Prelude.{◌≡◌, ◌≤◌, ◌<◌, ℕ, IfOk, length, slice_index};
 
 use crate::service_error::ServiceError;
@@ -9,11 +9,11 @@ use rand::{RngExt, make_rng};
 use rand_core::Rng;
 use std::random::RandomSource;
 
-/// The plan of an exchange whose challenges begin with twelve letters, some 56 bits, and whose call tokens have a key of 256 bits,
-/// both drawn from the system's entropy. So an exchange recognizes its challenges if they come back, and two exchanges answer each
-/// other.
+/// Returns the plan with a random prefix for its challenges and a random key for its call tokens, both from the system's
+/// entropy. The prefix is twelve letters, some 56 bits; the key has 256 bits. So an exchange recognizes its own challenges
+/// if they come back, and two exchanges can authenticate each other.
 ///
-/// `Entropy`: the system gives no random octets.
+/// Returns `Entropy` if the system gives no random octets.
 pub fn with_drawn<R: RandomSource>(rt: &R, plan: Plan) -> Result<Plan, ServiceError>
     ensures workers { IfOk result (λ drawn. drawn.workers ≡ plan.workers) }
     ensures passes { IfOk result (λ drawn. drawn.passes ≡ plan.passes) }
@@ -31,10 +31,10 @@ pub fn with_drawn<R: RandomSource>(rt: &R, plan: Plan) -> Result<Plan, ServiceEr
     Ok(plan.with_drawn(&drawn))
 }
 
-/// The plan of an exchange whose call tokens have a key of 256 bits, drawn from the system's entropy, where a peer is asked for them;
-/// its challenges don't begin alike.
+/// Returns the plan with a random key of 256 bits for its call tokens, from the system's entropy, if a peer needs them. Its
+/// challenges have no common prefix.
 ///
-/// `Entropy`: the system gives no random octets.
+/// Returns `Entropy` if the system gives no random octets.
 pub fn with_drawn_key<R: RandomSource>(rt: &R, plan: Plan) -> Result<Plan, ServiceError>
     ensures workers { IfOk result (λ drawn. drawn.workers ≡ plan.workers) }
     ensures passes { IfOk result (λ drawn. drawn.passes ≡ plan.passes) }
@@ -54,7 +54,7 @@ pub fn with_drawn_key<R: RandomSource>(rt: &R, plan: Plan) -> Result<Plan, Servi
     Ok(plan.with_drawn(&drawn))
 }
 
-// Whether a peer is asked for call tokens.
+// Returns whether a peer needs call tokens.
 fn asks_for_tokens(plan: &Plan) -> bool {
     for peer in 0..plan.peer_count() {
         if plan.call_tokens(peer).is_some() {
@@ -64,14 +64,14 @@ fn asks_for_tokens(plan: &Plan) -> bool {
     false
 }
 
-// 32 random octets.
+// Draws 32 octets.
 fn key<R: Rng>(generator: &mut R) -> [u8; 32] {
     let mut key = [0; 32];
     generator.fill_bytes(&mut key);
     key
 }
 
-// Twelve lower-case letters.
+// Draws twelve lower-case letters.
 fn twelve_letters<R: Rng>(generator: &mut R) -> [u8; 12]
     ensures { (k : ℕ) → k < 12 → (97 ≤ slice_index result k) × (slice_index result k ≤ 122) }
 {

@@ -1,5 +1,5 @@
-//! The workers of a plan in their seats, each over a UDP socket of the system, by its clock, with challenges of random digits, and
-//! telling a trace, where there is one, what the exchange is given; and what they did.
+//! The workers of a plan in their seats: each has a UDP socket, the system's clock, and challenges of random digits. They
+//! note the exchange's input in a trace if there is one, and report their counts.
 #![tactic(auto)]
 
 mod clock;
@@ -19,7 +19,7 @@ pub use drawing::{with_drawn, with_drawn_key};
 pub use reports::{reports_of, tell_reports};
 pub use seats::{ServiceSeat, seats_of};
 pub use service_error::{ServiceError, service_error_name};
-pub use skipping::skip_numbers;
+pub use skipping::{first_serial, skip_numbers};
 pub use sockets::{PlainSockets, Sockets, room_of};
 pub use spare_pass::with_spare_pass;
 pub use traced_wire::{TracedWire, lane_of};

@@ -1,4 +1,4 @@
-//! What workers did.
+//! The reports of workers.
 use crate::service_error::ServiceError;
 use exchange_core::Pass;
 use peer_lock::Naming;
@@ -8,7 +8,7 @@ use std::io::Write;
 use udp_wires::Wire;
 use udp_workers::{Challenges, Moments, Place, Post, Seat, TurnReport};
 
-// What a worker did, and its pass.
+// Returns a worker's report and its pass.
 fn report_of<W: Wire + Drop, M: Moments + Drop, C: Challenges + Drop, J: Naming, P: Post>(
     seat: Seat<W, M, C, J, P>,
 ) -> (TurnReport, Pass<J>) {
@@ -16,9 +16,9 @@ fn report_of<W: Wire + Drop, M: Moments + Drop, C: Challenges + Drop, J: Naming,
     (report, pass)
 }
 
-/// The reports of the seats, in order. Their passes go back to the others, behind them.
+/// Returns the reports of the seats, in order. Their passes are added back to `passes`.
 ///
-/// `Memory`: a request for memory was refused. Then the seats are dropped, with their passes.
+/// Returns `Memory` if a request for memory was refused. Then the seats are dropped, with their passes.
 pub fn reports_of<W: Wire + Drop, M: Moments + Drop, C: Challenges + Drop, J: Naming, P: Post>(
     alloc: Global,
     mut seats: Vec<Seat<W, M, C, J, P>>,
@@ -35,7 +35,7 @@ pub fn reports_of<W: Wire + Drop, M: Moments + Drop, C: Challenges + Drop, J: Na
     Ok(reports)
 }
 
-// A line for each worker.
+// Writes a line for each worker.
 fn write_reports<W: Write>(reports: &[TurnReport], writer: &mut W) -> io::Result<()> {
     for (place, report) in reports.iter().enumerate() {
         writeln!(
@@ -47,11 +47,11 @@ fn write_reports<W: Write>(reports: &[TurnReport], writer: &mut W) -> io::Result
     Ok(())
 }
 
-/// Writes `worker <place> <received> <sent> <lost> <faults>` for each worker, in order: places from 0 on, counts of datagrams,
-/// and of calls of the wire that failed.
+/// Writes `worker <place> <received> <sent> <lost> <faults>` for each worker, in order. Places begin at 0; the counts are
+/// datagrams, and failed calls of the wire.
 ///
-/// Where there are no reports, the error is theirs, and nothing is written; else it is `Writer`, at the first line that isn't
-/// taken.
+/// Returns the error of `reports` if there are none; then nothing is written. Returns `Writer` at the first line that can't
+/// be written.
 pub fn tell_reports<W: Write>(
     reports: Result<Vec<TurnReport>, ServiceError>,
     writer: &mut W,

@@ -29,8 +29,8 @@ pub type ServiceSeat<'t, R, J, P> = Seat<
     P,
 >;
 
-// What a worker at a place of the plan needs of the system: its wire, which is its own socket and its lane of the trace, and digits
-// for its challenges.
+// Opens a worker's resources: its wire, which is its own socket and its lane of the trace, and the source of its
+// challenges.
 fn tools_of<'t, R: Net + RandomSource + Wait, S: Sockets>(
     rt: &'t R,
     alloc: Global,
@@ -69,8 +69,8 @@ fn tools_of<'t, R: Net + RandomSource + Wait, S: Sockets>(
     Ok((wire, digits))
 }
 
-// Puts the worker at a place of the plan into its seat, over its own socket, behind the others. It takes the next pass, once it has
-// what it needs of the system.
+// Adds the seat of the worker at a place of the plan behind the others, with its own socket. The worker takes the next pass
+// once its resources are open.
 fn push_seat<'t, J: Naming, P: Post, R: Clock + Net + RandomSource + Wait, S: Sockets>(
     rt: &'t R,
     alloc: Global,
@@ -104,11 +104,11 @@ fn push_seat<'t, J: Naming, P: Post, R: Clock + Net + RandomSource + Wait, S: So
     Ok(())
 }
 
-/// The seats of all workers of the plan, in its order, at most 8, with what each tells the trace, where there is one. Each takes
-/// the next pass, so the first worker has the first.
+/// Returns the seats of all workers of the plan, in its order, at most 8. Each has a lane of the trace if there is one. The
+/// first worker takes the first pass, and so on.
 ///
-/// `Memory`: a request for memory was refused. `Bind`: a socket isn't bound. `Entropy`: the system gives no random octets. They
-/// are looked for worker by worker; then the passes of the workers before are gone.
+/// Errors come in the order of the workers; then the passes of the earlier workers are gone. `Memory`: a request for memory
+/// was refused. `Bind`: a socket isn't bound. `Entropy`: the system gives no random octets.
 pub fn seats_of<'t, J: Naming, P: Post, R: Clock + Net + RandomSource + Wait, S: Sockets>(
     rt: &'t R,
     alloc: Global,

@@ -1,10 +1,10 @@
-//! Why a service ends early.
+//! The reasons why a service ends early.
 use std::alloc::AllocError;
 use std::io;
 use udp_wires::BindError;
 use udp_workers::NoThread;
 
-/// Why a service ends before its turns are made, or before its accounts are written.
+/// The reason why a service ends before its turns are made, or before its accounts are written.
 #[derive(Clone, Copy, Debug, PartialEq, Eq)]
 pub enum ServiceError {
     /// A worker's socket isn't bound.
@@ -17,11 +17,11 @@ pub enum ServiceError {
     Clock,
     /// The system gives no random octets.
     Entropy,
-    /// The writer can't write.
+    /// The output can't be written.
     Writer,
-    /// The folder of the trace can't be made, isn't this user's alone, or no regular file is to be had in it.
+    /// The folder of the trace can't be made, isn't this user's alone, or has no regular file to write.
     Trace,
-    /// The process may not open as many files as it needs.
+    /// The process may not open the number of files that it needs.
     Descriptors,
 }
 
@@ -52,7 +52,8 @@ impl From<io::Error> for ServiceError {
     }
 }
 
-/// What is printed after `refused`: the name of the variant; none where the writer can't write.
+/// Returns the word printed after `refused`: the name of the variant. `Writer` has none, because then nothing can be
+/// printed.
 pub fn service_error_name(error: ServiceError) -> Option<&'static str> {
     match error {
         ServiceError::Bind => Some("Bind"),

@@ -1,4 +1,6 @@
-//! The call numbers that a service begins with.
+//! The first call numbers and the first serial of a service.
+ghost use Rattle.std.specs.Prelude.{◌≤◌, ◌*◌, ◌^◌, IfOk};
+
 use crate::service_error::ServiceError;
 use exchange_core::{Exchange, NoGate, Pass};
 use peer_lock::Naming;
@@ -8,7 +10,25 @@ use std::random::RandomSource;
 use std::sync::Wait;
 use trace_writer::Trace;
 
-// Skips so many numbers of a peer. The trace, if there is one, is told each.
+// The least first serial of a service. The `free` lines of a trace name each number of a plan once, so they use no more serials.
+const LEAST_SERIAL: u64 = 32 * 512;
+
+const GREATEST_SERIAL: u64 = 1 << 40;
+
+/// The serial of the first leg of a service, 16,384 to 2^40, drawn from the system's entropy. So legs of two runs hardly ever
+/// have one serial.
+///
+/// `Entropy`: the system gives no random octets.
+pub fn first_serial<R: RandomSource>(rt: &R) -> Result<u64, ServiceError>
+    ensures { IfOk result (λ serial. (32 * 512 ≤ serial) × (serial ≤ 2 ^ 40)) }
+{
+    match make_rng::<StdRng, R>(rt) {
+        Ok(mut generator) => Ok(generator.random_range(LEAST_SERIAL..=GREATEST_SERIAL)),
+        Err(_) => Err(ServiceError::Entropy),
+    }
+}
+
+// Skips `count` numbers of a peer, and notes each in the trace if there is one.
 fn skip<J: Naming, R: Wait>(
     rt: &R,
     exchange: &Exchange<NoGate, J>,
@@ -27,10 +47,10 @@ fn skip<J: Naming, R: Wait>(
     }
 }
 
-/// Skips a random count of call numbers of each peer, so that the first calls of a service don't have the numbers that calls of one
-/// before it had: a peer may still have those calls. The trace, if there is one, is told each number. No call is open yet.
+/// Skips a random count of call numbers of each peer, and notes each in the trace if there is one, and the serial of the first leg.
+/// So the first calls don't have the numbers of an earlier service's calls, which a peer may still have. No call may be open yet.
 ///
-/// `Entropy`: the system gives no random octets.
+/// Returns `Entropy` if the system gives no random octets.
 pub fn skip_numbers<J: Naming, R: RandomSource + Wait>(
     rt: &R,
     exchange: &Exchange<NoGate, J>,
@@ -46,6 +66,9 @@ pub fn skip_numbers<J: Naming, R: RandomSource + Wait>(
             let skips = generator.random_range(0..count);
             skip(rt, exchange, pass, peer, skips, trace);
         }
+    }
+    if let Some(trace) = trace {
+        trace.tell_serial(exchange.next_serial(rt, pass));
     }
     Ok(())
 }

@@ -11,34 +11,35 @@ use std::os::fd::RawFd;
 use udp_wires::{MioWire, Sharing, Wire, WireWaker};
 use udp_workers::Worker;
 
-// So many octets are asked for at the sockets of a worker together.
+// The receive buffers that the sockets of one worker ask for together, in octets.
 const WORKER_ROOM: u64 = 4_194_304;
 
-// At each socket at least so many. The kernel doubles what is asked for, and counts some 832 octets for a mini frame of G.711, so
-// over 600 of these can wait.
+// The least that one socket asks for, in octets. The kernel doubles it and counts some 832 octets for a mini frame of
+// G.711, so over 600 of these can wait.
 const SOCKET_ROOM: u64 = 262_144;
 
-/// What is done with the sockets of workers.
+/// The setup of workers' sockets.
 pub trait Sockets {
-    /// Whether workers of one endpoint share it. Where they don't, the second of them isn't bound.
+    /// Returns whether workers of one endpoint share it. If they don't, binding the second of them fails.
     fn are_shared(&self) -> bool;
 
-    /// The socket of the worker at this place of the plan has this descriptor, and its share of a worker's room for datagrams
-    /// that wait is so many octets. Gives how many octets the system then keeps of them, where that was asked.
+    /// Sets up the socket with this descriptor of the worker at this place of the plan. `room` is its share of the worker's
+    /// receive buffers, in octets. Returns the size of the buffer that the system grants, in octets, if it was asked for.
     fn set_up(&self, place: u16, descriptor: RawFd, room: u32) -> Option<u64>;
 
-    /// A socket at that worker's endpoint which is connected to one of its peers has this descriptor, and the same share.
+    /// Sets up a socket with this descriptor, at a worker's endpoint, that is connected to one of its peers. It has the
+    /// same share.
     fn set_up_link(&self, descriptor: RawFd, room: u32);
 
-    /// Whether a worker is woken once others have filled outboxes of its peers. If not, its wire gives no waker.
+    /// Returns whether a worker is woken when others have filled outboxes of its peers. If not, its wire gives no waker.
     fn are_woken(&self) -> bool;
 
-    /// Keeps the waker of the worker at this place of the plan. None: the system gives no eventfd, and the wire waits as one that
-    /// gave no waker.
+    /// Keeps the waker of the worker at this place of the plan. `None` means that the system gives no eventfd; then the
+    /// wire waits as one without a waker.
     fn keep_waker(&self, place: u16, waker: Option<WireWaker>);
 }
 
-/// Each is bound alone, and nothing is done with it. No worker is woken.
+/// Sockets that are bound alone and aren't set up further. No worker is woken.
 #[derive(Clone, Copy, Drop)]
 pub struct PlainSockets;
 
@@ -60,8 +61,8 @@ impl Sockets for PlainSockets {
     fn keep_waker(&self, _place: u16, _waker: Option<WireWaker>) {}
 }
 
-/// The share of a worker's room for datagrams that wait which each of its sockets has, in octets: the worker has its own socket,
-/// and beside it so many that are connected to peers. Together they have 4 MiB, but each at least 256 KiB.
+/// Returns the share of a worker's receive buffers for each of its sockets, in octets. The worker has its own socket and
+/// `links` sockets connected to peers. Together they have 4 MiB, but each at least 256 KiB.
 pub fn room_of(links: u32) -> u32
     ensures { result ≡ max (4194304 / (links + 1)) 262144 }
 {
@@ -69,7 +70,7 @@ pub fn room_of(links: u32) -> u32
     (WORKER_ROOM / sockets).max(SOCKET_ROOM) as u32
 }
 
-// How many sockets of a wire are connected to peers.
+// Returns the number of a wire's sockets that are connected to peers.
 fn links_of(wire: &MioWire) -> u32 {
     let mut links: u32 = 0;
     for peer in 0..wire.peers().len() {
@@ -80,7 +81,7 @@ fn links_of(wire: &MioWire) -> u32 {
     links
 }
 
-// Sets up the sockets of a wire, and has its waker kept if workers are woken.
+// Sets up the sockets of a wire, and keeps its waker if workers are woken.
 fn set_up_all<S: Sockets>(sockets: &S, place: u16, wire: &mut MioWire)
     ensures { wires.peers_of wire.new ≡ wires.peers_of wire.old }
 {
@@ -96,10 +97,9 @@ fn set_up_all<S: Sockets>(sockets: &S, place: u16, wire: &mut MioWire)
     }
 }
 
-// The socket of a worker of the plan, bound to the endpoint of the worker at this place by `MioWire::bind`: shared with others where
-// these sockets are, else alone.
+// Binds a worker's socket to its endpoint by `MioWire::bind`, shared with other workers if `sockets` says so.
 //
-// `Memory`: a request for memory was refused. `Bind`: the socket isn't bound.
+// Returns `Memory` if a request for memory was refused, and `Bind` if the socket isn't bound.
 pub(crate) fn wire_of<N: Net, S: Sockets>(
     rt: &N,
     alloc: Global,

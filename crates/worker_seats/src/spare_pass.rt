@@ -1,9 +1,9 @@
-//! A pass for somebody beside the workers.
+//! A pass for a client next to the workers.
 ghost use Rattle.std.specs.Prelude.{◌≡◌, ◌+◌, ◌≤◌, length};
 
 use peer_plan::Plan;
 
-/// The plan with a pass more than it has workers, if it hasn't so many: for whoever looks at the exchange beside them.
+/// Returns the plan with at least one pass more than it has workers, for a client that reads the exchange next to them.
 pub fn with_spare_pass(plan: Plan) -> Plan
     ensures passes { length result.workers + 1 ≤ result.passes }
     ensures same { result ≡ record plan { passes = result.passes } }

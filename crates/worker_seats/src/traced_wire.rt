@@ -1,4 +1,4 @@
-//! A worker's wire, as it tells the trace what the worker hands to the exchange.
+//! A worker's wire that notes in the trace which datagrams the worker passes to the exchange.
 ghost use Rattle.udp_wires.specs.MioWire as wires;
 
 use crate::service_error::ServiceError;
@@ -8,7 +8,7 @@ use std::sync::Wait;
 use trace_writer::{Trace, TraceLane};
 use udp_wires::{MioWire, Wire, WireFault};
 
-/// A wire whose datagrams are noted, where there is a trace.
+/// A wire whose datagrams are noted if there is a trace.
 #[derive(Drop)]
 pub struct TracedWire<'t, R: Wait> {
     pub(crate) rt: &'t R,
@@ -17,9 +17,9 @@ pub struct TracedWire<'t, R: Wait> {
     pub(crate) lane: Option<TraceLane<'t>>,
 }
 
-/// The lane of the thread at this place, where there is a trace.
+/// Returns the lane of the thread at this place, if there is a trace.
 ///
-/// `Memory`: a request for memory was refused.
+/// Returns `Memory` if a request for memory was refused.
 pub fn lane_of<'t>(
     alloc: Global,
     trace: Option<&'t Trace>,
@@ -32,6 +32,12 @@ pub fn lane_of<'t>(
 }
 
 impl<'t, R: Wait> Wire for TracedWire<'t, R> {
+    ghost came = { λ wire. wires.came_of wire.wire };
+
+    ghost went = { λ wire. wires.went_of wire.wire };
+
+    ghost sent = { λ wire. wires.sent_of wire.wire };
+
     ghost given = { λ wire. wires.given_of wire.wire };
 
     ghost given_to = { λ wire. wires.given_to_of wire.wire };
@@ -44,7 +50,7 @@ impl<'t, R: Wait> Wire for TracedWire<'t, R> {
         let found = self.wire.receive(octets);
         if let Some(lane) = &mut self.lane {
             lane.be_in_turn(self.rt);
-            // Where none came, the ticks come next.
+            // Without a datagram, the ticks come next.
             if !matches!(found, Ok(Some(_))) {
                 lane.tick(self.rt);
             }

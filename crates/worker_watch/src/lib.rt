@@ -1,4 +1,4 @@
-//! What the workers of a service ask while they run, and what they tell: for workers, and for whoever watches them.
+//! The stage that the workers of a service read, and the events that they report: for workers, and for their observers.
 #![tactic(auto)]
 
 mod watch;

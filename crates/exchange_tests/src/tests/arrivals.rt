@@ -86,14 +86,14 @@ pub static MEDIA_AND_DIGIT: [Arrival; 8] = [
     ),
 ];
 
-/// What goes to the west in the whole call, in order.
+/// The datagrams to the west in the whole call, in order.
 pub static TO_WEST: [&[u8]; 3] = [
     b"\x80\x01\x00\x07\x00\x00\x00\x00\x00\x01\x06\x07\x09\x04\x00\x00\x00\x04",
     b"\x80\x01\x00\x07\x00\x00\x00\x14\x01\x01\x04\x04",
     b"\x80\x01\x00\x07\x00\x00\x00\x64\x02\x02\x06\x04",
 ];
 
-/// What goes to the east, in order.
+/// The datagrams to the east, in order.
 pub static TO_EAST: [&[u8]; 4] = [
     b"\x80\x05\x00\x00\x00\x00\x00\x00\x00\x00\x06\x01\x0b\x02\x00\x02\x01\x03\x33\x30\x30\x09\x04\x00\x00\x00\x04\x08\x04\x00\
     \x00\x00\x04",
@@ -103,7 +103,7 @@ pub static TO_EAST: [&[u8]; 4] = [
     \x01\x10",
 ];
 
-/// These come, whatever is answered.
+/// Hands these datagrams to the exchange, one after another, whatever the answers.
 pub fn hear_all<R: Wait, G: Gate, J: Naming>(desk: &mut Desk<'_, R, G, J>, arrivals: &[Arrival]) {
     for arrival in arrivals {
         let (at, from, octets) = *arrival;

@@ -17,7 +17,7 @@ impl Dice {
         Dice { seed }
     }
 
-    /// A number below the bound; 0 where that is 0.
+    /// Returns a number below the bound, or 0 if that is 0.
     pub fn below(&mut self, bound: u64) -> u64 {
         self.seed ^= self.seed.wrapping_shl(13);
         self.seed ^= self.seed >> 7;
@@ -25,7 +25,7 @@ impl Dice {
         (self.seed >> 16).checked_rem(bound).unwrap_or(0)
     }
 
-    /// A place below the bound.
+    /// Returns a place below the bound.
     pub fn place(&mut self, bound: usize) -> usize {
         usize::try_from(self.below(bound as u64)).unwrap_or(0)
     }
@@ -40,7 +40,7 @@ pub struct Sent {
 }
 
 impl Sent {
-    /// These octets, part after part; those past the 64th are left out.
+    /// Returns these octets, part after part; those past the 64th are left out.
     pub fn of(peer: u16, parts: &[&[u8]]) -> Sent {
         let mut sent = Sent {
             peer,
@@ -53,7 +53,7 @@ impl Sent {
         sent
     }
 
-    // The octets behind those that are there.
+    // Adds octets behind the others.
     fn put(&mut self, octets: &[u8]) {
         for octet in octets {
             if let Some(at) = self.octets.get_mut(self.len) {
@@ -70,22 +70,22 @@ impl Sent {
         }
     }
 
-    /// The octet at a place; 0 where there is none.
+    /// Returns the octet at a place, or 0 if there is none.
     pub fn octet(&self, place: usize) -> u8 {
         self.octets().get(place).copied().unwrap_or(0)
     }
 
-    /// Whether it is a full frame ("Full Frames").
+    /// Returns whether it is a full frame ("Full Frames").
     pub fn is_full(&self) -> bool {
         self.octet(0) >= 0x80
     }
 
-    /// The destination call number of a full frame.
+    /// Returns the destination call number of a full frame.
     pub fn destination(&self) -> u16 {
         u16::from_be_bytes([self.octet(2) & 0x7f, self.octet(3)])
     }
 
-    // One bit is turned.
+    // Turns one bit.
     fn with_turned_bit(self, dice: &mut Dice) -> Sent {
         let mut sent = self;
         let place = dice.place(sent.len);
@@ -96,13 +96,13 @@ impl Sent {
         sent
     }
 
-    // It ends earlier.
+    // Cuts the end off.
     fn cut(self, dice: &mut Dice) -> Sent {
         let len = dice.place(self.len);
         Sent { len, ..self }
     }
 
-    // Two octets are those of another datagram, or the peer is another.
+    // Replaces two octets by those of another datagram, or the peer by another.
     fn crossed(self, other: &Sent, dice: &mut Dice) -> Sent {
         let mut sent = self;
         let place = dice.place(14);
@@ -118,7 +118,8 @@ impl Sent {
         sent
     }
 
-    /// As it is in three of six cases; else a bit is turned, octets are cut, or fields are those of the other.
+    /// Returns it unchanged in three of six cases. Otherwise a bit is turned, octets are cut, or fields are replaced by
+    /// those of the other.
     pub fn spoilt(self, other: &Sent, dice: &mut Dice) -> Sent {
         match dice.below(6) {
             0 => self.with_turned_bit(dice),
@@ -129,12 +130,12 @@ impl Sent {
     }
 }
 
-/// What a peer knows of one of its calls, by our number of it.
+/// A peer's state of one of its calls, by the exchange's number of it.
 #[derive(Clone, Copy)]
 pub struct Call {
     pub peer: u16,
     pub number: u16,
-    /// The peer's number of the call; 0 where there is none.
+    /// The peer's number of the call; 0 if there is none.
     pub source: u16,
     /// The next OSeqno of the peer.
     pub next: u8,
@@ -142,8 +143,8 @@ pub struct Call {
     pub expected: u8,
 }
 
-/// Type, subclass and data of what is sent on a call, as they stand in a full frame ("Full Frames"). What ends a call is rare
-/// among them.
+/// Types, subclasses and data of frames that are sent on a call, as in a full frame ("Full Frames"). Few of them end a
+/// call.
 static FRAMES: [&[u8]; 24] = [
     // ACK, VNAK, PING, LAGRQ, POKE.
     b"\x06\x04",
@@ -176,7 +177,7 @@ static FRAMES: [&[u8]; 24] = [
 ];
 
 impl Call {
-    /// A full frame of the call.
+    /// Returns a full frame of the call.
     pub fn full(&self, now: u64, dice: &mut Dice) -> Sent {
         let frame = FRAMES.get(dice.place(FRAMES.len())).copied();
         let source = (self.source | 0x8000).to_be_bytes();
@@ -187,13 +188,13 @@ impl Call {
         Sent::of(self.peer, &[&source, &number, &timestamp, &numbers, rest])
     }
 
-    /// A mini frame of the call ("Mini Frames").
+    /// Returns a mini frame of the call ("Mini Frames").
     pub fn mini(&self) -> Sent {
         let source = self.source.to_be_bytes();
         Sent::of(self.peer, &[&source, b"\x00\x14\xaa\xbb\xcc"])
     }
 
-    /// A trunk frame of this call and another ("Meta Trunk Frames").
+    /// Returns a trunk frame of this call and another ("Meta Trunk Frames").
     pub fn trunk(&self, other: &Call) -> Sent {
         let head = b"\x00\x00\x01\x01\x00\x00\x00\x14\x00\x02";
         let own = self.source.to_be_bytes();
@@ -211,7 +212,7 @@ impl Call {
     }
 }
 
-/// A NEW of the west for 300.
+/// Returns a NEW of the west for 300.
 pub fn new_call(source: u16) -> Sent {
     let source = (source | 0x8000).to_be_bytes();
     Sent::of(WEST_PLACE, &[&source, WEST_NEW.split_at(2).1])

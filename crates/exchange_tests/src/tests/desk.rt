@@ -27,8 +27,8 @@ pub const EAST: Endpoint = Endpoint {
     port: 5002,
 };
 
-/// An exchange, a pass of it, and the challenge of its callers. What is asked of a peer or a number answers `None` where the plan
-/// hasn't so many peers.
+/// An exchange, a pass of it, and the challenge of its callers. A call for a peer or a number returns `None` if the plan
+/// doesn't have this peer.
 #[derive(Drop)]
 pub struct Desk<'a, R: Wait, G: Gate, J: Naming> {
     pub rt: &'a R,
@@ -37,7 +37,7 @@ pub struct Desk<'a, R: Wait, G: Gate, J: Naming> {
     pub challenge: Challenge,
 }
 
-/// The peer of a number.
+/// Returns the peer of a number.
 pub fn peer_of(number: u16) -> u16 {
     if number <= 4 { WEST_PLACE } else { EAST_PLACE }
 }
@@ -45,7 +45,7 @@ pub fn peer_of(number: u16) -> u16 {
 impl<'a, R: Abort + Wait, G: Gate, J: Naming> Desk<'a, R, G, J> {
     ghost use Rattle.std.specs.Prelude.{◌≡◌};
 
-    /// An exchange under a pass of it, by the challenge `0`.
+    /// Returns a desk with a pass of an exchange, with the challenge `0`.
     pub fn new(rt: &'a R, exchange: &'a Exchange<G, J>, pass: &'a mut Pass<J>) -> Self
         ensures { result.exchange.now ≡ exchange.now }
     {
@@ -59,7 +59,7 @@ impl<'a, R: Abort + Wait, G: Gate, J: Naming> Desk<'a, R, G, J> {
 }
 
 impl<R: Wait, G: Gate, J: Naming> Desk<'_, R, G, J> {
-    /// A datagram comes from an endpoint.
+    /// Gives a datagram from an endpoint to the exchange.
     pub fn datagram(&mut self, from: Endpoint, octets: &[u8], now: u64) -> Told {
         told_by(
             self.exchange
@@ -67,7 +67,7 @@ impl<R: Wait, G: Gate, J: Naming> Desk<'_, R, G, J> {
         )
     }
 
-    /// Time goes on at a peer.
+    /// Ticks a peer.
     pub fn tick(&mut self, peer: u16, now: u64) -> Option<Told> {
         if peer >= self.exchange.plan().peer_count() {
             return None;
@@ -75,7 +75,7 @@ impl<R: Wait, G: Gate, J: Naming> Desk<'_, R, G, J> {
         Some(told_by(self.exchange.tick(self.rt, self.pass, peer, now)))
     }
 
-    /// A leg hangs up. Gives why it doesn't.
+    /// Hangs up a leg. Returns the refusal, if there is one.
     pub fn hang_up(&mut self, name: LegName, now: u64) -> Option<OrderError> {
         if name.peer >= self.exchange.plan().peer_count() {
             return Some(OrderError::Gone);
@@ -83,7 +83,7 @@ impl<R: Wait, G: Gate, J: Naming> Desk<'_, R, G, J> {
         self.exchange.hang_up(self.rt, self.pass, name, now).err()
     }
 
-    /// The oldest datagram for a peer. `None`, too, where none waits.
+    /// Takes the oldest datagram for a peer, or returns `None` if none waits.
     pub fn take_out(&mut self, peer: u16) -> Option<Out> {
         if peer >= self.exchange.plan().peer_count() {
             return None;
@@ -91,7 +91,7 @@ impl<R: Wait, G: Gate, J: Naming> Desk<'_, R, G, J> {
         self.exchange.take_out(self.rt, self.pass, peer)
     }
 
-    /// How the leg of a number stands, at whatever peer. `None`, too, where there is none.
+    /// Returns the status of the leg of a number, at any peer, or `None` if there is none.
     pub fn status(&mut self, number: u16) -> Option<Status> {
         let peer = peer_of(number);
         if peer >= self.exchange.plan().peer_count() {
@@ -101,17 +101,17 @@ impl<R: Wait, G: Gate, J: Naming> Desk<'_, R, G, J> {
     }
 }
 
-/// What a call answered, without the legs that were taken out.
+/// The answer of a call, without the legs that were taken out.
 #[derive(Clone, Copy)]
 pub struct Told {
     pub refused: Option<Refusal>,
     pub rejected: Option<Rejection>,
     pub steps: u64,
-    /// How many legs were taken out.
+    /// The number of legs that were taken out.
     pub retired: usize,
 }
 
-// What an answer tells.
+// Converts an answer.
 fn told_by(answer: Answer) -> Told {
     Told {
         refused: answer.refused,
@@ -121,7 +121,7 @@ fn told_by(answer: Answer) -> Told {
     }
 }
 
-/// A datagram comes from a peer.
+/// Gives a datagram from a peer to the exchange.
 pub fn heard<R: Wait, G: Gate, J: Naming>(
     desk: &mut Desk<'_, R, G, J>,
     peer: u16,
@@ -132,14 +132,14 @@ pub fn heard<R: Wait, G: Gate, J: Naming>(
     desk.datagram(from, octets, now)
 }
 
-/// Time goes on at both peers.
+/// Ticks both peers.
 pub fn tick_both<R: Wait, G: Gate, J: Naming>(desk: &mut Desk<'_, R, G, J>, now: u64) {
     let _west = desk.tick(WEST_PLACE, now);
     let _east = desk.tick(EAST_PLACE, now);
 }
 
 impl Told {
-    /// Whether it was one step, and wasn't refused.
+    /// Returns whether it was one step, and wasn't refused.
     pub fn is_one_step(&self) -> bool {
         self.refused.is_none() && self.steps == 1
     }

@@ -14,7 +14,7 @@ use std::sync::Wait;
 use std::test::*;
 use test_plans::plans::ONE_WORKER;
 
-/// A call until both legs are up, a voice frame, a mini frame and a digit, and a tick; then an end to it.
+/// Plays a call until both legs are up, with a voice frame, a mini frame, a digit and a tick, and then ends it.
 pub fn call_and_end<R: Abort + Wait, G: Gate, J: Naming>(rt: &R, desk: &mut Desk<'_, R, G, J>) {
     hear_all(desk, &MEDIA_AND_DIGIT);
     tick_both(desk, 30);

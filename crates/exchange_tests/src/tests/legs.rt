@@ -1,4 +1,4 @@
-//! How the legs of all numbers stand before and after a datagram, and which of them it concerns.
+//! The legs of all numbers before and after a datagram, and those that it concerns.
 
 use crate::tests::datagrams::Sent;
 use crate::tests::desk::{Desk, peer_of};
@@ -6,7 +6,7 @@ use exchange_core::Gate;
 use peer_lock::{Naming, Status};
 use std::sync::Wait;
 
-/// The leg of a number, how it stood at the look before, and the number that it is bridged with; 0 where it is with none.
+/// The leg of a number, its status at the last look, and the number with which it is bridged; 0 if it isn't bridged.
 #[derive(Clone, Copy)]
 struct Place {
     number: u16,
@@ -31,12 +31,12 @@ fn place_of(number: u16) -> Place {
 }
 
 impl Place {
-    // Whether the leg has changed.
+    // Returns whether the leg has changed.
     fn has_changed(&self) -> bool {
         self.status != self.before
     }
 
-    // Whether a leg has the number that it hadn't before.
+    // Returns whether the number has a leg that it didn't have before.
     fn is_new(&self) -> bool {
         match (self.status, self.before) {
             (Some(status), Some(old)) => status.name != old.name,
@@ -45,12 +45,13 @@ impl Place {
         }
     }
 
-    // Whether this is the number of a leg that has changed, or of the one that it is bridged with.
+    // Returns whether this is the number of a leg that has changed, or of the one with which it is bridged.
     fn is_of_call(&self, changed: &Place) -> bool {
         self.number == changed.number || self.number == changed.partner
     }
 
-    // Whether the datagram concerns the leg: it is the destination's, or bridged with it; or bridged with a leg of the sender.
+    // Returns whether the datagram concerns the leg: it is the destination's, or bridged with it; or bridged with a leg of
+    // the sender.
     fn is_concerned(&self, sent: &Sent) -> bool {
         let is_partner_of_sender = self.partner != 0 && peer_of(self.partner) == sent.peer;
         if !sent.is_full() {
@@ -89,7 +90,7 @@ impl Legs {
         }
     }
 
-    /// Whether no leg has changed.
+    /// Returns whether no leg has changed.
     pub fn are_unchanged(&self) -> bool {
         for place in &self.places {
             if place.has_changed() {
@@ -99,7 +100,7 @@ impl Legs {
         true
     }
 
-    // The number of a leg that is new, other than this one; 0 where there is none.
+    // Returns the number of a new leg, other than this one, or 0 if there is none.
     fn other_new(&self, number: u16) -> u16 {
         for place in &self.places {
             if place.number != number && place.is_new() {
@@ -109,7 +110,7 @@ impl Legs {
         0
     }
 
-    /// Two legs that are new at once are bridged with each other.
+    /// Pairs two legs that are new at once: they are bridged with each other.
     pub fn pair_new(&mut self) {
         let after = *self;
         for place in self.places.iter_mut() {
@@ -119,7 +120,7 @@ impl Legs {
         }
     }
 
-    // Whether a number has a leg.
+    // Returns whether a number has a leg.
     fn has(&self, number: u16) -> bool {
         for place in &self.places {
             if place.number == number {
@@ -129,7 +130,7 @@ impl Legs {
         false
     }
 
-    /// A leg that is gone, or whose partner is, has no partner.
+    /// Removes the partner of a leg that is gone, or whose partner is.
     pub fn part_gone(&mut self) {
         let after = *self;
         for place in self.places.iter_mut() {
@@ -139,7 +140,7 @@ impl Legs {
         }
     }
 
-    // Whether this leg is the only one that has changed, besides the one that it is bridged with.
+    // Returns whether this leg is the only one that has changed, apart from the one with which it is bridged.
     fn is_alone(&self, changed: &Place) -> bool {
         for place in &self.places {
             if place.has_changed() && !place.is_of_call(changed) {
@@ -149,7 +150,8 @@ impl Legs {
         true
     }
 
-    /// Whether no leg has changed but those that the datagram concerns: of a full frame one and the one that it is bridged with.
+    /// Returns whether only legs that the datagram concerns have changed: for a full frame one, and the one with which it
+    /// is bridged.
     pub fn differ_where_concerned(&self, sent: &Sent) -> bool {
         let is_full = sent.is_full();
         for place in &self.places {

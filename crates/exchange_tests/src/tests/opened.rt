@@ -1,4 +1,4 @@
-//! An exchange of a plan is opened over two ledgers, and something is played on it.
+//! Opens an exchange of a plan over two ledgers, and plays a scene on it.
 ghost use Rattle.std.specs.Prelude.{◌≡◌, ◌+◌, length};
 
 use crate::tests::desk::Desk;
@@ -25,7 +25,7 @@ use std::thread::Threads;
 use std::time::Clock;
 use udp_workers::Post;
 
-/// What is played on an exchange under its only pass, and asserts what it comes to.
+/// A scene that is played on an exchange under its only pass, and asserts its result.
 #[derive(Clone, Copy)]
 pub enum Scene {
     /// A call with media and a digit, then an end to it.
@@ -34,11 +34,11 @@ pub enum Scene {
     Storm,
 }
 
-/// What is played on an exchange by hand, or by workers; and what that comes to.
+/// The play on an exchange, by hand or by workers, and its result.
 #[derive(Drop)]
 pub enum Play<'a> {
     Scene(Scene),
-    /// Two threads tick both peers, each with a pass of its own.
+    /// Two threads tick both peers, each with a separate pass.
     Tickers,
     /// Two threads tick a peer each, one of them once the other is held.
     TwoTicks(&'a Progress),
@@ -46,9 +46,9 @@ pub enum Play<'a> {
     WholeCall(u64, &'a mut Option<Played>),
     /// The only worker of a plan is given a burst of trunk frames.
     Burst(Burst, &'a mut Taken),
-    /// Media comes to the second worker of a plan for a peer of the first: how often either was woken.
+    /// Media comes to the second worker of a plan for a peer of the first: the number of times that each was woken.
     Waking(&'a mut (u64, u64)),
-    /// Each worker of a plan makes one turn: how many made theirs.
+    /// Each worker of a plan makes one turn: the number of workers that made theirs.
     OneTurn(&'a mut u64),
     /// A socket calls a number that leads nowhere.
     CallFor200(&'a mut Option<Rejection>),
@@ -65,7 +65,7 @@ fn play_scene<R: Abort + Wait, G: Gate, J: Naming>(
     }
 }
 
-// A scene is played under the only pass.
+// Plays a scene under the only pass.
 fn play_only<R: Abort + Wait, G: Gate, J: Naming>(
     rt: &R,
     scene: Scene,
@@ -78,7 +78,7 @@ fn play_only<R: Abort + Wait, G: Gate, J: Naming>(
     play_scene(rt, scene, &mut Desk::new(rt, exchange, pass));
 }
 
-// What two threads do, under two passes.
+// Runs two threads, under two passes.
 fn play_pair<R: Abort + Clock + Sync + Threads + Wait, G: Gate + Sync, J: Naming>(
     rt: &R,
     exchange: &Exchange<G, J>,
@@ -113,7 +113,7 @@ fn play_any<
     }
 }
 
-// What is played, on an exchange of these ledgers and of this plan, which the caller names; then the end of the exchange.
+// Plays on an exchange of these ledgers and of this plan, which the caller names; then ends the exchange.
 fn play_named<
     R: Abort + Clock + Net + Sync + Threads + Wait,
     G: Gate + Sync,
@@ -143,8 +143,8 @@ fn play_named<
     }
 }
 
-/// Opens an exchange of a plan, whose gate is this, plays this on it, and closes its accounts, as `ended` does. `None` where
-/// memory for the plan or for the opening was refused.
+/// Opens an exchange of a plan with this gate, plays this on it, and closes its accounts, as `ended` does. Returns `None`
+/// if memory for the plan or for the opening was refused.
 pub fn play_with<R: Abort + Clock + Net + Sync + Threads + Wait, G: Gate + Sync>(
     rt: &R,
     alloc: Global,

@@ -1,4 +1,4 @@
-//! What two threads do with an exchange at once, each with a pass of its own.
+//! Two threads on one exchange at once, each with a separate pass.
 
 use crate::tests::desk::{Desk, WEST_PLACE};
 use crate::tests::two_peers::{Progress, tick, tick_east};
@@ -11,8 +11,8 @@ use std::thread;
 use std::thread::Threads;
 use std::time::Clock;
 
-/// Two threads at once: the first ticks the west, and the second the east once the west is held; or, where there is no progress to
-/// tell of, each ticks both peers.
+/// Runs two threads at once: the first ticks the west, and the second the east once the west is held. Without `progress`,
+/// each ticks both peers.
 pub fn at_once<R: Abort + Clock + Sync + Threads + Wait, G: Gate + Sync, J: Naming>(
     rt: &R,
     one: &mut Desk<'_, R, G, J>,

@@ -1,4 +1,4 @@
-//! What holds of an exchange whatever befell it: every leg can be got rid of, callers get all numbers, and the accounts balance.
+//! Properties of an exchange after any events: every leg can be removed, callers get all numbers, and the accounts balance.
 
 use crate::tests::desk::{Desk, EAST_PLACE, WEST_PLACE, heard, tick_both};
 use crate::tests::same::{holds, same};
@@ -17,7 +17,7 @@ const LATE_NEW: [u8; 33] = [
     8, 4, 0, 0, 0, 4,
 ];
 
-// The leg hangs up, or is past that. A growth that is refused is asked for again.
+// Returns whether the leg hangs up, or is past that. A growth that is refused is requested again.
 fn hangs_up<R: Wait, G: Gate, J: Naming>(
     desk: &mut Desk<'_, R, G, J>,
     name: LegName,
@@ -33,7 +33,7 @@ fn hangs_up<R: Wait, G: Gate, J: Naming>(
     true
 }
 
-// Each leg hangs up.
+// Hangs up each leg.
 fn all_hang_up<R: Wait, G: Gate, J: Naming>(desk: &mut Desk<'_, R, G, J>, now: u64) -> bool {
     for number in 1..=NUMBERS {
         if let Some(status) = desk.status(number) {
@@ -45,7 +45,7 @@ fn all_hang_up<R: Wait, G: Gate, J: Naming>(desk: &mut Desk<'_, R, G, J>, now: u
     true
 }
 
-// Retries run out within twenty seconds, and nobody answers. The moment after them.
+// Waits until retries run out, within twenty seconds, without an answer. Returns the moment after them.
 fn wait_out<R: Wait, G: Gate, J: Naming>(desk: &mut Desk<'_, R, G, J>, now: u64) -> u64 {
     let mut moment = now;
     for _ in 0..20 {
@@ -55,7 +55,7 @@ fn wait_out<R: Wait, G: Gate, J: Naming>(desk: &mut Desk<'_, R, G, J>, now: u64)
     moment
 }
 
-// How many numbers have a leg.
+// Returns the number of numbers that have a leg.
 fn leg_count<R: Wait, G: Gate, J: Naming>(desk: &mut Desk<'_, R, G, J>) -> u16 {
     let mut legs = 0u16;
     for number in 1..=NUMBERS {
@@ -66,7 +66,8 @@ fn leg_count<R: Wait, G: Gate, J: Naming>(desk: &mut Desk<'_, R, G, J>) -> u16 {
     legs
 }
 
-// Four callers of a peer are let in, as many as it has numbers. A growth that is refused is asked for again.
+// Returns whether four callers of a peer are accepted, as many as it has numbers. A growth that is refused is requested
+// again.
 fn all_are_let_in<R: Wait, G: Gate, J: Naming>(
     desk: &mut Desk<'_, R, G, J>,
     peer: u16,
@@ -84,8 +85,8 @@ fn all_are_let_in<R: Wait, G: Gate, J: Naming>(
     true
 }
 
-/// Every leg is hung up and waited for; then none is left, and callers get every number of both peers, so that no lease was kept.
-/// Whether all that is so.
+/// Hangs up every leg and waits. Returns whether none is left then, and callers get every number of both peers, so that no
+/// lease was kept.
 pub fn recovers<R: Wait, G: Gate, J: Naming>(desk: &mut Desk<'_, R, G, J>, now: u64) -> bool {
     if !all_hang_up(desk, now) {
         return false;
@@ -108,7 +109,7 @@ pub struct Sums {
 }
 
 impl Sums {
-    // How many octets were neither packed nor dropped, and aren't queued.
+    // Returns the number of octets that were neither packed nor dropped, and aren't queued.
     fn left(&self) -> Option<u64> {
         let unpacked = self.accepted.checked_sub(self.packed)?;
         let unqueued = unpacked.checked_sub(self.queued)?;
@@ -116,10 +117,10 @@ impl Sums {
     }
 }
 
-/// What a try to close the accounts answers.
+/// The result of a try to close the accounts.
 type Settled<G, J> = Result<Settlement<J>, (Exchange<G, J>, Vec<Pass<J>>, SettleError)>;
 
-// The accounts are closed. A growth that is refused is asked for again.
+// Closes the accounts. A growth that is refused is requested again.
 fn settled<G: Gate, J: Naming>(exchange: Exchange<G, J>, passes: Vec<Pass<J>>) -> Settled<G, J> {
     match exchange.settle(passes) {
         Err((exchange, passes, SettleError::Memory)) => exchange.settle(passes),
@@ -127,7 +128,7 @@ fn settled<G: Gate, J: Naming>(exchange: Exchange<G, J>, passes: Vec<Pass<J>>) -
     }
 }
 
-// The accounts stay open where a pass is missing, and all is handed back.
+// Asserts that the accounts stay open if a pass is missing, and returns everything.
 fn handed_back<R: Abort, G: Gate, J: Naming>(
     rt: &R,
     settled: Settled<G, J>,
@@ -138,7 +139,7 @@ fn handed_back<R: Abort, G: Gate, J: Naming>(
     }
 }
 
-// The sums of accounts that are closed.
+// Returns the sums of closed accounts.
 fn sums_of<R: Abort, G: Gate, J: Naming>(rt: &R, settled: Settled<G, J>) -> Sums {
     match settled {
         Ok(settlement) => Sums {
@@ -152,7 +153,8 @@ fn sums_of<R: Abort, G: Gate, J: Naming>(rt: &R, settled: Settled<G, J>) -> Sums
     }
 }
 
-/// The accounts are asked for with a pass fewer, which is refused, then closed with all passes, and balance.
+/// Tries to close the accounts without one pass, which is refused; then closes them with all passes, and checks that they
+/// balance.
 pub fn ended<R: Abort, G: Gate, J: Naming>(
     rt: &R,
     exchange: Exchange<G, J>,

@@ -13,14 +13,14 @@ use std::sync::Wait;
 use std::test::*;
 use test_plans::plans::ONE_WORKER;
 
-/// How many datagrams the storm has.
+/// The number of datagrams in the storm.
 const DATAGRAMS: u64 = 100_000;
 
-/// What the peers know, and what was sent last.
+/// The state of the peers, and the datagram that was sent last.
 #[derive(Drop)]
 struct Peers {
     dice: Dice,
-    // By our number, from 1 on.
+    // By the exchange's number, from 1 on.
     calls: [Call; 8],
     last: Sent,
     late: Sent,
@@ -55,13 +55,13 @@ impl Peers {
         }
     }
 
-    // One of the calls.
+    // Returns one of the calls.
     fn call(&mut self) -> Call {
         let place = self.dice.place(self.calls.len());
         self.calls.get(place).copied().unwrap_or(call_of(1))
     }
 
-    // What one of the peers would send now.
+    // Returns a datagram that one of the peers could send now.
     fn real(&mut self, now: u64) -> Sent {
         let call = self.call();
         match self.dice.below(12) {
@@ -75,7 +75,7 @@ impl Peers {
         }
     }
 
-    // The next datagram: one of the calls, as it is or spoilt; or the last one again; or one that was held up.
+    // Returns the next datagram: one of the calls, as it is or spoilt; or the last one again; or one that was held up.
     fn next(&mut self, now: u64) -> Sent {
         let sent = match self.dice.below(16) {
             0 => self.last,
@@ -119,7 +119,7 @@ impl Peers {
     }
 }
 
-// A peer gets all that waits for it.
+// Delivers all waiting datagrams to a peer.
 fn deliver_to<R: Wait, G: Gate, J: Naming>(
     desk: &mut Desk<'_, R, G, J>,
     peers: &mut Peers,
@@ -133,7 +133,7 @@ fn deliver_to<R: Wait, G: Gate, J: Naming>(
     }
 }
 
-// These refusals no datagram meets: credit, serials and memory are ample, and a free number has no leg.
+// Returns whether a datagram may meet this refusal. Credit, serials and memory are ample, and a free number has no leg.
 fn is_expected(refusal: Refusal) -> bool {
     !matches!(
         refusal,
@@ -145,7 +145,8 @@ fn is_expected(refusal: Refusal) -> bool {
     )
 }
 
-// Whether the legs did as the answer of a datagram allows: a refused one changes none, another only those that it concerns.
+// Returns whether the change of the legs agrees with the answer to a datagram: a refused one changes none, another only
+// those that it concerns.
 fn is_allowed(legs: &mut Legs, sent: &Sent, told: Told) -> bool {
     match told.refused {
         Some(refusal) => is_expected(refusal) && legs.are_unchanged(),
@@ -156,7 +157,7 @@ fn is_allowed(legs: &mut Legs, sent: &Sent, told: Told) -> bool {
     }
 }
 
-// A datagram comes. No leg changes but those that it concerns.
+// Handles a datagram. No leg changes except those that it concerns.
 fn hear_one<R: Abort + Wait, G: Gate, J: Naming>(
     rt: &R,
     desk: &mut Desk<'_, R, G, J>,
@@ -172,7 +173,7 @@ fn hear_one<R: Abort + Wait, G: Gate, J: Naming>(
     told
 }
 
-/// How much of the storm had an effect.
+/// The number of the storm's datagrams with each effect.
 #[derive(Drop)]
 struct Tally {
     answered: u64,
@@ -180,7 +181,7 @@ struct Tally {
 }
 
 impl Tally {
-    // A datagram more.
+    // Counts a datagram.
     fn count(&mut self, told: Told) {
         if told.refused.is_none() {
             self.answered = self.answered.saturating_add(1);
@@ -211,7 +212,7 @@ fn storm<R: Abort + Wait, G: Gate, J: Naming>(rt: &R, desk: &mut Desk<'_, R, G, 
     tally
 }
 
-/// The storm, then an end to all calls.
+/// Plays the storm, and then ends all calls.
 pub fn storm_and_end<R: Abort + Wait, G: Gate, J: Naming>(rt: &R, desk: &mut Desk<'_, R, G, J>) {
     let tally = storm(rt, desk);
     // The storm isn't all refusals.
@@ -220,7 +221,7 @@ pub fn storm_and_end<R: Abort + Wait, G: Gate, J: Naming>(rt: &R, desk: &mut Des
     holds(rt, "recovery", recovers(desk, DATAGRAMS));
 }
 
-// More than so many.
+// Asserts that a count is more than `least`.
 fn more_than(rt: &impl Abort, what: &str, count: u64, least: u64) {
     assert!(rt; count > least, "{count} {what}");
 }

@@ -13,7 +13,7 @@ use std::thread;
 use std::time::{Clock, Duration};
 use test_plans::plans::TWO_PASSES;
 
-/// How far two peers at once have come.
+/// The progress of two peers at once.
 #[derive(Drop)]
 pub struct Progress {
     /// The section of the west was entered.
@@ -25,7 +25,7 @@ pub struct Progress {
 }
 
 impl Progress {
-    /// Nothing has come yet.
+    /// Returns the progress at the beginning.
     pub fn new() -> Progress {
         Progress {
             west: AtomicBool::new(false),
@@ -34,7 +34,8 @@ impl Progress {
         }
     }
 
-    /// Holds the first section of the west until the east has come so far, and that of the east likewise, where it is held.
+    /// Returns a gate that holds the first section of the west until the east has come this far. If the east is held, its
+    /// first section is held in the same way.
     pub fn gate<'a, R: Clock>(&'a self, clock: &'a R, holds_east: bool) -> Meeting<'a, R> {
         Meeting {
             clock,
@@ -44,7 +45,7 @@ impl Progress {
     }
 }
 
-// Whether the flag is set within a thousand turns of a millisecond.
+// Returns whether the flag is set within a thousand waits of a millisecond.
 fn is_set_in_time(clock: &impl Clock, flag: &AtomicBool) -> bool {
     for _ in 0..1000 {
         if flag.load(Ordering::SeqCst) {
@@ -55,7 +56,7 @@ fn is_set_in_time(clock: &impl Clock, flag: &AtomicBool) -> bool {
     false
 }
 
-/// Holds the first sections of peers, a thousand times a millisecond at most, until the other has come so far.
+/// Holds the first sections of peers, for at most a thousand times a millisecond, until the other has come this far.
 #[derive(Drop)]
 pub struct Meeting<'a, R: Clock> {
     clock: &'a R,
@@ -81,13 +82,13 @@ impl<R: Clock> Gate for Meeting<'_, R> {
     }
 }
 
-/// A tick of a peer isn't refused.
+/// Ticks a peer, which isn't refused.
 pub fn tick<R: Abort + Wait, G: Gate, J: Naming>(rt: &R, desk: &mut Desk<'_, R, G, J>, peer: u16) {
     let told = desk.tick(peer, 0).expect(rt, "a peer");
     holds(rt, "a tick", told.refused.is_none());
 }
 
-/// A tick of the east, once the west is held.
+/// Ticks the east, once the west is held.
 pub fn tick_east<R: Abort + Clock + Wait, G: Gate, J: Naming>(
     rt: &R,
     desk: &mut Desk<'_, R, G, J>,

@@ -1,4 +1,4 @@
-//! The steps of two workers at once, each with a pass of its own.
+//! The steps of two workers at once, each with a separate pass.
 
 use crate::tests::desk::{Desk, EAST_PLACE, WEST_PLACE};
 use crate::tests::opened::{Play, play_with};
@@ -10,7 +10,7 @@ use std::sync::Wait;
 use std::test::*;
 use test_plans::plans::TWO_PASSES;
 
-// Whether a tick is one step, and isn't refused.
+// Returns whether a tick is one step, and isn't refused.
 fn is_one_step<R: Wait, G: Gate, J: Naming>(
     desk: &mut Desk<'_, R, G, J>,
     peer: u16,
@@ -22,7 +22,7 @@ fn is_one_step<R: Wait, G: Gate, J: Naming>(
     }
 }
 
-/// Each peer gets 250 ticks, at the moments 0 to 249.
+/// Ticks each peer 250 times, at the moments 0 to 249.
 pub fn ticked<R: Abort + Wait, G: Gate, J: Naming>(rt: &R, desk: &mut Desk<'_, R, G, J>) {
     for now in 0..250 {
         let west = is_one_step(desk, WEST_PLACE, now);

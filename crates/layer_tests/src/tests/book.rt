@@ -3,7 +3,7 @@ use crate::tests::same::same;
 use call_book::{BridgeError, CallBook, Lease, ReserveError};
 use std::process::Abort;
 
-// The number of the next lease of the first peer, which is never given back.
+// Returns the number of the next lease of the first peer, which is never returned.
 fn next_number(book: &mut CallBook) -> Result<u16, ReserveError> {
     match book.reserve(0) {
         Ok(lease) => Ok(lease.name().number),
@@ -26,14 +26,14 @@ fn numbers_until_serials_are_spent(rt: HostRuntime) {
     );
 }
 
-// The next lease of the first peer, under this number.
+// Returns the next lease of the first peer, under this number.
 fn lease_of(rt: &impl Abort, book: &mut CallBook, number: u16) -> Lease {
     let lease = book.reserve(0).expect(rt, "a number");
     same(rt, &lease.name().number, &number);
     lease
 }
 
-// A lease goes back; it had no partner.
+// Returns a lease to the book; it had no partner.
 fn frees(rt: &impl Abort, book: &mut CallBook, lease: Lease) {
     same(rt, &book.release(lease).ok(), &Some(None));
 }

@@ -1,5 +1,5 @@
-//! A leg under test: full frames, orders and ticks come, octets go out. Any one request for memory may be refused; what was
-//! refused left all as it was, and is asked for once more.
+//! A leg under test: it gets full frames, orders and ticks, and sends datagrams. Any one request for memory may be refused;
+//! a refused call left all as it was, and is repeated once.
 ghost use Rattle.std.specs.Prelude.{◌≡◌, ◌≤◌, [], length, IfSome};
 ghost use Rattle.call_signals.specs.PeerRules.{IsPeerRules};
 ghost use Rattle.leg_machine.specs.OrderTable.{IsShortMedia};
@@ -17,7 +17,7 @@ use leg_machine::{
 use std::alloc::Global;
 use std::process::Abort;
 
-/// The rules of a peer in mu-law, by the defaults of a plan but for the time between its PINGs.
+/// Returns the rules of a peer in mu-law, with the defaults of a plan except for the time between its PINGs.
 pub fn rules(ping_ms: u16) -> PeerRules
     ensures { IsPeerRules result }
 {
@@ -44,6 +44,7 @@ pub fn rules(ping_ms: u16) -> PeerRules
         window: 64,
         vnak_ms: 0,
         poke: false,
+        qualify_ms: 0,
         carries_caller: false,
         carries_cause: false,
         routes_format: false,
@@ -51,7 +52,7 @@ pub fn rules(ping_ms: u16) -> PeerRules
     }
 }
 
-/// The octets of a text, asked for once more where memory is refused.
+/// Returns the octets of a text; the call is repeated if memory is refused.
 pub fn octets_of(rt: &impl Abort, alloc: Global, text: &str) -> Vec<u8> {
     match hex::decode(alloc, text) {
         Ok(octets) => octets,
@@ -59,7 +60,7 @@ pub fn octets_of(rt: &impl Abort, alloc: Global, text: &str) -> Vec<u8> {
     }
 }
 
-// The full frame of a datagram.
+// Returns the full frame of a datagram.
 fn full_of(octets: &[u8]) -> Option<Full<'_>>
     ensures { IfSome result (λ frame. length frame.payload ≤ 1388) }
 {
@@ -83,7 +84,7 @@ pub struct Tested {
     pub alloc: Global,
 }
 
-// The leg under local number 1 that a NEW opens at moment 0, if there is memory for it.
+// Returns the leg under local number 1 that a NEW opens at moment 0, if there is memory for it.
 fn opened(alloc: Global, ping_ms: u16, frame: &Full<'_>) -> Option<Tested>
     requires { length frame.now.payload ≤ 1388 }
 {
@@ -104,7 +105,7 @@ fn opened(alloc: Global, ping_ms: u16, frame: &Full<'_>) -> Option<Tested>
     }
 }
 
-/// The leg that a NEW opens, which pings after so many milliseconds.
+/// Returns the leg that a NEW opens, which sends a PING after `ping_ms` milliseconds.
 pub fn leg_of(rt: &impl Abort, alloc: Global, ping_ms: u16, new: &str) -> Tested {
     let octets = octets_of(rt, alloc, new);
     let frame = full_of(&octets).expect(rt, "a full frame");
@@ -114,7 +115,7 @@ pub fn leg_of(rt: &impl Abort, alloc: Global, ping_ms: u16, new: &str) -> Tested
     }
 }
 
-/// What the layer above asks of a leg.
+/// A request of the layer above to a leg.
 #[derive(Clone, Copy)]
 pub enum Wish {
     Accept,
@@ -127,7 +128,7 @@ pub enum Wish {
     Doom,
 }
 
-/// The order by which a leg of a call in mu-law gets it.
+/// Returns the order for a leg of a call in mu-law.
 pub fn order_of(wish: Wish) -> Order<'static>
     ensures { IsShortMedia result }
 {
@@ -141,12 +142,12 @@ pub fn order_of(wish: Wish) -> Order<'static>
     }
 }
 
-/// What is seen of a leg: its stage and the peer's number; whether it owes an answer, and whether it is doomed; the number of the
-/// next frame, and of the expected one; how many frames are held, and how many entries the record has.
+/// The visible state of a leg: its stage and the peer's number; whether it owes an answer, and whether it is doomed; the
+/// number of the next frame, and of the expected one; the count of held frames, and of the record's entries.
 pub type Look = (Stage, Option<CallNumber>, [bool; 2], [u8; 2], [usize; 2]);
 
 impl Tested {
-    /// What is seen of the leg.
+    /// Returns the visible state of the leg.
     pub fn look(&self) -> Look {
         let window = self.leg.window();
         (
@@ -158,7 +159,7 @@ impl Tested {
         )
     }
 
-    /// Whether the leg is as it was, and nothing goes out.
+    /// Returns whether the leg is as it was, and nothing is sent.
     pub fn is_as(&self, before: &Look) -> bool {
         self.look() == *before && self.replies.len() == 0
     }
@@ -171,7 +172,7 @@ impl Tested {
         self.leg.full_into(frame, time, &mut self.replies)
     }
 
-    /// A full frame comes, once more where memory is refused.
+    /// Gives a full frame to the leg, again if memory is refused.
     pub fn hears(
         &mut self,
         rt: &impl Abort,
@@ -189,14 +190,14 @@ impl Tested {
         self.takes(&frame, time)
     }
 
-    // An order is given.
+    // Gives an order.
     fn obeys(&mut self, wish: Wish, time: u64) -> Result<(), OrderError> {
         self.replies.clear();
         self.leg
             .order_into(&order_of(wish), time, &mut self.replies)
     }
 
-    /// Something is asked of the leg, once more where memory is refused.
+    /// Gives a request to the leg, again if memory is refused.
     pub fn grants(
         &mut self,
         rt: &impl Abort,
@@ -213,7 +214,7 @@ impl Tested {
         self.obeys(wish, time)
     }
 
-    /// Time goes on. Answers how many frames had no memory.
+    /// Ticks the leg. Returns the number of frames that had no memory.
     pub fn waits(&mut self, time: u64) -> u32 {
         self.replies.clear();
         self.leg.tick_into(time, &mut self.replies)

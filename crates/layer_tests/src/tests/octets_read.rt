@@ -3,7 +3,7 @@ use crate::tests::same::{Place, holds_at};
 use iax_frames::{Datagram, FrameError, read, subclass_meaning};
 use info_elements::{Cut, elements};
 
-/// What is read of octets.
+/// The result of reading octets.
 #[derive(Clone, Copy)]
 enum Found {
     /// They are no frame, for this reason.
@@ -48,7 +48,7 @@ fn is_empty_mini(octets: &[u8], source: u16, timestamp: u16) -> bool {
     }
 }
 
-// Whether this is found of octets.
+// Returns whether reading the octets has this result.
 fn is_found(octets: &[u8], found: Found) -> bool {
     match found {
         Found::NoFrame(error) => read(octets).err() == Some(error),

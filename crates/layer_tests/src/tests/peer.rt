@@ -1,4 +1,4 @@
-//! Tests of one peer: datagrams come, legs are opened, time goes on, and the outbox is emptied.
+//! Tests of one peer: datagrams come, legs are opened, ticks are made, and the outbox is emptied.
 
 mod credits;
 mod desk;

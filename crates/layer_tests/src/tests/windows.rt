@@ -6,32 +6,32 @@ use seq_window::{Acknowledged, FrameView, Received, Resent, SendError, Window};
 use std::alloc::Global;
 use std::process::Abort;
 
-/// What happens to a window and how it is judged, or what is seen of it.
+/// An event of a window and its judgement, or a part of its visible state.
 #[derive(Clone, Copy)]
 enum Step {
-    /// So many frames go out, and each is acknowledged.
+    /// This number of frames is sent, and each is acknowledged.
     Turns(u32),
-    /// So many frames go out.
+    /// This number of frames is sent.
     Sends(u32),
-    /// No frame can go out.
+    /// No frame can be sent.
     IsFull,
-    /// So many frames come, each as it is expected.
+    /// This number of frames comes, each as it is expected.
     Takes(u32),
     /// An acknowledgement comes.
     Acknowledges(u8, Acknowledged),
     /// A frame comes.
     Receives(u8, Received),
-    /// What waits for 1,000 ms at this moment goes out again, once.
+    /// The first frame that has waited for 1,000 ms at this moment is retransmitted, once.
     Resends(u64, Resent),
-    /// All that is held goes out at this moment.
+    /// All held frames are retransmitted at this moment.
     Touches(u64),
-    /// So many frames are held, the oldest under this number.
+    /// This number of frames is held, the oldest under this number.
     Holds(usize, Option<u8>),
-    /// The number of the next frame that goes out, and how many frames the record has as sent, as acknowledged and as taken.
+    /// The number of the next frame to be sent, and the record's counts of sent, acknowledged and taken frames.
     Counts(u8, [usize; 3]),
 }
 
-/// What happens to a window for 64 frames, or for 127.
+/// The events of a window for 64 frames, or for 127.
 #[derive(Clone, Copy)]
 struct Case {
     name: &'static str,
@@ -124,7 +124,7 @@ static CASES: [Case; 7] = [
     },
 ];
 
-/// A PING of two octets of data, which no leg would send: a window doesn't look into frames.
+/// Returns a PING with two octets of data, which no leg would send: a window doesn't read its frames.
 pub fn frame() -> FrameView<'static>
     ensures { length result.payload.now ≤ 1388 }
 {
@@ -136,7 +136,7 @@ pub fn frame() -> FrameView<'static>
     }
 }
 
-// Whether so many frames go out, each under the next number, and each is acknowledged where that is wanted.
+// Returns whether `count` frames are sent, each under the next number, and each is acknowledged if `are_acknowledged`.
 fn sends_all(window: &mut Window, count: u32, are_acknowledged: bool) -> bool {
     for _ in 0..count {
         let number = window.next();
@@ -150,7 +150,7 @@ fn sends_all(window: &mut Window, count: u32, are_acknowledged: bool) -> bool {
     true
 }
 
-// Whether so many frames come, each as it is expected.
+// Returns whether `count` frames come, each as it is expected.
 fn takes_all(window: &mut Window, count: u32) -> bool {
     for _ in 0..count {
         let number = window.expected();
@@ -161,7 +161,7 @@ fn takes_all(window: &mut Window, count: u32) -> bool {
     true
 }
 
-// How many frames are held, and the number of the oldest.
+// Returns the count of held frames, and the number of the oldest.
 fn held(window: &Window) -> (usize, Option<u8>) {
     match window.held(0) {
         Some(held) => (window.held_len(), Some(held.number)),
@@ -169,7 +169,7 @@ fn held(window: &Window) -> (usize, Option<u8>) {
     }
 }
 
-// The number of the next frame, and how many frames the record has as sent, as acknowledged and as taken.
+// Returns the number of the next frame, and the record's counts of sent, acknowledged and taken frames.
 fn counts(window: &Window) -> (u8, [usize; 3]) {
     let record = window.record();
     let counts = [
@@ -180,7 +180,7 @@ fn counts(window: &Window) -> (u8, [usize; 3]) {
     (window.next(), counts)
 }
 
-// Whether this happens to a window, or is seen of it.
+// Returns whether this event has its result, or is visible.
 fn makes(window: &mut Window, step: Step) -> bool {
     match step {
         Step::Turns(count) => sends_all(window, count, true),
@@ -199,7 +199,7 @@ fn makes(window: &mut Window, step: Step) -> bool {
     }
 }
 
-// All that happens to a window.
+// Plays all events of a window.
 fn plays(rt: &impl Abort, alloc: Global, case: &Case) {
     let width = if case.is_wide { 127 } else { 64 };
     let mut window = Window::new(alloc, width, 4096).expect(rt, "a window");

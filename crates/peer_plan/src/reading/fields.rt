@@ -9,14 +9,14 @@ use crate::error::PlanError;
 use crate::key::Key;
 use toml::{Table, Value};
 
-// The value at a key.
+// Returns the value at a key.
 pub(crate) fn member(table: &Table, key: Key) -> Option<&Value>
     ensures { option_map (λ x. view x.now) result ≡ get_member (key_name key) (table_view table.now) }
 {
     table.get(key.name())
 }
 
-// The value at a key that has no default.
+// Returns the value at a key that has no default.
 pub(crate) fn required(table: &Table, key: Key) -> Result<&Value, PlanError>
     ensures found { IfOk result (λ found. get_member (key_name key) (table_view table.now) ≡ Some (view found.now)) }
     ensures absent { IfErr result (λ error. (error ≡ PlanError.Missing key) × (get_member (key_name key) (table_view table.now) ≡ None)) }
@@ -24,7 +24,7 @@ pub(crate) fn required(table: &Table, key: Key) -> Result<&Value, PlanError>
     member(table, key).ok_or(PlanError::Missing(key))
 }
 
-// A whole number in a range.
+// Returns a whole number in a range.
 fn number(found: &Value, low: u64, high: u64) -> Option<u64>
     ensures { result ≡ number_of low high (view found.now) }
 {
@@ -37,7 +37,7 @@ fn number(found: &Value, low: u64, high: u64) -> Option<u64>
     }
 }
 
-// The number at a key, or what stands for it where it is absent.
+// Returns the number at a key, or its default if it is absent.
 pub(crate) fn number_at(
     table: &Table,
     key: Key,
@@ -53,7 +53,7 @@ pub(crate) fn number_at(
     }
 }
 
-// The flag at a key, or what stands for it where it is absent.
+// Returns the flag at a key, or its default if it is absent.
 pub(crate) fn flag_at(table: &Table, key: Key, fallback: bool) -> Result<bool, PlanError>
     ensures { result ≡ value (table_view table.now) key (Ok fallback) as_bool }
 {
@@ -63,7 +63,7 @@ pub(crate) fn flag_at(table: &Table, key: Key, fallback: bool) -> Result<bool, P
     }
 }
 
-// The items of a list at a key that has no default, at least one and at most so many.
+// Returns the items of a list at a key that has no default, at least one and at most `most`.
 #[tactic(auto, unfolding(crate::specs::Fields::list_in), using(crate::proofs::Lists::lengths))]
 pub(crate) fn list_at(table: &Table, key: Key, most: usize) -> Result<&[Value], PlanError>
     ensures { Reads (λ items. items_view items.now) result (list_in (table_view table.now) key most) }

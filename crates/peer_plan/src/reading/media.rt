@@ -11,7 +11,7 @@ use crate::reading::fields::{flag_at, required};
 use call_signals::Formats;
 use toml::{Table, Value};
 
-// The formats and the one of this name.
+// Returns the formats with the one of this name added.
 fn with_format(formats: Formats, name: &str) -> Option<Formats>
     ensures { result ≡ with_format formats name.now }
 {
@@ -71,7 +71,7 @@ fn formats_at(table: &Table, key: Key) -> Result<Formats, PlanError>
     formats(required(table, key)?).ok_or(PlanError::Range(key))
 }
 
-// How media goes to a peer.
+// Returns how media is sent to a peer.
 #[tactic(auto, unfolding(crate::specs::Reading::media_in))]
 pub(crate) fn media(table: &Table) -> Result<Media, PlanError>
     ensures { result ≡ media_in (table_view table.now) }

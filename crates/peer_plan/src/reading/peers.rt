@@ -3,8 +3,8 @@ ghost use Rattle.std.specs.Prelude.{◌≡◌, ◌≤◌, [], Option};
 ghost use Rattle.std.specs.List.{list_any};
 ghost use Rattle.toml.specs.View.{table_view, items_view};
 ghost use Rattle.peer_plan.specs.Fields.{Gives, each};
-ghost use Rattle.peer_plan.specs.Reading.{window_in, poke_in, call_tokens_in, tokens_if, rules_from, peer_in, is_named, is_endpoint, has_same_name};
-ghost use Rattle.peer_plan.specs.Reading.{has_same_endpoint, peers_in};
+ghost use Rattle.peer_plan.specs.Reading.{window_in, poke_in, call_tokens_in, qualify_ms_in, tokens_if, rules_from, peer_in, is_named};
+ghost use Rattle.peer_plan.specs.Reading.{has_same_endpoint, has_same_name, is_endpoint, peers_in};
 
 use crate::endpoint::Endpoint;
 use crate::error::PlanError;
@@ -18,7 +18,7 @@ use call_signals::PeerRules;
 use std::alloc::Global;
 use toml::{Table, Value};
 
-// How many frames a leg holds at most.
+// Returns the greatest number of frames that a leg holds.
 fn window(table: &Table, format: u64) -> Result<u64, PlanError>
     ensures { result ≡ window_in format (table_view table.now) }
 {
@@ -29,7 +29,7 @@ fn window(table: &Table, format: u64) -> Result<u64, PlanError>
     }
 }
 
-// Whether a POKE that belongs to no call is answered.
+// Returns whether a POKE that belongs to no call is answered.
 fn poke(table: &Table, format: u64) -> Result<bool, PlanError>
     ensures { result ≡ poke_in format (table_view table.now) }
 {
@@ -40,7 +40,7 @@ fn poke(table: &Table, format: u64) -> Result<bool, PlanError>
     }
 }
 
-// What the call tokens of an endpoint are made of, where they are asked for. The key is drawn when the exchange is opened.
+// Returns the source of an endpoint's call tokens, if they are required. The key is drawn when the exchange is opened.
 fn tokens_if(asked: bool, endpoint: Endpoint) -> Option<CallTokens>
     ensures { result ≡ tokens_if asked endpoint }
 {
@@ -56,7 +56,7 @@ fn tokens_if(asked: bool, endpoint: Endpoint) -> Option<CallTokens>
     }
 }
 
-// What the call tokens of a peer are made of, if it is asked for them.
+// Returns the source of a peer's call tokens, if it needs them.
 fn call_tokens(
     table: &Table,
     format: u64,
@@ -71,7 +71,18 @@ fn call_tokens(
     Ok(tokens_if(asked, endpoint))
 }
 
-// What the legs of a peer go by. What its challenges begin with is drawn when the exchange is opened.
+// Reads how often a peer is asked whether it is there, in milliseconds.
+fn qualify_ms(table: &Table, format: u64) -> Result<u64, PlanError>
+    ensures { result ≡ qualify_ms_in format (table_view table.now) }
+{
+    if format == 4 {
+        number_at(table, Key::QualifyMs, Ok(60_000), 0, 600_000)
+    } else {
+        Ok(0)
+    }
+}
+
+// Returns the rules of a peer's legs. The prefix of its challenges is drawn when the exchange is opened.
 fn rules_from(
     format: u64,
     limits: Limits,
@@ -80,8 +91,9 @@ fn rules_from(
     window: u8,
     poke: bool,
     call_tokens: Option<CallTokens>,
+    qualify_ms: u64,
 ) -> PeerRules
-    ensures { result ≡ rules_from format limits credentials media window poke call_tokens }
+    ensures { result ≡ rules_from format limits credentials media window poke call_tokens qualify_ms }
 {
     PeerRules {
         user: credentials.user,
@@ -102,6 +114,7 @@ fn rules_from(
         window,
         vnak_ms: limits.vnak_ms,
         poke,
+        qualify_ms,
         carries_caller: format == 4,
         carries_cause: format == 4,
         routes_format: format == 4,
@@ -130,6 +143,7 @@ fn peer(table: &Table, format: u64, limits: Limits, workers: u64) -> Result<Peer
     let window = window(table, format)?;
     let poke = poke(table, format)?;
     let call_tokens = call_tokens(table, format, endpoint)?;
+    let qualify_ms = qualify_ms(table, format)?;
     Ok(Peer {
         name,
         endpoint,
@@ -142,6 +156,7 @@ fn peer(table: &Table, format: u64, limits: Limits, workers: u64) -> Result<Peer
             window as u8,
             poke,
             call_tokens,
+            qualify_ms,
         ),
         numbers: numbers as u16,
     })
@@ -181,7 +196,7 @@ fn has_name(name: &str, peers: &[Peer]) -> bool
     peers.iter().any(|peer| is_named(peer, name))
 }
 
-// Whether two peers have one name.
+// Returns whether two peers have one name.
 fn has_same_name(peers: &[Peer]) -> bool
     ensures { result ≡ has_same_name peers.now }
 {
@@ -207,7 +222,7 @@ fn has_endpoint(endpoint: Endpoint, peers: &[Peer]) -> bool
     peers.iter().any(|peer| is_at(peer, endpoint))
 }
 
-// Whether two peers have one endpoint.
+// Returns whether two peers have one endpoint.
 fn has_same_endpoint(peers: &[Peer]) -> bool
     ensures { result ≡ has_same_endpoint peers.now }
 {
@@ -221,7 +236,7 @@ fn has_same_endpoint(peers: &[Peer]) -> bool
     false
 }
 
-// The peers, 1 to 32, with names and endpoints that tell them apart.
+// Returns the peers, 1 to 32, with distinct names and endpoints.
 #[tactic(auto, unfolding(crate::specs::Reading::peers_in))]
 pub(crate) fn peers(
     alloc: Global,

@@ -30,7 +30,7 @@ fn are_name_octets(text: &[u8]) -> bool
     text.iter().all(|octet| is_name_octet(*octet))
 }
 
-// Whether a text is 1 to 32 letters, digits and dashes.
+// Returns whether a text is 1 to 32 letters, digits and dashes.
 fn is_name(text: &str) -> bool
     ensures { result ≡ is_name text.now }
 {
@@ -43,21 +43,21 @@ fn are_visible(text: &[u8]) -> bool
     text.iter().all(|octet| 0x21 <= *octet && *octet <= 0x7e)
 }
 
-// Whether a text is at most 32 octets of visible ASCII.
+// Returns whether a text is at most 32 octets of visible ASCII.
 pub(crate) fn is_prefix(text: &str) -> bool
     ensures { result ≡ is_prefix text.now }
 {
     text.len() <= 32 && are_visible(text.as_bytes())
 }
 
-// Any text at a key.
+// Returns any text at a key.
 pub(crate) fn text_at(table: &Table, key: Key) -> Result<&str, PlanError>
     ensures { Reads (λ text. text.now) result (value (table_view table.now) key (Err (PlanError.Missing key)) as_str) }
 {
     required(table, key)?.as_str().ok_or(PlanError::Range(key))
 }
 
-// The name at a key.
+// Returns the name at a key.
 pub(crate) fn name_at(table: &Table, key: Key) -> Result<ShortText, PlanError>
     ensures { result ≡ value (table_view table.now) key (Err (PlanError.Missing key)) (text_of is_name) }
 {
@@ -76,7 +76,7 @@ fn address_at(table: &Table, key: Key) -> Result<[u8; 4], PlanError>
     address(text.as_bytes()).ok_or(PlanError::Range(key))
 }
 
-// The endpoint that a table has as address and port.
+// Returns the endpoint that a table has as address and port.
 #[tactic(auto, unfolding(crate::specs::Reading::endpoint_in))]
 pub(crate) fn endpoint(table: &Table) -> Result<Endpoint, PlanError>
     ensures { result ≡ endpoint_in (table_view table.now) }
@@ -104,7 +104,7 @@ fn credential(found: &Value) -> Option<Credential>
     }
 }
 
-// The credential at a key, or what stands for it where it is absent.
+// Returns the credential at a key, or its default if it is absent.
 fn credential_at(
     table: &Table,
     key: Key,
@@ -121,7 +121,7 @@ fn credential_at(
     }
 }
 
-// Whether a table has a secret, of either way.
+// Returns whether a table has a secret, of either direction.
 fn has_secret(table: &Table, format: u64) -> bool
     ensures { result ≡ has_secret format (table_view table.now) }
 {
@@ -129,7 +129,7 @@ fn has_secret(table: &Table, format: u64) -> bool
         || format == 4 && member(table, Key::OutboundSecret).is_some()
 }
 
-// What stands for a user that is absent.
+// Returns the user if it is absent.
 fn absent_user(table: &Table, format: u64) -> Result<Option<Credential>, PlanError>
     ensures { result ≡ absent_user format (table_view table.now) }
 {
@@ -140,7 +140,7 @@ fn absent_user(table: &Table, format: u64) -> Result<Option<Credential>, PlanErr
     }
 }
 
-// The secret by which the peer's challenges are answered: unless the plan says it, that of the other way.
+// Returns the secret by which the peer's challenges are answered: without one in the plan, that of the other direction.
 fn outbound_secret(
     table: &Table,
     format: u64,
@@ -159,7 +159,7 @@ fn outbound_secret(
     }
 }
 
-// The user and the secrets of a peer: a secret of either way needs a user.
+// Returns the user and the secrets of a peer: a secret of either direction needs a user.
 #[tactic(auto, unfolding(crate::specs::Reading::credentials_in))]
 pub(crate) fn credentials(table: &Table, format: u64) -> Result<Credentials, PlanError>
     ensures { result ≡ credentials_in format (table_view table.now) }

@@ -1,4 +1,4 @@
-//! The first key that a plan of format 4 doesn't have.
+//! The first key that plan version 4 doesn't have.
 ghost use Rattle.std.specs.Prelude.{◌≡◌, option_map};
 ghost use Rattle.toml.specs.View.{view, table_view, items_view};
 ghost use Rattle.toml.specs.Data.{get_member};
@@ -12,7 +12,7 @@ use crate::key_name::KeyName;
 use crate::reading::fields::member;
 use toml::{Table, Value};
 
-// In a table, whose keys are sorted.
+// Returns the first unknown key of a table, whose keys are sorted.
 fn unknown_key(table: &Table, section: Section, format: u64) -> Option<KeyName>
     ensures { result ≡ unknown_key section format (table_view table.now) }
 {
@@ -41,7 +41,7 @@ fn unknown_in_items(items: &[Value], section: Section, format: u64) -> Option<Ke
     None
 }
 
-// In a list of tables, if it is there.
+// Returns the first unknown key in a list of tables, if the list is present.
 fn unknown_in_list(table: &Table, list: Key, section: Section, format: u64) -> Option<KeyName>
     ensures { result ≡ unknown_in_list section format (get_member (key_name list) (table_view table.now)) }
 {
@@ -64,7 +64,7 @@ fn unknown_in(table: &Table, format: u64) -> Option<KeyName>
     unknown_in_list(table, Key::Route, Section::Route, format)
 }
 
-// Whether a plan has no other key: formats 1 and 2 skip them.
+// Checks that a plan has no unknown key. Versions 1 and 2 skip these.
 pub(crate) fn known(table: &Table, format: u64) -> Result<(), PlanError>
     ensures { result ≡ known_in format (table_view table.now) }
 {

@@ -26,7 +26,7 @@ fn endpoints(alloc: Global, items: &[Value]) -> Result<Vec<Endpoint>, PlanError>
     Ok(workers)
 }
 
-// The endpoints of the workers, 1 to 8.
+// Returns the endpoints of the workers, 1 to 8.
 #[tactic(auto, unfolding(crate::specs::Reading::workers_in))]
 pub(crate) fn workers(alloc: Global, table: &Table) -> Result<Vec<Endpoint>, PlanError>
     ensures { Gives (λ workers. workers.items) result (workers_in (table_view table.now)) }

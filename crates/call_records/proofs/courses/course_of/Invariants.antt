@@ -4,12 +4,12 @@ use Rattle.call_records.specs.declared.leg_moment.LegMoment.{LegMoment}
 use Rattle.call_records.specs.Courses as course
 use Rattle.call_records.proofs.courses.course_of.Given as goal
 
--- what is known, or else what is left says
+-- the known moment, or otherwise that of the remaining frames
 abbrev pub or_else : Option LegMoment → Option LegMoment → Option LegMoment
 or_else (Some moment) later = Some moment
 or_else None later = later
 
--- what is left says as much as the whole
+-- the moments known so far, with those of the remaining frames, are the moments of all
 abbrev pub invariant-loop-frame : goal.invariant-loop-frame
 invariant-loop-frame l =
     (or_else l.accepted (course.accepted_of l.opener l.frames) ≡ course.accepted_of l.opener (frames_of l.history.entries))

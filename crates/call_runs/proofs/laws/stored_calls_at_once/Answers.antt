@@ -8,7 +8,7 @@ use Rattle.call_runs.proofs.HeldNames.{held_once, booked, serve_one, leases_free
 use Rattle.call_runs.proofs.InWorld.{IsInWorld}
 use Rattle.call_runs.proofs.laws.stored_calls_at_once.Goals as goal
 
--- what a run leads to is seen in a world of many calls at once
+-- the result of a run is seen in a world of many calls at once
 at_last : (c : goal.After-stored_runs_are_the_worlds) (first : Stored) (later : List Stored) → IsOpened first
     → (is : IsRun first later)
     → IsInWorld (AreWithinSteps first later is) (called_in first later is) (last_of first later)

@@ -41,7 +41,7 @@ impl Challenges for Zero {
 // A seat over a wire in memory.
 type TestSeat<J, P> = Seat<MemoryWire, AtOnce, Zero, J, P>;
 
-// The seat of the worker at a place of a plan, over a wire in memory.
+// Returns the seat of the worker at a place of a plan, over a wire in memory.
 fn seat_of<J: Naming, P: Post>(
     rt: &impl Abort,
     alloc: Global,
@@ -58,7 +58,7 @@ fn seat_of<J: Naming, P: Post>(
     Seat::new(worker, wire, pass, AtOnce, Zero(challenge))
 }
 
-// The seats of the workers of a plan, in its order, each with a pass of its own.
+// Returns the seats of the workers of a plan, in its order, each with a separate pass.
 fn seats_of<J: Naming, P: Post>(
     rt: &impl Abort,
     alloc: Global,
@@ -76,7 +76,7 @@ fn seats_of<J: Naming, P: Post>(
     seats
 }
 
-// How many turns the workers of these seats made. Their passes are given back.
+// Returns the number of turns that the workers of these seats made. Their passes are returned.
 fn turns_of<J: Naming, P: Post>(
     rt: &impl Abort,
     seats: Vec<TestSeat<J, P>>,
@@ -91,7 +91,7 @@ fn turns_of<J: Naming, P: Post>(
     turns
 }
 
-/// Makes one turn of each worker. Gives how many workers made theirs.
+/// Makes one turn of each worker. Returns the number of workers that made theirs.
 pub fn turn_on<G: Gate + Sync, J: Naming, P: Post + Send + Sync, R: Abort + Threads + Wait + Sync>(
     rt: &R,
     alloc: Global,

@@ -18,28 +18,28 @@ use std::test::*;
 use test_plans::plans::{NO_TRUNKS, SILENT_THIRD};
 use udp_workers::{Intake, Unwatched, Worker};
 
-// How many trunk frames come at once.
+// The number of trunk frames that come at once.
 const FRAMES: u64 = 64;
 
-/// In how many turns a worker takes a burst in: those of `run`, or those of a service, which are bounded.
+/// The number of turns in which a worker handles a burst: those of `run`, or those of a service, which are bounded.
 #[derive(Clone, Copy)]
 pub enum Burst {
     Run(u32),
     Bounded(u64),
 }
 
-/// What a worker did with a burst.
+/// The result of a burst at a worker.
 #[derive(Clone, Copy, Debug, Default, PartialEq, Eq)]
 pub struct Taken {
-    /// How many datagrams it received.
+    /// The number of received datagrams.
     pub received: u64,
-    /// How many steps of peers were made.
+    /// The number of steps of peers.
     pub steps: u64,
-    /// What the outbox of the west lost.
+    /// The losses of the west's outbox.
     pub lost: Losses,
 }
 
-// A trunk frame from the east: eight entries of its call, each of 160 octets.
+// Returns a trunk frame from the east: eight entries of its call, each of 160 octets.
 fn trunk_frame(alloc: Global) -> Result<Vec<u8>, AllocError> {
     let mut octets = b"\x00\x00\x01\x00\x00\x00\x00\x28".to_vec(alloc)?;
     for _ in 0..8 {
@@ -49,7 +49,7 @@ fn trunk_frame(alloc: Global) -> Result<Vec<u8>, AllocError> {
     Ok(octets)
 }
 
-// The call is up, and voice has gone to the west in a full frame.
+// Plays until the call is up, and voice was sent to the west in a full frame.
 fn play_up<G: Gate, J: Naming, R: Wait>(
     rt: &R,
     exchange: &Exchange<G, J>,
@@ -71,7 +71,7 @@ fn play_up<G: Gate, J: Naming, R: Wait>(
     }
 }
 
-/// The only worker of a plan has a call that is up, and is given 64 trunk frames at once.
+/// Gives the only worker of a plan 64 trunk frames at once, while a call is up.
 pub fn play_burst<G: Gate, J: Naming, R: Abort + Wait>(
     rt: &R,
     alloc: Global,
@@ -118,8 +118,8 @@ pub fn play_burst<G: Gate, J: Naming, R: Abort + Wait>(
     }
 }
 
-// How a burst is taken in, how many datagrams are received so and how many steps are made, and how many octets of their media are
-// packed and dropped. All turns have one moment.
+// The kind of turns; the number of received datagrams and of steps; and the octets of media that are packed and dropped.
+// All turns have one moment.
 static ROWS: [(Burst, u64, u64, u64, u64); 6] = [
     // Twelve frames of 1,280 octets of media fit 16,384. Each is a step at the east and eight at the west, and then all three peers
     // are ticked.
@@ -127,7 +127,7 @@ static ROWS: [(Burst, u64, u64, u64, u64); 6] = [
     // The silent peer isn't ticked again, the others are.
     (Burst::Bounded(5), 60, 60 * 9 + 3 + 4 * 2, 60 * 1280, 0),
     (Burst::Bounded(6), 64, 64 * 9 + 3 + 5 * 2, 64 * 1280, 0),
-    // Where nothing comes, no peer is.
+    // Without datagrams, no peer is.
     (Burst::Bounded(9), 64, 64 * 9 + 3 + 5 * 2, 64 * 1280, 0),
     // A trunk queue takes 102 entries of 160 octets.
     (
@@ -167,7 +167,7 @@ fn bounded_turns_lose_nothing(rt: HostRuntime) {
     }
 }
 
-// How a burst is taken in, and how many of its 512 mini frames to the west are lost.
+// The kind of turns, and the number of the burst's 512 mini frames to the west that are lost.
 static MINI_ROWS: [(Burst, u64); 2] = [(Burst::Run(1), 512 - 256), (Burst::Bounded(6), 0)];
 
 #[test]
@@ -184,7 +184,7 @@ fn a_full_outbox_counts_what_it_loses(rt: HostRuntime) {
             trunk: 0,
         };
         same(&rt, &(taken.received, taken.lost), &(64, lost));
-        // What was packed stays packed. An octet of voice went before.
+        // Packed media stays packed. An octet of voice was sent before.
         same(&rt, &(sums.packed, sums.dropped), &(64 * 1280 + 1, 0));
     }
 }

@@ -9,7 +9,7 @@ use std::thread::Threads;
 use std::time::Clock;
 use udp_workers::TurnReport;
 
-// What the turns report of a call over a wire that fails at its call of this place.
+// Returns the report of a call over a wire that fails at its call of this place.
 fn report_of<R: Abort + Clock + Net + Sync + Threads + Wait>(
     rt: &R,
     alloc: Global,
@@ -25,7 +25,7 @@ fn report_of<R: Abort + Clock + Net + Sync + Threads + Wait>(
 
 #[test]
 fn each_call_of_the_wire_fails(rt: HostRuntime) {
-    // Each of the 7 turns asks twice for a datagram and finds one, and 7 frames go out.
+    // Each of the 7 turns asks twice for a datagram and finds one, and 7 frames are sent.
     for place in 1..22u64 {
         let report = report_of(&rt, rt.alloc(), place);
         same(&rt, &(place, report.faults), &(place, 1));

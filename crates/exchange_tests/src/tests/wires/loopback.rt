@@ -30,12 +30,12 @@ const REJECT: &[u8] =
     b"\x80\x01\x00\x07\x00\x00\x00\x00\x00\x01\x06\x06\x16\x12\x75\x6e\x61\x6c\x6c\x6f\x63\x61\x74\x65\x64\x20\x6e\x75\x6d\x62\
     \x65\x72\x2a\x01\x01";
 
-// The address of a port at loopback.
+// Returns the address of a port at loopback.
 fn address(port: u16) -> SocketAddr {
     SocketAddr::new(IpAddr::V4(Ipv4Addr::from_octets([127, 0, 0, 1])), port)
 }
 
-// Whether the next datagram at the socket, if one is there, is this one.
+// Returns whether the next datagram at the socket, if there is one, is this one.
 fn hears(socket: &UdpSocket, wanted: &[u8]) -> bool {
     let mut octets = [0u8; 2049];
     match socket.recv_from(&mut octets) {
@@ -44,7 +44,7 @@ fn hears(socket: &UdpSocket, wanted: &[u8]) -> bool {
     }
 }
 
-// Turns of a worker, 200 at most, until the socket hears the REJECT.
+// Makes turns of a worker, 200 at most, until the socket receives the REJECT.
 fn turn_until_rejected<G: Gate, J: Naming, R: Wait>(
     rt: &R,
     exchange: &Exchange<G, J>,
@@ -67,7 +67,7 @@ fn turn_until_rejected<G: Gate, J: Naming, R: Wait>(
     false
 }
 
-// A socket at the endpoint of the peer in the west, which has sent its NEW.
+// Returns a socket at the endpoint of the peer in the west, which has sent its NEW.
 fn caller_at<R: Abort + Net>(rt: &R, at: Endpoint) -> UdpSocket {
     let caller = UdpSocket::bind(rt, address(WEST.port)).expect(rt, "a socket");
     let _len = caller
@@ -76,7 +76,7 @@ fn caller_at<R: Abort + Net>(rt: &R, at: Endpoint) -> UdpSocket {
     caller
 }
 
-// A worker's wire at an endpoint.
+// Returns a worker's wire at an endpoint.
 fn wire_of<R: Abort + Net>(
     rt: &R,
     alloc: Global,
@@ -94,16 +94,16 @@ fn wire_of<R: Abort + Net>(
     }
 }
 
-/// What became of a call for 200.
+/// The result of a call for 200.
 #[derive(Clone, Copy)]
 pub struct Rejection {
     is_heard: bool,
-    // How many datagrams the wire was given for the peer in the west, and for the one in the east.
+    // The number of datagrams that the wire was given for the peer in the west, and for the one in the east.
     to_west: u64,
     to_east: u64,
 }
 
-/// The only worker of a plan hears a caller, under the exchange's first pass.
+/// Runs the only worker of a plan for one caller, under the exchange's first pass.
 pub fn call_first<G: Gate, J: Naming, R: Abort + Net + Wait>(
     rt: &R,
     alloc: Global,

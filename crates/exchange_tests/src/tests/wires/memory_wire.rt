@@ -1,11 +1,11 @@
-//! A wire in memory: it gives what a test puts there, keeps what it is given, and fails at one of its calls.
+//! A wire in memory: it supplies the datagrams of a test, keeps those that it is given, and fails at one of its calls.
 ghost use Rattle.std.specs.Prelude.{◌≡◌, ◌≤◌, length};
 ghost use Rattle.udp_workers.specs.Served.{AreEndpoints, peers_of};
 
 use peer_plan::{Endpoint, Plan};
 use std::alloc::{AllocError, Global};
 use std::process::Abort;
-use udp_wires::{PeerCounts, Wire, WireFault};
+use udp_wires::{PeerCounts, Traffic, Wire, WireFault};
 use udp_workers::Worker;
 
 // A datagram that was sent.
@@ -20,7 +20,7 @@ struct Sent {
 struct Burst {
     from: Endpoint,
     octets: Vec<u8>,
-    // How often it comes yet.
+    // The number of times that it still comes.
     left: u64,
 }
 
@@ -33,18 +33,21 @@ pub struct MemoryWire {
     failures: u64,
     // The datagram that comes next.
     next: Option<(Endpoint, &'static [u8])>,
-    // What comes where there is none.
+    // The datagrams that come if there is none next.
     burst: Option<Burst>,
-    // What was sent, in order.
-    sent: Vec<Sent>,
-    // How many more calls of `receive` and `send` go well before one fails.
+    // The sent datagrams, in order.
+    kept: Vec<Sent>,
+    // The number of further calls of `receive` and `send` that succeed before one fails.
     good_calls: u64,
+    came: Traffic,
+    went: Traffic,
+    sent: Traffic,
 }
 
 impl MemoryWire {
     ghost use Rattle.std.specs.Prelude.{◌≡◌, IfOk};
 
-    /// A wire that fails at its call of this place, counted from 1; at 0 never.
+    /// Returns a wire that fails at its call of this place, counted from 1; at 0 never.
     pub fn new(alloc: Global, peers: Vec<Endpoint>, fails_at: u64) -> Result<MemoryWire, AllocError>
         ensures { IfOk result (λ wire. wire.peers.endpoints ≡ peers) }
     {
@@ -55,12 +58,15 @@ impl MemoryWire {
             failures: 0,
             next: None,
             burst: None,
-            sent: Vec::new(alloc),
+            kept: Vec::new(alloc),
             good_calls: fails_at.wrapping_sub(1),
+            came: Traffic::new(),
+            went: Traffic::new(),
+            sent: Traffic::new(),
         })
     }
 
-    /// Puts a datagram there. False: the one before it wasn't received yet.
+    /// Supplies a datagram. Returns false if the one before it wasn't received yet.
     pub fn put(&mut self, from: Endpoint, octets: &'static [u8]) -> bool
         ensures { self.new.peers ≡ self.old.peers }
     {
@@ -71,7 +77,7 @@ impl MemoryWire {
         true
     }
 
-    /// Puts a datagram there that comes so many times.
+    /// Supplies a datagram that comes `times` times.
     pub fn put_often(&mut self, from: Endpoint, octets: Vec<u8>, times: u64)
         ensures { self.new.peers ≡ self.old.peers }
     {
@@ -82,10 +88,10 @@ impl MemoryWire {
         });
     }
 
-    /// Whether what was sent to an endpoint is this, in order.
+    /// Returns whether exactly these datagrams were sent to an endpoint, in order.
     pub fn has_sent(&self, to: Endpoint, wanted: &[&[u8]]) -> bool {
         let mut count: usize = 0;
-        for datagram in &self.sent {
+        for datagram in &self.kept {
             if datagram.to == to {
                 match wanted.get(count) {
                     Some(octets) if datagram.octets.as_slice() == *octets => {}
@@ -97,11 +103,14 @@ impl MemoryWire {
         count == wanted.len()
     }
 
-    // Whether this call fails.
+    // Returns whether this call fails.
     fn fails(&mut self) -> bool
         ensures peers { self.new.peers ≡ self.old.peers }
         ensures given { self.new.given ≡ self.old.given }
         ensures failures { self.new.failures ≡ self.old.failures }
+        ensures came { self.new.came ≡ self.old.came }
+        ensures went { self.new.went ≡ self.old.went }
+        ensures sent { self.new.sent ≡ self.old.sent }
     {
         let fails = self.good_calls == 0;
         self.good_calls = self.good_calls.wrapping_sub(1);
@@ -109,7 +118,7 @@ impl MemoryWire {
     }
 }
 
-// A datagram is written to the front of the octets that are lent: its length there.
+// Writes a datagram to the front of the lent octets. Returns its length there.
 fn put_into(octets: &mut [u8], datagram: &[u8]) -> usize
     ensures { result ≤ length octets.new }
 {
@@ -120,6 +129,12 @@ fn put_into(octets: &mut [u8], datagram: &[u8]) -> usize
 
 impl Wire for MemoryWire {
     ghost use Rattle.udp_wires.specs.PeerCounts.{count_of};
+
+    ghost came = { λ wire. wire.came };
+
+    ghost went = { λ wire. wire.went };
+
+    ghost sent = { λ wire. wire.sent };
 
     ghost given = { λ wire. wire.given };
 
@@ -134,29 +149,38 @@ impl Wire for MemoryWire {
             self.failures = self.failures.wrapping_add(1);
             return Err(WireFault);
         }
-        if let Some((from, datagram)) = self.next.take() {
-            return Ok(Some((put_into(octets, datagram), from)));
-        }
-        match &mut self.burst {
-            Some(burst) if burst.left > 0 => {
-                burst.left -= 1;
-                Ok(Some((put_into(octets, &burst.octets), burst.from)))
+        let (len, from) = if let Some((from, datagram)) = self.next.take() {
+            (put_into(octets, datagram), from)
+        } else {
+            match &mut self.burst {
+                Some(burst) if burst.left > 0 => {
+                    burst.left -= 1;
+                    (put_into(octets, &burst.octets), burst.from)
+                }
+                _ => return Ok(None),
             }
-            _ => Ok(None),
-        }
+        };
+        self.came.add(from, &octets[..len]);
+        Ok(Some((len, from)))
     }
 
     fn send(&mut self, to: Endpoint, octets: &[u8]) -> Result<bool, WireFault> {
         self.given = self.given.wrapping_add(1);
+        self.went.add(to, octets);
         self.peers.count(to);
         if self.fails() {
             self.failures = self.failures.wrapping_add(1);
             return Err(WireFault);
         }
-        let Ok(octets) = octets.to_vec(self.alloc) else {
+        let Ok(copied) = octets.to_vec(self.alloc) else {
             return Ok(false);
         };
-        Ok(self.sent.push(Sent { to, octets }).is_ok())
+        let copy = Sent { to, octets: copied };
+        if self.kept.push(copy).is_err() {
+            return Ok(false);
+        }
+        self.sent.add(to, octets);
+        Ok(true)
     }
 
     fn wait(&mut self, _ms: u64) {}
@@ -178,7 +202,7 @@ impl Wire for MemoryWire {
     }
 }
 
-/// A wire in memory for a worker of a plan, which fails at its call of this place; at 0 never.
+/// Returns a wire in memory for a worker of a plan, which fails at its call of this place; at 0 never.
 pub fn wire_of(
     rt: &impl Abort,
     alloc: Global,

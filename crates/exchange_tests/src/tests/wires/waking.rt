@@ -1,4 +1,4 @@
-//! Media comes to one worker, and goes out by another.
+//! Media that one worker receives and another sends.
 ghost use Rattle.std.specs.Prelude.{◌≡◌, ◌<◌, length};
 ghost use Rattle.udp_workers.specs.Served.{AreEndpoints, peers_of};
 
@@ -75,7 +75,7 @@ struct Side<J: Naming> {
     pass: Pass<J>,
 }
 
-// The worker at a place of a plan.
+// Returns the worker at a place of a plan.
 fn side_of<J: Naming>(
     rt: &impl Abort,
     alloc: Global,
@@ -121,7 +121,7 @@ fn take<G: Gate, J: Naming, R: Abort + Wait>(
     );
 }
 
-// The call is up, and voice has gone to the west in a full frame.
+// Plays until the call is up, and voice was sent to the west in a full frame.
 fn bring_up<G: Gate, J: Naming, R: Abort + Wait>(
     rt: &R,
     exchange: &Exchange<G, J>,
@@ -145,8 +145,8 @@ fn bring_up<G: Gate, J: Naming, R: Abort + Wait>(
     }
 }
 
-/// The second worker of a plan takes five mini frames for a peer of the first in one turn. How often the first was woken, and the
-/// second.
+/// Has the second worker take five mini frames for a peer of the first in one turn. Returns how often each was woken, the
+/// first worker's count first.
 pub fn play_waking<G: Gate, J: Naming, R: Abort + Wait>(
     rt: &R,
     alloc: Global,

@@ -21,21 +21,21 @@ use test_plans::plans::ONE_WORKER;
 use udp_wires::Wire;
 use udp_workers::{TurnReport, Worker};
 
-/// What a call over a wire in memory came to.
+/// The result of a call over a wire in memory.
 #[derive(Clone, Copy)]
 pub struct Played {
     /// The sum of the reports.
     pub report: TurnReport,
-    /// Whether the peers were sent what they are in the whole call.
+    /// Whether the peers were sent the datagrams of the whole call.
     pub is_whole: bool,
-    /// How many datagrams the wire was given for the peer in the west, and for the one in the east.
+    /// The number of datagrams that the wire was given for the peer in the west, and for the one in the east.
     pub to_west: u64,
     pub to_east: u64,
-    /// Whether each report has as many faults as `failures()` rose, and `given()` rose by what was sent and lost.
+    /// Whether `failures()` rose by the faults of each report, and `given()` by its sent and lost datagrams.
     pub counted: bool,
 }
 
-// What both reports count.
+// Returns the sum of both reports.
 fn sum_of(one: TurnReport, other: TurnReport) -> TurnReport {
     TurnReport {
         received: one.received.wrapping_add(other.received),
@@ -47,7 +47,7 @@ fn sum_of(one: TurnReport, other: TurnReport) -> TurnReport {
     }
 }
 
-// One turn for each arrival, at its moment.
+// Makes one turn for each arrival, at its moment.
 fn play_arrivals<G: Gate, J: Naming, R: Wait>(
     rt: &R,
     exchange: &Exchange<G, J>,
@@ -63,7 +63,7 @@ fn play_arrivals<G: Gate, J: Naming, R: Wait>(
     let mut counted = true;
     for arrival in &WHOLE_CALL {
         let (at, from, octets) = *arrival;
-        // One that wasn't received for a fault stays, and this one is lost before the wire.
+        // A datagram that wasn't received because of a fault stays, and this one is lost before the wire.
         let _put = wire.put(from, octets);
         let given = wire.given();
         let failures = wire.failures();
@@ -79,7 +79,7 @@ fn play_arrivals<G: Gate, J: Naming, R: Wait>(
     (sum, counted)
 }
 
-/// The call over a wire in memory that fails at its call of this place, with the exchange's first pass; at 0 never.
+/// Plays the call over a wire in memory that fails at its call of this place, with the exchange's first pass; at 0 never.
 pub fn play_call<G: Gate, J: Naming, R: Abort + Wait>(
     rt: &R,
     alloc: Global,
@@ -102,7 +102,7 @@ pub fn play_call<G: Gate, J: Naming, R: Abort + Wait>(
     }
 }
 
-/// The call over a wire in memory that fails at its call of this place; at 0 never. The accounts balance.
+/// Plays the call over a wire in memory that fails at its call of this place; at 0 never. The accounts balance.
 pub fn play_over<R: Abort + Clock + Net + Sync + Threads + Wait>(
     rt: &R,
     alloc: Global,

@@ -28,7 +28,7 @@ fn wire_at_loopback<R: Abort + Net>(rt: &R, alloc: Global) -> MioWire {
     wire
 }
 
-// How long a wait takes that is to take so many milliseconds at most.
+// Returns the length of a wait of at most `ms` milliseconds.
 fn waited<R: Abort + Clock>(rt: &R, wire: &mut MioWire, ms: u64) -> u64 {
     let begun = Instant::now(rt).expect(rt, "a clock");
     wire.wait(ms);

@@ -1,10 +1,10 @@
-//! What happens to a leg, line by line.
+//! The events of a leg, line by line.
 use crate::tests::leg::{Tested, Wish, octets_of};
 use crate::tests::same::{Place, same_at};
 use leg_machine::{Digit, Heard, Judged, MediaSpan, Signal, Stage};
 use std::process::Abort;
 
-/// What is handed up of a frame.
+/// The signal of a frame.
 #[derive(Clone, Copy)]
 pub enum Handed {
     Nothing,
@@ -14,16 +14,17 @@ pub enum Handed {
     Media,
 }
 
-/// What happens to a leg and what comes of it beside the datagrams.
+/// An event of a leg and its result, apart from the datagrams.
 #[derive(Clone, Copy)]
 pub enum Event {
-    /// A full frame comes, the text of the line: how it is judged, and what is handed up.
+    /// A full frame comes, the text of the line: its judgement, and its signal.
     Frame(Judged, Handed),
     /// An order is given, and not refused.
     Order(Wish),
 }
 
-/// A line: the moment; what happens, with the octets that come; the datagram that goes out, or nothing; and the stage after.
+/// A line: the moment; the event, with the octets of its frame; the datagram that is sent, or nothing; and the stage
+/// afterwards.
 #[derive(Clone, Copy)]
 pub struct Line {
     pub at: u64,
@@ -67,7 +68,7 @@ fn signal_of(handed: Handed) -> Option<Signal> {
 }
 
 impl Tested {
-    // The octets of the only datagram of the last step; none where there is no datagram, or more than one.
+    // Returns the octets of the only datagram of the last step, or none if there is no datagram, or more than one.
     fn said(&self) -> &[u8] {
         match self.replies.get(0) {
             Some(out) if self.replies.len() == 1 => out.octets(),
@@ -75,7 +76,7 @@ impl Tested {
         }
     }
 
-    /// This datagram went out in the last step, or none, and no other; and the leg is in this stage.
+    /// Checks that the last step sent this datagram, or none, and no other; and that the leg is in this stage.
     pub fn shows(&self, rt: &impl Abort, at: Place<'_>, said: &str, stage: Stage) {
         let octets = octets_of(rt, self.alloc, said);
         let count = usize::from(!octets.is_empty());
@@ -83,7 +84,7 @@ impl Tested {
         same_at(rt, at, &found, &(stage, count, octets.as_slice()));
     }
 
-    // This happens to the leg.
+    // Plays this event.
     fn happens(&mut self, rt: &impl Abort, at: Place<'_>, line: &Line) {
         match line.event {
             Event::Frame(judged, handed) => {
@@ -98,7 +99,7 @@ impl Tested {
         }
     }
 
-    /// All that happens in a case, line by line.
+    /// Plays all events of a case, line by line.
     pub fn plays(&mut self, rt: &impl Abort, case: &str, lines: &[Line]) {
         for (step, line) in lines.iter().enumerate() {
             let at = Place { case, step };

@@ -1,7 +1,7 @@
-//! A leg and a window of which any one request for memory may be refused.
+//! A leg and a window. Any one of their requests for memory may be refused.
 //!
-//! Each test passes whichever request is refused, and where none is: what was refused left all as it was, and the same call then
-//! answers as it would have. `.ci/refusals` refuses the requests one at a time.
+//! Each test passes whichever request is refused, and if none is. A refused call changes nothing, and the same call then
+//! has the result that it would have had. `.ci/refusals` refuses the requests one at a time.
 
 use crate::tests::leg::lines::{ANSWERING, Event, Handed, Line};
 use crate::tests::leg::{Tested, Wish, leg_of};
@@ -13,7 +13,7 @@ use std::alloc::Global;
 use std::process::Abort;
 use test_plans::frames::NEW_300;
 
-/// A digit and media come, a digit and media go out, and the call is hung up.
+/// A digit and media come, a digit and media are sent, and the call is hung up.
 static TALK: [Line; 5] = [
     Line {
         at: 32,
@@ -52,7 +52,7 @@ static TALK: [Line; 5] = [
     },
 ];
 
-// The leg of a NEW for 300 that answered the call. It pings after so many milliseconds, and never at 0.
+// Returns the leg of a NEW for 300 that answered the call. It sends a PING after `ping_ms` milliseconds, and never at 0.
 fn talking(rt: &impl Abort, alloc: Global, ping_ms: u16) -> Tested {
     let mut tested = leg_of(rt, alloc, ping_ms, NEW_300);
     tested.plays(rt, "the call is answered", &ANSWERING);
@@ -64,14 +64,14 @@ fn any_growth_of_a_leg_refused(rt: HostRuntime) {
     talking(&rt, rt.alloc(), 0).plays(&rt, "talk", &TALK);
 }
 
-// The leg is Up, and four digits go out, after which its record has no room for a further frame: two more entries need memory.
-// Then this is asked of it.
+// The leg is Up, and sends four digits. Then its record has no room for a further frame: two more entries need memory. Then
+// these requests are made.
 fn fills(rt: &impl Abort, tested: &mut Tested, last: &[Wish]) {
     asks(rt, tested, "four digits", &[Wish::Digit; 4]);
     asks(rt, tested, "the last wish", last);
 }
 
-// These are asked of the leg, and granted.
+// Makes these requests to the leg, which grants them.
 fn asks(rt: &impl Abort, tested: &mut Tested, case: &str, wishes: &[Wish]) {
     for (step, wish) in wishes.iter().enumerate() {
         let at = Place { case, step };
@@ -79,8 +79,8 @@ fn asks(rt: &impl Abort, tested: &mut Tested, case: &str, wishes: &[Wish]) {
     }
 }
 
-/// A leg that pings after so many milliseconds, the last wish, and the frame that goes out in the tick of 30, or, where its
-/// growth was refused, in that of 40; and the stage after.
+/// A case: the leg sends a PING after `ping_ms` milliseconds, and gets the last wishes. It sends a frame in the tick of 30,
+/// or in that of 40 if its growth was refused. Then it is in the stage.
 #[derive(Clone, Copy)]
 struct Skipped<'a> {
     ping_ms: u16,
@@ -106,7 +106,7 @@ static HANGUP: Skipped<'static> = Skipped {
     stage: Stage::Closing,
 };
 
-// The frame goes out in the tick of 30 or of 40.
+// The frame is sent in the tick of 30 or of 40.
 fn goes_out(rt: &impl Abort, tested: &mut Tested, case: &Skipped<'_>) {
     let at = Place {
         case: "the ticks of 30 and 40",
@@ -139,8 +139,8 @@ fn hangup_without_memory(rt: HostRuntime) {
     plays(&rt, rt.alloc(), &HANGUP);
 }
 
-// What is seen of a window: the numbers of the next frame and of the expected one, how many frames are held, and how many entries
-// the record has.
+// Returns the visible state of a window: the numbers of the next frame and of the expected one, and the counts of held
+// frames and of the record's entries.
 fn look_at(window: &Window) -> (u8, u8, usize, usize) {
     (
         window.next(),
@@ -150,7 +150,7 @@ fn look_at(window: &Window) -> (u8, u8, usize, usize) {
     )
 }
 
-/// What happens to a window under a number, and how it is judged.
+/// An event of a window under a number, with its judgement.
 #[derive(Clone, Copy)]
 enum Turn {
     Sends,
@@ -158,7 +158,7 @@ enum Turn {
     IsAcknowledged,
 }
 
-// Whether this happens to a window as it should; none where it is refused.
+// Returns whether the event has its result, or `None` if it is refused.
 fn turns(window: &mut Window, turn: Turn, number: u8) -> Option<bool> {
     match turn {
         Turn::Sends => Some(window.send(frame(), 20).ok()? == number),
@@ -170,7 +170,7 @@ fn turns(window: &mut Window, turn: Turn, number: u8) -> Option<bool> {
     }
 }
 
-// This happens to a window as it should, once more where memory is refused.
+// Plays the event, again if memory is refused.
 fn takes_part(rt: &impl Abort, window: &mut Window, turn: Turn, number: u8) {
     let before = look_at(window);
     let mut answer = turns(window, turn, number);
@@ -181,7 +181,7 @@ fn takes_part(rt: &impl Abort, window: &mut Window, turn: Turn, number: u8) {
     same(rt, &(number, answer), &(number, Some(true)));
 }
 
-// A window for eight frames, made once more where memory is refused.
+// Returns a window for eight frames; the call is repeated if memory is refused.
 fn window_at_last(rt: &impl Abort, alloc: Global) -> Window {
     match Window::new(alloc, 8, 64) {
         Ok(window) => window,
@@ -189,7 +189,7 @@ fn window_at_last(rt: &impl Abort, alloc: Global) -> Window {
     }
 }
 
-// A frame goes out under this number, one comes under it, and the former is acknowledged.
+// A frame is sent under this number, one comes under it, and the former is acknowledged.
 fn takes_turn(rt: &impl Abort, window: &mut Window, number: u8) {
     for turn in [Turn::Sends, Turn::Receives, Turn::IsAcknowledged] {
         takes_part(rt, window, turn, number);

@@ -13,7 +13,7 @@ use std::process::Abort;
 use std::sync::ledger::Ledger;
 use test_plans::frames::NEW_300;
 
-/// What happens to a peer.
+/// The events of a peer.
 #[derive(Clone, Copy)]
 pub struct Case<'a> {
     pub name: &'a str,
@@ -64,7 +64,7 @@ fn lent<O: Ledger + Send + Sync, S: Ledger + Send + Sync, R: Abort>(
     true
 }
 
-/// The same, with ledgers of its own.
+/// Plays a case over two separate ledgers.
 pub fn plays<R: Abort>(rt: &R, alloc: Global, case: &Case<'_>) -> bool {
     lent::<Brand, Brand, R>(rt, alloc, case, Blank::new(2), Blank::new(2))
 }
@@ -96,7 +96,7 @@ static CASES: [Case<'static>; 2] = [
             Step::Says(""),
         ],
     },
-    // The call of the leg 1 is accepted. Then media counts until the credit is spent; what is too long for the rest has no
+    // The call of the leg 1 is accepted. Then media counts until the credit is spent; media too long for the rest has no
     // effect.
     Case {
         name: "three octets of credit",

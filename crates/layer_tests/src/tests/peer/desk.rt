@@ -1,4 +1,4 @@
-//! A peer under test: datagrams come, legs are opened, time goes on, and the outbox is emptied.
+//! A peer under test: datagrams come, legs are opened, ticks are made, and the outbox is emptied.
 ghost use Rattle.std.specs.Prelude.{◌≡◌, IfSome, IsTrue};
 ghost use Rattle.peer_lock.specs.Openings.{IsOpening};
 ghost use Rattle.peer_lock.specs.Unworked.{IsCutFrame};
@@ -38,7 +38,7 @@ impl<O: Ledger + Send + Sync, S: Ledger + Send + Sync> Naming for Lent<O, S> {
     ghost first_steps = { 16 };
 }
 
-/// A peer, with the book, the one pass, and the list of what is handed up.
+/// A peer, with the book, the one pass, and the list of signals.
 #[derive(Drop)]
 pub struct Desk<J: Naming> {
     pub alloc: Global,
@@ -48,7 +48,7 @@ pub struct Desk<J: Naming> {
     pub onwards: Onwards,
 }
 
-/// The two shares of a supply, of which the first has all. None: there was no memory.
+/// Returns the two shares of a supply, the first with all of it, or `None` if there was no memory.
 pub fn shares_of<L: Ledger>(
     rt: &impl Abort,
     alloc: Global,
@@ -66,7 +66,8 @@ pub fn shares_of<L: Ledger>(
     Some((first, rest))
 }
 
-/// A peer of four numbers, without a leg. Memory is asked for once more, with the shares that came back, where it is refused.
+/// Returns a peer of four numbers, without a leg. If memory is refused, the call is repeated with the shares that came
+/// back.
 pub fn state_of<J: Naming>(
     rt: &impl Abort,
     alloc: Global,
@@ -86,7 +87,7 @@ pub fn state_of<J: Naming>(
     }
 }
 
-/// A book for the peer. Memory is asked for once more, where it is refused.
+/// Returns a book for the peer. If memory is refused, the call is repeated.
 pub fn book_of(rt: &impl Abort, alloc: Global) -> CallBook {
     match CallBook::new(alloc, &[4], 0) {
         Ok(book) => book,
@@ -94,7 +95,7 @@ pub fn book_of(rt: &impl Abort, alloc: Global) -> CallBook {
     }
 }
 
-// Whether no element passes the end.
+// Returns whether no element passes the end.
 fn is_whole(frame: &Full) -> bool
     ensures { IsTrue result → IsCutFrame frame.now → ⊥ }
 {
@@ -104,7 +105,7 @@ fn is_whole(frame: &Full) -> bool
     }
 }
 
-/// The NEW of a datagram that opens a leg.
+/// Returns the NEW of a datagram that opens a leg.
 pub fn opening_of(octets: &[u8]) -> Option<Full<'_>>
     ensures { IfSome result IsOpening }
 {
@@ -122,18 +123,18 @@ pub fn opening_of(octets: &[u8]) -> Option<Full<'_>>
     }
 }
 
-/// What is seen of a peer's first leg, and the octets and steps of the pass.
+/// The visible state of a peer's first leg, and the octets and steps of the pass.
 pub type Look = (Option<Status>, u64, u64);
 
 impl<J: Naming> Desk<J> {
-    /// A datagram is given to the peer.
+    /// Gives a datagram to the peer.
     pub fn takes(&mut self, octets: &[u8], time: u64) -> Result<Step, PeerError> {
         self.onwards.clear();
         self.state
             .datagram(&mut self.pass, octets, time, &mut self.onwards)
     }
 
-    /// The NEW opens a leg under the lease.
+    /// Opens a leg by the NEW, under the lease.
     pub fn opens_for(
         &mut self,
         frame: &Full,
@@ -148,12 +149,12 @@ impl<J: Naming> Desk<J> {
             .open_in(pass, lease, frame, 0, challenge, onwards)
     }
 
-    /// What is seen of the peer.
+    /// Returns the visible state of the peer.
     pub fn look(&self) -> Look {
         (self.state.look(1), self.pass.octets(), self.pass.steps())
     }
 
-    /// Whether all is as it was.
+    /// Returns whether all is as it was.
     pub fn is_as(&self, before: &Look) -> bool {
         self.look() == *before && self.onwards.is_empty()
     }

@@ -1,7 +1,7 @@
-//! A peer of which any one request for memory may be refused, and its book.
+//! A peer and its book. Any one of their requests for memory may be refused.
 //!
-//! The test passes whichever request is refused, and where none is: what was refused left all as it was, and the same call then
-//! answers as it would have. `.ci/refusals` refuses the requests one at a time.
+//! The test passes whichever request is refused, and if none is. A refused call changes nothing, and the same call then has
+//! the result that it would have had. `.ci/refusals` refuses the requests one at a time.
 use crate::tests::leg::Wish;
 use crate::tests::peer::credits::{Case, plays};
 use crate::tests::peer::steps::Step;
@@ -9,8 +9,8 @@ use crate::tests::same::holds;
 use leg_machine::{Judged, Stage};
 use test_plans::frames::NEW_300;
 
-/// A whole call of the peer: it is accepted and answered; a digit and media come, the same digit goes out, and an octet of media,
-/// for which there is credit.
+/// A whole call of the peer. It is accepted and answered; a digit and media come; the same digit is sent, and an octet of
+/// media, for which there is credit.
 static WHOLE_CALL: Case<'static> = Case {
     name: "whole call",
     steps: &[
@@ -29,7 +29,7 @@ static WHOLE_CALL: Case<'static> = Case {
         Step::Octets(3),
         Step::Order(60, Wish::Digit),
         Step::Says("800100070000003c02030135"),
-        // The credit for three octets goes out with a voice frame of one, and two stay.
+        // The credit for three octets is used for a voice frame of one octet, and two stay.
         Step::Order(70, Wish::Media),
         Step::Says("800100070000004603030204aa"),
         Step::Octets(2),

@@ -1,4 +1,4 @@
-//! What happens to a peer, step by step.
+//! The events of a peer, step by step.
 ghost use Rattle.std.specs.Prelude.{◌≡◌};
 ghost use Rattle.peer_lock.specs.Orders.{order_octets};
 
@@ -12,12 +12,12 @@ use leg_machine::{Judged, MediaSpan, Order, Signal, Stage};
 use peer_lock::{Naming, OpenError, OrderError, PeerError, Step as Stepped};
 use std::process::Abort;
 
-/// What happens to a peer and what comes of it, or what is seen of it. The leg is the one under number 1.
+/// An event of a peer and its result, or a part of its visible state. The leg is the one under number 1.
 #[derive(Clone, Copy)]
 pub enum Step {
     /// A NEW opens a leg under the next lease of the book, whose number the leg has.
     Opens(&'static str),
-    /// A datagram comes at a moment, and is judged so.
+    /// A datagram comes at a moment, with this judgement.
     Comes(u64, &'static str, Judged),
     /// It is taken; the leg's media at these octets of it is handed up, or nothing is.
     Media(u64, &'static str, Option<(usize, usize)>),
@@ -29,13 +29,13 @@ pub enum Step {
     Says(&'static str),
     /// The leg is in this stage.
     Stage(Stage),
-    /// The pass has so many octets.
+    /// The pass has this number of octets.
     Octets(u64),
-    /// The pass has so many steps.
+    /// The pass has this number of steps.
     Steps(u64),
 }
 
-// The octets of media of an order.
+// Returns the octets of an order's media.
 fn octets_in(order: &Order<'_>) -> u64
     ensures { result ≡ order_octets order.now }
 {
@@ -50,7 +50,7 @@ impl<J: Naming> Desk<J> {
     ghost use Rattle.leg_machine.specs.OrderTable.{IsShortMedia};
     ghost use Rattle.peer_lock.specs.Openings.{IsOpening};
 
-    // The NEW opens a leg under the lease, once more where memory is refused. Gives the name of the leg.
+    // Opens a leg by the NEW, under the lease, again if memory is refused. Returns the name of the leg.
     fn opens_at_last(
         &mut self,
         frame: &Full<'_>,
@@ -69,7 +69,7 @@ impl<J: Naming> Desk<J> {
         }
     }
 
-    // Whether the NEW of a text opens a leg under the next lease of the book, whose name it bears.
+    // Returns whether the NEW of a text opens a leg under the next lease of the book, whose name it has.
     fn opens(&mut self, rt: &impl Abort, text: &str) -> bool {
         let octets = octets_of(rt, self.alloc, text);
         let frame = opening_of(&octets).expect(rt, "a NEW");
@@ -79,7 +79,7 @@ impl<J: Naming> Desk<J> {
         self.opens_at_last(&frame, lease, &challenge) == Some(name)
     }
 
-    // A datagram comes, once more where memory is refused and all is as it was.
+    // Gives a datagram to the peer, again if memory is refused and all is as it was.
     fn comes(&mut self, rt: &impl Abort, time: u64, text: &str) -> Result<Stepped, PeerError> {
         let octets = octets_of(rt, self.alloc, text);
         let before = self.look();
@@ -90,18 +90,18 @@ impl<J: Naming> Desk<J> {
         found
     }
 
-    // How a datagram that comes is judged, where it is taken.
+    // Returns the judgement of a datagram, if it is accepted.
     fn judged(&mut self, rt: &impl Abort, time: u64, text: &str) -> Option<Judged> {
         Some(self.comes(rt, time, text).ok()?.judged)
     }
 
-    // What is handed up first: the number of the leg, and the signal.
+    // Returns the first signal handed up: the number of the leg, and the signal.
     fn handed_up(&self) -> Option<(u16, Signal)> {
         let (name, signal) = self.onwards.get(0)?;
         Some((name.number, signal))
     }
 
-    // Whether a datagram is taken, and the leg's media at these octets of it is handed up, or nothing.
+    // Returns whether a datagram is accepted, and the leg's media at these octets of it is handed up, or nothing.
     fn hands_up(
         &mut self,
         rt: &impl Abort,
@@ -116,7 +116,7 @@ impl<J: Naming> Desk<J> {
         self.judged(rt, time, text).is_some() && self.handed_up() == wanted
     }
 
-    // The leg gets an order.
+    // Gives an order to the leg.
     fn orders(&mut self, time: u64, order: &Order<'_>) -> Result<Stepped, OrderError>
         requires media { IsShortMedia order.now }
         requires credit { order_octets order.now ≤ self.old.pass.octets }
@@ -128,7 +128,7 @@ impl<J: Naming> Desk<J> {
         self.state.order(&mut self.pass, status.name, order, time)
     }
 
-    // Whether there is credit for what is asked of the leg, and it obeys, once more where memory is refused and all is as it was.
+    // Returns whether there is credit for the request and the leg obeys, again if memory is refused and all is as it was.
     fn obeys(&mut self, time: u64, wish: Wish) -> bool {
         let order = order_of(wish);
         if octets_in(&order) > self.pass.octets() {
@@ -142,7 +142,7 @@ impl<J: Naming> Desk<J> {
         }
     }
 
-    // Whether this datagram is the oldest of the outbox, or there is none.
+    // Returns whether this datagram is the oldest of the outbox, or there is none.
     fn says(&mut self, rt: &impl Abort, text: &str) -> bool {
         let octets = octets_of(rt, self.alloc, text);
         match self.state.take_out() {
@@ -151,7 +151,7 @@ impl<J: Naming> Desk<J> {
         }
     }
 
-    // Whether this is seen of the peer.
+    // Returns whether this is visible at the peer.
     fn shows(&mut self, rt: &impl Abort, step: Step) -> bool {
         match step {
             Step::Says(text) => self.says(rt, text),
@@ -165,7 +165,7 @@ impl<J: Naming> Desk<J> {
         }
     }
 
-    // Whether this happens to the peer, or is seen of it.
+    // Returns whether this event has its result, or is visible.
     fn makes(&mut self, rt: &impl Abort, step: Step) -> bool {
         match step {
             Step::Opens(text) => self.opens(rt, text),
@@ -179,7 +179,7 @@ impl<J: Naming> Desk<J> {
         }
     }
 
-    /// All that happens in a case, step by step.
+    /// Plays all events of a case, step by step.
     pub fn plays(&mut self, rt: &impl Abort, case: &str, steps: &[Step]) {
         for (step, made) in steps.iter().enumerate() {
             let at = Place { case, step };

@@ -39,9 +39,9 @@ invariant_of-result c =
     let few : c.len-worker_count.result ≤ 64 = omega (arith, some.1, count) in
     let enough = passes_within ms c.len-worker_count.result c.in_ok-passes.passes few (sym c.in_ok-passes.ensures) in
     let are = peers_sound c.in_ok-format.format c.len-worker_count.result c.in_ok-limits.limits ms c.in_ok-peers.peers.items least (limits_sound c.in_ok-format.format ms c.in_ok-limits.limits c.in_ok-limits.ensures) c.in_ok-peers.ensures in
-    let lead = routes_sound c.in_ok-format.format c.in_ok-peers.peers.items ms c.in_ok-routes.routes.items (rw c.deref.ensures.value at c.in_ok-routes.ensures) in
+    let lead = routes_sound c.in_ok-format.format c.in_ok-peers.peers.items ms c.in_ok-routes.routes (rw c.deref.ensures.value at c.in_ok-routes.ensures) in
     record {
-      plan = plan_sound c.in_ok-workers.workers.items c.in_ok-passes.passes c.in_ok-peers.peers.items c.in_ok-routes.routes.items some
+      plan = plan_sound c.in_ok-workers.workers.items c.in_ok-passes.passes c.in_ok-peers.peers.items c.in_ok-routes.routes some
           (subst (λ n. IsWithin n 64 c.in_ok-passes.passes) count enough) (subst (λ n. ArePeers n c.in_ok-peers.peers.items) count are) lead;
       endpoints = rw c.deref-2.ensures.value at c.in_ok-endpoints.ensures;
       counts = rw c.deref-3.ensures.value at c.in_ok-counts.ensures;

@@ -4,7 +4,7 @@ use Rattle.mio.specs.Events.{items}
 use Rattle.udp_wires.specs.SocketSet.{Has}
 use Rattle.udp_wires.proofs.sockets.told.Given as goal
 
--- what is in the set, or told of in the rest, is what it is in the end
+-- a place in the set, or in the remaining events, is in the set at the end
 abbrev pub invariant-loop-event : goal.invariant-loop-event
 invariant-loop-event l = (place : ℕ) → place < 64
     → (Has l.ready place ⊎ Any (λ event. (event_token event).0 ≡ place) l.event-iterator.rest.now) ↔ (Has l.fn.ready place ⊎ Any (λ event. (event_token event).0 ≡ place) (items l.events))

@@ -16,6 +16,8 @@ invariant-loop g l = record {
   sent : l.tally.report.sent ≡ l.fn.tally.report.sent;
   lost : l.tally.report.lost ≡ l.fn.tally.report.lost;
   watch : l.tally.watch ≡ l.fn.tally.watch;
+  went : g.W.Wire.went l.wire ≡ g.W.Wire.went l.fn.wire;
+  wire_sent : g.W.Wire.sent l.wire ≡ g.W.Wire.sent l.fn.wire;
   given : g.W.Wire.given l.wire ≡ g.W.Wire.given l.fn.wire;
   given_to : (to : Endpoint) → g.W.Wire.given_to l.wire to ≡ g.W.Wire.given_to l.fn.wire to;
   failures : RiseAlike (g.W.Wire.failures l.fn.wire) (g.W.Wire.failures l.wire) l.fn.tally.report.faults l.tally.report.faults;
@@ -25,5 +27,6 @@ invariant-loop g l = record {
   handed : GivesAll (g.V.Watch.given l.fn.tally.watch.now) l.fn.pass l.pass;
   none_lost : RiseAlike l.fn.inbox.given l.inbox.given (l.fn.tally.report.received + waiting l.fn.inbox.datagram) (l.tally.report.received + waiting l.inbox.datagram);
   takes : TakesSoFar l.turn.intake l.turn.exchange.now (record { stage = l.turn.stage; now = l.turn.time; challenge = l.turn.challenge.now })
-      l.fn.inbox.datagram l.inbox.datagram l.taken l.counter l.fn.tally.report.received l.tally.report.received l.fn.pass l.pass;
+      l.fn.inbox.datagram l.inbox.datagram l.taken l.counter l.fn.tally.report.received l.tally.report.received l.fn.pass l.pass
+      (g.W.Wire.came l.fn.wire) (g.W.Wire.came l.wire);
 }

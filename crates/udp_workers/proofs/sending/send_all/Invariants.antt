@@ -1,6 +1,8 @@
-use Rattle.std.proofs.Common.{◌≡◌, ◌≢◌, ◌+◌, ◌≤◌}
+use Rattle.std.proofs.Common.{◌≡◌, ◌≢◌, ◌+◌, ◌≤◌, ℕ, List, length}
 use Rattle.peer_plan.specs.declared.endpoint.Endpoint.{Endpoint}
 use Rattle.udp_wires.specs.Counts.{RiseAlike}
+use Rattle.udp_workers.specs.Events.{CountsSends}
+use Rattle.udp_workers.specs.Emptied.{HandsOut}
 use Rattle.udp_workers.proofs.sending.send_all.Given as goal
 
 abbrev pub invariant-loop : goal.invariant-loop
@@ -18,5 +20,7 @@ invariant-loop g l = record {
   others : (other : Endpoint) → other ≢ l.to → g.W.Wire.given_to l.wire other ≡ g.W.Wire.given_to l.fn.wire other;
   faults : RiseAlike (g.W.Wire.failures l.fn.wire) (g.W.Wire.failures l.wire) l.fn.tally.report.faults l.tally.report.faults;
   peers : g.W.Wire.peers l.wire ≡ g.W.Wire.peers l.fn.wire;
-  pass : l.pass ≡ l.fn.pass;
+  counts : CountsSends l.fn.tally.report l.tally.report (g.W.Wire.went l.fn.wire) (g.W.Wire.went l.wire) (g.W.Wire.sent l.fn.wire) (g.W.Wire.sent l.wire);
+  came : g.W.Wire.came l.wire ≡ g.W.Wire.came l.fn.wire;
+  hands : (outs : List (List ℕ)) × (length outs ≡ l.counter) × HandsOut l.peer l.to outs l.fn.pass l.pass (g.W.Wire.went l.fn.wire) (g.W.Wire.went l.wire);
 }

@@ -1,8 +1,11 @@
-use Rattle.std.proofs.Common.{◌≡◌, ◌+◌, ◌-◌, ◌≤◌, Some, sym, ap, ◌∙◌, subst, get_or, arith}
+use Rattle.std.proofs.Common.{◌≡◌, ◌+◌, ◌-◌, ◌≤◌, Some, sym, ap, ◌∙◌, subst, get_or, arith, take}
+use Rattle.std.proofs.lemmas.List.{take_more}
 use Rattle.std.proofs.lemmas.Option.{slice_get_within}
 use Rattle.std.specs.Prelude.{Contains, slice_get}
+use Rattle.udp_workers.specs.Emptied.{EmptiesDue}
 use Rattle.udp_workers.specs.Served.{endpoint_at}
-use Rattle.udp_workers.proofs.CountLaws.{ahead_next, by_as_much, each_next}
+use Rattle.udp_workers.proofs.CountLaws.{ahead_next, by_as_much, counts_on, each_next}
+use Rattle.udp_workers.proofs.EmptyingLaws.{empties_more}
 use Rattle.udp_workers.proofs.ServedLaws.{endpoint_among, endpoint_there}
 use Rattle.udp_workers.proofs.turning.empty_due.Goals as goal
 
@@ -44,5 +47,11 @@ loop-peer-preserved g c =
       ahead = ahead_next first before after ends l.peer-index (is - was) to there gone.ensures.others l.invariant.ahead place_within c.requires.apart;
       faults = omega arith;
       peers = gone.ensures.peers ∙ l.invariant.peers;
-      pass = gone.ensures.pass ∙ l.invariant.pass;
+      counts = counts_on c.args.tally.now.report l.tally.report gone.new.tally.report _ _ _ _ _ _ l.invariant.counts gone.ensures.counts;
+      came = gone.ensures.came ∙ l.invariant.came;
+      empties =
+          subst (λ first. EmptiesDue c.args.turn.now.exchange.now c.args.turn.now.all first c.args.pass.now gone.new.pass (g.W.Wire.went c.args.wire.now) (g.W.Wire.went gone.new.wire))
+          (sym (take_more peers l.peer-index 0 c.loop-peer-test.true))
+          (empties_more c.args.turn.now.exchange.now c.args.turn.now.all (take l.peer-index peers) (get_or peers l.peer-index 0) to c.args.pass.now l.pass gone.new.pass
+          (g.W.Wire.went c.args.wire.now) (g.W.Wire.went l.wire) (g.W.Wire.went gone.new.wire) l.invariant.empties at gone.ensures.empties);
     }

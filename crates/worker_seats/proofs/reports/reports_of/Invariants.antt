@@ -1,7 +1,7 @@
 use Rattle.std.proofs.Common.{◌≡◌, ◌+◌, ◌≤◌, vec_len, vec_capacity}
 use Rattle.worker_seats.proofs.reports.reports_of.Given as goal
 
--- the seats that are left, and the room for what comes of them
+-- the seats that are left, and the room for their results
 abbrev pub invariant-loop : goal.invariant-loop
 invariant-loop g l = record {
   seats : vec_len l.seats + l.counter ≡ l.count;

@@ -5,7 +5,7 @@ use Rattle.call_signals.specs.NewElements.{named, new_elements}
 use Rattle.call_signals.proofs.ElementsRead.{with_elements}
 use Rattle.call_signals.proofs.new_elements.NewElements.read.Given as goal
 
--- those read so far, with those of what is left, are all
+-- those read so far and those of the rest are all of them
 abbrev pub invariant-loop-number : goal.invariant-loop-number
 invariant-loop-number l =
     (with_elements (named l.elements) (elements_of l.rest) ≡ new_elements l.fn.octets)

@@ -7,7 +7,8 @@ use Rattle.exchange_core.specs.FirstSteps.{InPlan, IsOfNew, KeepsPeer}
 use Rattle.exchange_core.specs.Leaving.{LeftSince, leaving_of}
 use Rattle.exchange_core.specs.Newcomers.{SpellsOpening}
 use Rattle.exchange_core.proofs.Carrying.{covers_need, covers_rest, leaves_lease}
-use Rattle.exchange_core.proofs.FirstSteps.{noted_first, noted_later, under_way, next_in_plan, stays_in_plan, opened_here, opens_after, stands_on}
+use Rattle.exchange_core.proofs.Denying.{CalledIsGiven, denied_more, none_denied, some_copied}
+use Rattle.exchange_core.proofs.FirstSteps.{noted_first, noted_later, starts_first, under_way, next_in_plan, stays_in_plan, opened_here, opens_after, stands_on}
 use Rattle.exchange_core.specs.Traces.{call_of, told}
 use Rattle.exchange_core.proofs.Leaving.{left_since}
 use Rattle.exchange_core.proofs.Rejecting.{none_rejected, one_more}
@@ -51,6 +52,7 @@ loop-init g c = (
   search rules,
   search rules,
   none_rejected c.args.pass.now,
+  none_denied c.args.pass.now c.args.work.now.work.place (starts_first (length c.args.self.now.peers) c.args.work.now.work.place c.requires.peer),
 )
 
 pub loop-preserved : goal.loop-preserved
@@ -70,7 +72,9 @@ loop-preserved g c =
           ∙ noted_first (beginning_at c.loop.work.work.place) c.make-reply.result c.loop.hands.denial (sym c.is_beginning.ensures ∙ w.if-is_beginning.true)
       | else-is_beginning w ↦ ap (λ (h : Hands). h.denial) w.hands-is ∙ c.make-reply.ensures.hands.1
           ∙ noted_later (beginning_at c.loop.work.work.place) c.make-reply.result c.loop.hands.denial (sym c.is_beginning.ensures ∙ w.if-is_beginning.false)
-    ] in (
+    ] in
+    let given : CalledIsGiven (call_of c.args.self.now c.args.given.now) c.loop.work.work.place =
+    λ called. some_copied c.args.given.now.called (c.requires.outside (c.loop.invariant.4.before _ called).0) in (
       tt,
       tt,
       covers_rest carried.within carried.octets (length c.args.given.now.datagram) c.loop.pass.credit.octets c.make-reply.new.pass.credit.octets c.loop.work.work c.told.new.self.work
@@ -96,4 +100,7 @@ loop-preserved g c =
           (leaving_of c.make-reply.new.hands.leavers) c.loop.invariant.9 c.make-reply.ensures.left),
       one_more _ _ c.in-Some-next.need c.make-reply.result c.args.pass.now c.loop.pass c.make-reply.new.pass c.loop.rejected c.latest-rejected.result
           c.loop.invariant.10 c.make-reply.ensures.noted c.make-reply.ensures.steps.0 c.make-reply.ensures.steps.1 c.latest-rejected.ensures,
+      denied_more begins.made begins.goes_on begins.past begins.refused begins.over (call_of c.args.self.now c.args.given.now) _ c.in-Some-next.need c.make-reply.result
+          c.args.pass.now c.loop.pass c.make-reply.new.pass c.loop.work.work c.told.new.self.work c.loop.hands.denial c.if-is_beginning.hands.denial need answers
+          c.make-reply.ensures.noted c.loop.invariant.5 given work denial c.loop.invariant.11,
     )

@@ -5,6 +5,7 @@ use Rattle.exchange_core.specs.Covered.{IsCovered}
 use Rattle.exchange_core.specs.Leaving.{LeftSince, leaving_of}
 use Rattle.exchange_core.specs.Newcomers.{SpellsOpening}
 use Rattle.exchange_core.specs.Traces.{Traces, call_of}
+use Rattle.exchange_core.proofs.Denying.{DeniedSince}
 use Rattle.exchange_core.proofs.FirstSteps.{IsUnderWay, MayStand, OpensLeg, PlaceInPlan}
 use Rattle.exchange_core.proofs.Rejecting.{RejectedSince}
 use Rattle.exchange_core.proofs.exchange.Exchange.carry_out.Given as goal
@@ -20,3 +21,4 @@ invariant-loop g l =
     × Traces (call_of l.self l.given) l.initial.work l.work l.initial.pass l.pass
     × LeftSince l.given.now l.initial.pass l.pass (leaving_of l.hands.leavers)
     × RejectedSince l.initial.pass l.pass l.rejected
+    × DeniedSince l.initial.pass l.pass l.work.work.place l.hands.denial

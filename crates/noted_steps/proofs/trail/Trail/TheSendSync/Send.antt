@@ -1,4 +1,4 @@
--- What was made owns nothing, so it may go to another thread.
+-- A note owns nothing, so it may go to another thread.
 use denote.Param.Send.{IsSend, owning_send}
 use Rattle.noted_steps.specs.contracts.trail.Trail.{the_row, the_type}
 

@@ -28,7 +28,7 @@ has_put c =
     c.self.invariant.4 (c.requires.frame, omega (arith, size, c.requires.fits)) (sym size)
     (omega (arith, c.self.invariant.1, c.in-Ok.ensures.variant.0 refl))
 
--- how long the octets are then
+-- the length of the octets then
 size_of : (c : After-extend)
     → length c.extend.new.octets.items ≡ length c.make_room.new.octets.items + length c.args.front.now + length c.args.back.now
 size_of c =

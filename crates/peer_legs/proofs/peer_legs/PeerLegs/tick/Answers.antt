@@ -63,7 +63,7 @@ returns c = record {
   ruled = ruled_made (made c);
 }
 
--- there is no leg past the end, and none where the place is empty
+-- there is no leg past the end, or at an empty place
 past : (c : goal.Then-index-len) (x : NamedLeg) → filled (slice_get c.args.self.now.places c.args.index) ≡ Some x → ⊥
 past c = none_past (legs_of c.self.inside) c.args.self.now c.args.index c.self.view_is (omega (arith, c.len.ensures, c.if-index-len.true))
 

@@ -5,7 +5,7 @@ use Rattle.peer_lock.specs.Peer.{PeerView}
 use Rattle.peer_lock.specs.declared.unknown_calls.Answer.{Answer}
 use Rattle.peer_lock.proofs.state.PeerState.answer_unknown.Goals as goal
 
--- what answers
+-- the answer of a delivery
 abbrev answer_in : Answer → Delivery → Answer
 answer_in other (Gets answer) = answer
 answer_in other _ = other

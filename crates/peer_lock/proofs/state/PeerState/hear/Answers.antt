@@ -22,7 +22,7 @@ returns-clause-peer g c named here =
     let inside = subst (λ (v : PeerView). leg_at v.legs c.args.number ≡ Some named) (sym c.self.view_is) here in
     let number = c.call_number-own.ensures.number ∙ sym (own_number c.self.inside.legs c.args.number named c.count-sound.ensures.sound inside) in
     let step = full_step named.leg c.args.frame.now c.args.now in
-    let view : PeerView = record { rules = c.self.inside.rules; legs = c.self.inside.legs; outbox = c.self.inside.outbox; queue = c.self.inside.queue; since = c.self.inside.since; drains = c.self.inside.drains; accounts = c.self.inside.account } in
+    let view : PeerView = record { rules = c.self.inside.rules; legs = c.self.inside.legs; outbox = c.self.inside.outbox; queue = c.self.inside.queue; since = c.self.inside.since; drains = c.self.inside.drains; pokes = c.self.inside.pokes; accounts = c.self.inside.account } in
     let goes : c.is_ahead-goes.result ≡ (has_any c.full.new.replies && goes_ahead view.rules view.queue c.call_number-own.result) = search rules in
     let sent : c.put_all.new.outbox ≡ put c.flush_if.new.outbox c.full.new.replies = search rules in
     sent_peer view c.args.self.now named.name c.call_number-own.result c.full.new.self step.leg c.full.new.replies c.put_all.new.outbox c.flush_if.new.queue c.flush_if.new.account

@@ -13,7 +13,7 @@ invariant_of-closed g c = record {
 
 pub returns-clause-same : goal.returns-clause-same
 returns-clause-same g c =
-    ap (λ (a : Accounts). record { rules = c.self.inside.rules; legs = c.self.inside.legs; outbox = c.self.inside.outbox; queue = c.self.inside.queue; since = c.self.inside.since; drains = c.self.inside.drains; accounts = a }) c.part-account.ensures.same
+    ap (λ (a : Accounts). record { rules = c.self.inside.rules; legs = c.self.inside.legs; outbox = c.self.inside.outbox; queue = c.self.inside.queue; since = c.self.inside.since; drains = c.self.inside.drains; pokes = c.self.inside.pokes; accounts = a }) c.part-account.ensures.same
     ∙ c.self.view_is
 
 pub returns-clause-octets : goal.returns-clause-octets

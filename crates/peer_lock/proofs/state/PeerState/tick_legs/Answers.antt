@@ -39,8 +39,8 @@ returns-then-are_resting g c =
 pub returns : goal.returns
 returns g c =
     let inside = c.self-2.inside in
-    let settled : c.loop-index.self ≡ record { rules = inside.rules; legs = c.settle.new.self; outbox = inside.outbox; queue = inside.queue; since = inside.since; drains = inside.drains; accounts = inside.account } =
-    sym c.self-2.view_is ∙ ap (λ legs. record { rules = inside.rules; legs = legs; outbox = inside.outbox; queue = inside.queue; since = inside.since; drains = inside.drains; accounts = inside.account }) (sym c.settle.ensures) in
+    let settled : c.loop-index.self ≡ record { rules = inside.rules; legs = c.settle.new.self; outbox = inside.outbox; queue = inside.queue; since = inside.since; drains = inside.drains; pokes = inside.pokes; accounts = inside.account } =
+    sym c.self-2.view_is ∙ ap (λ legs. record { rules = inside.rules; legs = legs; outbox = inside.outbox; queue = inside.queue; since = inside.since; drains = inside.drains; pokes = inside.pokes; accounts = inside.account }) (sym c.settle.ensures) in
     subst (TicksLegs c.args.self.now c.args.now c.loop-index.skipped) settled
     (all_ticked c.args.self.now c.loop-index.self c.args.now c.loop-index.index c.loop-index.skipped c.loop-index.invariant.0
     (subst (λ n. n ≤ c.loop-index.index) c.place_count-count.ensures.count c.loop-index-test.false))

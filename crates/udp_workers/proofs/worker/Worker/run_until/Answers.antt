@@ -1,10 +1,19 @@
 use Rattle.std.proofs.Common.{◌≡◌, ◌≤◌, ℕ, Bor, List, [], ◌∷◌, refl, ap, length, arith, subst, ◌∙◌, rules}
+use Rattle.udp_wires.specs.Parcels.{Parcel}
 use Rattle.udp_workers.specs.Handed.{GivesAll}
-use Rattle.udp_workers.specs.Intake.{InboxView, MakesTurn, TurnView}
+use Rattle.udp_workers.specs.Intake.{InboxView, MakesTurn, Passed, TurnView}
 use Rattle.udp_workers.specs.declared.report.TurnReport.{TurnReport}
+use Rattle.udp_workers.specs.Events.{nothing}
+use Rattle.udp_workers.proofs.CountLaws.{counts_on}
 use Rattle.udp_workers.proofs.HandingLaws.{gives_none, gives_on}
-use Rattle.udp_workers.proofs.TickLaws.{later_same, must_tick, turn_later}
+use Rattle.udp_workers.proofs.TickLaws.{later_on, later_same, must_tick}
 use Rattle.udp_workers.proofs.worker.Worker.run_until.Goals as goal
+
+abbrev passed_by : List Parcel → List Parcel → Passed
+passed_by came went = record { came = came; went = went }
+
+passed_same : {came came' went went' : List Parcel} → came ≡ came' → went ≡ went' → passed_by came went ≡ passed_by came' went'
+passed_same {came' = came'} {went = went} same are = ap (λ c. passed_by c went) same ∙ ap (passed_by came') are
 
 pub loop-made-preserved : goal.loop-made-preserved
 loop-made-preserved g c =
@@ -21,9 +30,15 @@ loop-made-preserved g c =
       watch = ap (λ (watch : Bor g.row.V.Denot). watch.now) made.ensures.watch ∙ l.invariant.watch;
       given = omega arith;
       failures = omega arith;
+      counts =
+          counts_on nothing l.tally.report made.new.tally.report _ _ _ _ _ _ l.invariant.counts
+          (record {
+            sent = omega (arith, made.ensures.counts.sent, ap (λ (l : List Parcel). length l) c.pause.ensures.sent);
+            given = omega (arith, made.ensures.counts.given, ap (λ (l : List Parcel). length l) c.pause.ensures.went);
+          });
       wire = made.ensures.wire ∙ c.pause.ensures.peers ∙ l.invariant.wire;
       steps = omega arith;
-      later = turn_later c.args.exchange.now c.now-time.result all l.self.peers c.args.pass.now l.pass made.new.pass l.invariant.later made.ensures.ticked;
+      later = later_on c.args.pass.now l.pass made.new.pass l.invariant.later made.ensures.later;
       handed =
           gives_on (g.V.Watch.given c.args.watch.now) c.args.pass.now l.pass made.new.pass l.invariant.handed
           (subst (λ (watch : g.row.V.Denot). GivesAll (g.V.Watch.given watch) l.pass made.new.pass) l.invariant.watch made.ensures.handed);
@@ -36,10 +51,14 @@ loop-made-preserved g c =
           l.inbox.datagram,
           l.tally.report.received,
           all,
+          passed_by (g.W.Wire.came l.wire) (g.W.Wire.went l.wire),
           l.invariant.intake.1,
           must_tick c.args.intake l.before c.now-time.result l.end.was_full all l.invariant.intake.0 l.invariant.intake.2 c.ticks_all.ensures,
-          subst (λ peers. MakesTurn c.args.intake c.args.exchange.now peers all view l.inbox.datagram made.new.inbox.datagram l.tally.report.received made.new.tally.report.received l.pass made.new.pass)
-              l.invariant.peers made.ensures.turn,
+          subst (λ from. MakesTurn c.args.intake c.args.exchange.now c.args.self.now.peers all view l.inbox.datagram made.new.inbox.datagram l.tally.report.received made.new.tally.report.received l.pass made.new.pass
+              from (passed_by (g.W.Wire.came made.new.wire) (g.W.Wire.went made.new.wire))) (passed_same c.pause.ensures.came c.pause.ensures.went)
+              (subst (λ peers. MakesTurn c.args.intake c.args.exchange.now peers all view l.inbox.datagram made.new.inbox.datagram l.tally.report.received made.new.tally.report.received l.pass made.new.pass
+              (passed_by (g.W.Wire.came c.pause.new.wire) (g.W.Wire.went c.pause.new.wire)) (passed_by (g.W.Wire.came made.new.wire) (g.W.Wire.went made.new.wire)))
+              l.invariant.peers made.ensures.turn),
         ),
         refl,
       );
@@ -62,13 +81,14 @@ loop-made-init g c =
       watch = c.new-tally.ensures.watch;
       given = omega arith;
       failures = omega arith;
+      counts = record { sent = omega arith; given = omega arith };
       wire = refl;
       steps = omega arith;
       later = later_same c.args.pass.now;
       handed = gives_none (g.V.Watch.given c.args.watch.now) c.args.pass.now;
       place = refl;
       peers = refl;
-      intake = ([], (ap (λ (inbox : InboxView). inbox.datagram) c.new-inbox.ensures, received, refl), refl);
+      intake = ([], (ap (λ (inbox : InboxView). inbox.datagram) c.new-inbox.ensures, received, refl, refl), refl);
       turns = omega arith;
     }
 

@@ -1,14 +1,20 @@
-use Rattle.std.proofs.Common.{Bor, ◌≢◌, ℕ, ◌<◌, List, ◌∙◌, subst, sym, ap, length, rules}
+use Rattle.std.proofs.Common.{Bor, ◌≢◌, ℕ, ◌<◌, List, ◌∙◌, arith, subst, sym, ap, length, rules}
 use Rattle.std.specs.Prelude.{All, AllPairs}
+use Rattle.noted_steps.specs.Notes.{Noted}
+use Rattle.peer_accounts.specs.Accounts.{Credit}
 use Rattle.peer_plan.specs.Plan.{IsPlan}
 use Rattle.peer_plan.specs.declared.endpoint.Endpoint.{Endpoint}
 use Rattle.udp_wires.specs.Counts.{RisesByAtMost}
+use Rattle.udp_wires.specs.Parcels.{Parcel}
+use Rattle.udp_workers.specs.Emptied.{EmptiesDue}
 use Rattle.udp_workers.specs.Handed.{GivesAll}
 use Rattle.udp_workers.specs.Intake.{TakesIn}
 use Rattle.udp_workers.specs.Served.{WorkerView, AreEndpoints}
-use Rattle.udp_workers.specs.Ticked.{TicksDue}
+use Rattle.udp_workers.specs.Ticked.{IsLater, TicksDue}
+use Rattle.udp_workers.proofs.EmptyingLaws.{empties_gives, empties_later, empties_same}
 use Rattle.udp_workers.proofs.HandingLaws.{gives_on}
 use Rattle.udp_workers.proofs.ServedLaws.{peers_below, endpoints_apart}
+use Rattle.udp_workers.proofs.TickLaws.{due_later, later_on}
 use Rattle.udp_workers.proofs.worker.Worker.turn_at.Goals as goal
 
 pub tick_due-has_left_out-requires-clause-peers : goal.tick_due-has_left_out-requires-clause-peers
@@ -37,36 +43,74 @@ pub returns-clause-each : goal.returns-clause-each
 returns-clause-each g c to =
     subst (λ (first : ℕ). RisesByAtMost 256 first (g.W.Wire.given_to c.empty_due-was_full.new.wire to)) (c.receive_all.ensures.given_to to) (c.empty_due-was_full.ensures.each to)
 
-pub returns-clause-ticked : goal.returns-clause-ticked
-returns-clause-ticked g c =
-    let plan = c.args.turn.now.exchange.now in
+pub returns-clause-later : goal.returns-clause-later
+returns-clause-later g c =
     let arrived = c.receive_all.new.pass in
-    let own = c.as_slice-peers.ensures.value ∙ ap (λ (worker : WorkerView). worker.peers) c.self.view_is in
-    let unsent = subst (TicksDue plan c.args.turn.now.time c.args.turn.now.all c.as_slice-peers.result.now arrived) (sym (c.wake_others.ensures ∙ c.empty_due-was_full.ensures.pass)) c.tick_due-has_left_out.ensures.ticked in
-    (arrived, c.receive_all.ensures.later, subst (λ peers. TicksDue plan c.args.turn.now.time c.args.turn.now.all peers arrived c.wake_others.new.pass) own unsent)
+    let ticked = c.tick_due-has_left_out.new.pass in
+    let sent = c.empty_due-was_full.new.pass in
+    let plan = c.args.turn.now.exchange.now in
+    let peers = c.as_slice-peers.result.now in
+    subst (IsLater c.args.pass.now) (sym c.wake_others.ensures)
+    (later_on c.args.pass.now arrived sent c.receive_all.ensures.later
+    (later_on arrived ticked sent (due_later plan c.args.turn.now.time c.args.turn.now.all peers arrived ticked c.tick_due-has_left_out.ensures.ticked)
+    (empties_later plan c.args.turn.now.all peers ticked sent _ _ c.empty_due-was_full.ensures.empties)))
+
+pub returns-clause-steps : goal.returns-clause-steps
+returns-clause-steps g c =
+    let same = empties_same c.args.turn.now.exchange.now c.args.turn.now.all c.as_slice-peers.result.now c.tick_due-has_left_out.new.pass c.empty_due-was_full.new.pass _ _ c.empty_due-was_full.ensures.empties in
+    let steps = ap (λ (credit : Credit). credit.steps) (ap (λ (pass : Noted). pass.credit) c.wake_others.ensures ∙ same) in
+    let received = c.empty_due-was_full.ensures.received ∙ c.tick_due-has_left_out.ensures.only.received in
+    let refused = c.empty_due-was_full.ensures.refused ∙ c.tick_due-has_left_out.ensures.only.refused in
+    omega (arith, steps, received, refused)
+
+pub returns-clause-counts : goal.returns-clause-counts
+returns-clause-counts g c =
+    let counts = c.empty_due-was_full.ensures.counts in
+    let arrived = c.receive_all.ensures in
+    let only = c.tick_due-has_left_out.ensures.only in
+    let went = ap (λ (l : List Parcel). length l) arrived.went in
+    let sent = ap (λ (l : List Parcel). length l) arrived.wire_sent in
+    record {
+      sent = omega (arith, counts.sent, only.sent, arrived.sent, sent);
+      given = omega (arith, counts.given, only.sent, only.lost, arrived.sent, arrived.lost, went);
+    }
 
 pub returns-clause-turn : goal.returns-clause-turn
 returns-clause-turn g c =
     let turn = c.args.turn.now in
     let plan = turn.exchange.now in
     let arrived = c.receive_all.new.pass in
+    let ticked = c.tick_due-has_left_out.new.pass in
+    let came = g.W.Wire.came c.args.wire.now in
+    let went = g.W.Wire.went c.args.wire.now in
+    let went_now = g.W.Wire.went c.empty_due-was_full.new.wire in
     let own = c.as_slice-peers.ensures.value ∙ ap (λ (worker : WorkerView). worker.peers) c.self.view_is in
-    let unsent = subst (TicksDue plan turn.time turn.all c.as_slice-peers.result.now arrived) (sym (c.wake_others.ensures ∙ c.empty_due-was_full.ensures.pass)) c.tick_due-has_left_out.ensures.ticked in
     let counted = c.empty_due-was_full.ensures.received ∙ c.tick_due-has_left_out.ensures.only.received in
+    let sent =
+    subst (λ first. EmptiesDue plan turn.all c.as_slice-peers.result.now ticked c.wake_others.new.pass first went_now) c.receive_all.ensures.went
+    (subst (λ end. EmptiesDue plan turn.all c.as_slice-peers.result.now ticked end (g.W.Wire.went c.receive_all.new.wire) went_now) (sym c.wake_others.ensures) c.empty_due-was_full.ensures.empties) in
     record {
-      mid = arrived;
-      takes = subst (λ (n : ℕ). TakesIn turn.intake plan (record { stage = turn.stage; now = turn.time; challenge = turn.challenge.now }) c.args.inbox.now.datagram c.receive_all.new.inbox.datagram
-          c.args.tally.now.report.received n c.args.pass.now arrived) (sym counted) c.receive_all.ensures.takes;
-      ticks = subst (λ peers. TicksDue plan turn.time turn.all peers arrived c.wake_others.new.pass) own unsent;
+      taken = arrived;
+      takes =
+          subst (λ end. TakesIn turn.intake plan (record { stage = turn.stage; now = turn.time; challenge = turn.challenge.now }) c.args.inbox.now.datagram c.receive_all.new.inbox.datagram
+          c.args.tally.now.report.received c.empty_due-was_full.new.tally.report.received c.args.pass.now arrived came end) (sym c.empty_due-was_full.ensures.came)
+          (subst (λ (n : ℕ). TakesIn turn.intake plan (record { stage = turn.stage; now = turn.time; challenge = turn.challenge.now }) c.args.inbox.now.datagram c.receive_all.new.inbox.datagram
+          c.args.tally.now.report.received n c.args.pass.now arrived came (g.W.Wire.came c.receive_all.new.wire)) (sym counted) c.receive_all.ensures.takes);
+      ticked = ticked;
+      ticks = subst (λ peers. TicksDue plan turn.time turn.all peers arrived ticked) own c.tick_due-has_left_out.ensures.ticked;
+      empties = subst (λ peers. EmptiesDue plan turn.all peers ticked c.wake_others.new.pass went went_now) own sent;
     }
 
 pub returns-clause-handed : goal.returns-clause-handed
 returns-clause-handed g c =
     let given = g.V.Watch.given c.args.tally.now.watch.now in
     let arrived = c.receive_all.new.pass in
-    let ticked = subst (λ (w : Bor g.row.V.Denot). GivesAll (g.V.Watch.given w.now) arrived c.tick_due-has_left_out.new.pass) c.receive_all.ensures.watch c.tick_due-has_left_out.ensures.handed in
-    gives_on given c.args.pass.now arrived c.wake_others.new.pass c.receive_all.ensures.handed
-    (subst (GivesAll given arrived) (sym (c.wake_others.ensures ∙ c.empty_due-was_full.ensures.pass)) ticked)
+    let ticked = c.tick_due-has_left_out.new.pass in
+    let sent = c.empty_due-was_full.new.pass in
+    let ticks = subst (λ (w : Bor g.row.V.Denot). GivesAll (g.V.Watch.given w.now) arrived ticked) c.receive_all.ensures.watch c.tick_due-has_left_out.ensures.handed in
+    let empties = empties_gives given c.args.turn.now.exchange.now c.args.turn.now.all c.as_slice-peers.result.now ticked sent _ _ c.empty_due-was_full.ensures.empties in
+    subst (GivesAll given c.args.pass.now) (sym c.wake_others.ensures)
+    (gives_on given c.args.pass.now arrived sent c.receive_all.ensures.handed (gives_on given arrived ticked sent ticks empties))
 
 pub returns-clause-turns : goal.returns-clause-turns
 returns-clause-turns c = search rules

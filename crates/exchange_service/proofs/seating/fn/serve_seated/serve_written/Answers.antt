@@ -1,7 +1,8 @@
 use denote.Param.Send.{sendable}
 use Rattle.exchange_service.proofs.seating.fn.serve_seated.serve_written.Goals as goal
 
--- that the parameters may go to other threads, by their own bounds, which are named: among all that the closure holds the search gives up
+-- that the parameters may be sent to other threads, by their own bounds, which are named: among all that the closure
+-- captures, the search fails
 pub serve_seats-requires-send-J : goal.serve_seats-requires-send-J
 serve_seats-requires-send-J g c κs within = search (sendable, c.requires) parts 8
 

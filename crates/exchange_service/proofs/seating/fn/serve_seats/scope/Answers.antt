@@ -1,7 +1,9 @@
 use denote.Param.Send.{sendable}
 use Rattle.exchange_service.proofs.seating.fn.serve_seats.scope.Goals as goal
+use Rattle.worker_seats.proofs.Sending.{traced_send}
 
--- that the parameters may go to other threads, by their own bounds alone: among all that the closure holds the search gives up
+-- that the parameters may be sent to other threads, only by their own bounds: among all that the closure captures, the
+-- search fails
 pub start_until-started-requires-send-J : goal.start_until-started-requires-send-J
 start_until-started-requires-send-J g c κs within = search sendable parts 8
 
@@ -13,6 +15,9 @@ start_until-started-requires-send-J-Octets g c κs within = search sendable part
 
 pub start_until-started-requires-send-J-Steps : goal.start_until-started-requires-send-J-Steps
 start_until-started-requires-send-J-Steps g c κs within = search sendable parts 8
+
+pub start_until-started-requires-send-W : goal.start_until-started-requires-send-W
+start_until-started-requires-send-W g c κs within = search (traced_send, sendable) parts 8
 
 pub run-requires-send-J : goal.run-requires-send-J
 run-requires-send-J g c κs within = search sendable parts 8

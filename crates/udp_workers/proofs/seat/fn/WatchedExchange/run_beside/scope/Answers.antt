@@ -1,7 +1,8 @@
 use denote.Param.Send.{sendable}
 use Rattle.udp_workers.proofs.seat.fn.WatchedExchange.run_beside.scope.Goals as goal
 
--- that the parameters may go to other threads, by their own bounds alone: among all that the closure holds the search gives up
+-- that the parameters may be sent to other threads, only by their own bounds: among all that the closure captures, the
+-- search fails
 pub start_until-started-requires : goal.start_until-started-requires
 start_until-started-requires g c k = (
   search sendable parts 8,

@@ -1,0 +1,177 @@
+"""Scripts of a size that no scene has: late moments, long calls, many routes. Their expected output is worked out here, by the
+RFC's rules.
+
+`.ci/sizes` runs them."""
+import os
+import random
+import struct
+import subprocess
+
+from running import LOOPBACK, TOP, plan_text, same
+
+SCENES = f"{TOP}/crates/exchange_main/scenes"
+# Beyond 32 bits of milliseconds, which are 49.7 days.
+LATE = 2**32 + 4321
+
+
+def replayed(program, plan, script):
+    """Returns the lines that a replay prints."""
+    found = subprocess.run([program, "replay", plan, script], capture_output=True, timeout=60)
+    same(f"status of {script}", found.returncode, 0)
+    return found.stdout.decode("ascii").splitlines()
+
+
+def written(folder, name, text):
+    with open(f"{folder}/{name}", "w", encoding="ascii") as it:
+        it.write(text)
+    return f"{folder}/{name}"
+
+
+def full(source, destination, timestamp, oseq, iseq, kind, subclass, data=b""):
+    """A full frame, in hexadecimal digits."""
+    head = struct.pack(">HHIBBBB", 0x8000 | source, destination, timestamp % 2**32, oseq % 256, iseq % 256, kind, subclass)
+    return (head + data).hex()
+
+
+FORMAT = bytes.fromhex("090400000004")
+CAUSE_16 = bytes.fromhex("160f6e6f726d616c20636c656172696e672a0110")
+# A call of the west to the east, at moment 0, until both legs are up and hold no frame; and what is said of it.
+CALL_UP = [
+    f"rx west {full(7, 0, 0, 0, 0, 6, 1, bytes.fromhex('0b0200020103333030090400000004080400000004'))}",
+    f"rx east {full(9, 5, 3, 0, 1, 6, 7, FORMAT)}", f"rx east {full(9, 5, 13, 1, 1, 4, 4)}", f"rx west {full(7, 1, 0, 1, 2, 6, 4)}",
+]
+SAID_UP = [
+    f"tx west {full(1, 7, 0, 0, 1, 6, 7, FORMAT)}", f"tx east {full(5, 0, 0, 0, 0, 6, 1, bytes.fromhex('0b0200020103333030090400000004080400000004'))}",
+    "leg 1 Linked", "leg 5 Waiting", f"tx east {full(5, 9, 3, 1, 1, 6, 4)}", "leg 5 Linked",
+    f"tx west {full(1, 7, 0, 1, 1, 4, 4)}", f"tx east {full(5, 9, 13, 1, 2, 6, 4)}", "leg 1 Up", "leg 5 Up",
+]
+
+
+def later(line):
+    """Returns a line of a script, later by `LATE` milliseconds."""
+    word, _, moment = line.partition(b" ")
+    return b"%s %d" % (word, int(moment) + LATE) if word in (b"at", b"back") and moment.isdigit() else line
+
+
+def sent_later(line):
+    """A line of its output. Only a trunk frame bears the moment itself, modulo 2^32."""
+    words = line.split(" ")
+    if words[0] != "tx" or words[2][:6] != "000001":
+        return line
+    moment = (int(words[2][8:16], 16) + LATE) % 2**32
+    return f"tx {words[1]} {words[2][:8]}{moment:08x}{words[2][16:]}"
+
+
+# The lines that have to be the first of a script.
+FIRST_LINES = (b"#", b"prefix ", b"key ", b"free ", b"serial ")
+
+
+def scenes_at_late_moments(folder, program):
+    """Each scene gives the same 50 days later, though its moments have more than 32 bits. (A call token and a POKE
+    have the moment itself: their scenes are left out.)"""
+    count = 0
+    for name in sorted(it[:-7] for it in os.listdir(SCENES) if it.endswith(".script")):
+        plan = f"{SCENES}/{name}.plan"
+        with open(plan, "rb") as it:
+            has_moments = b"call_token" in it.read() or name.startswith("qualify_")
+        if has_moments or os.path.exists(f"{SCENES}/{name}.status"):
+            continue
+        with open(f"{SCENES}/{name}.script", "rb") as it:
+            lines = it.read().split(b"\n")
+        first = next((place for place, it in enumerate(lines) if it and not it.startswith(FIRST_LINES)), 0)
+        lines = lines[:first] + [b"at %d" % LATE] + [later(it) for it in lines[first:]]
+        with open(f"{folder}/late", "wb") as it:
+            it.write(b"\n".join(lines))
+        with open(f"{SCENES}/{name}.expected", encoding="ascii") as it:
+            wanted = [sent_later(line) for line in it.read().splitlines()]
+        same(f"{name}, at {LATE} ms", replayed(program, plan, f"{folder}/late"), wanted)
+        count += 1
+    same("scenes with a script", count > 100, True)
+    return count
+
+
+def a_call_of_fifty_days(folder, program):
+    """A call lasts for more than 2^32 ms. Its PING, its digit and its HANGUP bear what is left of its length; a frame is sent again as ever."""
+    length = 2**32 + 1000
+    head = "format = 1\nping_ms = 600000\nrecord_limit = 65536"
+    plan = written(folder, "days.plan", plan_text([(LOOPBACK, 4569)], [("west", 5001, 0, 4), ("east", 5002, 0, 4)], head))
+    ack, ping, hangup = (6, 4), (6, 2), (6, 5)
+    script = [
+        *CALL_UP,
+        f"at {length}", "tick", f"at {length + 1000}", "tick",
+        f"rx west {full(7, 1, length + 1000, 1, 3, *ack)}", f"rx east {full(9, 5, length + 1000, 2, 2, *ack)}",
+        f"at {length + 1500}", f"rx west {full(7, 1, length + 1500, 1, 3, 1, 0x35)}", f"rx east {full(9, 5, 0, 2, 3, *ack)}",
+        "hangup 1", f"rx west {full(7, 1, length + 1500, 2, 4, *ack)}", f"rx east {full(9, 5, 0, 2, 4, *ack)}", "settle",
+    ]
+    pings = [f"tx west {full(1, 7, length, 2, 1, *ping)}", f"tx east {full(5, 9, length, 1, 2, *ping)}"]
+    again = [f"tx west {full(1, 0x8007, length, 2, 1, *ping)}", f"tx east {full(5, 0x8009, length, 1, 2, *ping)}"]
+    wanted = [
+        *SAID_UP, *pings, *again,
+        f"tx west {full(1, 7, length + 1500, 3, 2, *ack)}", f"tx east {full(5, 9, length + 1500, 2, 2, 1, 0x35)}",
+        f"tx west {full(1, 7, length + 1500, 3, 2, *hangup, CAUSE_16)}", f"tx east {full(5, 9, length + 1500, 3, 2, *hangup, CAUSE_16)}",
+        "leg 1 Closing", "leg 5 Closing", "retired 1 4 4 2", "leg 1 Free", "retired 5 4 4 2", "leg 5 Free", "octets 0 0 0 0",
+    ]
+    found = replayed(program, plan, written(folder, "days.script", "\n".join(script) + "\n"))
+    same("a call of fifty days", found, wanted)
+
+
+def five_thousand_digits(folder, program):
+    """A record has more than 10,000 entries, and each octet of a sequence number comes many times: digits are taken in order, a repeat and a gap are
+    distinguished from them, and the counts at the end are those of all frames."""
+    count = 5000
+    plan = written(folder, "digits.plan", plan_text([(LOOPBACK, 4569)], [("west", 5001, 0, 4), ("east", 5002, 0, 4)], "format = 4\nping_ms = 0"))
+    script, wanted = [*CALL_UP], [*SAID_UP]
+    for place in range(count):
+        digit, moment = 0x30 + place % 10, 20 * place
+        script += [f"at {moment}", f"rx west {full(7, 1, moment, 1 + place, 2, 1, digit)}", f"rx east {full(9, 5, 13, 2, 2 + place, 6, 4)}"]
+        wanted += [f"tx west {full(1, 7, moment, 2, 2 + place, 6, 4)}", f"tx east {full(5, 9, moment, 1 + place, 2, 1, digit)}"]
+    last = count + 1
+    # A repeat of the last digit, a frame after the next one, and the next one, which hangs up.
+    script += [f"rx west {full(7, 1, 7, last - 1, 2, 1, 0x39)}", f"rx west {full(7, 1, 8, last + 1, 2, 1, 0x30)}", f"rx west {full(7, 1, 9, last, 2, 6, 5)}"]
+    script += [f"rx east {full(9, 5, 13, 2, last + 1, 6, 4)}", "settle"]
+    wanted += [f"tx west {full(1, 7, 7, 2, last, 6, 4)}", f"tx west {full(1, 7, 8, 2, last, 6, 18)}", f"tx west {full(1, 7, 9, 2, last + 1, 6, 4)}"]
+    wanted += [f"tx east {full(5, 9, 20 * (count - 1), last, 2, 6, 5, CAUSE_16)}", f"retired 1 2 2 {count + 2}", "leg 1 Free", "leg 5 Closing"]
+    wanted += [f"retired 5 {count + 2} {count + 2} 2", "leg 5 Free", "octets 0 0 0 0"]
+    found = replayed(program, plan, written(folder, "digits.script", "\n".join(script) + "\n"))
+    numbers = [bytes.fromhex(it.split()[2])[8] for it in found if it.startswith("tx east ") and it[28:30] == "01"]
+    same("the numbers of digits that go out", {numbers.count(it) >= 19 for it in range(256)}, {True})
+    for place, both in enumerate(zip(found, wanted), 1):
+        same(f"line {place} of {count} digits", *both)
+    same("how many lines", len(found), len(wanted))
+    return count
+
+
+def many_routes(folder, program, count):
+    """Each of a hundred calls goes to the peer of the longest prefix, and of two of one length to that of the route for this caller."""
+    dice, names = random.Random(count), [f"peer{place}" for place in range(32)]
+    peers = [(name, 5001 + place, 0, 128) for place, name in enumerate(names)]
+    routes = {}
+    while len(routes) < count:
+        begun = dice.choice([*routes, ("", None)] if len(routes) < 400 else [("", None)])[0]
+        prefix = (begun + "".join(dice.choices("0123456789", k=dice.randrange(1, 5))))[:9]
+        routes.setdefault((prefix, dice.choice([None, None, names[0], names[1]])), dice.choice(names))
+    text = plan_text([(LOOPBACK, 4569)], peers, "format = 4")
+    for (prefix, source), target in routes.items():
+        text += f'[[route]]\nprefix = "{prefix}"\npeer = "{target}"\n' + (f'source = "{source}"\n' if source else "")
+    script, wanted = [], []
+    for own in range(1, 101):
+        number = (dice.choice([*routes])[0] + "".join(dice.choices("0123456789", k=4)))[: dice.randrange(1, 13)]
+        data = bytes([11, 2, 0, 2, 1, len(number)]) + number.encode() + FORMAT
+        script.append(f"rx {names[0]} {full(own, 0, 0, 0, 0, 6, 1, data)}")
+        found = [(len(it[0]), it[1] is not None, routes[it]) for it in routes if number.startswith(it[0]) and it[1] in (None, names[0])]
+        wanted.append((number, max(found)[2] if found else None))
+    lines = replayed(program, written(folder, "routes.plan", text), written(folder, "routes.script", "\n".join(script) + "\n"))
+    news = [(bytes.fromhex(it.split()[2]), it.split()[1]) for it in lines if it.startswith("tx ") and it.split()[2][20:24] == "0601"]
+    same(f"calls by {count} routes", [(octets[18 : 18 + octets[17]].decode(), peer) for octets, peer in news], [it for it in wanted if it[1]])
+    same("calls without a route", sum(it.split()[2][20:24] == "0606" for it in lines if it.startswith("tx ")), sum(it[1] is None for it in wanted))
+    same("peers that are called", len({it[1] for it in wanted if it[1]}) > 20, True)
+    return count
+
+
+def all_of(folder, program):
+    """Runs all, and says how many."""
+    late = scenes_at_late_moments(folder, program)
+    a_call_of_fifty_days(folder, program)
+    digits = five_thousand_digits(folder, program)
+    routes = [many_routes(folder, program, it) for it in (300, 5000)]
+    return f"{late} scenes late, a call of fifty days, {digits} digits, {routes[0]} and {routes[1]} routes"

@@ -1,0 +1,14 @@
+use Rattle.std.proofs.Common.{◌≡◌, arith}
+use Rattle.std.proofs.lemmas.Grind.{common_steps}
+use Rattle.exchange_report.proofs.PlaceLaws.{named_at}
+use Rattle.exchange_report.proofs.peer_names.peer_named.Goals as goal
+
+pub returns-then-eq-clause-place : goal.returns-then-eq-clause-place
+returns-then-eq-clause-place c =
+    let at = named_at c.args.name.now c.name.result.now c.args.plan.now.peers c.loop-peer.peer c.name.ensures in
+    grind (arith, common_steps)
+
+pub loop-peer-preserved : goal.loop-peer-preserved
+loop-peer-preserved c =
+    let at = named_at c.args.name.now c.name.result.now c.args.plan.now.peers c.loop-peer.peer c.name.ensures in
+    grind (arith, common_steps)

@@ -1,0 +1,7 @@
+use Rattle.std.proofs.Common.{rules, subst, sym}
+use Rattle.info_elements.specs.Element.{IsElementCutAt}
+use Rattle.exchange_tests.proofs.tests.steps_by_hand.peer_steps.is_whole.Goals as goal
+
+pub returns-in-Ok : goal.returns-in-Ok
+returns-in-Ok c =
+    λ whole cut. let clash = c.in-Ok.ensures.only_cut cut.1.0 (subst (λ octets. IsElementCutAt octets cut.1.0) (sym c.payload.ensures) cut.1.1) in search rules

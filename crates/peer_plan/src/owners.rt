@@ -1,0 +1,31 @@
+//! Which peer has a local call number.
+ghost use Rattle.std.specs.Prelude.{◌≡◌, ◌<◌, ◌↔◌, ℕ, length, true, IfSome, IfNone, IsTrue};
+ghost use Rattle.peer_plan.specs.Plan.{IsInRange, counts_of, range_of};
+
+use crate::number_range::NumberRange;
+use crate::plan::Plan;
+
+// Whether a range has a number.
+fn has_number(range: NumberRange, number: u16) -> bool
+    ensures { IsTrue result ↔ IsInRange range number }
+{
+    range.first <= number && number - range.first < range.count
+}
+
+impl Plan {
+    /// The place of the peer that has a local call number; none if no peer has it. Takes the time of a look at each pair of
+    /// peers.
+    pub fn owner_of(&self, number: u16) -> Option<u16>
+        ensures found { IfSome result (λ peer. IsInRange (range_of (counts_of self.now.peers) peer) number) }
+        ensures place { IfSome result (λ peer. peer < length self.now.peers) }
+        ensures none { IfNone result ((peer : ℕ) → peer < length self.now.peers →
+            IsInRange (range_of (counts_of self.now.peers) peer) number → ⊥) }
+    {
+        for peer in 0..self.peer_count() {
+            if has_number(self.range(peer), number) {
+                return Some(peer);
+            }
+        }
+        None
+    }
+}

@@ -1,0 +1,17 @@
+//! Log lines about datagrams that the system dropped.
+use crate::lines::{more_than, tell_count};
+use log::{Level, Log};
+use service_watch::DropCount;
+use std::iter;
+
+// Logs the datagrams that the system dropped at each worker's socket in a round of `seconds` seconds.
+pub(crate) fn tell_drops<L: Log>(log: &L, told: &mut [u64], counts: &[DropCount], seconds: u64) {
+    for (told, count) in iter::zip(told.iter_mut(), counts) {
+        if let Some(drops) = count.drops {
+            let more = more_than(told, drops);
+            let worker = &count.worker;
+            let what = format_args!("the system dropped at the socket of worker {worker}");
+            tell_count(log, Level::Warn, &what, more, seconds);
+        }
+    }
+}
