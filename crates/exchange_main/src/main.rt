@@ -141,6 +141,8 @@ fn command_of(words: &[String]) -> Command<'_> {
         return Command::ByOptions;
     };
     match (command.as_str(), words) {
+        // No file's name: `clap` prints the help of that command.
+        (_, [word]) if word.as_str() == "--help" || word.as_str() == "-h" => Command::ByOptions,
         ("check", [plan]) => Command::Check(plan.as_str()),
         ("explain", [plan]) => Command::Explain(plan.as_str()),
         ("plan", [order]) if order.as_str() == "new" => Command::Sample,
