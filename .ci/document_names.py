@@ -218,7 +218,8 @@ def check_scripts_and_records():
     runs = re.findall(r"^(?:side_by_side )?(\.ci/.*)$", text_of(".ci/run").partition("\nrt ci ")[2], re.M)
     gate = re.findall(r"\.ci/(\w+)", " ".join(runs))
     parts = [it.removeprefix(".ci/") for it in first_cells(section_of(text_of("docs/CHECKS.md"), "## Parts"))]
-    names_agree("docs/CHECKS.md, parts", parts, gate + ["wrong_bodies", *(f"tools/{name}/tests" for name in ("wrong_bodies", "quick_check")), "rt ci"])
+    tools = [f"tools/{name}/tests" for name in ("wrong_bodies", "quick_check", "iax_test")]
+    names_agree("docs/CHECKS.md, parts", parts, gate + ["wrong_bodies", *tools, "rt ci"])
 
 
 def names_of_sources():

@@ -1,31 +1,39 @@
-"""Shared parts of the gate's scripts that run the program: peers on loopback, clients of a service, and the service itself.
+"""Shared parts of the gate's scripts that run the program: the service, its plan, and its clients. tools/iax_test has the
+peers.
 
 They need the program as `rt ci` has built it. A failed check ends a script, with its name and a sentence."""
-import hashlib
 import itertools
 import json
 import os
 import re
 import resource
 import socket
-import struct
 import subprocess
 import sys
-import time
+
+from iax_test.ports import LOOPBACK, is_spare
+from iax_test.protocol import Element
+from iax_test.waits import Failed, within
 
 TOP = os.path.dirname(os.path.dirname(os.path.realpath(__file__)))
 PROGRAM = os.environ.get("EXCHANGE_MAIN") or f"{TOP}/crates/exchange_main/out/exchange_main"
 PART = os.path.basename(sys.argv[0])
 # Below those of endurance/, which begin at 11000.
 PORTS = itertools.count(6000 + 1000 * ("service", "control", "call_files", "traces", "sizes").index(PART))
-# IAX subclasses.
-NEW, HANGUP, ACK, ACCEPT, REJECT, AUTHREQ, AUTHREP, PONG, POKE = 1, 5, 4, 7, 6, 8, 9, 3, 0x1E
-LOOPBACK = "127.0.0.1"
+
+
+def run_checks(main):
+    """Runs the main function of a script."""
+    try:
+        main()
+    except Failed as failed:
+        raise SystemExit(f"{PART}: {failed}") from None
 
 
 def same(what, found, wanted):
+    """Fails unless both values are the same."""
     if found != wanted:
-        raise SystemExit(f"{PART}: {what}: {found!r}, not {wanted!r}")
+        raise Failed(f"{what}: {found!r}, not {wanted!r}")
 
 
 # The message of a service that runs as root, behind the level.
@@ -37,17 +45,6 @@ def without_root(logged):
     return "".join(line for line in logged.splitlines(True) if not line.endswith(f" {AS_ROOT}\n"))
 
 
-def within(what, seconds, look):
-    """Waits until `look` finds something, at most `seconds` seconds."""
-    end = time.monotonic() + seconds
-    while time.monotonic() < end:
-        found = look()
-        if found:
-            return found
-        time.sleep(0.02)
-    raise SystemExit(f"{PART}: {what}: not within {seconds} s")
-
-
 def plan_text(workers, peers, head="format = 1"):
     """Returns the text of a plan: its head, its workers, each an address and a port, and its peers. A peer is a name, its
     port at loopback, the place of its worker, its number of call numbers, and further lines. Numbers that begin with 3 lead
@@ -56,96 +53,36 @@ def plan_text(workers, peers, head="format = 1"):
     for name, port, worker, numbers, *lines in peers:
         text += f'[[peer]]\nname = "{name}"\naddress = "{LOOPBACK}"\nport = {port}\nworker = {worker}\n'
         # (a peer of these tests expects no POKE, unless it says so)
-        if "format = 4" in head and not any(it.startswith("qualify_ms") for it in lines):
+        if "format = 4" in head and not any(line.startswith("qualify_ms") for line in lines):
             lines = [*lines, "qualify_ms = 0"]
-        text += f'formats = ["ulaw"]\nnumbers = {numbers}\n' + "".join(f"{it}\n" for it in lines)
-    return text + ('[[route]]\nprefix = "3"\npeer = "east"\n' if "east" in [it[0] for it in peers] else "")
+        text += f'formats = ["ulaw"]\nnumbers = {numbers}\n' + "".join(f"{line}\n" for line in lines)
+    return text + ('[[route]]\nprefix = "3"\npeer = "east"\n' if "east" in [peer[0] for peer in peers] else "")
 
 
 def write_plan(file, worker, west, east):
     """Writes the plan of a worker with two peers, of which the west has a secret."""
     secret = ('user = "exchange"', 'secret = "a secret of the west"')
-    with open(file, "w", encoding="utf-8") as it:
-        it.write(plan_text([(LOOPBACK, worker)], [("west", west.port, 0, 4, *secret), ("east", east.port, 0, 4)], "format = 1\nrecord_limit = 65536"))
+    with open(file, "w", encoding="utf-8") as plan:
+        plan.write(plan_text([(LOOPBACK, worker)], [("west", west.port, 0, 4, *secret), ("east", east.port, 0, 4)], "format = 1\nrecord_limit = 65536"))
 
 
-def element_of(frame, wanted):
-    """Returns the value of an information element of a full frame."""
-    at = 12
-    while at + 2 <= len(frame):
-        end = at + 2 + frame[at + 1]
-        if frame[at] == wanted:
-            return frame[at + 2:end]
-        at = end
-    raise SystemExit(f"{PART}: no element {wanted:#x} in {frame.hex()}")
+def element_of(frame, code):
+    """Returns the value of an information element of a full frame. Fails without it."""
+    value = frame.element(code)
+    if value is None:
+        raise Failed(f"no element {code:#x} in {frame.packed().hex()}")
+    return value
 
 
 def challenge_of(frame):
     """Returns the challenge of an AUTHREQ."""
-    return element_of(frame, 0x0F)
-
-
-def answer_to(challenge, secret):
-    """Returns the element MD5 RESULT that answers a challenge."""
-    return b"\x10\x20" + hashlib.md5(challenge + secret).hexdigest().encode()
-
-
-def source_of(frame):
-    """Returns the call number of a full frame's sender."""
-    return struct.unpack(">H", frame[:2])[0] & 0x7FFF
-
-
-class Peer:
-    """A peer: a UDP socket, and the full frames that came to it."""
-
-    def __init__(self):
-        self.socket = socket.socket(socket.AF_INET, socket.SOCK_DGRAM)
-        self.socket.bind(("127.0.0.1", 0))
-        self.socket.settimeout(0.05)
-        self.port = self.socket.getsockname()[1]
-        self.frames = []
-
-    def listen(self):
-        try:
-            while True:
-                octets = self.socket.recv(2048)
-                if octets[0] & 0x80:
-                    self.frames.append(octets)
-        except TimeoutError:
-            pass
-
-    def frame(self, what, frame_type, subclass, place=-1):
-        """Waits for a frame of this type and subclass."""
-
-        def look():
-            self.listen()
-            found = [it for it in self.frames if it[10] == frame_type and it[11] == subclass]
-            return found[place] if found else None
-
-        return within(f"{what} at a peer", 5, look)
-
-    def send(self, to, source, destination, timestamp, oseq, iseq, frame_type, subclass, data=b""):
-        head = struct.pack(">HHIBBBB", 0x8000 | source, destination, timestamp, oseq, iseq, frame_type, subclass)
-        self.socket.sendto(head + data, ("127.0.0.1", to))
-
-    def call_rejected(self, to, source, elements):
-        """Calls by a NEW with these elements, gets its REJECT, and acknowledges that."""
-        self.frames.clear()
-        self.send(to, source, 0, 0, 0, 0, 6, NEW, bytes.fromhex(elements))
-        reject = self.frame("REJECT", 6, REJECT)
-        self.send(to, source, source_of(reject), 9, 1, reject[8] + 1, 6, ACK)
+    return element_of(frame, Element.CHALLENGE)
 
 
 def spare(kind):
     """Returns a port that nobody has. Each part has its own ports, which the system gives nobody. Parts run at the same
     time, so another program could get a released port before this one binds it."""
-    for port in PORTS:
-        with socket.socket(socket.AF_INET, kind) as it:
-            try:
-                it.bind(("127.0.0.1", port))
-                return port
-            except OSError:
-                continue
+    return next(port for port in PORTS if is_spare(port, kind))
 
 
 def spare_port():
@@ -157,10 +94,10 @@ def spare_tcp_port():
 
 
 def connected(path):
-    it = socket.socket(socket.AF_UNIX)
-    it.settimeout(10)
-    it.connect(path)
-    return it
+    client = socket.socket(socket.AF_UNIX)
+    client.settimeout(10)
+    client.connect(path)
+    return client
 
 
 def read_all(client):
@@ -173,7 +110,7 @@ def read_all(client):
 def status_and_body(octets):
     head, _, body = octets.partition(b"\r\n\r\n")
     lines = head.split(b"\r\n")
-    fields = dict(it.split(b": ", 1) for it in lines[1:])
+    fields = dict(line.split(b": ", 1) for line in lines[1:])
     same("Content-Length", int(fields[b"Content-Length"]), len(body))
     return int(lines[0].split()[1]), json.loads(body), fields
 
@@ -193,8 +130,8 @@ def ask(path, method, target, body=None):
 
 def ctl(path, *words):
     """Returns the output of `ctl`, and its status."""
-    it = subprocess.run([PROGRAM, "ctl", path, *words], capture_output=True, text=True, timeout=20)
-    return it.stdout, it.returncode
+    done = subprocess.run([PROGRAM, "ctl", path, *words], capture_output=True, text=True, timeout=20)
+    return done.stdout, done.returncode
 
 
 LABEL = r'([a-z_]+)="((?:[^"\\\\\n]|\\\\["n\\\\])*)"'
@@ -208,7 +145,7 @@ def samples_of(text):
         if line.startswith("# HELP "):
             name, kind = line.split(" ", 3)[2], None
             same(f"what {name} means", len(line.split(" ", 3)[3]) > 10, True)
-            same(f"{name} comes once", any(it[0] == name for it in samples), False)
+            same(f"{name} comes once", any(sample[0] == name for sample in samples), False)
         elif line.startswith("# TYPE "):
             same("HELP stands before TYPE", line.split()[2], name)
             kind = line.split()[3]
@@ -224,11 +161,11 @@ def samples_of(text):
 
 def scraped(port, request=b"GET /metrics HTTP/1.1\r\nHost: x\r\n\r\n"):
     """Returns the status, the body and the fields of the answer at the metrics' address."""
-    with socket.create_connection(("127.0.0.1", port), timeout=10) as client:
+    with socket.create_connection((LOOPBACK, port), timeout=10) as client:
         client.sendall(request)
         head, _, body = read_all(client).partition(b"\r\n\r\n")
     lines = head.split(b"\r\n")
-    fields = dict(it.split(b": ", 1) for it in lines[1:])
+    fields = dict(line.split(b": ", 1) for line in lines[1:])
     same("Content-Length", int(fields[b"Content-Length"]), len(body))
     return int(lines[0].split()[1]), body.decode(), fields
 
@@ -260,7 +197,7 @@ class Service:
         """Returns whether it answers. (Its control socket is bound before the sockets of its workers are, and answers once
         they are.)"""
         if self.process.poll() is not None:
-            raise SystemExit(f"{PART}: ended with {self.process.returncode}: {self.process.stdout.read()}")
+            raise Failed(f"ended with {self.process.returncode}: {self.process.stdout.read()}")
         try:
             return ask(self.path, "GET", "/")
         except OSError:
@@ -274,4 +211,4 @@ class Service:
 def stages(path):
     status, calls = ask(path, "GET", "/calls")
     same("GET /calls", status, 200)
-    return {it["number"]: it["stage"] for it in calls["calls"]}
+    return {call["number"]: call["stage"] for call in calls["calls"]}

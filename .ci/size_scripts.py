@@ -4,10 +4,14 @@ RFC's rules.
 `.ci/sizes` runs them."""
 import os
 import random
-import struct
 import subprocess
 
-from running import LOOPBACK, TOP, plan_text, same
+from iax_test.frames import (
+    CAPABILITY, FORMAT, STAMPED_TRUNK, TRUNK, FullFrame, cause_code, element, new_data, new_frame,
+)
+from iax_test.ports import LOOPBACK
+from iax_test.protocol import ACCEPT, ACK, ANSWER, HANGUP, NEW, PING, REJECT, VNAK, Element, FrameType, digit_kind
+from running import TOP, plan_text, same
 
 SCENES = f"{TOP}/crates/exchange_main/scenes"
 # Beyond 32 bits of milliseconds, which are 49.7 days.
@@ -27,23 +31,22 @@ def written(folder, name, text):
     return f"{folder}/{name}"
 
 
-def full(source, destination, timestamp, oseq, iseq, kind, subclass, data=b""):
-    """A full frame, in hexadecimal digits."""
-    head = struct.pack(">HHIBBBB", 0x8000 | source, destination, timestamp % 2**32, oseq % 256, iseq % 256, kind, subclass)
-    return (head + data).hex()
+def full(*fields, **more):
+    """Returns a full frame with these fields, in hexadecimal digits."""
+    return FullFrame(*fields, **more).packed().hex()
 
 
-FORMAT = bytes.fromhex("090400000004")
-CAUSE_16 = bytes.fromhex("160f6e6f726d616c20636c656172696e672a0110")
+CAUSE_16 = element(Element.CAUSE, b"normal clearing") + cause_code(16)
+NEW_FOR_300 = new_data(b"300", FORMAT, CAPABILITY)
 # A call of the west to the east, at moment 0, until both legs are up and hold no frame; and what is said of it.
 CALL_UP = [
-    f"rx west {full(7, 0, 0, 0, 0, 6, 1, bytes.fromhex('0b0200020103333030090400000004080400000004'))}",
-    f"rx east {full(9, 5, 3, 0, 1, 6, 7, FORMAT)}", f"rx east {full(9, 5, 13, 1, 1, 4, 4)}", f"rx west {full(7, 1, 0, 1, 2, 6, 4)}",
+    f"rx west {full(7, 0, 0, 0, 0, NEW, NEW_FOR_300)}",
+    f"rx east {full(9, 5, 3, 0, 1, ACCEPT, FORMAT)}", f"rx east {full(9, 5, 13, 1, 1, ANSWER)}", f"rx west {full(7, 1, 0, 1, 2, ACK)}",
 ]
 SAID_UP = [
-    f"tx west {full(1, 7, 0, 0, 1, 6, 7, FORMAT)}", f"tx east {full(5, 0, 0, 0, 0, 6, 1, bytes.fromhex('0b0200020103333030090400000004080400000004'))}",
-    "leg 1 Linked", "leg 5 Waiting", f"tx east {full(5, 9, 3, 1, 1, 6, 4)}", "leg 5 Linked",
-    f"tx west {full(1, 7, 0, 1, 1, 4, 4)}", f"tx east {full(5, 9, 13, 1, 2, 6, 4)}", "leg 1 Up", "leg 5 Up",
+    f"tx west {full(1, 7, 0, 0, 1, ACCEPT, FORMAT)}", f"tx east {full(5, 0, 0, 0, 0, NEW, NEW_FOR_300)}",
+    "leg 1 Linked", "leg 5 Waiting", f"tx east {full(5, 9, 3, 1, 1, ACK)}", "leg 5 Linked",
+    f"tx west {full(1, 7, 0, 1, 1, ANSWER)}", f"tx east {full(5, 9, 13, 1, 2, ACK)}", "leg 1 Up", "leg 5 Up",
 ]
 
 
@@ -56,7 +59,7 @@ def later(line):
 def sent_later(line):
     """A line of its output. Only a trunk frame bears the moment itself, modulo 2^32."""
     words = line.split(" ")
-    if words[0] != "tx" or words[2][:6] != "000001":
+    if words[0] != "tx" or not bytes.fromhex(words[2]).startswith((TRUNK, STAMPED_TRUNK)):
         return line
     moment = (int(words[2][8:16], 16) + LATE) % 2**32
     return f"tx {words[1]} {words[2][:8]}{moment:08x}{words[2][16:]}"
@@ -95,20 +98,19 @@ def a_call_of_fifty_days(folder, program):
     length = 2**32 + 1000
     head = "format = 1\nping_ms = 600000\nrecord_limit = 65536"
     plan = written(folder, "days.plan", plan_text([(LOOPBACK, 4569)], [("west", 5001, 0, 4), ("east", 5002, 0, 4)], head))
-    ack, ping, hangup = (6, 4), (6, 2), (6, 5)
     script = [
         *CALL_UP,
         f"at {length}", "tick", f"at {length + 1000}", "tick",
-        f"rx west {full(7, 1, length + 1000, 1, 3, *ack)}", f"rx east {full(9, 5, length + 1000, 2, 2, *ack)}",
-        f"at {length + 1500}", f"rx west {full(7, 1, length + 1500, 1, 3, 1, 0x35)}", f"rx east {full(9, 5, 0, 2, 3, *ack)}",
-        "hangup 1", f"rx west {full(7, 1, length + 1500, 2, 4, *ack)}", f"rx east {full(9, 5, 0, 2, 4, *ack)}", "settle",
+        f"rx west {full(7, 1, length + 1000, 1, 3, ACK)}", f"rx east {full(9, 5, length + 1000, 2, 2, ACK)}",
+        f"at {length + 1500}", f"rx west {full(7, 1, length + 1500, 1, 3, digit_kind(0x35))}", f"rx east {full(9, 5, 0, 2, 3, ACK)}",
+        "hangup 1", f"rx west {full(7, 1, length + 1500, 2, 4, ACK)}", f"rx east {full(9, 5, 0, 2, 4, ACK)}", "settle",
     ]
-    pings = [f"tx west {full(1, 7, length, 2, 1, *ping)}", f"tx east {full(5, 9, length, 1, 2, *ping)}"]
-    again = [f"tx west {full(1, 0x8007, length, 2, 1, *ping)}", f"tx east {full(5, 0x8009, length, 1, 2, *ping)}"]
+    pings = [f"tx west {full(1, 7, length, 2, 1, PING)}", f"tx east {full(5, 9, length, 1, 2, PING)}"]
+    again = [f"tx {peer} {full(*fields, PING, is_retransmitted=True)}" for peer, *fields in (("west", 1, 7, length, 2, 1), ("east", 5, 9, length, 1, 2))]
     wanted = [
         *SAID_UP, *pings, *again,
-        f"tx west {full(1, 7, length + 1500, 3, 2, *ack)}", f"tx east {full(5, 9, length + 1500, 2, 2, 1, 0x35)}",
-        f"tx west {full(1, 7, length + 1500, 3, 2, *hangup, CAUSE_16)}", f"tx east {full(5, 9, length + 1500, 3, 2, *hangup, CAUSE_16)}",
+        f"tx west {full(1, 7, length + 1500, 3, 2, ACK)}", f"tx east {full(5, 9, length + 1500, 2, 2, digit_kind(0x35))}",
+        f"tx west {full(1, 7, length + 1500, 3, 2, HANGUP, CAUSE_16)}", f"tx east {full(5, 9, length + 1500, 3, 2, HANGUP, CAUSE_16)}",
         "leg 1 Closing", "leg 5 Closing", "retired 1 4 4 2", "leg 1 Free", "retired 5 4 4 2", "leg 5 Free", "octets 0 0 0 0",
     ]
     found = replayed(program, plan, written(folder, "days.script", "\n".join(script) + "\n"))
@@ -122,18 +124,20 @@ def five_thousand_digits(folder, program):
     plan = written(folder, "digits.plan", plan_text([(LOOPBACK, 4569)], [("west", 5001, 0, 4), ("east", 5002, 0, 4)], "format = 4\nping_ms = 0"))
     script, wanted = [*CALL_UP], [*SAID_UP]
     for place in range(count):
-        digit, moment = 0x30 + place % 10, 20 * place
-        script += [f"at {moment}", f"rx west {full(7, 1, moment, 1 + place, 2, 1, digit)}", f"rx east {full(9, 5, 13, 2, 2 + place, 6, 4)}"]
-        wanted += [f"tx west {full(1, 7, moment, 2, 2 + place, 6, 4)}", f"tx east {full(5, 9, moment, 1 + place, 2, 1, digit)}"]
+        digit, moment = digit_kind(0x30 + place % 10), 20 * place
+        script += [f"at {moment}", f"rx west {full(7, 1, moment, 1 + place, 2, digit)}", f"rx east {full(9, 5, 13, 2, 2 + place, ACK)}"]
+        wanted += [f"tx west {full(1, 7, moment, 2, 2 + place, ACK)}", f"tx east {full(5, 9, moment, 1 + place, 2, digit)}"]
     last = count + 1
     # A repeat of the last digit, a frame after the next one, and the next one, which hangs up.
-    script += [f"rx west {full(7, 1, 7, last - 1, 2, 1, 0x39)}", f"rx west {full(7, 1, 8, last + 1, 2, 1, 0x30)}", f"rx west {full(7, 1, 9, last, 2, 6, 5)}"]
-    script += [f"rx east {full(9, 5, 13, 2, last + 1, 6, 4)}", "settle"]
-    wanted += [f"tx west {full(1, 7, 7, 2, last, 6, 4)}", f"tx west {full(1, 7, 8, 2, last, 6, 18)}", f"tx west {full(1, 7, 9, 2, last + 1, 6, 4)}"]
-    wanted += [f"tx east {full(5, 9, 20 * (count - 1), last, 2, 6, 5, CAUSE_16)}", f"retired 1 2 2 {count + 2}", "leg 1 Free", "leg 5 Closing"]
+    script += [f"rx west {full(7, 1, 7, last - 1, 2, digit_kind(0x39))}", f"rx west {full(7, 1, 8, last + 1, 2, digit_kind(0x30))}"]
+    script += [f"rx west {full(7, 1, 9, last, 2, HANGUP)}"]
+    script += [f"rx east {full(9, 5, 13, 2, last + 1, ACK)}", "settle"]
+    wanted += [f"tx west {full(1, 7, 7, 2, last, ACK)}", f"tx west {full(1, 7, 8, 2, last, VNAK)}", f"tx west {full(1, 7, 9, 2, last + 1, ACK)}"]
+    wanted += [f"tx east {full(5, 9, 20 * (count - 1), last, 2, HANGUP, CAUSE_16)}", f"retired 1 2 2 {count + 2}", "leg 1 Free", "leg 5 Closing"]
     wanted += [f"retired 5 {count + 2} {count + 2} 2", "leg 5 Free", "octets 0 0 0 0"]
     found = replayed(program, plan, written(folder, "digits.script", "\n".join(script) + "\n"))
-    numbers = [bytes.fromhex(it.split()[2])[8] for it in found if it.startswith("tx east ") and it[28:30] == "01"]
+    frames = [FullFrame.read(bytes.fromhex(line.split()[2])) for line in found if line.startswith("tx east ")]
+    numbers = [frame.oseq for frame in frames if frame.kind.frame_type == FrameType.DTMF]
     same("the numbers of digits that go out", {numbers.count(it) >= 19 for it in range(256)}, {True})
     for place, both in enumerate(zip(found, wanted), 1):
         same(f"line {place} of {count} digits", *both)
@@ -156,14 +160,15 @@ def many_routes(folder, program, count):
     script, wanted = [], []
     for own in range(1, 101):
         number = (dice.choice([*routes])[0] + "".join(dice.choices("0123456789", k=4)))[: dice.randrange(1, 13)]
-        data = bytes([11, 2, 0, 2, 1, len(number)]) + number.encode() + FORMAT
-        script.append(f"rx {names[0]} {full(own, 0, 0, 0, 0, 6, 1, data)}")
+        script.append(f"rx {names[0]} {new_frame(own, new_data(number.encode(), FORMAT)).hex()}")
         found = [(len(it[0]), it[1] is not None, routes[it]) for it in routes if number.startswith(it[0]) and it[1] in (None, names[0])]
         wanted.append((number, max(found)[2] if found else None))
     lines = replayed(program, written(folder, "routes.plan", text), written(folder, "routes.script", "\n".join(script) + "\n"))
-    news = [(bytes.fromhex(it.split()[2]), it.split()[1]) for it in lines if it.startswith("tx ") and it.split()[2][20:24] == "0601"]
-    same(f"calls by {count} routes", [(octets[18 : 18 + octets[17]].decode(), peer) for octets, peer in news], [it for it in wanted if it[1]])
-    same("calls without a route", sum(it.split()[2][20:24] == "0606" for it in lines if it.startswith("tx ")), sum(it[1] is None for it in wanted))
+    sent = [line.split()[1:3] for line in lines if line.startswith("tx ")]
+    frames = [(FullFrame.read(bytes.fromhex(octets)), peer) for peer, octets in sent]
+    calls = [(frame.element(Element.CALLED_NUMBER).decode(), peer) for frame, peer in frames if frame.kind == NEW]
+    same(f"calls by {count} routes", calls, [it for it in wanted if it[1]])
+    same("calls without a route", sum(frame.kind == REJECT for frame, _ in frames), sum(it[1] is None for it in wanted))
     same("peers that are called", len({it[1] for it in wanted if it[1]}) > 20, True)
     return count
 

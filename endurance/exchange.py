@@ -10,7 +10,9 @@ import re
 import signal
 import socket
 import subprocess
-import time
+
+from iax_test.ports import is_spare, spare_port_of_system
+from iax_test.waits import Failed, within
 
 HERE = os.path.dirname(os.path.realpath(__file__))
 PROGRAM = os.environ.get("EXCHANGE_MAIN", f"{os.path.dirname(HERE)}/crates/exchange_main/out/exchange_main").split()
@@ -24,10 +26,6 @@ RETRY_MS = 400
 def ends_with_this():
     """Makes a started process end when this one does, for any reason (PR_SET_PDEATHSIG)."""
     ctypes.CDLL(None).prctl(1, signal.SIGKILL)
-
-
-class Failed(Exception):
-    """The scene can't continue."""
 
 
 class Report:
@@ -103,21 +101,6 @@ def ended(process, seconds=PATIENCE):
     return reported(process, seconds)
 
 
-def spare_port(kind=socket.SOCK_DGRAM):
-    with socket.socket(socket.AF_INET, kind) as it:
-        it.bind(("127.0.0.1", 0))
-        return it.getsockname()[1]
-
-
-def is_spare(port):
-    with socket.socket(socket.AF_INET, socket.SOCK_DGRAM) as it:
-        try:
-            it.bind(("127.0.0.1", port))
-        except OSError:
-            return False
-    return True
-
-
 # Ports that the system gives nobody on its own, in blocks. Scenes that run at the same time use different blocks, so that
 # none takes a port that another has found to be spare. Each goes round in its block.
 BLOCK, FIRST_PORT, BLOCKS = 120, 11000, 175
@@ -136,15 +119,6 @@ def spare_ports(count):
         if len(found) == count:
             return found
     raise Failed("there aren't enough spare ports")
-
-
-def within(what, look, seconds=PATIENCE):
-    end = time.monotonic() + seconds
-    while time.monotonic() < end:
-        if found := look():
-            return found
-        time.sleep(0.02)
-    raise Failed(f"{what}: not within {seconds} s")
 
 
 def plan_of(workers, peers, routes, **keys):
@@ -168,14 +142,14 @@ class Exchange:
     def __init__(self, folder, plan, *options, environment=None):
         os.makedirs(folder, exist_ok=True)
         self.plan, self.control, self.log = f"{folder}/plan.toml", f"{folder}/control", f"{folder}/log"
-        self.metrics_port = spare_port(socket.SOCK_STREAM)
+        self.metrics_port = spare_port_of_system(socket.SOCK_STREAM)
         with open(self.plan, "w", encoding="utf-8") as it:
             it.write(plan)
         words = [*PROGRAM, "run", self.plan, "--control", self.control, "--metrics", f"127.0.0.1:{self.metrics_port}", *options]
         with open(self.log, "ab") as log:
             environment = os.environ | (environment or {})
             self.process = subprocess.Popen(words, stdout=subprocess.PIPE, stderr=log, text=True, env=environment, preexec_fn=ends_with_this)
-        within("the service answers", self.answers)
+        within("the service answers", PATIENCE, self.answers)
 
     def answers(self):
         if self.process.poll() is not None:
@@ -228,7 +202,7 @@ class Exchange:
         return self.legs() == []
 
     def until_idle(self, seconds=PATIENCE):
-        within("no leg is left", self.is_idle, seconds)
+        within("no leg is left", seconds, self.is_idle)
 
     def stop(self):
         """Stops it, and returns its output, as its status and its lines."""

@@ -1,67 +1,54 @@
 """A sender without the secret opens as many calls as the peer has numbers, again and again, and fills each with the longest
 full frames. The exchange keeps little of it, reports why it ends those legs, and carries the call of another peer."""
-import socket
-import struct
 import time
 from collections import Counter
 
 from exchange import Exchange, plan_of, rows_of, spare_ports, tell_accounts
-from peer import ACCEPT, ACK, ANSWER, AUTHREQ, CONTROL, IAX, NEW, Peer
+from iax_test.frames import FORMAT, FullFrame, is_full, new_data, new_frame
+from iax_test.peers import Peer
+from iax_test.protocol import ACCEPT, ACK, ANSWER, AUTHREQ, TEXT
 
-NUMBERS, LONGEST, TEXT = 512, 1388, 7
+NUMBERS, LONGEST = 512, 1388
 # The limit on the program's resident memory, in kilobytes.
 MOST = 64 * 1024
 # The number of full frames that a leg sends ahead of the exchange's acknowledgements.
 AHEAD = 8
 
 
-class Filler:
+class Filler(Peer):
     """The sender: a call for each number, over one socket."""
 
-    def __init__(self, port, worker):
-        self.socket = socket.socket(socket.AF_INET, socket.SOCK_DGRAM)
-        self.socket.setsockopt(socket.SOL_SOCKET, socket.SO_RCVBUF, 1 << 22)
-        self.socket.bind(("127.0.0.1", port))
-        self.socket.connect(("127.0.0.1", worker))
-        self.socket.setblocking(False)
+    def __init__(self, worker, port):
+        super().__init__(worker, port)
+        self.socket.connect(self.exchange)
         # By this sender's number: the exchange's, the number of frames sent, and of those that were taken.
         self.calls, self.next, self.count = {}, 0, Counter()
 
-    def close(self):
-        self.socket.close()
-
-    def send(self, ours, theirs, oseq, iseq, kind, subclass, data=b""):
+    def send_octets(self, octets):
         try:
-            self.socket.send(struct.pack(">HHIBBBB", 0x8000 | ours, theirs, 0, oseq & 255, iseq, kind, subclass) + data)
+            self.socket.send(octets)
         except (BlockingIOError, ConnectionRefusedError):
             return
         self.count["sent"] += 1
 
-    def open(self):
+    def open_next(self):
         self.next = self.next % 32000 + 1
-        self.send(self.next, 0, 0, 0, IAX, NEW, bytes([11, 2, 0, 2, 1, 1]) + b"3" + bytes([9, 4, 0, 0, 0, 4]))
+        self.send_octets(new_frame(self.next, new_data(b"3", FORMAT)))
 
-    def listen(self):
-        while True:
-            try:
-                octets = self.socket.recv(4096)
-            except (BlockingIOError, ConnectionRefusedError):
-                return
-            if len(octets) < 12 or not octets[0] & 0x80:
-                continue
-            theirs, ours, _, oseq, iseq, kind, subclass = struct.unpack(">HHIBBBB", octets[:12])
-            self.take(theirs & 0x7FFF, ours & 0x7FFF, oseq, iseq, kind, subclass)
-
-    def take(self, theirs, ours, oseq, iseq, kind, subclass):
-        if (kind, subclass) == (IAX, AUTHREQ):
+    def take(self, octets):
+        if not is_full(octets):
+            return
+        frame = FullFrame.read(octets)
+        ours, theirs = frame.destination, frame.source
+        if frame.kind == AUTHREQ:
             if ours not in self.calls:
                 self.count["challenges"] += 1
             self.calls.setdefault(ours, [theirs, 1, 1])
-            self.send(ours, theirs, 1, 1, IAX, ACK)
+            self.send_octets(FullFrame(ours, theirs, 0, 1, 1, ACK).packed())
         elif ours in self.calls:
-            if (kind, subclass) == (IAX, ACK):
+            if frame.kind == ACK:
                 call = self.calls[ours]
-                call[2] += (iseq - call[2]) & 255
+                call[2] += (frame.iseq - call[2]) % 256
             else:
                 # It is over: an INVAL, or another end.
                 del self.calls[ours]
@@ -70,7 +57,7 @@ class Filler:
         for ours, call in list(self.calls.items()):
             theirs, _, taken = call
             while call[1] < taken + AHEAD:
-                self.send(ours, theirs, call[1], 1, TEXT, 0, bytes(LONGEST))
+                self.send_octets(FullFrame(ours, theirs, 0, call[1], 1, TEXT, bytes(LONGEST)).packed())
                 call[1] += 1
 
     def run(self, exchange, seconds):
@@ -78,7 +65,7 @@ class Filler:
         end, most, looked = time.monotonic() + seconds, 0, 0
         while time.monotonic() < end:
             for _ in range(max(0, min(16, NUMBERS - len(self.calls)))):
-                self.open()
+                self.open_next()
             self.listen()
             self.fill()
             if time.monotonic() > looked + 0.1:
@@ -90,17 +77,17 @@ class Filler:
 
 def carry_a_call(west, east):
     """Sets up a call between two other peers. Returns whether it is answered."""
-    caller = west.call("8")
+    caller = west.call(b"8")
     callee, new = east.called(5)
     if not new:
         return False
     callee.acknowledge(new)
-    callee.send(IAX, ACCEPT, bytes([9, 4, 0, 0, 0, 4]))
-    if not (accepted := caller.expect(IAX, ACCEPT, 5)):
+    callee.send(ACCEPT, FORMAT)
+    if not (accepted := caller.expect(ACCEPT, 5)):
         return False
     caller.acknowledge(accepted)
-    callee.send(CONTROL, ANSWER)
-    return caller.expect(CONTROL, ANSWER, 5) is not None
+    callee.send(ANSWER)
+    return caller.expect(ANSWER, 5) is not None
 
 
 def run(tools, report, seconds, seed):
@@ -116,7 +103,7 @@ def run(tools, report, seconds, seed):
     folder = tools.folder_of("fill")
     plan = plan_of([ports["worker"]], peers, {"8": "east"}, format=4, challenge_ms=1000 if seconds is None else None, retry_ms=500)
     exchange = Exchange(folder, plan, "--calls", f"{folder}/calls.csv")
-    filler, west, east = Filler(ports["filler"], ports["worker"]), Peer(ports["west"], ports["worker"]), Peer(ports["east"], ports["worker"])
+    filler, west, east = Filler(ports["worker"], ports["filler"]), Peer(ports["worker"], ports["west"]), Peer(ports["worker"], ports["east"])
     try:
         before = exchange.kilobytes()
         most = filler.run(exchange, lasts)

@@ -1,8 +1,7 @@
 """A peer of the plan and strangers send as many datagrams as the exchange takes, of all kinds, during the calls of other
 peers. These calls lose nothing but media that a full socket dropped."""
-import socket
-
 from exchange import PATIENCE, Exchange, plan_of, reported, spare_ports, tell_accounts
+from iax_test.peers import Peer
 from two_sites import tell_calls, tell_media
 
 # No chance makes a called number of the flood begin like one of these.
@@ -54,9 +53,8 @@ def run(tools, report, seconds, seed):
     ports = dict(zip(names, spare_ports(len(names))))
     lasts, count, burst = (5, tools.some(60_000), tools.some(5000)) if seconds is None else (seconds, 1 << 40, tools.some(20_000))
     exchange = Exchange(tools.folder_of("flood"), plan_of_flood(ports))
-    silent = socket.socket(socket.AF_INET, socket.SOCK_DGRAM)
+    silent = Peer(port=ports["silent"])
     try:
-        silent.bind(("127.0.0.1", ports["silent"]))
         peers = [f"peer={ports['west']}:{ports['worker0']}:{WEST}:of the west", f"peer={ports['east']}:{ports['worker0']}:{EAST}"]
         talk = {"digits": 20, "digit_ms": 20, "media_ms": 60, "hold_ms": 500, "retry_ms": 500, "patience": PATIENCE}
         calls = tools.start("calls", *peers, "route=0:1", "route=1:0", seconds=lasts, at_once=max(2, tools.some(8)), **talk, seed=seed)

@@ -2,11 +2,13 @@
 docs/SECURITY.md."""
 import time
 
-from exchange import Exchange, Failed, plan_of, spare_ports, tell_accounts
-from peer import ACCEPT, ANSWER, AUTHREQ, CONTROL, DTMF, FORMAT, HANGUP, IAX, PONG, Peer
-from peer import PING as PING_FRAME
+from exchange import Exchange, plan_of, spare_ports, tell_accounts
+from iax_test.frames import FORMAT
+from iax_test.peers import Peer
+from iax_test.protocol import ACCEPT, ANSWER, AUTHREQ, HANGUP, PING, PONG, digit_kind
+from iax_test.waits import Failed
 
-RETRY, RETRIES, PING = 200, 2, 1000
+RETRY, RETRIES, PING_MS = 200, 2, 1000
 # A frame without an acknowledgement ends its leg after this time, in milliseconds.
 SPENT = RETRY * (RETRIES + 1)
 # The delay that a busy machine may add, and how much earlier than computed an event may be seen.
@@ -16,7 +18,7 @@ LATE, EARLY = 6000, 150
 class Place:
     """An exchange with two peers, or three: `guarded` has a secret. Nobody else sends here."""
 
-    def __init__(self, folder, ping_ms=PING):
+    def __init__(self, folder, ping_ms=PING_MS):
         ports = spare_ports(4)
         peers = {
             "west": {"port": ports[1], "numbers": 4},
@@ -25,7 +27,7 @@ class Place:
         }
         plan = plan_of(ports[:1], peers, {"2": "east"}, retry_ms=RETRY, max_retries=RETRIES, ping_ms=ping_ms)
         self.exchange = Exchange(folder, plan)
-        self.west, self.east, self.guarded = (Peer(it, ports[0]) for it in ports[1:])
+        self.west, self.east, self.guarded = (Peer(ports[0], it) for it in ports[1:])
 
     def end(self):
         for it in (self.west, self.east, self.guarded):
@@ -37,16 +39,16 @@ class Place:
 
     def linked(self, answers=True):
         """Sets up a call from the west to the east, which accepts and answers it. All frames are acknowledged."""
-        west = self.west.call("200")
+        west = self.west.call(b"200")
         east, _ = self.east.called()
         if not east:
             raise Failed("no call came to the east")
-        east.send(IAX, ACCEPT, FORMAT)
-        accepted = west.expect(IAX, ACCEPT)
+        east.send(ACCEPT, FORMAT)
+        accepted = west.expect(ACCEPT)
         west.acknowledge(accepted)
         if answers:
-            east.send(CONTROL, ANSWER)
-            west.acknowledge(west.expect(CONTROL, ANSWER))
+            east.send(ANSWER)
+            west.acknowledge(west.expect(ANSWER))
         self.until({"Up"} if answers else {"Linked"})
         return west, east
 
@@ -91,7 +93,7 @@ def tell_hung_up(report, what, place, west):
     """Reports whether the caller of a silent peer is hung up once frames to that peer are spent, and is free once it
     acknowledges the HANGUP."""
     begun = time.monotonic()
-    hangup = west.expect(IAX, HANGUP)
+    hangup = west.expect(HANGUP)
     elapsed = (time.monotonic() - begun) * 1000
     report.tell(f"silent {what}: the caller is hung up", hangup is not None, f"after {elapsed:.0f} ms", f"reckoned about {SPENT} ms")
     west.acknowledge(hangup)
@@ -99,68 +101,68 @@ def tell_hung_up(report, what, place, west):
 
 
 def after_new(report, place):
-    place.west.call("299")
+    place.west.call(b"299")
     place.until({"Linked", "Waiting"})
     tell_freed(report, "after NEW (both sides)", place, SPENT, 2 * SPENT + RETRY)
 
 
 def after_new_at_the_called(report, place):
-    west = place.west.call("200")
-    west.acknowledge(west.expect(IAX, ACCEPT))
+    west = place.west.call(b"200")
+    west.acknowledge(west.expect(ACCEPT))
     tell_hung_up(report, "when called", place, west)
 
 
 def after_the_first_acknowledgement(report, place):
     """The called peer acknowledges the NEW and then sends nothing."""
-    west = place.west.call("200")
-    west.acknowledge(west.expect(IAX, ACCEPT))
+    west = place.west.call(b"200")
+    west.acknowledge(west.expect(ACCEPT))
     east, new = place.east.called()
     east.acknowledge(new)
-    tell_freed(report, "after its ACK of NEW, the caller too", place, PING + SPENT, PING + 2 * SPENT + 2 * RETRY)
+    tell_freed(report, "after its ACK of NEW, the caller too", place, PING_MS + SPENT, PING_MS + 2 * SPENT + 2 * RETRY)
 
 
 def after_the_first_acknowledgement_alone(report, place):
     """The same, while the caller continues and answers each PING: only frames end it."""
-    west = place.west.call("200")
-    west.acknowledge(west.expect(IAX, ACCEPT))
+    west = place.west.call(b"200")
+    west.acknowledge(west.expect(ACCEPT))
     east, new = place.east.called()
     east.acknowledge(new)
-    end = time.monotonic() + (3 * SPENT + PING) / 1000
+    end = time.monotonic() + (3 * SPENT + PING_MS) / 1000
     while time.monotonic() < end:
-        if ping := west.expect(IAX, PING_FRAME, 0.2):
+        if ping := west.expect(PING, 0.2):
             west.take(ping)
-            west.send(IAX, PONG)
+            west.send(PONG)
     found = sorted(place.legs().values())
     report.tell("silent after its ACK of NEW, the caller waits: both numbers are kept", found == [("east", "Waiting"), ("west", "Linked")], found)
-    west.send(IAX, HANGUP)
+    west.send(HANGUP)
     tell_freed(report, "after its ACK of NEW, once the caller hangs up", place, SPENT, SPENT + RETRY)
 
 
 def after_authreq(report, place):
-    place.guarded.call("200")
+    place.guarded.call(b"200")
     place.until({"Challenged"})
     tell_freed(report, "after AUTHREQ", place, SPENT, SPENT + RETRY)
 
 
 def after_an_acknowledged_authreq(report, place):
-    leg = place.guarded.call("200")
-    leg.acknowledge(leg.expect(IAX, AUTHREQ))
-    tell_kept(report, "after its ACK of AUTHREQ", place, [("guarded", "Challenged")], 3 * SPENT + PING)
+    leg = place.guarded.call(b"200")
+    leg.acknowledge(leg.expect(AUTHREQ))
+    tell_kept(report, "after its ACK of AUTHREQ", place, [("guarded", "Challenged")], 3 * SPENT + PING_MS)
 
 
 def after_accept(report, place):
     place.linked(answers=False)
-    tell_freed(report, "after ACCEPT (both sides)", place, PING // 2 + SPENT, PING + 2 * SPENT + 2 * RETRY)
+    tell_freed(report, "after ACCEPT (both sides)", place, PING_MS // 2 + SPENT, PING_MS + 2 * SPENT + 2 * RETRY)
 
 
 def after_answer(report, place):
     place.linked()
-    tell_freed(report, "after ANSWER (both sides)", place, PING // 2 + SPENT, PING + 2 * SPENT + 2 * RETRY)
+    tell_freed(report, "after ANSWER (both sides)", place, PING_MS // 2 + SPENT, PING_MS + 2 * SPENT + 2 * RETRY)
 
 
 def after_hangup(report, place):
     west, _ = place.linked()
-    west.send(IAX, HANGUP)
+    west.send(HANGUP)
     tell_freed(report, "after HANGUP (both sides)", place, SPENT, SPENT + RETRY)
 
 
@@ -168,9 +170,9 @@ def in_the_middle_of_a_window(report, place):
     """The west sends digits, and the east acknowledges three of eight. Then it is silent, and the west follows the protocol."""
     west, east = place.linked()
     for digit in b"12345678":
-        west.send(DTMF, digit)
+        west.send(digit_kind(digit))
     for digit in b"123":
-        east.acknowledge(east.expect(DTMF, digit))
+        east.acknowledge(east.expect(digit_kind(digit)))
     tell_hung_up(report, "in the middle of a window", place, west)
 
 

@@ -6,7 +6,8 @@ import time
 from collections import Counter, namedtuple
 
 from endings import ENDED, Endings
-from exchange import PATIENCE, Failed, reported
+from exchange import PATIENCE, reported
+from iax_test.waits import Failed
 from two_sites import PREFIX, TRUNK_NAME, Sites
 
 # The loss in percent; the window of the trunk's peers; the rate in thousand bits a second, each way, or 0 for no limit; how
