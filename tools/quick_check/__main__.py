@@ -22,7 +22,7 @@ import tempfile
 from dataclasses import dataclass
 from pathlib import Path
 
-from wrong_bodies.checks import KIT, dependency, extern
+from wrong_bodies.checks import KIT, kit_words, logic_words, source_words
 from wrong_bodies.crate_copies import CrateCopy
 from wrong_bodies.crates import PARTS, TOP, files_below, read_crates
 from wrong_bodies.functions import module_of, modules_of_types, statements_in
@@ -98,20 +98,15 @@ def functions_of(crate):
     """Returns the paths of all functions of a crate."""
     texts = {os.path.relpath(path, crate.folder): path.read_text(encoding="utf-8") for path in files_below(crate.folder / "src")}
     modules = modules_of_types(texts)
-    return [it.path for file, text in texts.items() for it in statements_in(text, module_of(file), modules)]
+    return [statements.path for file, text in texts.items() for statements in statements_in(text, module_of(file), modules)]
 
 
 def command_for(crate, options, room):
     """Returns the command that checks a crate, whose copies of other crates are in the folder `room`."""
-    root = "main" if (crate.folder / "src/main.rt").is_file() else "lib"
-    words = [f"{KIT}/bin/rattle", "check", "--crate-name", crate.name, f"src/{root}.rt"]
-    for name in kit_libraries(crate):
-        words += extern(name, KIT / "rlibs")
-    words += dependency(KIT / "rlibs")
+    words = [f"{KIT}/bin/rattle", "check", *source_words(crate), *kit_words(kit_libraries(crate))]
     for other in crate.below():
         words += ["--lib", library_word(other, emptied(other, room))]
-    words += ["--antt-project", f"{KIT}/rattle/logic/antt-project.json", "--logic-built", f"{KIT}/logic_built"]
-    words += ["--links", f"{crate.name}="]
+    words += logic_words(crate)
     for path in options.functions or functions_of(crate):
         words += ["--only", path]
     kept = Path(room) / f"kept-{crate.name}"

@@ -84,19 +84,31 @@ def dependency(folder):
     return ["-L", f"dependency={folder}"]
 
 
+def source_words(crate):
+    """Returns the words that name a crate and its source."""
+    root = "main" if (crate.folder / "src/main.rt").is_file() else "lib"
+    return ["--crate-name", crate.name, f"src/{root}.rt"]
+
+
+def kit_words(names):
+    """Returns the words that give a crate these libraries of the toolchain."""
+    return [*(word for name in names for word in extern(name, KIT / "rlibs")), *dependency(KIT / "rlibs")]
+
+
+def logic_words(crate):
+    """Returns the words that give a crate's check the toolchain's logic."""
+    logic = ["--antt-project", f"{KIT}/rattle/logic/antt-project.json", "--logic-built", f"{KIT}/logic_built"]
+    return [*logic, "--links", f"{crate.name}="]
+
+
 def crate_words(crate):
     """Returns the arguments of a crate's check, as `rt` gives them."""
-    root = "main" if (crate.folder / "src/main.rt").is_file() else "lib"
-    words = ["--crate-name", crate.name, f"src/{root}.rt"]
-    for name in ["std", *crate.libraries]:
-        words += extern(name, KIT / "rlibs")
-    words += dependency(KIT / "rlibs")
+    words = [*source_words(crate), *kit_words(["std", *crate.libraries])]
     for other in crate.dependencies:
         words += extern(other.name, other.folder / "out/rlib")
     for other in crate.below():
         words += dependency(other.folder / "out/rlib")
-    words += ["--antt-project", f"{KIT}/rattle/logic/antt-project.json", "--logic-built", f"{KIT}/logic_built"]
-    return [*words, "--links", f"{crate.name}=", "--jobs", "1"]
+    return [*words, *logic_words(crate), "--jobs", "1"]
 
 
 def command_for(copy, kept):
