@@ -9,12 +9,12 @@ use Rattle.call_files.specs.Logs.{LogView, IsFaced, IsWritten, IsMoved, row_coun
 use Rattle.call_files.specs.declared.row_file.Beginning.{Beginning}
 use Rattle.call_files.specs.declared.row_file.Beginning.TheVariants.{Empty, Lines, CutLine}
 
--- what is followed by nothing stays as it is
+-- a content that nothing follows stays as it is
 pub followed_by_nothing : (contents : Option (List ℕ)) → followed_by [] contents ≡ contents
 followed_by_nothing None = refl
 followed_by_nothing (Some c) = ap (λ l. Some l) (append-nil c)
 
--- what is so of a value that isn't an error
+-- a statement about values that aren't errors, of one of them
 pub on_ok : {A E : Type 0} {P : Type 0} (r : Result A E) → false ≡ is_err r → OnOk r P → P
 on_ok (Ok value) is on = on
 on_ok (Err error) is on = cc
@@ -74,7 +74,7 @@ module _ {T : Type 0} where
   as_many_lines IsLine [] (line ∷ lines) is = elim is [ ]
   as_many_lines IsLine (row ∷ rows) [] is = elim is [ ]
 
-  -- no row goes on its way
+  -- no row that waits becomes the one that is written
   pub none_goes : (IsLine : T → List ℕ → Type 0) (old new : LogView T) (done : List (List ℕ))
       → old.backlog ≡ new.backlog → whole new.file ≡ whole old.file
       → row_octets old.file.row ≡ done ++ row_octets new.file.row → IsWritten IsLine old (length done) new
@@ -89,7 +89,7 @@ module _ {T : Type 0} where
     refl,
   )
 
-  -- the oldest goes on its way
+  -- the oldest row that waits becomes the one that is written
   pub row_goes : (IsLine : T → List ℕ → Type 0) (old new : LogView T) (row : T) (line : List ℕ) → IsLine row line
       → old.file.row ≡ None → old.backlog ≡ record new.backlog { waiting = row ∷ new.backlog.waiting }
       → new.file ≡ record old.file { row = Some (record { octets = line; written = 0 }) } → IsWritten IsLine old 0 new

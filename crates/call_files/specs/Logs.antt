@@ -16,7 +16,7 @@ abbrev pub one_if_any : Option LineView → ℕ
 one_if_any None = 0
 one_if_any (Some line) = 1
 
--- Another file was opened, or the open one was found empty: it has a content of its own, and its beginning comes first.
+-- Another file was opened, or the open one was found empty: its content is another one, and its beginning comes first.
 abbrev pub IsBegun : FileView → FileView → Type 0
 IsBegun old new = (contents : Option (List ℕ)) × (beginning : Beginning)
     × IfSome contents (λ c. beginning ≡ beginning_of c) × (new ≡ begun beginning (record old { contents = contents }))

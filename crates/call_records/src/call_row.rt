@@ -16,7 +16,7 @@ use call_signals::{Failure, Format, Moments};
 use csv::StringRecord;
 use std::alloc::{AllocError, Global};
 
-/// The row of a leg that has ended. It has no memory of its own, and is at most 1,024 octets large.
+/// The row of a leg that has ended. It takes no memory beside itself, and is at most 1,024 octets large.
 #[derive(Drop)]
 pub struct CallRow {
     /// The serial of the call, which its two legs share.
