@@ -18,10 +18,10 @@ use Rattle.noted_steps.specs.declared.made.Made.TheVariants as mades
 use Rattle.peer_accounts.specs.declared.onwards.Offer.{Offer}
 use Rattle.peer_lock.specs.declared.errors.PeerError.TheVariants as peer_errors
 use Rattle.exchange_core.proofs.FirstSteps.{GoesOn, MadeIsPast, OverStays, PastStays, PlaceInPlan, RefusedIsOver, made_denies_nothing, over_is_past}
-use Rattle.exchange_core.proofs.Tracing.{last_longer, noted_is}
+use Rattle.exchange_core.proofs.Tracing.{last_longer}
 use Rattle.peer_plan.specs.declared.endpoint.Endpoint.{Endpoint}
 use Rattle.peer_plan.specs.declared.peer.Peer.{Peer}
-use Rattle.exchange_core.specs.Denial.{Denies, denial_by, denial_of, denied_by, denied_since, noted, unless_made}
+use Rattle.exchange_core.specs.Denial.{Denies, denial_by, denial_of, denied_by, noted, unless_made}
 use Rattle.exchange_core.specs.Since.{last_of}
 use Rattle.exchange_core.specs.Traces.{Call, IsMade, IsUnasked, Makes}
 use Rattle.exchange_core.specs.declared.answers.Refusal.TheVariants as refusals
@@ -218,9 +218,6 @@ none_denied pass place first = record {
   clear = λ _ _. refl;
   over = λ past _. absurd (cc);
 }
-
-pub denied_is : (first now : Noted) (place : Place) (denial : Option Denial) → DeniedSince first now place denial → denial ≡ denied_since first now
-denied_is first now place denial since = since.denied ∙ ap denied_by (sym (noted_is first now since.steps since.noted))
 
 steps_longer : (steps : List Made) (step : Made) → steps_in (steps ++ step ∷ []) ≡ steps_in steps + steps_of step
 steps_longer [] step = omega arith

@@ -18,9 +18,6 @@ use Rattle.udp_workers.proofs.TickLaws.{later_on, later_same}
 
 -- ---- one outbox
 
-pub hands_none : (peer : ℕ) (to : Endpoint) (pass : Noted) (wire : List Parcel) → HandsOut peer to [] pass pass wire wire
-hands_none peer to pass wire = (refl, refl)
-
 pub hands_one : (peer : ℕ) (to : Endpoint) (earlier : List (List ℕ)) (out : List ℕ) (old mid new : Noted) (before sent after : List Parcel)
     → HandsOut peer to earlier old mid before sent → new ≡ note (mades.TakeOut peer (Some out)) mid
     → after ≡ sent ++ record { endpoint = to; octets = out } ∷ [] → HandsOut peer to (out ∷ earlier) old new before after

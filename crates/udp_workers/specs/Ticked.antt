@@ -18,11 +18,6 @@ Ticks plan now peer old new =
     MakesAll (moment plan now)
     (begun (of_tick peer (range_of (counts_of plan.peers) peer).first (range_of (counts_of plan.peers) peer).count)) old new
 
--- a tick of each of these peers, at one moment, in their order, and nothing else
-abbrev pub TicksAll : PlanView → ℕ → List ℕ → Noted → Noted → Type 0
-TicksAll plan now [] old new = new ≡ old
-TicksAll plan now (peer ∷ rest) old new = (mid : Noted) × Ticks plan now peer old mid × TicksAll plan now rest mid new
-
 -- whether a turn ticks a peer: it ticks all, or a step was made at the peer under the pass since its last tick
 abbrev pub is_due : Bool → ℕ → Noted → Bool
 is_due all peer pass = all || is_unticked pass peer
